@@ -1,0 +1,25 @@
+-- What a permutation keeps: what holds of each or of some element, the images, the length.
+-- Assumes nothing.
+use Prim.Native.Nat.{ℕ, suc}
+use mathlib.Core.Path.{_≡_, refl, ap, subst, _∙_}
+use mathlib.Core.List.{List, [], _∷_, map, List·Permᴰ}
+use lib.ListN.{length}
+use Rattle.lists.specs.Lists.{All}
+
+pub perm-all : {A : Type 0} (P : A → Type 0) {xs ys : List A} → List·Permᴰ xs ys → All P xs → All P ys
+perm-all P List·Permᴰ.List·Permᴰ·nil a = tt
+perm-all P (List·Permᴰ.List·Permᴰ·cons e d) a = (subst P e (a .0), perm-all P d (a .1))
+perm-all P (List·Permᴰ.List·Permᴰ·swap e₁ e₂) a = (subst P e₂ (a .1 .0), (subst P e₁ (a .0), a .1 .1))
+perm-all P (List·Permᴰ.List·Permᴰ·trans d₁ d₂) a = perm-all P d₂ (perm-all P d₁ a)
+
+pub perm-map : {A B : Type 0} (f : A → B) {xs ys : List A} → List·Permᴰ xs ys → List·Permᴰ (map f xs) (map f ys)
+perm-map f List·Permᴰ.List·Permᴰ·nil = List·Permᴰ.List·Permᴰ·nil
+perm-map f (List·Permᴰ.List·Permᴰ·cons e d) = List·Permᴰ.List·Permᴰ·cons (ap f e) (perm-map f d)
+perm-map f (List·Permᴰ.List·Permᴰ·swap e₁ e₂) = List·Permᴰ.List·Permᴰ·swap (ap f e₁) (ap f e₂)
+perm-map f (List·Permᴰ.List·Permᴰ·trans d₁ d₂) = List·Permᴰ.List·Permᴰ·trans (perm-map f d₁) (perm-map f d₂)
+
+pub perm-length : {A : Type 0} {xs ys : List A} → List·Permᴰ xs ys → length xs ≡ length ys
+perm-length List·Permᴰ.List·Permᴰ·nil = refl
+perm-length (List·Permᴰ.List·Permᴰ·cons e d) = ap suc (perm-length d)
+perm-length (List·Permᴰ.List·Permᴰ·swap e₁ e₂) = refl
+perm-length (List·Permᴰ.List·Permᴰ·trans d₁ d₂) = perm-length d₁ ∙ perm-length d₂

@@ -1,0 +1,154 @@
+// Address prefixes (document 01: a block). Every size and every end comes from `size`.
+ghost use mathlib.Core.Path.{_≡_};
+ghost use mathlib.Core.Bool.{not};
+ghost use Prim.Native.Nat.{_+_, _≤_, _<_};
+ghost use Rattle.prefix.specs.Prefixes.{
+  size as sizeOf,
+  end as endOf,
+  lower as lowerOf,
+  upper as upperOf,
+  checked,
+  inside?,
+  apart?,
+  longest,
+};
+
+// How many addresses a prefix of each length has. Only `size` reads the table.
+const SIZES: [u64; 33] = [
+    4294967296,
+    2147483648,
+    1073741824,
+    536870912,
+    268435456,
+    134217728,
+    67108864,
+    33554432,
+    16777216,
+    8388608,
+    4194304,
+    2097152,
+    1048576,
+    524288,
+    262144,
+    131072,
+    65536,
+    32768,
+    16384,
+    8192,
+    4096,
+    2048,
+    1024,
+    512,
+    256,
+    128,
+    64,
+    32,
+    16,
+    8,
+    4,
+    2,
+    1,
+];
+
+// The number of addresses in a prefix of this length. Past 32 it is that of a single address.
+pub fn size(length: u8) -> u64
+    ensures { λ r. ⌜ r ≡ sizeOf length ⌝ }
+    ensures { λ r. ⌜ r ≤ 4294967296 ⌝ }
+{
+    if 32 < length {
+        return 1;
+    }
+    SIZES[length as usize]
+}
+
+pub struct Prefix {
+    pub network: u32,
+    pub length: u8,
+}
+
+// What the constructor answers.
+pub enum Checked {
+    Good(Prefix),
+    BadLength,
+    Misaligned,
+}
+
+impl Prefix {
+    // "A block length runs from 1 to 30"
+    pub const SHORTEST: u8 = 1;
+
+    pub const LONGEST: u8 = 30;
+
+    // The prefix with this network and length, refused where it is no block of document 01.
+    pub fn new(network: u32, length: u8) -> Checked
+        ensures { λ r. ⌜ r ≡ checked network length ⌝ }
+    {
+        if length < Prefix::SHORTEST {
+            return Checked::BadLength;
+        }
+        if Prefix::LONGEST < length {
+            return Checked::BadLength;
+        }
+        if (network as u64) % size(length) == 0 {
+            Checked::Good(Prefix { network, length })
+        } else {
+            Checked::Misaligned
+        }
+    }
+
+    // The first address after it; 64 bits, since the last prefix ends at 2^32.
+    pub fn end(self) -> u64
+        ensures { λ r. ⌜ r ≡ endOf self ⌝ }
+        ensures { λ r. ⌜ r ≤ 8589934591 ⌝ }
+    {
+        (self.network as u64) + size(self.length)
+    }
+
+    // The lower half of a prefix that is not of the longest length.
+    pub fn lower(self) -> Prefix
+        requires { ⌜ self .length < longest ⌝ }
+        ensures { λ r. ⌜ r ≡ lowerOf self ⌝ }
+    {
+        Prefix {
+            network: self.network,
+            length: self.length + 1,
+        }
+    }
+
+    // The upper half of a prefix that is not of the longest length and lies in the address space.
+    pub fn upper(self) -> Prefix
+        requires { ⌜ (self .length < longest) × (endOf self ≤ 4294967296) ⌝ }
+        ensures { λ r. ⌜ r ≡ upperOf self ⌝ }
+    {
+        let length = self.length + 1;
+        let network = (self.network as u64) + size(length);
+        Prefix {
+            network: network as u32,
+            length,
+        }
+    }
+
+    // Each of its addresses is one of `outer`.
+    pub fn inside(self, outer: Prefix) -> bool
+        ensures { λ r. ⌜ r ≡ inside? self outer ⌝ }
+    {
+        if outer.network <= self.network {
+            self.end() <= outer.end()
+        } else {
+            false
+        }
+    }
+
+    // It shares an address with `other`.
+    pub fn overlaps(self, other: Prefix) -> bool
+        ensures { λ r. ⌜ r ≡ not (apart? self other) ⌝ }
+    {
+        if self.end() <= (other.network as u64) {
+            return false;
+        }
+        if other.end() <= (self.network as u64) {
+            return false;
+        }
+        true
+    }
+}
