@@ -2,15 +2,25 @@
 -- Assumes nothing.
 use Prim.Native.Nat.{ℕ, suc}
 use mathlib.Core.Path.{_≡_, refl, ap, subst, _∙_}
+use mathlib.Core.Logic.{_⊎_, inl, inr}
 use mathlib.Core.List.{List, [], _∷_, map, List·Permᴰ}
 use lib.ListN.{length}
-use Rattle.lists.specs.Lists.{All}
+use Rattle.lists.specs.Lists.{All, Any}
 
 pub perm-all : {A : Type 0} (P : A → Type 0) {xs ys : List A} → List·Permᴰ xs ys → All P xs → All P ys
 perm-all P List·Permᴰ.List·Permᴰ·nil a = tt
 perm-all P (List·Permᴰ.List·Permᴰ·cons e d) a = (subst P e (a .0), perm-all P d (a .1))
 perm-all P (List·Permᴰ.List·Permᴰ·swap e₁ e₂) a = (subst P e₂ (a .1 .0), (subst P e₁ (a .0), a .1 .1))
 perm-all P (List·Permᴰ.List·Permᴰ·trans d₁ d₂) a = perm-all P d₂ (perm-all P d₁ a)
+
+pub perm-any : {A : Type 0} (P : A → Type 0) {xs ys : List A} → List·Permᴰ xs ys → Any P xs → Any P ys
+perm-any P List·Permᴰ.List·Permᴰ·nil a = a
+perm-any P (List·Permᴰ.List·Permᴰ·cons e d) (inl a) = inl (subst P e a)
+perm-any P (List·Permᴰ.List·Permᴰ·cons e d) (inr a) = inr (perm-any P d a)
+perm-any P (List·Permᴰ.List·Permᴰ·swap e₁ e₂) (inl a) = inr (inl (subst P e₁ a))
+perm-any P (List·Permᴰ.List·Permᴰ·swap e₁ e₂) (inr (inl a)) = inl (subst P e₂ a)
+perm-any P (List·Permᴰ.List·Permᴰ·swap e₁ e₂) (inr (inr a)) = inr (inr a)
+perm-any P (List·Permᴰ.List·Permᴰ·trans d₁ d₂) a = perm-any P d₂ (perm-any P d₁ a)
 
 pub perm-map : {A B : Type 0} (f : A → B) {xs ys : List A} → List·Permᴰ xs ys → List·Permᴰ (map f xs) (map f ys)
 perm-map f List·Permᴰ.List·Permᴰ·nil = List·Permᴰ.List·Permᴰ·nil

@@ -1,0 +1,9 @@
+pub mod Weights
+pub mod WalkLaws
+pub mod BestLaws
+pub mod GrantLaws
+pub mod Rules
+pub mod ListTheorem
+pub mod OrderTheorem
+pub mod Permuted
+pub mod ExamplesHold

@@ -1,0 +1,1 @@
+// Free space: the best fit for an ask.
