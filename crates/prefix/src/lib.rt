@@ -1,7 +1,7 @@
 // Address prefixes (document 01: a block). Every size and every end comes from `size`.
 ghost use mathlib.Core.Path.{_≡_};
 ghost use mathlib.Core.Bool.{not};
-ghost use Prim.Native.Nat.{_+_, _≤_, _<_};
+ghost use Prim.Native.Nat.{_+_, _%_, _≤_, _<_};
 ghost use Rattle.prefix.specs.Prefixes.{
   size as sizeOf,
   end as endOf,
@@ -61,6 +61,13 @@ pub fn size(length: u8) -> u64
     SIZES[length as usize]
 }
 
+// How far an address lies past the last one that is aligned at this length; the sizes are powers of two, so no division is needed.
+pub fn offset(address: u64, length: u8) -> u64
+    ensures { λ r. ⌜ r ≡ address % sizeOf length ⌝ }
+{
+    address & (size(length) - 1)
+}
+
 pub struct Prefix {
     pub network: u32,
     pub length: u8,
@@ -89,7 +96,7 @@ impl Prefix {
         if Prefix::LONGEST < length {
             return Checked::BadLength;
         }
-        if (network as u64) % size(length) == 0 {
+        if offset(network as u64, length) == 0 {
             Checked::Good(Prefix { network, length })
         } else {
             Checked::Misaligned

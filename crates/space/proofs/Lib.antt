@@ -6,4 +6,8 @@ pub mod Rules
 pub mod ListTheorem
 pub mod OrderTheorem
 pub mod Permuted
+pub mod LevelLaws
+pub mod GapLaws
+pub mod ScanLaws
+pub mod FitLaws
 pub mod ExamplesHold

@@ -17,7 +17,7 @@ use Rattle.prefix.specs.declared.Prefix.{Prefix}
 use Rattle.prefix.specs.Prefixes.{longest, size, prefix, end, Aligned, Inside, Apart, lower, upper}
 use Rattle.prefix.proofs.PrefixLaws.{size-half, size-positive, apart-sym}
 use Rattle.prefix.proofs.Nesting.{order, prefix-path, inside-refl, inside-trans, apart-sub, apart-absurd, inside-order, aligned-down, aligned-end, aligned-lower, aligned-upper, next-multiple, nested}
-use Rattle.space.specs.Space.{Length, Pools, Free, around, Whole, NotWorse, Takes, unused?, covered?, pick, walk, wholes, best, lowestPart, grant}
+use Rattle.space.specs.Space.{Length, Pools, Before, Free, around, Whole, NotWorse, Takes, unused?, covered?, pick, walk, wholes, best, lowestPart, grant}
 use Rattle.space.proofs.WalkLaws.{Level, short, unused-of, pick-all, Listed, walk-listed}
 use Rattle.space.proofs.BestLaws.{Best, not-worse-antisym, best-best, best-holds}
 use Rattle.space.proofs.GrantLaws.{walkPool, pool-level, Found, wholes-found, found, cover, free-inside}
@@ -114,7 +114,8 @@ module _ (pools : List Prefix) (good : Pools pools) where
           let n : w .network / size (w .length - 1) * size (w .length - 1) ≡ w .network = omega (arith, div-add-mod' (w .network) (size (w .length - 1)), lt-div-mul-add {a = w .network} (size-positive (w .length - 1)), div-mul-le-self (w .network) (size (w .length - 1))) in
           omega (arith, size-positive (w .length))
 
-  largest : (leases : List Prefix) (w v : Prefix) → Whole pools leases w → v .length ≤ 32 → Inside w v → Free pools leases v → v ≡ w
+  -- A free prefix around a whole one is that one.
+  pub largest : (leases : List Prefix) (w v : Prefix) → Whole pools leases w → v .length ≤ 32 → Inside w v → Free pools leases v → v ≡ w
   largest leases w v k s i a =
       let n = whole-length leases w k in
       by-cases (decLe (order v) (order w))
@@ -165,10 +166,6 @@ module _ (pools : List Prefix) (good : Pools pools) where
           ap (λ (x : Prefix). some (prefix (x .network) length)) e ∙ ap (λ (x : Prefix). some x) (sym (k .part))
 
 -- the walk ascends, and no two of its prefixes share an address
-
--- a ends before b starts.
-abbrev pub Before : Prefix → Prefix → Type 0
-Before a b = end a ≤ b .network
 
 pick-ascends : (R : Prefix → Prefix → Type 0) (s t : Bool) (p : Prefix) (ws : List Prefix) → Pairwise R ws → Pairwise R (pick s t p ws)
 pick-ascends R true t p ws d = (tt, tt)

@@ -1,2 +1,3 @@
 pub mod Space
+pub mod Scan
 pub mod Examples

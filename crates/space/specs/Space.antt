@@ -10,7 +10,7 @@ use mathlib.Core.Option.{Option, none, some}
 use lib.Dec.{leb, ltb, eqb}
 use Rattle.lists.specs.Lists.{All, Any, Pairwise, all?, any?, gather}
 use Rattle.prefix.specs.declared.Prefix.{Prefix}
-use Rattle.prefix.specs.Prefixes.{shortest, longest, size, prefix, Aligned, Inside, inside?, Apart, apart?, lower, upper}
+use Rattle.prefix.specs.Prefixes.{shortest, longest, size, prefix, end, Aligned, Inside, inside?, Apart, apart?, lower, upper}
 
 -- THE RULES, as document 01 has them
 
@@ -23,6 +23,17 @@ pub record Pools (pools : List Prefix) : Type 0 where
   pub lengths : All (λ p. Length (p .length)) pools
   pub aligned : All Aligned pools
   pub disjoint : Pairwise Apart pools
+
+-- a ends before b starts.
+abbrev pub Before : Prefix → Prefix → Type 0
+Before a b = end a ≤ b .network
+
+-- Pools and leases as a sound table keeps them: a line is "a block inside one root", and "roots and lines each ascend by network without overlap".
+pub record Ordered (pools leases : List Prefix) : Type 0 where
+  pub good : Pools pools
+  pub poolsAscend : Pairwise Before pools
+  pub leasesAscend : Pairwise Before leases
+  pub pooled : All (λ x. Any (Inside x) pools) leases
 
 -- "A block is free if it lies inside a root and shares no address with a present line." "Every block is aligned."
 pub record Free (pools leases : List Prefix) (p : Prefix) : Type 0 where
