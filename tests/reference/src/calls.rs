@@ -1,0 +1,356 @@
+//! The calls: open, ask, take, list, return (here `release`) and mark.
+
+use crate::option::{read220, write220, Entry, Information, Request, Suboption};
+use crate::prefix::Prefix;
+use crate::refusal::{refusal, Refusal};
+use crate::table::{head_in_rules, pools_in_rules, Lease, State, Table, LATEST, LEASES};
+
+/// Row 1: "reply buffer below 257 bytes (ask, take, list)".
+pub const REPLY: usize = 257;
+/// "a line held until now + 120".
+pub const OFFER_TIME: u32 = 120;
+/// "the option has 1 to 25 requests".
+pub const MOST_REQUESTS: usize = 25;
+/// "ascending, at most 35".
+pub const MOST_LISTED: usize = 35;
+
+/// "An accepted answer gives the bytes written and the count of entries (for return,
+/// of lines it struck by its entries). A count that a call has none of is 0."
+#[derive(Clone, Copy, Debug, Default, PartialEq, Eq)]
+pub struct Answer {
+    pub bytes: usize,
+    pub count: usize,
+}
+
+/// "Open: roots (any order given), term, default length and a start time make a
+/// book."
+pub fn open(pools: &[Prefix], term: u32, default_length: u8, start: u32) -> Result<Table, Refusal> {
+    if !pools_in_rules(pools) || !head_in_rules(term, default_length, start) {
+        return Err(refusal(12));
+    }
+    let mut sorted = pools.to_vec();
+    sorted.sort_by_key(|pool| pool.network);
+    let mut table = Table::zero();
+    table.term = term;
+    table.default_length = default_length;
+    table.last_time = start;
+    table.pools[..sorted.len()].copy_from_slice(&sorted);
+    Ok(table)
+}
+
+/// Row 1.
+fn check_buffer(buffer: &[u8]) -> Result<(), Refusal> {
+    if buffer.len() < REPLY {
+        return Err(refusal(1));
+    }
+    Ok(())
+}
+
+/// Row 5.
+fn check_sound(table: &Table) -> Result<(), Refusal> {
+    if !table.sound() {
+        return Err(refusal(5));
+    }
+    Ok(())
+}
+
+/// Row 2.
+fn check_client(client: u32) -> Result<(), Refusal> {
+    if client == 0 {
+        return Err(refusal(2));
+    }
+    Ok(())
+}
+
+/// Rows 3 and 4.
+fn check_time(table: &Table, now: u32) -> Result<(), Refusal> {
+    if now < table.last_time {
+        return Err(refusal(3));
+    }
+    if now > LATEST {
+        return Err(refusal(4));
+    }
+    Ok(())
+}
+
+fn requests(list: &[Suboption]) -> Vec<Request> {
+    let mut requests = Vec::new();
+    for suboption in list {
+        if let Suboption::Request(request) = suboption {
+            requests.push(*request);
+        }
+    }
+    requests
+}
+
+fn informations(list: &[Suboption]) -> Vec<&Information> {
+    let mut informations = Vec::new();
+    for suboption in list {
+        if let Suboption::Information(information) = suboption {
+            informations.push(information);
+        }
+    }
+    informations
+}
+
+/// The prefixes of all entries of all informations, in order.
+fn entry_prefixes(list: &[Suboption]) -> Vec<Prefix> {
+    let mut prefixes = Vec::new();
+    for information in informations(list) {
+        for entry in &information.entries {
+            prefixes.push(Prefix {
+                network: entry.network,
+                length: entry.prefix,
+            });
+        }
+    }
+    prefixes
+}
+
+/// A lease as an entry: "flags and figures from the book: h, d, no figures".
+fn entry_of(lease: &Lease) -> Entry {
+    Entry {
+        network: lease.prefix.network,
+        prefix: lease.prefix.length,
+        h: lease.h,
+        d: lease.d,
+        figures: Vec::new(),
+    }
+}
+
+/// "An accepted ask, take, return or mark strikes them" (the lines that have ended)
+/// "and sets the last time to now."
+fn struck_at(table: &Table, now: u32) -> Table {
+    let mut next = table.clone();
+    next.set_leases(table.present_leases(now));
+    next.last_time = now;
+    next
+}
+
+/// Ask: every request not granted has no entry; "If none is granted, the answer is
+/// the refusal of the first."
+pub fn ask(
+    table: &mut Table,
+    client: u32,
+    now: u32,
+    option: &[u8],
+    buffer: &mut [u8],
+) -> Result<Answer, Refusal> {
+    check_buffer(buffer)?;
+    check_sound(table)?;
+    check_client(client)?;
+    check_time(table, now)?;
+    let requests = requests(&read220(option)?);
+    // "the option has 1 to 25 requests, none with i".
+    if requests.is_empty() || requests.len() > MOST_REQUESTS || requests.iter().any(|r| r.i) {
+        return Err(refusal(8));
+    }
+    // "They are served in order, each on the book that the one before left."
+    let mut next = struck_at(table, now);
+    let mut reply = Vec::new();
+    let mut first_refusal = None;
+    for request in requests {
+        match serve(&mut next, client, now, request) {
+            Ok(lease) => reply.push(Suboption::Information(Information {
+                c: false,
+                s: false,
+                entries: vec![entry_of(&lease)],
+            })),
+            Err(refusal) => {
+                first_refusal.get_or_insert(refusal);
+            }
+        }
+    }
+    if let (true, Some(refusal)) = (reply.is_empty(), first_refusal) {
+        return Err(refusal);
+    }
+    let bytes = write220(&reply, buffer)?;
+    *table = next;
+    Ok(Answer {
+        bytes,
+        count: reply.len(),
+    })
+}
+
+/// One request of an ask: a new lease in the table, or 9 or 10.
+fn serve(table: &mut Table, client: u32, now: u32, request: Request) -> Result<Lease, Refusal> {
+    // Row 9: "ask: no empty line".
+    let mut leases = table.used_leases().to_vec();
+    if leases.len() == LEASES {
+        return Err(refusal(9));
+    }
+    // "An ask's length is the prefix asked for, or the default length for 0."
+    let length = if request.prefix == 0 {
+        table.default_length
+    } else {
+        request.prefix
+    };
+    // Row 10: "ask: no free block of the length".
+    let Some(chosen) = table.choose(now, length) else {
+        return Err(refusal(10));
+    };
+    // "in line and entry h is the request's and d 0".
+    let lease = Lease {
+        prefix: chosen,
+        client,
+        state: State::Offered,
+        h: request.h,
+        d: false,
+        expires: now + OFFER_TIME,
+    };
+    leases.push(lease);
+    table.set_leases(leases);
+    Ok(lease)
+}
+
+/// The rows that take and return share, 5 to 8: the entries of the option, "no
+/// requests, at least one entry".
+fn entries_only(
+    table: &Table,
+    client: u32,
+    now: u32,
+    option: &[u8],
+) -> Result<Vec<Prefix>, Refusal> {
+    check_sound(table)?;
+    check_client(client)?;
+    check_time(table, now)?;
+    let list = read220(option)?;
+    let prefixes = entry_prefixes(&list);
+    if !requests(&list).is_empty() || prefixes.is_empty() {
+        return Err(refusal(8));
+    }
+    Ok(prefixes)
+}
+
+/// Take (confirm or renew): "Each entry that equals a present line of this station in
+/// network and length makes it leased until now + term. The reply is one Information
+/// with those entries in order".
+pub fn take(
+    table: &mut Table,
+    client: u32,
+    now: u32,
+    option: &[u8],
+    buffer: &mut [u8],
+) -> Result<Answer, Refusal> {
+    check_buffer(buffer)?;
+    let prefixes = entries_only(table, client, now, option)?;
+    let mut next = struck_at(table, now);
+    let term = next.term;
+    let mut entries = Vec::new();
+    for prefix in prefixes {
+        for lease in &mut next.leases {
+            if lease.state != State::None && lease.client == client && lease.prefix == prefix {
+                lease.state = State::Leased;
+                lease.expires = now + term;
+                entries.push(entry_of(lease));
+            }
+        }
+    }
+    // Row 11: "nothing found".
+    if entries.is_empty() {
+        return Err(refusal(11));
+    }
+    let count = entries.len();
+    let reply = Suboption::Information(Information {
+        c: false,
+        s: false,
+        entries,
+    });
+    let bytes = write220(&[reply], buffer)?;
+    *table = next;
+    Ok(Answer { bytes, count })
+}
+
+/// List: "the station's present leased lines with network above the position,
+/// ascending, at most 35, in one Information with c set, and s set exactly if more
+/// remain." "List changes nothing."
+pub fn list(
+    table: &Table,
+    client: u32,
+    now: u32,
+    option: &[u8],
+    buffer: &mut [u8],
+) -> Result<Answer, Refusal> {
+    check_buffer(buffer)?;
+    check_sound(table)?;
+    check_client(client)?;
+    check_time(table, now)?;
+    let pieces = read220(option)?;
+    // "at least one request, all with i".
+    let requests = requests(&pieces);
+    if requests.is_empty() || !requests.iter().all(|request| request.i) {
+        return Err(refusal(8));
+    }
+    // "The position is the network of the last entry of the last Information with c
+    // and s set; without one, all lines are meant."
+    let mut position: Option<u32> = None;
+    for information in informations(&pieces) {
+        if information.c && information.s {
+            position = information.entries.last().map(|entry| entry.network);
+        }
+    }
+    let mut found = Vec::new();
+    for lease in table.present_leases(now) {
+        let above = match position {
+            None => true,
+            Some(position) => lease.prefix.network > position,
+        };
+        if lease.client == client && lease.state == State::Leased && above {
+            found.push(entry_of(&lease));
+        }
+    }
+    if found.is_empty() {
+        return Err(refusal(11));
+    }
+    let more = found.len() > MOST_LISTED;
+    found.truncate(MOST_LISTED);
+    let count = found.len();
+    let reply = Suboption::Information(Information {
+        c: true,
+        s: more,
+        entries: found,
+    });
+    let bytes = write220(&[reply], buffer)?;
+    Ok(Answer { bytes, count })
+}
+
+/// Return: "as take, but strikes the lines; no reply buffer. Held lines may be
+/// returned."
+pub fn release(table: &mut Table, client: u32, now: u32, option: &[u8]) -> Result<Answer, Refusal> {
+    let prefixes = entries_only(table, client, now, option)?;
+    let mut next = struck_at(table, now);
+    let present = next.used_leases().to_vec();
+    let mut kept = Vec::new();
+    for lease in &present {
+        if !(lease.client == client && prefixes.contains(&lease.prefix)) {
+            kept.push(*lease);
+        }
+    }
+    let count = present.len() - kept.len();
+    if count == 0 {
+        return Err(refusal(11));
+    }
+    next.set_leases(kept);
+    *table = next;
+    Ok(Answer { bytes: 0, count })
+}
+
+/// Mark: "sets or clears d on the present line with a given network and length."
+/// "Mark has no station".
+pub fn mark(table: &mut Table, now: u32, prefix: Prefix, d: bool) -> Result<Answer, Refusal> {
+    check_sound(table)?;
+    check_time(table, now)?;
+    let mut next = struck_at(table, now);
+    let mut found = false;
+    for lease in &mut next.leases {
+        if lease.state != State::None && lease.prefix == prefix {
+            lease.d = d;
+            found = true;
+        }
+    }
+    if !found {
+        return Err(refusal(11));
+    }
+    *table = next;
+    Ok(Answer::default())
+}

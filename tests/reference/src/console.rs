@@ -1,0 +1,292 @@
+//! The console: a script of calls in, an answer for each out. What the text of the
+//! console leaves open is decided in README.md.
+
+use std::io::{self, BufRead, Write};
+
+use crate::calls::{self, Answer};
+use crate::image;
+use crate::option::{read118, read220, Suboption, SUBNET_SELECTION};
+use crate::prefix::{dotted, Prefix};
+use crate::refusal::Refusal;
+use crate::sheet::sheet;
+use crate::table::Table;
+
+/// "Longest line: 100,000 bytes."
+pub const LONGEST_LINE: usize = 100_000;
+/// "the reply buffer's length from now on, 0 to 1,024; 257 at first".
+pub const LONGEST_BUFFER: u32 = 1_024;
+/// "`open` takes 0 to 16 prefixes as arguments".
+pub const MOST_PREFIXES: usize = 16;
+
+/// Reads the script line by line and writes the answer to each.
+pub fn run(mut script: impl BufRead, mut out: impl Write) -> io::Result<()> {
+    let mut console = Console::new();
+    let mut line = Vec::new();
+    loop {
+        line.clear();
+        if script.read_until(b'\n', &mut line)? == 0 {
+            return out.flush();
+        }
+        out.write_all(console.line(&line).as_bytes())?;
+    }
+}
+
+/// One open table, a reply buffer, and the count of lines so far.
+pub struct Console {
+    pub table: Table,
+    pub buffer: Vec<u8>,
+    pub lines: u64,
+}
+
+impl Default for Console {
+    fn default() -> Console {
+        Console::new()
+    }
+}
+
+impl Console {
+    /// "Until the first accepted open or load the book is all zero".
+    pub fn new() -> Console {
+        Console {
+            table: Table::zero(),
+            buffer: vec![0; calls::REPLY],
+            lines: 0,
+        }
+    }
+
+    /// The answer to one line, given with or without its newline.
+    pub fn line(&mut self, line: &[u8]) -> String {
+        self.lines += 1;
+        let line = line.strip_suffix(b"\n").unwrap_or(line);
+        let line = line.strip_suffix(b"\r").unwrap_or(line);
+        let answer = if line.len() > LONGEST_LINE {
+            None
+        } else {
+            self.words(line)
+        };
+        // "a line that is no command: it changes nothing".
+        answer.unwrap_or_else(|| format!("error line {}\n", self.lines))
+    }
+
+    /// The answer to a line that is not too long; nothing if it is no command.
+    fn words(&mut self, line: &[u8]) -> Option<String> {
+        // "Words are separated by one or more spaces."
+        let words: Vec<&[u8]> = line
+            .split(|&byte| byte == b' ')
+            .filter(|word| !word.is_empty())
+            .collect();
+        // "A line with no word, or whose first word begins with `#`, is passed over".
+        let Some((&command, arguments)) = words.split_first() else {
+            return Some(String::new());
+        };
+        if command[0] == b'#' {
+            return Some(String::new());
+        }
+        match (command, arguments) {
+            (b"open", [term, default, start, prefixes @ ..]) => {
+                self.open(number(term)?, byte(default)?, number(start)?, prefixes)
+            }
+            (b"ask" | b"take" | b"list", [client, now, option]) => {
+                let (client, now, option) = (number(client)?, number(now)?, hex(option)?);
+                let (table, buffer) = (&mut self.table, &mut self.buffer[..]);
+                let answer = match command {
+                    b"ask" => calls::ask(table, client, now, &option, buffer),
+                    b"take" => calls::take(table, client, now, &option, buffer),
+                    _ => calls::list(table, client, now, &option, buffer),
+                };
+                Some(match answer {
+                    Ok(Answer { bytes, count }) => {
+                        let reply = hex_text(&self.buffer[..bytes]);
+                        format!("ok bytes={bytes} count={count} {reply}\n")
+                    }
+                    Err(refusal) => refused(refusal),
+                })
+            }
+            (b"return", [client, now, option]) => {
+                let (client, now, option) = (number(client)?, number(now)?, hex(option)?);
+                Some(
+                    match calls::release(&mut self.table, client, now, &option) {
+                        Ok(answer) => format!("ok count={}\n", answer.count),
+                        Err(refusal) => refused(refusal),
+                    },
+                )
+            }
+            (b"mark", [now, prefix, d]) => {
+                let (now, prefix, d) = (number(now)?, prefix_of(prefix)?, bit(d)?);
+                Some(ok_or_refused(calls::mark(&mut self.table, now, prefix, d)))
+            }
+            (b"save", []) => {
+                let mut buffer = vec![0; image::FULL];
+                Some(match image::save(&self.table, &mut buffer) {
+                    Ok(bytes) => format!("ok bytes={bytes} {}\n", hex_text(&buffer[..bytes])),
+                    Err(refusal) => refused(refusal),
+                })
+            }
+            (b"load", [image]) => {
+                let image = hex(image)?;
+                Some(ok_or_refused(image::load(&mut self.table, &image)))
+            }
+            (b"sheet", []) => Some(match sheet(&self.table) {
+                Ok(rows) => rows,
+                Err(refusal) => refused(refusal),
+            }),
+            (b"read", [option]) => Some(read(&hex(option)?)),
+            (b"buffer", [length]) => {
+                let length = number(length)?;
+                if length > LONGEST_BUFFER {
+                    return None;
+                }
+                self.buffer = vec![0; length as usize];
+                Some("ok\n".to_string())
+            }
+            _ => None,
+        }
+    }
+
+    fn open(&mut self, term: u32, default: u8, start: u32, words: &[&[u8]]) -> Option<String> {
+        if words.len() > MOST_PREFIXES {
+            return None;
+        }
+        let mut pools = Vec::new();
+        for word in words {
+            pools.push(prefix_of(word)?);
+        }
+        let opened = calls::open(&pools, term, default, start);
+        Some(ok_or_refused(opened.map(|table| self.table = table)))
+    }
+}
+
+/// "what the reader finds: option 118 if the first byte is 118, otherwise option 220".
+fn read(option: &[u8]) -> String {
+    if option.first() == Some(&SUBNET_SELECTION) {
+        return match read118(option) {
+            Ok(address) => format!("address {}\nok\n", dotted(address)),
+            Err(refusal) => refused(refusal),
+        };
+    }
+    let list = match read220(option) {
+        Ok(list) => list,
+        Err(refusal) => return refused(refusal),
+    };
+    let mut text = String::new();
+    for suboption in list {
+        match suboption {
+            Suboption::Request(request) => text.push_str(&format!(
+                "request h={} i={} prefix={}\n",
+                u8::from(request.h),
+                u8::from(request.i),
+                request.prefix
+            )),
+            Suboption::Information(information) => {
+                text.push_str(&format!(
+                    "information c={} s={}\n",
+                    u8::from(information.c),
+                    u8::from(information.s)
+                ));
+                for entry in information.entries {
+                    let figures: Vec<String> = entry.figures.iter().map(u16::to_string).collect();
+                    text.push_str(&format!(
+                        "entry {}/{} h={} d={} figures={}\n",
+                        dotted(entry.network),
+                        entry.prefix,
+                        u8::from(entry.h),
+                        u8::from(entry.d),
+                        if figures.is_empty() {
+                            "-".to_string()
+                        } else {
+                            figures.join(",")
+                        }
+                    ));
+                }
+            }
+            Suboption::Name(name) => text.push_str(&format!("name {}\n", hex_text(&name))),
+            Suboption::Unknown => text.push_str("unknown\n"),
+        }
+    }
+    text.push_str("ok\n");
+    text
+}
+
+fn ok_or_refused<T>(answer: Result<T, Refusal>) -> String {
+    match answer {
+        Ok(_) => "ok\n".to_string(),
+        Err(refusal) => refused(refusal),
+    }
+}
+
+fn refused(refusal: Refusal) -> String {
+    if refusal.number == 7 {
+        format!("refused 7 place={}\n", refusal.place)
+    } else {
+        format!("refused {}\n", refusal.number)
+    }
+}
+
+/// "decimal digits with a value below 2^32"; leading zeros do no harm.
+fn number(word: &[u8]) -> Option<u32> {
+    if word.is_empty() {
+        return None;
+    }
+    let mut value: u32 = 0;
+    for digit in word {
+        if !digit.is_ascii_digit() {
+            return None;
+        }
+        value = value
+            .checked_mul(10)?
+            .checked_add(u32::from(digit - b'0'))?;
+    }
+    Some(value)
+}
+
+/// A number below 256.
+fn byte(word: &[u8]) -> Option<u8> {
+    u8::try_from(number(word)?).ok()
+}
+
+/// "D is 0 or 1".
+fn bit(word: &[u8]) -> Option<bool> {
+    match word {
+        b"0" => Some(false),
+        b"1" => Some(true),
+        _ => None,
+    }
+}
+
+/// "`A.B.C.D/L`, A to D 0 to 255 and L below 256, in decimal, whatever its alignment".
+fn prefix_of(word: &[u8]) -> Option<Prefix> {
+    let parts: Vec<&[u8]> = word.split(|&byte| byte == b'/').collect();
+    let [address, length] = parts[..] else {
+        return None;
+    };
+    let parts: Vec<&[u8]> = address.split(|&byte| byte == b'.').collect();
+    let [a, b, c, d] = parts[..] else {
+        return None;
+    };
+    Some(Prefix {
+        network: u32::from_be_bytes([byte(a)?, byte(b)?, byte(c)?, byte(d)?]),
+        length: byte(length)?,
+    })
+}
+
+/// "hexadecimal digits, upper or lower case, an even number of them; `-` stands for no
+/// bytes".
+fn hex(word: &[u8]) -> Option<Vec<u8>> {
+    if word == b"-" {
+        return Some(Vec::new());
+    }
+    if word.len() % 2 != 0 {
+        return None;
+    }
+    let mut bytes = Vec::new();
+    for pair in word.chunks(2) {
+        let high = (pair[0] as char).to_digit(16)?;
+        let low = (pair[1] as char).to_digit(16)?;
+        bytes.push((16 * high + low) as u8);
+    }
+    Some(bytes)
+}
+
+fn hex_text(bytes: &[u8]) -> String {
+    bytes.iter().map(|byte| format!("{byte:02x}")).collect()
+}

@@ -1,0 +1,23 @@
+//! The numbers the desk refuses with.
+
+/// "A refusal returns its number (7 also its place), all counts 0, and the old
+/// bytes everywhere." The place is 0 for every number but 7.
+#[derive(Clone, Copy, Debug, PartialEq, Eq)]
+pub struct Refusal {
+    pub number: u8,
+    pub place: u16,
+}
+
+/// A refusal without a place.
+pub fn refusal(number: u8) -> Refusal {
+    Refusal { number, place: 0 }
+}
+
+/// "bad suboption; with the place of the first one's number byte, the code byte
+/// being place 0". The place can be 256, so it needs more than a byte.
+pub fn bad_suboption(place: usize) -> Refusal {
+    Refusal {
+        number: 7,
+        place: place as u16,
+    }
+}
