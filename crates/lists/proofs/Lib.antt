@@ -2,3 +2,4 @@ pub mod Tests
 pub mod ListLaws
 pub mod Permutations
 pub mod TableRule
+pub mod ThoseLaws
