@@ -3,3 +3,4 @@ pub mod ListLaws
 pub mod Permutations
 pub mod TableRule
 pub mod ThoseLaws
+pub mod DropLaws

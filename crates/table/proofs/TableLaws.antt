@@ -3,7 +3,7 @@
 use Prim.Native.Nat.{ℕ, zero, suc, _+_, _-_, _%_, _≤_, _<_}
 use mathlib.Core.Path.{_≡_, refl, sym, ap, ap₂, subst, _∙_}
 use mathlib.Core.Logic.{_⊎_, inl, inr, ⊎-elim}
-use mathlib.Core.Bool.{Bool, true, false, not, cond, _&&_, true≢false, false≢true}
+use mathlib.Core.Bool.{Bool, true, false, not, cond, _&&_, and-true}
 use mathlib.Core.List.{List, [], _∷_, _++_, map, append-nil, List·Permᴰ, Permᴰ·refl}
 use native.Mathlib.Omega.{arith}
 use lib.ListN.{length, replicate, length-append, length-replicate, length-map}
@@ -56,6 +56,12 @@ empty-to x e =
 pub empty-of : empty? noLease ≡ true
 unfolding empty?
 empty-of = refl
+
+-- What is left to test of a slot once the other fields are zero.
+pub empty-last : (x : Lease) → eqb (x .network) 0 ≡ true → eqb (x .length) 0 ≡ true → eqb (x .client) 0 ≡ true → x .leased ≡ false → x .h ≡ false → x .d ≡ false
+    → empty? x ≡ eqb (x .expires) 0
+unfolding empty?
+empty-last x n l c le h d = rw (n, l, c, le, h, d) (and-true (eqb (x .expires) 0))
 
 -- A slot whose length is not 0 is not empty.
 pub long-not-unused : (p : Pool) → 0 < p .length → unused? p ≡ false
@@ -266,6 +272,13 @@ module _ (t : LeaseTable) (e : sound t ≡ true) where
 
   pub sound-fewer : (now : ℕ) → length (present now (t .leases)) ≤ leaseSlots
   sound-fewer now = omega (arith, present-fewer now (t .leases), sound-slots)
+
+-- What is left to test of a table that has its slots.
+pub sound-tests : (t : LeaseTable) → length (t .pools) ≡ poolSlots → length (t .leases) ≡ leaseSlots
+    → sound t ≡ headOk (t .term) (t .«default_length») (t .last) && (ltb 0 (length (poolsOf t)) && (poolsAscend? (t .pools) && leasesAscend? (poolsOf t) (t .last) 0 (t .leases)))
+unfolding sound
+sound-tests t p l =
+    rw (eq-eqb (length (t .pools)) poolSlots p, eq-eqb (length (t .leases)) leaseSlots l, and-true (leasesAscend? (poolsOf t) (t .last) 0 (t .leases))) refl
 
 -- GOOD LEASES, STORED, MAKE A SOUND TABLE
 
