@@ -2,3 +2,5 @@ pub mod Tests
 pub mod ListLaws
 pub mod Permutations
 pub mod TableRule
+pub mod WalkLaws
+pub mod PutLaws

@@ -1,0 +1,4 @@
+-- Laws of the definitions.
+pub mod FigureLaws
+pub mod EntryLaws
+pub mod SuboptionLaws
