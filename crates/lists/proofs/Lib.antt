@@ -4,3 +4,4 @@ pub mod Permutations
 pub mod TableRule
 pub mod WalkLaws
 pub mod PutLaws
+pub mod GatherLaws

@@ -2,3 +2,5 @@
 pub mod FigureLaws
 pub mod EntryLaws
 pub mod SuboptionLaws
+pub mod WritingLaws
+pub mod WrittenReadsBack

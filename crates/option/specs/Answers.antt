@@ -10,6 +10,9 @@ use Rattle.lists.specs.Walk.{Turn, more, stop}
 use Rattle.option.specs.Values.{Entry, SuboptionValue, request, information, name, unknown, Outcome, refused, accepted}
 use Rattle.option.specs.Rules.{entryFields?}
 use Rattle.option.specs.Reading.{End, whole, badAt}
+use Rattle.option.specs.Selection as selection
+use Rattle.option.specs.declared.Selection.{Selection}
+use Rattle.option.specs.declared.Selection.the-variants as selected
 use Rattle.option.specs.declared.Figures.{Figures}
 use Rattle.option.specs.declared.EntryFields.{EntryFields}
 use Rattle.option.specs.declared.EntryCursor.{EntryCursor}
@@ -77,3 +80,12 @@ abbrev pub placeOf : Checked → ℕ
 placeOf Good = 0
 placeOf NotTheOption = 0
 placeOf (BadSuboption place) = place
+
+-- The same of option 118.
+abbrev pub selectionOf : selection.Selected → Selection
+selectionOf (selection.address a) = selected.Address a
+selectionOf (selection.refused number) = selected.NotTheOption
+
+abbrev pub selectionNumber : Selection → ℕ
+selectionNumber (selected.Address a) = 0
+selectionNumber selected.NotTheOption = 6

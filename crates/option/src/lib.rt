@@ -1,4 +1,4 @@
-// Option 220 (RFC 6656), read from bytes.
+// Options 220 (RFC 6656) and 118 (RFC 3011), read from bytes.
 ghost use mathlib.Core.Path.{_≡_};
 ghost use Prim.Native.Nat.{_+_, _≤_, _<_};
 ghost use lib.ListN.{length as count};
@@ -25,7 +25,9 @@ ghost use Rattle.option.specs.Answers.{
   cursorAt,
   stepOf,
   checkedOf,
+  selectionOf,
 };
+ghost use Rattle.option.specs.Selection.{readSelection};
 ghost use Rattle.prefix.specs.Prefixes.{checked};
 
 // The figures of an entry: `count` of them, at most three.
@@ -110,6 +112,12 @@ pub enum Checked {
     Good,
     NotTheOption,
     BadSuboption(usize),
+}
+
+// What option 118 reads as: its address, or refusal 6.
+pub enum Selection {
+    Address(u32),
+    NotTheOption,
 }
 
 // What one pass over the entries of an information finds: whether all are framed, and whether the fields of all keep the rules.
@@ -426,4 +434,24 @@ pub fn check_option(s: &[u8]) -> Checked
         return Checked::NotTheOption;
     }
     check_suboptions(s)
+}
+
+// Option 118: the address of the subnet that is asked for. The address is answered as it stands.
+pub fn read_selection(s: &[u8]) -> Selection
+    ensures { λ r. ⌜ r ≡ selectionOf (readSelection (now (s .entry))) ⌝ }
+{
+    if s.len() < 2 {
+        return Selection::NotTheOption;
+    }
+    if s[0] != 118 {
+        return Selection::NotTheOption;
+    }
+    let len = wide(s[1]);
+    if len + 2 != s.len() {
+        return Selection::NotTheOption;
+    }
+    if len != 4 {
+        return Selection::NotTheOption;
+    }
+    Selection::Address(four_at(s, 2))
 }
