@@ -4,3 +4,6 @@ pub mod Permutations
 pub mod TableRule
 pub mod ThoseLaws
 pub mod DropLaws
+pub mod WalkLaws
+pub mod PutLaws
+pub mod GatherLaws
