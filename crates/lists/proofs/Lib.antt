@@ -4,3 +4,5 @@ pub mod Permutations
 pub mod TableRule
 pub mod ThoseLaws
 pub mod DropLaws
+pub mod ShiftLaws
+pub mod FillLaws
