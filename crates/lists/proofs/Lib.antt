@@ -6,3 +6,4 @@ pub mod ThoseLaws
 pub mod DropLaws
 pub mod ShiftLaws
 pub mod FillLaws
+pub mod SortingLaws
