@@ -7,3 +7,6 @@ pub mod DropLaws
 pub mod WalkLaws
 pub mod PutLaws
 pub mod GatherLaws
+pub mod ShiftLaws
+pub mod FillLaws
+pub mod SortingLaws

@@ -7,14 +7,17 @@ use mathlib.Core.Bool.{Bool, true, false, not, cond, _&&_}
 use mathlib.Core.List.{List, [], _∷_, _++_, map}
 use native.Mathlib.Omega.{arith}
 use lib.ListN.{length, replicate}
-use lib.Dec.{leb}
-use borrow.Author.Tests.{leb-true, le-leb}
+use lib.Dec.{leb, ltb}
+use borrow.Author.Tests.{leb-true, le-leb, ltb-true, ltb-false}
 use Rattle.lists.specs.Lists.{All, Pairwise, all?, those}
+use Rattle.lists.specs.Sorting.{insertBy, sortBy}
 use Rattle.lists.proofs.Tests.{bool-cases, and-to, and-of, cond-true, cond-false, not-of, not-to}
 use Rattle.lists.proofs.ListLaws.{all-map}
 use Rattle.lists.proofs.ThoseLaws.{those-yes, those-no}
+use Rattle.lists.proofs.SortingLaws.{insertBy-before, insertBy-after, sortBy-all}
 use Rattle.prefix.specs.declared.Prefix.{Prefix}
 use Rattle.prefix.specs.Prefixes.{end, Apart}
+use Rattle.prefix.proofs.PrefixLaws.{size-positive}
 use Rattle.table.specs.Table.{ascends?}
 
 -- "ascend by network without overlap", from an address on.
@@ -57,6 +60,37 @@ module _ {A : Type 0} (pre : A → Prefix) where
     subst (λ (p : Prefix). from ≤ p .network) (sym (same x)) (s .0),
     subst (λ (p : Prefix). Ascending pre (end p) (map f xs)) (sym (same x)) (ascending-map f same (end (pre x)) xs (s .1)),
   )
+
+  apart-below : (p q : Prefix) → Apart p q → p .network < q .network → end p ≤ q .network
+  apart-below p q (inl a) h = a
+  apart-below p q (inr a) h = absurd (omega (arith, size-positive (q .length)))
+
+  apart-above : (p q : Prefix) → Apart p q → q .network ≤ p .network → end q ≤ p .network
+  apart-above p q (inl a) h = absurd (omega (arith, size-positive (p .length)))
+  apart-above p q (inr a) h = a
+
+  -- Inserted by its network among others, with which it shares no address.
+  pub ascending-insert : (from : ℕ) (x : A) (ys : List A) → from ≤ pre x .network → All (λ y. Apart (pre x) (pre y)) ys → Ascending pre from ys
+      → Ascending pre from (insertBy (λ y. pre y .network) x ys)
+  unfolding insertBy
+  ascending-insert from x [] l a s = (l, tt)
+  ascending-insert from x (y ∷ ys) l a s =
+      let key : A → ℕ = λ z. pre z .network in
+      ⊎-elim
+      (λ (h : ltb (key x) (key y) ≡ true).
+      subst (Ascending pre from) (sym (insertBy-before key x y ys h)) (l, (apart-below (pre x) (pre y) (a .0) (ltb-true (key x) (key y) h), s .1)))
+      (λ (h : ltb (key x) (key y) ≡ false).
+      subst (Ascending pre from) (sym (insertBy-after key x y ys h))
+      (s .0, ascending-insert (end (pre y)) x ys (apart-above (pre x) (pre y) (a .0) (ltb-false (key x) (key y) h)) (a .1) (s .1)))
+      (bool-cases (ltb (key x) (key y)))
+
+  -- Sorted by network, where no two share an address.
+  pub ascending-sort : (xs : List A) → Pairwise (λ x y. Apart (pre x) (pre y)) xs → Ascending pre 0 (sortBy (λ y. pre y .network) xs)
+  unfolding sortBy
+  ascending-sort [] a = tt
+  ascending-sort (x ∷ xs) a =
+      let key : A → ℕ = λ z. pre z .network in
+      ascending-insert 0 x (sortBy key xs) (omega arith) (sortBy-all key (λ y. Apart (pre x) (pre y)) xs (a .0)) (ascending-sort xs (a .1))
 
 -- What the test says of the slots: those that are used pass `ok` and ascend, and nothing but empty slots is behind them.
 pub record Slots {A : Type 0} (none? ok : A → Bool) (pre : A → Prefix) (blank : A) (from : ℕ) (xs : List A) : Type 0 where

@@ -4,23 +4,24 @@ use Prim.Native.Nat.{ℕ, zero, suc, _+_, _-_, _%_, _≤_, _<_}
 use mathlib.Core.Path.{_≡_, refl, sym, ap, ap₂, subst, _∙_}
 use mathlib.Core.Logic.{_⊎_, inl, inr, ⊎-elim}
 use mathlib.Core.Bool.{Bool, true, false, not, cond, _&&_, and-true}
-use mathlib.Core.List.{List, [], _∷_, _++_, map, append-nil, List·Permᴰ, Permᴰ·refl}
+use mathlib.Core.List.{List, [], _∷_, _++_, map, append-nil}
 use native.Mathlib.Omega.{arith}
 use lib.ListN.{length, replicate, length-append, length-replicate, length-map}
 use lib.Dec.{leb, ltb, eqb}
 use borrow.Author.Tests.{leb-true, le-leb, ltb-true, ltb-false, lt-ltb, le-ltb, eqb-true, eqb-false, eq-eqb, ne-eqb, not-true}
 use Rattle.lists.specs.Lists.{All, Any, Pairwise, every, all?, any?, those}
 use Rattle.lists.proofs.Tests.{bool-cases, and-to, and-of, cond-true, cond-false, not-of, not-to, every-to, every-of, any?-to, any?-of}
-use Rattle.lists.proofs.ListLaws.{all-map, all-map₂, all-append, all-image, pairwise-image}
+use Rattle.lists.proofs.ListLaws.{all-map, all-map₂, all-image, all-preimage, pairwise-image}
 use Rattle.prefix.specs.declared.Prefix.{Prefix}
 use Rattle.prefix.specs.Prefixes.{size, end, Aligned, Inside, inside?, Apart}
 use Rattle.prefix.proofs.PrefixLaws.{size-positive, aligned-to, aligned-of, inside-to, inside-of}
 use Rattle.table.specs.declared.Pool.{Pool}
 use Rattle.table.specs.declared.Lease.{Lease}
 use Rattle.table.specs.declared.LeaseTable.{LeaseTable}
-use Rattle.table.specs.Table.{poolSlots, leaseSlots, latest, addresses, poolPrefix, prefixOf, noPool, noLease, poolZeros, unused?, leaseZeros, empty?, prefixesOf, poolsOf, present, headRules, headOk, poolRules, poolOk, leaseRules, leaseOk, ascends?, poolsAscend?, leasesAscend?, tableRules, sound, padded, store, insert}
+use Rattle.table.specs.Table.{poolSlots, leaseSlots, latest, addresses, poolPrefix, prefixOf, noPool, noLease, poolZeros, unused?, leaseZeros, empty?, prefixesOf, poolsOf, present, headRules, headOk, poolRules, poolOk, leaseRules, leaseOk, ascends?, poolsAscend?, leasesAscend?, tableRules, sound, padded, store, networkOf, insert}
+use Rattle.lists.proofs.SortingLaws.{insertBy-all, insertBy-longer}
 use Rattle.lists.proofs.ThoseLaws.{those-yes, those-no, those-all, those-fewer, those-append, those-whole, those-replicate, those-pass}
-use Rattle.table.proofs.Ascending.{Ascending, used, ascending-weaken, ascending-those, ascending-apart, ascending-map, Slots, ascends-to, ascends-of}
+use Rattle.table.proofs.Ascending.{Ascending, used, ascending-weaken, ascending-those, ascending-apart, ascending-map, ascending-insert, Slots, ascends-to, ascends-of}
 
 -- EMPTY SLOTS
 
@@ -308,46 +309,53 @@ store-sound t now xs e l n f =
 
 -- INSERTION
 
-pub insert-all : (P : Lease → Type 0) (x : Lease) (ys : List Lease) → P x → All P ys → All P (insert x ys)
-unfolding insert
-insert-all P x [] p a = (p, tt)
-insert-all P x (y ∷ ys) p a =
-    ⊎-elim
-    (λ (h : ltb (x .network) (y .network) ≡ true). subst (All P) (sym (cond-true (ltb (x .network) (y .network)) _ _ h)) (p, a))
-    (λ (h : ltb (x .network) (y .network) ≡ false). subst (All P) (sym (cond-false (ltb (x .network) (y .network)) _ _ h)) (a .0, insert-all P x ys p (a .1)))
-    (bool-cases (ltb (x .network) (y .network)))
-
-pub insert-perm : (x : Lease) (ys : List Lease) → List·Permᴰ (insert x ys) (x ∷ ys)
-unfolding insert
-insert-perm x [] = Permᴰ·refl (x ∷ [])
-insert-perm x (y ∷ ys) =
-    ⊎-elim
-    (λ (h : ltb (x .network) (y .network) ≡ true). subst (λ (l : List Lease). List·Permᴰ l (x ∷ y ∷ ys)) (sym (cond-true (ltb (x .network) (y .network)) _ _ h)) (Permᴰ·refl (x ∷ y ∷ ys)))
-    (λ (h : ltb (x .network) (y .network) ≡ false).
-    subst (λ (l : List Lease). List·Permᴰ l (x ∷ y ∷ ys)) (sym (cond-false (ltb (x .network) (y .network)) _ _ h))
-    (List·Permᴰ.List·Permᴰ·trans (List·Permᴰ.List·Permᴰ·cons refl (insert-perm x ys)) (List·Permᴰ.List·Permᴰ·swap refl refl)))
-    (bool-cases (ltb (x .network) (y .network)))
-
-apart-below : (x y : Lease) → Apart (prefixOf x) (prefixOf y) → x .network < y .network → end (prefixOf x) ≤ y .network
-apart-below x y (inl a) h = a
-apart-below x y (inr a) h = absurd (omega (arith, size-positive (y .length)))
-
-apart-above : (x y : Lease) → Apart (prefixOf x) (prefixOf y) → y .network ≤ x .network → end (prefixOf y) ≤ x .network
-apart-above x y (inl a) h = absurd (omega (arith, size-positive (x .length)))
-apart-above x y (inr a) h = a
-
-pub insert-ascending : (from : ℕ) (x : Lease) (ys : List Lease) → from ≤ x .network → All (Apart (prefixOf x)) (map prefixOf ys) → Ascending prefixOf from ys → Ascending prefixOf from (insert x ys)
-unfolding insert
-insert-ascending from x [] l a s = (l, tt)
-insert-ascending from x (y ∷ ys) l a s =
-    ⊎-elim
-    (λ (h : ltb (x .network) (y .network) ≡ true).
-    subst (Ascending prefixOf from) (sym (cond-true (ltb (x .network) (y .network)) _ _ h)) (l, (apart-below x y (a .0) (ltb-true (x .network) (y .network) h), s .1)))
-    (λ (h : ltb (x .network) (y .network) ≡ false).
-    subst (Ascending prefixOf from) (sym (cond-false (ltb (x .network) (y .network)) _ _ h))
-    (s .0, insert-ascending (end (prefixOf y)) x ys (apart-above x y (a .0) (ltb-false (x .network) (y .network) h)) (a .1) (s .1)))
-    (bool-cases (ltb (x .network) (y .network)))
-
 -- A good lease that shares no address with the others, inserted.
 pub insert-fine : (pools : List Prefix) (now : ℕ) (x : Lease) (ys : List Lease) → Good pools now x → All (Apart (prefixOf x)) (map prefixOf ys) → Fine pools now 0 ys → Fine pools now 0 (insert x ys)
-insert-fine pools now x ys g a f = (insert-all (Good pools now) x ys g (f .0), insert-ascending 0 x ys (omega arith) a (f .1))
+insert-fine pools now x ys g a f =
+    (insertBy-all networkOf (Good pools now) x ys g (f .0), ascending-insert prefixOf 0 x ys (omega arith) (all-preimage prefixOf (Apart (prefixOf x)) ys a) (f .1))
+
+-- It keeps a sound table sound, where there is room.
+pub insert-sound : (t : LeaseTable) (now : ℕ) (x : Lease) → sound t ≡ true → now ≤ latest → length (present now (t .leases)) < leaseSlots → Good (poolsOf t) now x
+    → All (Apart (prefixOf x)) (map prefixOf (present now (t .leases))) → sound (store t now (insert x (present now (t .leases)))) ≡ true
+insert-sound t now x e l room g a =
+    let xs : List Lease = present now (t .leases) in
+    store-sound t now (insert x xs) e l (omega (arith, insertBy-longer networkOf x xs)) (insert-fine (poolsOf t) now x xs g a (sound-fine t e now))
+
+-- Removing expired leases keeps a sound table sound, and so does leaving out any others.
+pub those-sound : (t : LeaseTable) (now : ℕ) (f : Lease → Bool) → sound t ≡ true → now ≤ latest → sound (store t now (those f (present now (t .leases)))) ≡ true
+those-sound t now f e l =
+    let xs : List Lease = present now (t .leases) in
+    store-sound t now (those f xs) e l (omega (arith, those-fewer f xs, sound-fewer t e now)) (fine-those (poolsOf t) now 0 f xs (sound-fine t e now))
+
+pub expired-sound : (t : LeaseTable) (now : ℕ) → sound t ≡ true → now ≤ latest → sound (store t now (present now (t .leases))) ≡ true
+expired-sound t now e l = store-sound t now (present now (t .leases)) e l (sound-fewer t e now) (sound-fine t e now)
+
+-- Changing leases in what does not belong to their place, if each stays good.
+pub map-sound : (t : LeaseTable) (now : ℕ) (f : Lease → Lease) → ((x : Lease) → prefixOf (f x) ≡ prefixOf x) → ((x : Lease) → Good (poolsOf t) now x → Good (poolsOf t) now (f x))
+    → sound t ≡ true → now ≤ latest → sound (store t now (map f (present now (t .leases)))) ≡ true
+map-sound t now f same good e l =
+    let xs : List Lease = present now (t .leases) in
+    store-sound t now (map f xs) e l (omega (arith, length-map xs f, sound-fewer t e now)) (fine-map (poolsOf t) now 0 f same good xs (sound-fine t e now))
+
+-- WHAT STORING TOUCHES: the leases and the last time, and nothing else.
+
+module _ (t : LeaseTable) (now : ℕ) (xs : List Lease) where
+  pub store-pools : store t now xs .pools ≡ t .pools
+  unfolding store
+  store-pools = refl
+
+  pub store-term : store t now xs .term ≡ t .term
+  unfolding store
+  store-term = refl
+
+  pub store-default : store t now xs .«default_length» ≡ t .«default_length»
+  unfolding store
+  store-default = refl
+
+  pub store-last : store t now xs .last ≡ now
+  unfolding store
+  store-last = refl
+
+  pub store-leases : store t now xs .leases ≡ padded xs
+  unfolding store
+  store-leases = refl

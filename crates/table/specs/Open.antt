@@ -6,6 +6,7 @@ use mathlib.Core.List.{List, [], _∷_}
 use lib.ListN.{length, replicate}
 use lib.Dec.{leb, ltb, eqb}
 use Rattle.lists.specs.Lists.{every, all?}
+use Rattle.lists.specs.Sorting.{sortBy}
 use Rattle.prefix.specs.Prefixes.{apart?}
 use Rattle.table.specs.declared.Pool.{Pool}
 use Rattle.table.specs.declared.LeaseTable.{LeaseTable}
@@ -34,13 +35,11 @@ poolsApart? [] = true
 poolsApart? (p ∷ ps) = apartFrom? p ps && poolsApart? ps
 
 -- Pools "any order given", ascending by network.
-unfoldable pub insertPool : Pool → List Pool → List Pool
-insertPool p [] = p ∷ []
-insertPool p (q ∷ qs) = let rest = insertPool p qs in cond (ltb (p .network) (q .network)) (p ∷ q ∷ qs) (q ∷ rest)
+abbrev pub poolNetwork : Pool → ℕ
+poolNetwork p = p .network
 
-unfoldable pub sortPools : List Pool → List Pool
-sortPools [] = []
-sortPools (p ∷ ps) = insertPool p (sortPools ps)
+abbrev pub sortPools : List Pool → List Pool
+sortPools ps = sortBy poolNetwork ps
 
 -- Row 12: "roots, term, default length or start time (above 4,292,375,295) outside the rules". "A book holds 1 to 8 roots".
 abbrev pub openRules : List ℕ → List ℕ → ℕ → ℕ → ℕ → List Bool

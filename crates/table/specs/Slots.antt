@@ -1,21 +1,23 @@
 -- What is done to the slots of a table: where a lease goes, shifting up and down, and where a lease stands.
 -- Assumes nothing: these are definitions.
-use Prim.Native.Nat.{ℕ, suc, _+_, _-_}
+use Prim.Native.Nat.{ℕ, _+_}
 use mathlib.Core.Bool.{Bool, cond, _&&_}
 use mathlib.Core.List.{List, [], _∷_, _++_}
-use lib.ListN.{length, take, drop}
+use lib.ListN.{take, drop}
 use lib.Dec.{ltb, eqb}
+use Rattle.lists.specs.Sorting.{placeBy}
 use Rattle.table.specs.declared.Lease.{Lease}
 use Rattle.table.specs.declared.Found.{Found}
 use Rattle.table.specs.declared.Found.the-variants.{At, Nothing}
-use Rattle.table.specs.Table.{leaseSlots, padded}
+use Rattle.table.specs.Table.{leaseSlots, networkOf, padded}
+
+-- A slot that is free, seen from its length: no lease has length 0.
+abbrev pub free? : Lease → Bool
+free? x = eqb (x .length) 0
 
 -- The first slot that is empty or has a network above this one; the number of slots where there is none.
-unfoldable pub placeFor : ℕ → List Lease → ℕ
-placeFor network [] = 0
-placeFor network (y ∷ ys) =
-    let later = suc (placeFor network ys) in
-    cond (eqb (y .length) 0) 0 (cond (ltb network (y .network)) 0 later)
+abbrev pub placeFor : ℕ → List Lease → ℕ
+placeFor network xs = placeBy free? networkOf network xs
 
 -- x at slot i, and what stood from i on one slot further; what then has no slot is gone.
 abbrev pub insertAt : List Lease → ℕ → Lease → List Lease

@@ -6,6 +6,7 @@ use mathlib.Core.List.{List, [], _∷_, _++_, map}
 use lib.ListN.{length, replicate}
 use lib.Dec.{leb, ltb, eqb}
 use Rattle.lists.specs.Lists.{every, all?, any?, those}
+use Rattle.lists.specs.Sorting.{insertBy}
 use Rattle.prefix.specs.declared.Prefix.{Prefix}
 use Rattle.prefix.specs.Prefixes.{shortest, longest, prefix, end, aligned?, inside?}
 use Rattle.table.specs.declared.Pool.{Pool}
@@ -33,6 +34,9 @@ poolPrefix p = prefix (p .network) (p .length)
 
 abbrev pub prefixOf : Lease → Prefix
 prefixOf x = prefix (x .network) (x .length)
+
+abbrev pub networkOf : Lease → ℕ
+networkOf x = x .network
 
 -- An unused pool slot, and an empty lease slot (document 01: an empty line): "all zero".
 abbrev pub noPool : Pool
@@ -138,6 +142,5 @@ unfoldable pub store : LeaseTable → ℕ → List Lease → LeaseTable
 store t now xs = record { pools = t .pools; leases = padded xs; term = t .term; «default_length» = t .«default_length»; last = now }
 
 -- A lease among others, ascending by network.
-unfoldable pub insert : Lease → List Lease → List Lease
-insert x [] = x ∷ []
-insert x (y ∷ ys) = let rest = insert x ys in cond (ltb (x .network) (y .network)) (x ∷ y ∷ ys) (y ∷ rest)
+abbrev pub insert : Lease → List Lease → List Lease
+insert x xs = insertBy networkOf x xs
