@@ -1,0 +1,6 @@
+-- Laws of the definitions.
+pub mod FigureLaws
+pub mod EntryLaws
+pub mod SuboptionLaws
+pub mod WritingLaws
+pub mod WrittenReadsBack

@@ -1,0 +1,6 @@
+pub mod Values
+pub mod Rules
+pub mod Reading
+pub mod Writing
+pub mod Selection
+pub mod Answers

@@ -1,0 +1,5 @@
+-- Laws that several proofs cite.
+pub mod Ascending
+pub mod TableLaws
+pub mod Scan
+pub mod SlotLaws
