@@ -29,7 +29,7 @@ module _ (last : Bool) (s : List ℕ) (end at : ℕ) (le : at ≤ end) (m r : Me
         omega arith,
         omega (arith, moves .0, ap (λ (x : Message). x .entries) new),
         found ∙ ap (λ (es : List Entry × Bool). withEntries last m (es .0)) (entries-more s end at le e next h)
-        ∙ ap₂ (λ (x : Message) (k : ℕ). withEntries last x (readEntries s k next .0)) (sym new) (sym same),
+            ∙ ap₂ (λ (x : Message) (k : ℕ). withEntries last x (readEntries s k next .0)) (sym new) (sym same),
       )
 
   pub entries-done : (b : Bool) → readEntry s end at ≡ stop b → m ≡ r

@@ -1,11 +1,25 @@
 // What the calls look at in an option, read once: its requests, its entries and the position of a list.
-use option::{Cursor, EntryCursor, EntryFields, EntryStep, RequestFields, Step, Suboption};
+use option::Cursor;
+use option::EntryCursor;
+use option::EntryFields;
+use option::EntryStep;
+use option::RequestFields;
+use option::Step;
+use option::Suboption;
 ghost use mathlib.Core.Path.{_≡_};
 ghost use mathlib.Core.Bool.{true, cond, _&&_};
 ghost use Prim.Native.Nat.{_+_, _<_, _≤_};
 ghost use Rattle.option.specs.Reading.{readEntries, readSuboptions};
 ghost use Rattle.message.specs.Collect.{
-    blank as blankOf, put?, oneMore, withRequest, withEntry, withEntries, withSuboption, FollowsOn, collect
+  blank as blankOf,
+  put?,
+  oneMore,
+  withRequest,
+  withEntry,
+  withEntries,
+  withSuboption,
+  FollowsOn,
+  collect,
 };
 
 // A request as ask needs it.
@@ -126,10 +140,14 @@ fn with_request(m: Message, r: RequestFields) -> Message
     ensures { λ q. ⌜ q ≡ withRequest m (r .h) (r .i) (r .length) ⌝ }
 {
     let before = m.asks;
-    let asks = put_ask(before, m.requests, Ask {
-        h: r.h,
-        length: r.length,
-    });
+    let asks = put_ask(
+        before,
+        m.requests,
+        Ask {
+            h: r.h,
+            length: r.length,
+        },
+    );
     let networks = m.networks;
     let lengths = m.lengths;
     Message {

@@ -42,8 +42,7 @@ first-requires c κs = search needs
 loop-holds : tie.Need-loop-holds Inv-loop μ-loop
 loop-holds c =
     let at : c .first .result .at ≡ 3 = ap (λ (k : Cursor). k .at) (c .first .ensures) in
-    let b = c .before .blank2 .ensures in
-    (
+    let b = c .before .blank2 .ensures in (
       omega (arith, at, c .before .before .if1 .left),
       record {
         requests = omega (arith, at, ap (λ (m : Message). m .requests) b);
