@@ -10,3 +10,4 @@ pub mod CallLaws
 pub mod FirstSentence
 pub mod Demand3Holds
 pub mod Converse
+pub mod SoundKept

@@ -64,6 +64,15 @@ served-or-not P rows refusing accepting a b = go (firstOf rows) b
     go none k = k refl
     go (some n) k = a n
 
+-- A call whose first row is known.
+pub refused-with : {R : Type 0} (P : R → Type 0) (rows : List Row) (refusing : ℕ → R) (accepting : R) (n : ℕ) → firstOf rows ≡ some n
+    → P (refusing n) → P (orElse (firstOf rows) refusing accepting)
+refused-with P rows refusing accepting n e p = subst (λ (o : Option ℕ). P (orElse o refusing accepting)) (sym e) p
+
+pub accepted-with : {R : Type 0} (P : R → Type 0) (rows : List Row) (refusing : ℕ → R) (accepting : R) → firstOf rows ≡ none
+    → P accepting → P (orElse (firstOf rows) refusing accepting)
+accepted-with P rows refusing accepting e p = subst (λ (o : Option ℕ). P (orElse o refusing accepting)) (sym e) p
+
 -- The rows have no number 0, so a refusal is not accepted.
 abbrev pub Numbered : List Row → Type 0
 Numbered rows = All (λ (r : Row). eqb (r .0) 0 ≡ false) rows
