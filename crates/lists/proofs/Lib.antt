@@ -7,3 +7,4 @@ pub mod DropLaws
 pub mod ShiftLaws
 pub mod FillLaws
 pub mod SortingLaws
+pub mod PutLaws
