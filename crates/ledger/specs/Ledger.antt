@@ -136,8 +136,8 @@ abbrev pub entryOf : Lease → Entry
 entryOf x = record { network = x .network; length = x .length; h = x .h; d = x .d; figures = [] }
 
 -- The place of a refusal: "7 also its place".
-abbrev pub placeFor : List ℕ → ℕ → ℕ
-placeFor option number = cond (eqb number 7) (placeIn (readOption option)) 0
+abbrev pub refusalPlace : List ℕ → ℕ → ℕ
+refusalPlace option number = cond (eqb number 7) (placeIn (readOption option)) 0
 
 -- EMPTY SLOTS
 
@@ -229,7 +229,7 @@ unfoldable pub ask : LeaseTable → ℕ → ℕ → List ℕ → List ℕ → Re
 ask t now client option reply =
     let os = askOffers t now client option in
     orElse (firstOf (askRows t now client option reply))
-    (λ number. refuse number (placeFor option number) t reply)
+    (λ number. refuse number (refusalPlace option number) t reply)
     (accept (store t now (addAll os (present now (t .leases)))) (optionBytes (map informationFor (somes os))) (length (somes os)) reply)
 
 -- TAKE
@@ -275,7 +275,7 @@ take t now client option reply =
     let xs = present now (t .leases) in
     let gs = found client xs (entriesIn option) in
     orElse (firstOf (takeRows t now client option reply))
-    (λ number. refuse number (placeFor option number) t reply)
+    (λ number. refuse number (refusalPlace option number) t reply)
     (accept (store t now (renewNamed now (t .term) client (entriesIn option) xs)) (optionBytes (information false false (map entryOf gs) ∷ [])) (length gs) reply)
 
 -- LIST
@@ -326,7 +326,7 @@ unfoldable pub list : LeaseTable → ℕ → ℕ → List ℕ → List ℕ → R
 list t now client option reply =
     let gs = listedIn t now client option in
     orElse (firstOf (listRows t now client option reply))
-    (λ number. refuse number (placeFor option number) t reply)
+    (λ number. refuse number (refusalPlace option number) t reply)
     (accept t (optionBytes (information true (ltb 35 (length gs)) (map entryOf (upTo 35 gs)) ∷ [])) (length (upTo 35 gs)) reply)
 
 -- RETURN: "as take, but strikes the lines; no reply buffer"
@@ -349,7 +349,7 @@ release t now client option =
     let xs = present now (t .leases) in
     let es = entriesIn option in
     orElse (firstOf (releaseRows t now client option))
-    (λ number. refuseUpdate number (placeFor option number) t)
+    (λ number. refuseUpdate number (refusalPlace option number) t)
     (acceptUpdate (store t now (those (λ x. not (named? client es x)) xs)) (length (those (named? client es) xs)))
 
 -- MARK: "sets or clears d on the present line with a given network and length"; "Mark has no station"

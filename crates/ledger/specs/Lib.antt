@@ -1,2 +1,4 @@
 pub mod Ledger
 pub mod Demand3
+pub mod Histories
+pub mod Conservation

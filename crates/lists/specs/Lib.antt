@@ -2,3 +2,4 @@ pub mod Lists
 pub mod Walk
 pub mod Put
 pub mod Sorting
+pub mod Put

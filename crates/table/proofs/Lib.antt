@@ -3,3 +3,4 @@ pub mod Ascending
 pub mod TableLaws
 pub mod Scan
 pub mod SlotLaws
+pub mod OpenLaws

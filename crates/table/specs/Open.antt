@@ -13,6 +13,7 @@ use Rattle.table.specs.declared.LeaseTable.{LeaseTable}
 use Rattle.table.specs.declared.OpenAnswer.{OpenAnswer}
 use Rattle.table.specs.declared.OpenAnswer.the-variants.{Accepted, OutsideRules}
 use Rattle.table.specs.declared.Opened.{Opened}
+use Rattle.table.specs.Slots.{poolNetwork}
 use Rattle.table.specs.Table.{poolSlots, leaseSlots, noPool, noLease, poolPrefix, headOk, poolOk, paddedPools}
 
 -- The number that document 01 gives each answer: row 12, and 0 for an accepted open.
@@ -35,11 +36,12 @@ poolsApart? [] = true
 poolsApart? (p ∷ ps) = apartFrom? p ps && poolsApart? ps
 
 -- Pools "any order given", ascending by network.
-abbrev pub poolNetwork : Pool → ℕ
-poolNetwork p = p .network
-
 abbrev pub sortPools : List Pool → List Pool
 sortPools ps = sortBy poolNetwork ps
+
+-- The pools given keep the rules of pools.
+abbrev pub poolsOk : List Pool → Bool
+poolsOk ps = all? poolOk ps && poolsApart? ps
 
 -- Row 12: "roots, term, default length or start time (above 4,292,375,295) outside the rules". "A book holds 1 to 8 roots".
 abbrev pub openRules : List ℕ → List ℕ → ℕ → ℕ → ℕ → List Bool
@@ -48,8 +50,7 @@ openRules networks lengths term defaultLength start =
     ∷ ltb 0 (length networks)
     ∷ leb (length networks) poolSlots
     ∷ headOk term defaultLength start
-    ∷ all? poolOk (given networks lengths)
-    ∷ poolsApart? (given networks lengths)
+    ∷ poolsOk (given networks lengths)
     ∷ []
 
 unfoldable pub openOk : List ℕ → List ℕ → ℕ → ℕ → ℕ → Bool

@@ -7,9 +7,10 @@ use lib.ListN.{take, drop}
 use lib.Dec.{ltb, eqb}
 use Rattle.lists.specs.Sorting.{placeBy}
 use Rattle.table.specs.declared.Lease.{Lease}
+use Rattle.table.specs.declared.Pool.{Pool}
 use Rattle.table.specs.declared.Found.{Found}
 use Rattle.table.specs.declared.Found.the-variants.{At, Nothing}
-use Rattle.table.specs.Table.{leaseSlots, networkOf, padded}
+use Rattle.table.specs.Table.{poolSlots, leaseSlots, networkOf, padded}
 
 -- A slot that is free, seen from its length: no lease has length 0.
 abbrev pub free? : Lease → Bool
@@ -45,3 +46,16 @@ find now network length [] = Nothing
 find now network length (x ∷ xs) =
     let later = further (find now network length xs) in
     cond (named? now network length x) (At 0) later
+
+-- The same for the pools that open is given: the first slot that is unused or has a network above, and p at it.
+abbrev pub poolFree? : Pool → Bool
+poolFree? p = eqb (p .length) 0
+
+abbrev pub poolNetwork : Pool → ℕ
+poolNetwork p = p .network
+
+abbrev pub poolPlace : ℕ → List Pool → ℕ
+poolPlace network ps = placeBy poolFree? poolNetwork network ps
+
+abbrev pub insertPool : List Pool → Pool → List Pool
+insertPool ps p = take poolSlots (take (poolPlace (p .network) ps) ps ++ (p ∷ drop (poolPlace (p .network) ps) ps))
