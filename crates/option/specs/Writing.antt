@@ -38,14 +38,13 @@ entryBytes e = entryHead (e .network) (e .length) (e .h) (e .d) (2 * length (e .
 unfoldable pub entriesBytes : List Entry → List ℕ
 entriesBytes es = gather entryBytes es
 
--- Len counts the flags and the entries.
 unfoldable pub informationHead : ℕ → Bool → Bool → List ℕ
-informationHead entries c s = 2 ∷ (1 + entries) ∷ flags c s ∷ []
+informationHead len c s = 2 ∷ len ∷ flags c s ∷ []
 
--- Rules 3, 4 and 5. An unknown suboption is never written.
+-- Rules 3, 4 and 5. An information's Len counts its flags and its entries. An unknown suboption is never written.
 unfoldable pub suboptionBytes : SuboptionValue → List ℕ
 suboptionBytes (request h i length) = requestBytes h i length
-suboptionBytes (information c s entries) = informationHead (length (entriesBytes entries)) c s ++ entriesBytes entries
+suboptionBytes (information c s entries) = informationHead (1 + length (entriesBytes entries)) c s ++ entriesBytes entries
 suboptionBytes (name octets) = 3 ∷ length octets ∷ octets
 suboptionBytes unknown = []
 
@@ -55,10 +54,10 @@ suboptionsBytes subs = gather suboptionBytes subs
 
 -- Rule 1: Code, Len, which counts the flags and the suboptions, and the option's flags. Rule 6: these are 0.
 unfoldable pub optionHead : ℕ → List ℕ
-optionHead suboptions = 220 ∷ (1 + suboptions) ∷ 0 ∷ []
+optionHead len = 220 ∷ len ∷ 0 ∷ []
 
 unfoldable pub optionBytes : List SuboptionValue → List ℕ
-optionBytes subs = optionHead (length (suboptionsBytes subs)) ++ suboptionsBytes subs
+optionBytes subs = optionHead (1 + length (suboptionsBytes subs)) ++ suboptionsBytes subs
 
 -- What can be written: a suboption that keeps the rules of Rules and has one or more entries, with at most three figures each, or one or more
 -- octets.

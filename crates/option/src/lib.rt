@@ -239,7 +239,7 @@ impl EntryCursor {
 }
 
 // Whether a network and a length make a block: the field rule of an entry.
-fn is_block(network: u32, length: u8) -> bool
+pub fn is_block(network: u32, length: u8) -> bool
     ensures { λ r. ⌜ r ≡ block? (checked network length) ⌝ }
 {
     match prefix::Prefix::new(network, length) {

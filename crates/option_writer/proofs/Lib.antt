@@ -1,0 +1,6 @@
+-- Laws of the definitions.
+pub mod StoreLaws
+pub mod PartLaws
+pub mod EntryPuts
+pub mod MeasureLaws
+pub mod ItemPuts
