@@ -1,0 +1,104 @@
+-- Laws of the common rows: what the reader's answer says of rows 6 and 7, and how a call goes on after the common rows.
+-- Assumes nothing.
+use Prim.Native.Nat.{ℕ}
+use mathlib.Core.Path.{_≡_, refl, sym, ap, subst, _∙_}
+use mathlib.Core.Logic.{_⊎_, ⊎-elim}
+use mathlib.Core.Bool.{Bool, true, false, not, cond, true≢false, false≢true}
+use mathlib.Core.List.{List, [], _∷_, _++_}
+use mathlib.Core.Option.{Option, none, some, Option·some-ne-none}
+use lib.Dec.{eqb}
+use Rattle.lists.specs.Lists.{All}
+use Rattle.lists.proofs.Tests.{bool-cases, cond-true, cond-false}
+use Rattle.option.specs.Values.{SuboptionValue, Outcome, refused, accepted}
+use Rattle.option.specs.Reading.{End, whole, badAt, ended, option?, readSuboptions, readOption}
+use Rattle.option.specs.Answers.{checkedOf}
+use Rattle.table.specs.declared.LeaseTable.{LeaseTable}
+use Rattle.ledger.specs.Ledger as ledger
+use Rattle.ledger.specs.Ledger.{Row, firstOf, orElse, refuses?, placeIn}
+use Rattle.answers.specs.declared.Answer.{Answer}
+use Rattle.answers.specs.Answers.{answerOf, refused?, checkedAnswer, commonRows, answered}
+
+-- Rows 6 and 7 of what an option reads as.
+abbrev optionRows : Outcome → List Row
+optionRows o = (6, refuses? 6 o) ∷ (7, refuses? 7 o) ∷ []
+
+abbrev optionAnswer : Outcome → ledger.Answer
+optionAnswer o = orElse (firstOf (optionRows o)) (λ number. ledger.refusal number (cond (eqb number 7) (placeIn o) 0)) (ledger.acceptance 0 0)
+
+reader-rows : (ok : Bool) (subs : List SuboptionValue) (e : End)
+    → answerOf (checkedAnswer (checkedOf (cond ok (ended subs e) (refused 6 0)))) ≡ optionAnswer (cond ok (ended subs e) (refused 6 0))
+reader-rows true subs whole = refl
+reader-rows true subs (badAt place) = refl
+reader-rows false subs e = refl
+
+pub option-rows : (option : List ℕ) → answerOf (checkedAnswer (checkedOf (readOption option))) ≡ answered (firstOf (optionRows (readOption option))) option
+unfolding readOption
+option-rows option = reader-rows (option? option) (readSuboptions option 3 .0) (readSuboptions option 3 .1)
+
+-- THE FIRST ROW THAT APPLIES
+
+-- What holds of the numbers of all rows holds of the first that applies.
+pub first-number : (P : ℕ → Type 0) (rows : List Row) → All (λ (r : Row). P (r .0)) rows → (n : ℕ) → firstOf rows ≡ some n → P n
+first-number P [] a n e = absurd (Option·some-ne-none n (sym e))
+first-number P (r ∷ rows) a n e =
+    ⊎-elim
+    (λ (b : r .1 ≡ true).
+    let same : r .0 ≡ n = cc (cond-true (r .1) (some (r .0)) (firstOf rows) b) in
+    subst P same (a .0))
+    (λ (b : r .1 ≡ false). first-number P rows (a .1) n (sym (cond-false (r .1) (some (r .0)) (firstOf rows) b) ∙ e))
+    (bool-cases (r .1))
+
+-- Rows before others: the others count only where none of those applies.
+pub first-before : (xs ys : List Row) (n : ℕ) → firstOf xs ≡ some n → firstOf (xs ++ ys) ≡ some n
+first-before [] ys n e = absurd (Option·some-ne-none n (sym e))
+first-before (r ∷ xs) ys n e =
+    ⊎-elim
+    (λ (b : r .1 ≡ true). cond-true (r .1) (some (r .0)) (firstOf (xs ++ ys)) b ∙ sym (cond-true (r .1) (some (r .0)) (firstOf xs) b) ∙ e)
+    (λ (b : r .1 ≡ false).
+    cond-false (r .1) (some (r .0)) (firstOf (xs ++ ys)) b ∙ first-before xs ys n (sym (cond-false (r .1) (some (r .0)) (firstOf xs) b) ∙ e))
+    (bool-cases (r .1))
+
+pub first-after : (xs ys : List Row) → firstOf xs ≡ none → firstOf (xs ++ ys) ≡ firstOf ys
+first-after [] ys e = refl
+first-after (r ∷ xs) ys e =
+    ⊎-elim
+    (λ (b : r .1 ≡ true). absurd (Option·some-ne-none (r .0) (sym (cond-true (r .1) (some (r .0)) (firstOf xs) b) ∙ e)))
+    (λ (b : r .1 ≡ false).
+    cond-false (r .1) (some (r .0)) (firstOf (xs ++ ys)) b ∙ first-after xs ys (sym (cond-false (r .1) (some (r .0)) (firstOf xs) b) ∙ e))
+    (bool-cases (r .1))
+
+-- HOW A CALL GOES ON after rows that it has in common with others: an answer that stands for these rows refuses the call exactly where one of them
+-- applies. No row has number 0.
+
+module _ (common : List Row) (numbered : All (λ (r : Row). eqb (r .0) 0 ≡ false) common) (option : List ℕ) (a : Answer)
+    (e : answerOf a ≡ answered (firstOf common) option) where
+  refused-by : (o : Option ℕ) → firstOf common ≡ o → refused? a ≡ true → (n : ℕ) × (firstOf common ≡ some n)
+  refused-by none f r =
+      let zero : answerOf a ≡ ledger.acceptance 0 0 = e ∙ ap (λ (o : Option ℕ). answered o option) f in
+      absurd (true≢false (sym r ∙ ap (λ (x : ledger.Answer). not (eqb (x .number) 0)) zero))
+  refused-by (some n) f r = (n, f)
+
+  passed-by : (o : Option ℕ) → firstOf common ≡ o → refused? a ≡ false → firstOf common ≡ none
+  passed-by none f r = f
+  passed-by (some n) f r =
+      let number : answerOf a ≡ ledger.refusal n (ledger.placeFor option n) = e ∙ ap (λ (o : Option ℕ). answered o option) f in
+      let some-number : eqb n 0 ≡ false = first-number (λ (m : ℕ). eqb m 0 ≡ false) common numbered n f in
+      absurd (true≢false (sym (ap not some-number) ∙ sym (ap (λ (x : ledger.Answer). not (eqb (x .number) 0)) number) ∙ r))
+
+  -- Refused, the call gives this answer, whatever its own rows say.
+  pub common-refuses : {R : Type 0} (own : List Row) (make : ledger.Answer → R) (accepting : R) → refused? a ≡ true
+      → make (answerOf a) ≡ orElse (firstOf (common ++ own)) (λ (number : ℕ). make (ledger.refusal number (ledger.placeFor option number))) accepting
+  common-refuses {R} own make accepting r =
+      let n = refused-by (firstOf common) refl r in
+      ap make (e ∙ ap (λ (o : Option ℕ). answered o option) (n .1))
+      ∙ sym (ap (λ (o : Option ℕ). orElse o (λ (number : ℕ). make (ledger.refusal number (ledger.placeFor option number))) accepting)
+      (first-before common own (n .0) (n .1)))
+
+  -- Not refused, it goes by its own rows.
+  pub common-passes : {R : Type 0} (own : List Row) (refusing : ℕ → R) (accepting : R) → refused? a ≡ false
+      → orElse (firstOf (common ++ own)) refusing accepting ≡ orElse (firstOf own) refusing accepting
+  common-passes {R} own refusing accepting r =
+      ap (λ (o : Option ℕ). orElse o refusing accepting) (first-after common own (passed-by (firstOf common) refl r))
+
+  pub common-none : refused? a ≡ false → firstOf common ≡ none
+  common-none r = passed-by (firstOf common) refl r

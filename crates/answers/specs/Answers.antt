@@ -1,0 +1,85 @@
+-- How the code's answers read as the ledger's, and the rows that calls have in common.
+-- Assumes nothing: these are definitions.
+use Prim.Native.Nat.{ℕ}
+use mathlib.Core.Bool.{Bool, true, false, not}
+use mathlib.Core.List.{List, [], _∷_}
+use mathlib.Core.Option.{Option}
+use lib.Dec.{ltb, eqb}
+use Rattle.option.specs.Reading.{readOption}
+use Rattle.option.specs.declared.Checked.{Checked}
+use Rattle.option.specs.declared.Checked.the-variants as checked
+use Rattle.table.specs.declared.Lease.{Lease}
+use Rattle.table.specs.declared.LeaseTable.{LeaseTable}
+use Rattle.table.specs.Table.{latest, sound}
+use Rattle.ledger.specs.Ledger as ledger
+use Rattle.answers.specs.declared.Counts.{Counts}
+use Rattle.answers.specs.declared.Answer.{Answer}
+use Rattle.answers.specs.declared.Answer.the-variants.{
+  Accepted,
+  ShortReply,
+  Unsound,
+  NoClient,
+  TooEarly,
+  TooLate,
+  NotTheOption,
+  BadSuboption,
+  WrongPieces,
+  NoSlot,
+  NoSpace,
+  NothingFound,
+}
+use Rattle.answers.specs.declared.Called.{Called}
+
+-- Row 1: "reply buffer below 257 bytes".
+abbrev pub shortest : ℕ
+shortest = 257
+
+-- Document 01's number and values for each answer; 0 is no refusal.
+abbrev pub answerOf : Answer → ledger.Answer
+answerOf (Accepted c) = ledger.acceptance (c .bytes) (c .count)
+answerOf ShortReply = ledger.refusal 1 0
+answerOf Unsound = ledger.refusal 5 0
+answerOf NoClient = ledger.refusal 2 0
+answerOf TooEarly = ledger.refusal 3 0
+answerOf TooLate = ledger.refusal 4 0
+answerOf NotTheOption = ledger.refusal 6 0
+answerOf (BadSuboption place) = ledger.refusal 7 place
+answerOf WrongPieces = ledger.refusal 8 0
+answerOf NoSlot = ledger.refusal 9 0
+answerOf NoSpace = ledger.refusal 10 0
+answerOf NothingFound = ledger.refusal 11 0
+
+-- A call's answer and table, with the reply buffer after it; and those of a call that has none.
+abbrev pub resultOf : Called → List ℕ → ledger.Result
+resultOf r buffer = record { answer = answerOf (r .answer); table = r .table; buffer = buffer }
+
+abbrev pub updateOf : Called → ledger.Update
+updateOf r = record { answer = answerOf (r .answer); table = r .table }
+
+abbrev pub refused? : Answer → Bool
+refused? a = not (eqb (answerOf a .number) 0)
+
+-- The reader's answers.
+abbrev pub checkedAnswer : Checked → Answer
+checkedAnswer checked.Good = Accepted (record { bytes = 0; count = 0 })
+checkedAnswer checked.NotTheOption = NotTheOption
+checkedAnswer (checked.BadSuboption place) = BadSuboption place
+
+-- The rows that each call with an option has, after row 1 where it has that one and before its own.
+abbrev pub commonRows : LeaseTable → ℕ → ℕ → List ℕ → List ledger.Row
+commonRows t now client option =
+    (5, not (sound t))
+    ∷ (2, eqb client 0)
+    ∷ (3, ltb now (t .last))
+    ∷ (4, ltb latest now)
+    ∷ (6, ledger.refuses? 6 (readOption option))
+    ∷ (7, ledger.refuses? 7 (readOption option))
+    ∷ []
+
+-- The refusal of the row that applies, or an accepted answer with no counts.
+abbrev pub answered : Option ℕ → List ℕ → ledger.Answer
+answered row option = ledger.orElse row (λ number. ledger.refusal number (ledger.placeFor option number)) (ledger.acceptance 0 0)
+
+-- The table with other lease slots and another last time. (`store` of crate `table` is this of leases with empty slots behind them.)
+abbrev pub replaced : LeaseTable → ℕ → List Lease → LeaseTable
+replaced t now slots = record { pools = t .pools; leases = slots; term = t .term; «default_length» = t .«default_length»; last = now }
