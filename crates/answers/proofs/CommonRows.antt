@@ -81,17 +81,17 @@ module _ (common : List Row) (numbered : All (λ (r : Row). eqb (r .0) 0 ≡ fal
   passed-by : (o : Option ℕ) → firstOf common ≡ o → refused? a ≡ false → firstOf common ≡ none
   passed-by none f r = f
   passed-by (some n) f r =
-      let number : answerOf a ≡ ledger.refusal n (ledger.placeFor option n) = e ∙ ap (λ (o : Option ℕ). answered o option) f in
+      let number : answerOf a ≡ ledger.refusal n (ledger.refusalPlace option n) = e ∙ ap (λ (o : Option ℕ). answered o option) f in
       let some-number : eqb n 0 ≡ false = first-number (λ (m : ℕ). eqb m 0 ≡ false) common numbered n f in
       absurd (true≢false (sym (ap not some-number) ∙ sym (ap (λ (x : ledger.Answer). not (eqb (x .number) 0)) number) ∙ r))
 
   -- Refused, the call gives this answer, whatever its own rows say.
   pub common-refuses : {R : Type 0} (own : List Row) (make : ledger.Answer → R) (accepting : R) → refused? a ≡ true
-      → make (answerOf a) ≡ orElse (firstOf (common ++ own)) (λ (number : ℕ). make (ledger.refusal number (ledger.placeFor option number))) accepting
+      → make (answerOf a) ≡ orElse (firstOf (common ++ own)) (λ (number : ℕ). make (ledger.refusal number (ledger.refusalPlace option number))) accepting
   common-refuses {R} own make accepting r =
       let n = refused-by (firstOf common) refl r in
       ap make (e ∙ ap (λ (o : Option ℕ). answered o option) (n .1))
-      ∙ sym (ap (λ (o : Option ℕ). orElse o (λ (number : ℕ). make (ledger.refusal number (ledger.placeFor option number))) accepting)
+      ∙ sym (ap (λ (o : Option ℕ). orElse o (λ (number : ℕ). make (ledger.refusal number (ledger.refusalPlace option number))) accepting)
       (first-before common own (n .0) (n .1)))
 
   -- Not refused, it goes by its own rows.

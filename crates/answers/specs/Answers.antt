@@ -78,7 +78,7 @@ commonRows t now client option =
 
 -- The refusal of the row that applies, or an accepted answer with no counts.
 abbrev pub answered : Option ℕ → List ℕ → ledger.Answer
-answered row option = ledger.orElse row (λ number. ledger.refusal number (ledger.placeFor option number)) (ledger.acceptance 0 0)
+answered row option = ledger.orElse row (λ number. ledger.refusal number (ledger.refusalPlace option number)) (ledger.acceptance 0 0)
 
 -- The table with other lease slots and another last time. (`store` of crate `table` is this of leases with empty slots behind them.)
 abbrev pub replaced : LeaseTable → ℕ → List Lease → LeaseTable
