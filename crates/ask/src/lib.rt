@@ -1,17 +1,19 @@
 // Ask: the requests of an option served in order, each on the table that the one before left.
+use message::Ask;
 use message::Message;
 use prefix::Prefix;
 use space::Fit;
 use table::Lease;
 use table::Pool;
 ghost use mathlib.Core.Path.{_≡_};
-ghost use mathlib.Core.List.{map, _++_, _∷_};
+ghost use mathlib.Core.List.{List, map};
 ghost use mathlib.Core.Bool.{cond};
-ghost use Prim.Native.Nat.{_+_, _≤_, _<_};
+ghost use Prim.Native.Nat.{ℕ, _≤_, _<_};
 ghost use lib.Dec.{eqb};
-ghost use lib.ListN.{take, drop};
-ghost use Rattle.prefix.specs.Prefixes.{prefix};
-ghost use Rattle.ask.specs.Serving.{columns, placeOf, insertedAt, leaseFor};
+ghost use lib.ListN.{take};
+ghost use Rattle.table.specs.declared.Lease.{Lease};
+ghost use Rattle.table.specs.declared.LeaseTable.{LeaseTable};
+ghost use Rattle.ask.specs.Serving.{columns, placeOf, insertedAt, leaseFor, withGrant, FitIn, Served, Ready, Holds, leasesAfter, grantsOf};
 
 // The networks and lengths of the leases in a table's slots, as the search needs them: a slot of length 0 is empty.
 pub struct Columns {
@@ -122,4 +124,124 @@ fn lease_for(p: Prefix, h: bool, client: u32, expires: u32) -> Lease
         d: false,
         expires,
     }
+}
+
+// What is kept from one request to the next: the leases so far as columns, how many there are, and those that were granted, in order.
+pub struct Serving {
+    pub networks: [u32; table::LEASES],
+    pub lengths: [u8; table::LEASES],
+    pub count: usize,
+    pub granted: [Lease; message::ASKS],
+    pub grants: usize,
+}
+
+fn with_grant(s: Serving, p: Prefix, x: Lease) -> Serving
+    requires { ⌜ (s .count < 256) × (s .grants < 25) ⌝ }
+    ensures { λ r. ⌜ r ≡ withGrant s p x ⌝ }
+{
+    let old_networks = s.networks;
+    let old_lengths = s.lengths;
+    let i = place(old_networks, old_lengths, p.network);
+    let c = insert(old_networks, old_lengths, i, p);
+    let networks = c.networks;
+    let lengths = c.lengths;
+    let at = s.grants;
+    let mut granted = s.granted;
+    granted[at] = x;
+    Serving {
+        networks,
+        lengths,
+        count: s.count + 1,
+        granted,
+        grants: at + 1,
+    }
+}
+
+// What the first `used` pools and the first n leases have for a length.
+fn fit_in(
+    pool_networks: [u32; table::POOLS],
+    pool_lengths: [u8; table::POOLS],
+    used: usize,
+    networks: [u32; table::LEASES],
+    lengths: [u8; table::LEASES],
+    n: usize,
+    length: u8,
+) -> Fit
+    requires { ⌜ (used ≤ 8) × (n ≤ 256) ⌝ }
+    ensures { λ r. ⌜ FitIn «pool_networks» «pool_lengths» used networks lengths n length r ⌝ }
+{
+    space::best_fit(
+        &pool_networks[..used],
+        &pool_lengths[..used],
+        &networks[..n],
+        &lengths[..n],
+        length,
+    )
+}
+
+// One request, on the leases so far: granted it becomes a lease, refused it changes nothing.
+fn serve_one(
+    s: Serving,
+    pools: PoolColumns,
+    used: usize,
+    length: u8,
+    h: bool,
+    client: u32,
+    expires: u32,
+) -> Serving
+    requires { ⌜ (used ≤ 8) × (s .count ≤ 256) × (s .grants < 25) ⌝ }
+    ensures { λ r. ⌜ Served s pools used length h client expires r ⌝ }
+{
+    let n = s.count;
+    if table::LEASES <= n {
+        return s;
+    }
+    let pool_networks = pools.networks;
+    let pool_lengths = pools.lengths;
+    let networks = s.networks;
+    let lengths = s.lengths;
+    match fit_in(
+        pool_networks,
+        pool_lengths,
+        used,
+        networks,
+        lengths,
+        n,
+        length,
+    ) {
+        Fit::Granted(p) => with_grant(s, p, lease_for(p, h, client, expires)),
+        Fit::Refused => s,
+    }
+}
+
+// The requests in order, each on the leases that the one before left.
+fn serve(
+    start: Serving,
+    pools: PoolColumns,
+    used: usize,
+    default_length: u8,
+    asks: [Ask; message::ASKS],
+    requests: usize,
+    client: u32,
+    expires: u32,
+) -> Serving
+    requires { ⌜ (used ≤ 8) × (requests ≤ 25) × (start .count ≤ 256) × (start .grants ≡ 0) ⌝ }
+    ensures { λ r. ⌜ ((t : LeaseTable) (time : ℕ) (xs : List Lease) → Ready t time xs client expires pools used «default_length» (take requests asks) start → Holds r (leasesAfter t time client xs (take requests asks)) (grantsOf t time client xs (take requests asks))) ⌝ }
+{
+    let mut s = start;
+    let mut j: usize = 0;
+    while j < requests {
+        let a = asks[j];
+        s = serve_one(
+            s,
+            pools,
+            used,
+            ask_length(a.length, default_length),
+            a.h,
+            client,
+            expires,
+        );
+        j += 1;
+    }
+    s
 }

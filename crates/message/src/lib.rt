@@ -22,6 +22,9 @@ ghost use Rattle.message.specs.Collect.{
   collect,
 };
 
+// "the option has 1 to 25 requests": no ask has more.
+pub const ASKS: usize = 25;
+
 // A request as ask needs it.
 pub struct Ask {
     pub h: bool,
@@ -32,8 +35,8 @@ pub struct Message {
     // How many requests there are, and how many of them have i.
     pub requests: usize,
     pub listing: usize,
-    // The first 25 requests: no ask has more.
-    pub asks: [Ask; 25],
+    // The first requests, as many as an ask may have.
+    pub asks: [Ask; ASKS],
     // How many entries there are, and their networks and lengths: no option has more than 35.
     pub entries: usize,
     pub networks: [u32; 36],
@@ -50,7 +53,7 @@ fn blank() -> Message
         h: false,
         length: 0,
     };
-    let asks = [none; 25];
+    let asks = [none; ASKS];
     let networks = [0u32; 36];
     let lengths = [0u8; 36];
     Message {
@@ -65,10 +68,10 @@ fn blank() -> Message
     }
 }
 
-fn put_ask(asks: [Ask; 25], at: usize, ask: Ask) -> [Ask; 25]
+fn put_ask(asks: [Ask; ASKS], at: usize, ask: Ask) -> [Ask; ASKS]
     ensures { λ r. ⌜ r ≡ put? 25 asks at ask ⌝ }
 {
-    if at < 25 {
+    if at < ASKS {
         let mut next = asks;
         next[at] = ask;
         return next;

@@ -32,8 +32,7 @@ abbrev μ-loop : tie.MeasureT-loop
 
 returns : tie.Need-returns Inv-loop μ-loop
 returns c =
-    let a = c .before .args in
-    (
+    let a = c .before .args in (
       sym (inserted-past (leaseSlots - 1) (a .old-networks) (omega arith) (a .i) (a .p .network) (omega arith)),
       sym (inserted-past (leaseSlots - 1) (a .old-lengths) (omega arith) (a .i) (a .p .length) (omega arith)),
     )
@@ -43,8 +42,7 @@ sub-k c = search needs
 
 loop-holds : tie.Need-loop-holds Inv-loop μ-loop
 loop-holds c =
-    let a = c .before .args in
-    (
+    let a = c .before .args in (
       omega arith,
       omega arith,
       shifted-none (leaseSlots - 1) (a .old-networks) (omega arith),
@@ -84,8 +82,7 @@ loop-less c = search needs
 loop-again : tie.Need-loop-again Inv-loop μ-loop
 loop-again c =
     let l = c .before .loop in
-    let a = c .before .before .before .args in
-    (
+    let a = c .before .before .before .args in (
       omega arith,
       omega arith,
       more (a .old-networks) (l .networks) (omega arith) (l .k) (l .inv .2) (omega arith) (omega arith),
@@ -104,8 +101,7 @@ array-write-lengths-2 c = search needs
 returns-2 : tie.Need-returns-2 Inv-loop μ-loop
 returns-2 c =
     let l = c .before .loop in
-    let a = c .before .before .before .args in
-    (
+    let a = c .before .before .before .args in (
       done (a .old-networks) (l .networks) (omega arith) (l .k) (l .inv .2) (a .i) (a .p .network) (omega arith) (omega arith),
       done (a .old-lengths) (l .lengths) (omega arith) (l .k) (l .inv .3) (a .i) (a .p .length) (omega arith) (omega arith),
     )

@@ -46,8 +46,7 @@ loop-less c = search needs
 loop-again : tie.Need-loop-again Inv-loop μ-loop
 loop-again c =
     let l = c .before .before .loop in
-    let xs = c .before .before .before .args .t1 in
-    (
+    let xs = c .before .before .before .args .t1 in (
       omega arith,
       image-set (λ x. x .network) xs (l .networks) (l .i) noLease (omega arith) (omega arith) (l .inv .1),
       image-set (λ x. x .length) xs (l .lengths) (l .i) noLease (omega arith) (omega arith) (l .inv .2),
@@ -59,8 +58,7 @@ returns : tie.Need-returns Inv-loop μ-loop
 returns c =
     let l = c .before .loop in
     let xs = c .before .before .args .t1 in
-    let all : l .i ≡ leaseSlots = omega arith in
-    (
+    let all : l .i ≡ leaseSlots = omega arith in (
       image-all (λ x. x .network) xs (l .networks) (l .i) (omega arith) (omega arith) (l .inv .1),
       image-all (λ x. x .length) xs (l .lengths) (l .i) (omega arith) (omega arith) (l .inv .2),
     )
