@@ -1,2 +1,3 @@
 pub mod ColumnLaws
 pub mod ServeLaws
+pub mod ReplyPuts

@@ -17,6 +17,7 @@ use Rattle.space.specs.declared.Fit.{Fit}
 use Rattle.table.specs.declared.Lease.{Lease}
 use Rattle.table.specs.declared.LeaseTable.{LeaseTable}
 use Rattle.table.specs.Table.{leaseSlots, prefixOf, poolsOf, present, padded, sound}
+use Rattle.table.specs.Slots.{insertLease}
 use Rattle.ledger.specs.Ledger as ledger
 use Rattle.message.specs.declared.Ask.{Ask}
 use Rattle.ask.specs.declared.Serving.{Serving}
@@ -67,6 +68,11 @@ pub record Served (s : Serving) (pools : PoolColumns) (used length : ℕ) (h : B
       (grant (prefixes (take used (pools .networks)) (take used (pools .lengths))) (prefixes (take (s .count) (s .networks)) (take (s .count) (s .lengths))) length)
   pub few : r .count ≤ leaseSlots
   pub fewer : r .grants ≤ s .grants + 1
+
+-- Leases put one after another into slots that ascend.
+abbrev pub insertSlots : List Lease → List Lease → List Lease
+insertSlots [] slots = slots
+insertSlots (x ∷ xs) slots = insertSlots xs (insertLease slots x)
 
 -- A request as the ledger has it, of an ask, whose requests have no i.
 abbrev pub requestOf : Ask → ledger.Request

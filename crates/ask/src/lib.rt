@@ -8,12 +8,15 @@ use table::Pool;
 ghost use mathlib.Core.Path.{_≡_};
 ghost use mathlib.Core.List.{List, map};
 ghost use mathlib.Core.Bool.{cond};
-ghost use Prim.Native.Nat.{ℕ, _≤_, _<_};
+ghost use Prim.Native.Nat.{ℕ, _+_, _*_, _≤_, _<_};
 ghost use lib.Dec.{eqb};
 ghost use lib.ListN.{take};
 ghost use Rattle.table.specs.declared.Lease.{Lease};
 ghost use Rattle.table.specs.declared.LeaseTable.{LeaseTable};
-ghost use Rattle.ask.specs.Serving.{columns, placeOf, insertedAt, leaseFor, withGrant, FitIn, Served, Ready, Holds, leasesAfter, grantsOf};
+ghost use Rattle.ask.specs.Serving.{columns, placeOf, insertedAt, leaseFor, withGrant, FitIn, Served, Ready, Holds, leasesAfter, grantsOf, insertSlots};
+ghost use Rattle.lists.specs.Put.{put};
+ghost use Rattle.option.specs.Writing.{optionBytes};
+ghost use Rattle.ledger.specs.Ledger.{informationFor};
 
 // The networks and lengths of the leases in a table's slots, as the search needs them: a slot of length 0 is empty.
 pub struct Columns {
@@ -244,4 +247,43 @@ fn serve(
         j += 1;
     }
     s
+}
+
+// The leases granted, put into the slots of those present, ascending.
+fn insert_all(
+    present: [Lease; table::LEASES],
+    granted: [Lease; message::ASKS],
+    count: usize,
+) -> [Lease; table::LEASES]
+    requires { ⌜ count ≤ 25 ⌝ }
+    ensures { λ r. ⌜ r ≡ insertSlots (take count granted) present ⌝ }
+{
+    let mut leases = present;
+    let mut k: usize = 0;
+    while k < count {
+        let x = granted[k];
+        let next = table::insert(leases, x);
+        leases = next;
+        k += 1;
+    }
+    leases
+}
+
+// The reply: one information with one entry for each lease granted. Answers the bytes written.
+fn write_offers(reply: &mut [u8], granted: [Lease; message::ASKS], count: usize) -> usize
+    requires { ⌜ count ≤ 25 ⌝ }
+    ensures { λ r. ⌜ r ≡ 3 + 10 * count ⌝ }
+    ensures { λ _. ⌜ now (reply .exit) ≡ put (now (reply .entry)) 0 (optionBytes (map informationFor (take count granted))) ⌝ }
+{
+    option_writer::put_option_head(reply, (10 * count + 1) as u8);
+    let mut at: usize = 3;
+    let mut k: usize = 0;
+    while k < count {
+        let x = granted[k];
+        option_writer::put_information_head(reply, at, 8, false, false);
+        option_writer::put_entry(reply, at + 3, x.network, x.length, x.h, x.d);
+        at += 10;
+        k += 1;
+    }
+    at
 }

@@ -29,13 +29,12 @@ abbrev μ-loop : tie.MeasureT-loop
 μ-loop pools used default-length requests client expires asks s₀ j₀ s j = requests - j
 
 loop-holds : tie.Need-loop-holds Inv-loop μ-loop
-loop-holds c =
-    (
-      omega arith,
-      omega arith,
-      omega arith,
-      λ t time xs ready. serve-start t time xs _ _ _ _ _ _ _ ready,
-    )
+loop-holds c = (
+  omega arith,
+  omega arith,
+  omega arith,
+  λ t time xs ready. serve-start t time xs _ _ _ _ _ _ _ ready,
+)
 
 mul-a : tie.Need-mul-a Inv-loop μ-loop
 mul-a c = search needs
@@ -66,16 +65,15 @@ loop-again c =
     let a = b .before .args in
     let same : getD (take (a .requests) (a .t5)) (l .j) (asking false 0) ≡ getD (a .t5) (l .j) (asking false 0) = getD-take (a .requests) (a .t5) (l .j) (asking false 0) (omega arith) in
     let served = c .serve-one .ensures in
-    let full : length (a .t5) ≡ 25 = slots (b .before) in
-    (
+    let full : length (a .t5) ≡ 25 = slots (b .before) in (
       omega arith,
       served .few,
       omega (arith, served .fewer),
       λ t time xs ready.
-      serve-turn t time xs (a .client) (a .expires) (a .pools) (a .used) (a .default-length) (take (a .requests) (a .t5)) (a .start) ready (l .j) (asking false 0) (l .s) (c .serve-one .result)
-      (omega (arith, length-take-le (a .requests) (a .t5) (omega arith))) (omega arith) (l .inv .3 t time xs ready)
-      (subst (λ (q : Ask). Served (l .s) (a .pools) (a .used) (cond (eqb (q .length) 0) (a .default-length) (q .length)) (q .h) (a .client) (a .expires) (c .serve-one .result)) (sym same)
-      (subst (λ (n : ℕ). Served (l .s) (a .pools) (a .used) n (getD (a .t5) (l .j) (asking false 0) .h) (a .client) (a .expires) (c .serve-one .result)) (c .before .ask-length .ensures) served)),
+          serve-turn t time xs (a .client) (a .expires) (a .pools) (a .used) (a .default-length) (take (a .requests) (a .t5)) (a .start) ready (l .j) (asking false 0) (l .s) (c .serve-one .result)
+          (omega (arith, length-take-le (a .requests) (a .t5) (omega arith))) (omega arith) (l .inv .3 t time xs ready)
+          (subst (λ (q : Ask). Served (l .s) (a .pools) (a .used) (cond (eqb (q .length) 0) (a .default-length) (q .length)) (q .h) (a .client) (a .expires) (c .serve-one .result)) (sym same)
+          (subst (λ (n : ℕ). Served (l .s) (a .pools) (a .used) n (getD (a .t5) (l .j) (asking false 0) .h) (a .client) (a .expires) (c .serve-one .result)) (c .before .ask-length .ensures) served)),
     )
 
 returns : tie.Need-returns Inv-loop μ-loop
