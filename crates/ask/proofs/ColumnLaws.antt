@@ -11,7 +11,7 @@ use lib.Seq.{length-take-le}
 use lib.Dec.{eqb, ltb}
 use borrow.Author.Tests.{eq-eqb, ne-eqb, lt-ltb, le-ltb}
 use Rattle.lists.specs.Sorting.{placeBy}
-use Rattle.lists.proofs.MapLaws.{take-map, drop-map}
+use Rattle.lists.proofs.ImageLaws.{take-map, drop-map}
 use Rattle.prefix.specs.declared.Prefix.{Prefix}
 use Rattle.prefix.specs.Prefixes.{prefix}
 use Rattle.space.specs.Scan.{prefixes}

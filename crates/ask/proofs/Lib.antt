@@ -1,3 +1,4 @@
 pub mod ColumnLaws
 pub mod ServeLaws
 pub mod ReplyPuts
+pub mod AskLaws

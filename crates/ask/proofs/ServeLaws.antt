@@ -16,7 +16,7 @@ use borrow.Author.Tests.{le-leb, lt-leb}
 use Rattle.lists.specs.Lists.{All, Any, Pairwise, somes}
 use Rattle.lists.proofs.Tests.{cond-true, cond-false}
 use Rattle.lists.proofs.ListLaws.{all-map, all-image, pairwise-image}
-use Rattle.lists.proofs.MapLaws.{take-map}
+use Rattle.lists.proofs.ImageLaws.{take-map}
 use Rattle.lists.proofs.SortingLaws.{insertBy-longer}
 use Rattle.prefix.specs.declared.Prefix.{Prefix}
 use Rattle.prefix.specs.Prefixes.{longest, end, Inside}

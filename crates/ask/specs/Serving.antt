@@ -2,11 +2,11 @@
 -- Assumes nothing: these are definitions.
 use Prim.Native.Nat.{ℕ, _+_, _≤_, _<_}
 use mathlib.Core.Path.{_≡_}
-use mathlib.Core.Bool.{Bool, true, false}
+use mathlib.Core.Bool.{Bool, true, false, cond}
 use mathlib.Core.List.{List, [], _∷_, _++_, map}
 use mathlib.Core.Option.{Option, none, some}
-use lib.ListN.{length, take, drop, set}
-use lib.Dec.{eqb}
+use lib.ListN.{length, take, drop, set, replicate}
+use lib.Dec.{eqb, leb}
 use Rattle.lists.specs.Lists.{All, somes}
 use Rattle.lists.specs.Sorting.{placeBy}
 use Rattle.prefix.specs.declared.Prefix.{Prefix}
@@ -16,9 +16,11 @@ use Rattle.space.specs.Scan.{prefixes, grantOf, Lent}
 use Rattle.space.specs.declared.Fit.{Fit}
 use Rattle.table.specs.declared.Lease.{Lease}
 use Rattle.table.specs.declared.LeaseTable.{LeaseTable}
-use Rattle.table.specs.Table.{leaseSlots, prefixOf, poolsOf, present, padded, sound}
+use Rattle.table.specs.Table.{leaseSlots, noLease, prefixOf, poolsOf, present, padded, sound}
 use Rattle.table.specs.Slots.{insertLease}
 use Rattle.ledger.specs.Ledger as ledger
+use Rattle.answers.specs.declared.Answer.{Answer}
+use Rattle.answers.specs.declared.Answer.the-variants.{NoSlot, NoSpace}
 use Rattle.message.specs.declared.Ask.{Ask}
 use Rattle.ask.specs.declared.Serving.{Serving}
 use Rattle.ask.specs.declared.PoolColumns.{PoolColumns}
@@ -68,6 +70,20 @@ pub record Served (s : Serving) (pools : PoolColumns) (used length : ℕ) (h : B
       (grant (prefixes (take used (pools .networks)) (take used (pools .lengths))) (prefixes (take (s .count) (s .networks)) (take (s .count) (s .lengths))) length)
   pub few : r .count ≤ leaseSlots
   pub fewer : r .grants ≤ s .grants + 1
+
+-- What is kept before the first request.
+abbrev pub startOf : List Lease → ℕ → Serving
+startOf slots count = record {
+  networks = map (λ x. x .network) slots;
+  lengths = map (λ x. x .length) slots;
+  count = count;
+  granted = replicate 25 noLease;
+  grants = 0;
+}
+
+-- Rows 9 and 10, where nothing is granted on so many leases.
+abbrev pub noneGranted : ℕ → Answer
+noneGranted count = cond (leb leaseSlots count) NoSlot NoSpace
 
 -- Leases put one after another into slots that ascend.
 abbrev pub insertSlots : List Lease → List Lease → List Lease

@@ -1,9 +1,12 @@
 // Ask: the requests of an option served in order, each on the table that the one before left.
+use answers::Answer;
+use answers::Called;
+use answers::Counts;
 use message::Ask;
-use message::Message;
 use prefix::Prefix;
 use space::Fit;
 use table::Lease;
+use table::LeaseTable;
 use table::Pool;
 ghost use mathlib.Core.Path.{_≡_};
 ghost use mathlib.Core.List.{List, map};
@@ -13,10 +16,14 @@ ghost use lib.Dec.{eqb};
 ghost use lib.ListN.{take};
 ghost use Rattle.table.specs.declared.Lease.{Lease};
 ghost use Rattle.table.specs.declared.LeaseTable.{LeaseTable};
-ghost use Rattle.ask.specs.Serving.{columns, placeOf, insertedAt, leaseFor, withGrant, FitIn, Served, Ready, Holds, leasesAfter, grantsOf, insertSlots};
+ghost use Rattle.ask.specs.Serving.{columns, placeOf, insertedAt, leaseFor, withGrant, FitIn, Served, Ready, Holds, leasesAfter, grantsOf, insertSlots, startOf, noneGranted};
 ghost use Rattle.lists.specs.Put.{put};
 ghost use Rattle.option.specs.Writing.{optionBytes};
-ghost use Rattle.ledger.specs.Ledger.{informationFor};
+ghost use Rattle.ledger.specs.Ledger.{informationFor, ask as askOf};
+ghost use Rattle.answers.specs.Answers.{resultOf};
+
+// "a line held until now + 120"
+pub const HOLD: u32 = 120;
 
 // The networks and lengths of the leases in a table's slots, as the search needs them: a slot of length 0 is empty.
 pub struct Columns {
@@ -286,4 +293,100 @@ fn write_offers(reply: &mut [u8], granted: [Lease; message::ASKS], count: usize)
         k += 1;
     }
     at
+}
+
+// What is kept before the first request: the leases present, and no grant.
+fn starting(present: [Lease; table::LEASES], count: usize) -> Serving
+    ensures { λ r. ⌜ r ≡ startOf present count ⌝ }
+{
+    let c = lease_columns(present);
+    let networks = c.networks;
+    let lengths = c.lengths;
+    let none = table::no_lease();
+    let granted = [none; message::ASKS];
+    Serving {
+        networks,
+        lengths,
+        count,
+        granted,
+        grants: 0,
+    }
+}
+
+// The refusal of an ask of which nothing is granted: no empty slot, or no free prefix of the length.
+fn none_granted(count: usize) -> Answer
+    ensures { λ r. ⌜ r ≡ noneGranted count ⌝ }
+{
+    if table::LEASES <= count {
+        return Answer::NoSlot;
+    }
+    Answer::NoSpace
+}
+
+// Ask.
+pub fn ask(t: LeaseTable, time: u32, client: u32, option: &[u8], reply: &mut [u8]) -> Called
+    ensures { λ r. ⌜ resultOf r (now (reply .exit)) ≡ askOf t time client (now (option .entry)) (now (reply .entry)) ⌝ }
+{
+    let checked = answers::check_call_with_reply(t, time, client, option, reply.len());
+    if answers::is_refusal(checked) {
+        return Called {
+            answer: checked,
+            table: t,
+        };
+    }
+    let m = message::read(option);
+    let requests = m.requests;
+    if requests == 0 {
+        return Called {
+            answer: Answer::WrongPieces,
+            table: t,
+        };
+    }
+    if message::ASKS < requests {
+        return Called {
+            answer: Answer::WrongPieces,
+            table: t,
+        };
+    }
+    if m.listing != 0 {
+        return Called {
+            answer: Answer::WrongPieces,
+            table: t,
+        };
+    }
+    let leases = t.leases;
+    let present = table::remove_expired(leases, time);
+    let count = table::count_present(leases, time);
+    let pools = t.pools;
+    let columns = pool_columns(pools);
+    let used = table::pools_used(pools);
+    let asks = m.asks;
+    let start = starting(present, count);
+    let served = serve(
+        start,
+        columns,
+        used,
+        t.default_length,
+        asks,
+        requests,
+        client,
+        time + HOLD,
+    );
+    let grants = served.grants;
+    if grants == 0 {
+        return Called {
+            answer: none_granted(count),
+            table: t,
+        };
+    }
+    let granted = served.granted;
+    let slots = insert_all(present, granted, grants);
+    let bytes = write_offers(reply, granted, grants);
+    Called {
+        answer: Answer::Accepted(Counts {
+            bytes,
+            count: grants,
+        }),
+        table: answers::replace(t, time, slots),
+    }
 }

@@ -10,4 +10,4 @@ pub mod GatherLaws
 pub mod ShiftLaws
 pub mod FillLaws
 pub mod SortingLaws
-pub mod MapLaws
+pub mod ImageLaws

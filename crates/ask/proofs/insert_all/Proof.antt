@@ -57,8 +57,7 @@ loop-again : tie.Need-loop-again Inv-loop μ-loop
 loop-again c =
     let b = c .before .before .before in
     let l = b .loop in
-    let a = b .before .args in
-    (
+    let a = b .before .args in (
       omega arith,
       l .inv .1 ∙ next (a .t2) (l .leases) (c .insert .result) (a .count) (l .k) (slots (b .before)) (b .before .pre) (c .before .before .loop-test .taken) (c .insert .ensures),
     )

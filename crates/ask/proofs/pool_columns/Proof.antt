@@ -6,7 +6,7 @@ use mathlib.Core.List.{List, map}
 use lib.ListN.{length, take, length-set}
 use native.Mathlib.Omega.{arith}
 use borrow.Author.Needs.{needs}
-use Rattle.lists.proofs.MapLaws.{image-set, image-all}
+use Rattle.lists.proofs.ImageLaws.{image-set, image-all}
 use Rattle.table.specs.Table.{poolSlots, noPool}
 use Rattle.ask.proofs.pool_columns.Statement.{statement}
 use Rattle.ask.proofs.pool_columns.Tie as tie

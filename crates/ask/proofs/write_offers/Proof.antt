@@ -76,13 +76,12 @@ loop-again c =
     let l = b .loop in
     let o = b .before .before .before in
     let a = o .before .before .before .args in
-    let full : length (a .t2) ≡ 25 = slots (o .before .before .before) in
-    (
+    let full : length (a .t2) ≡ 25 = slots (o .before .before .before) in (
       omega arith,
       omega arith,
       ap length (e .put-entry .ensures) ∙ length-put _ _ _ ∙ ap length (h .put-information-head .ensures) ∙ length-put _ _ _ ∙ l .inv .2,
       information-more (o .put-option-head .last .0) (l .reply) (h .put-information-head .last .0) (e .put-entry .last .0) (l .at) (l .k) (a .t2) noLease (omega arith) (l .inv .1) (l .inv .3)
-      (h .put-information-head .ensures) (e .put-entry .ensures),
+          (h .put-information-head .ensures) (e .put-entry .ensures),
     )
 
 same-length : tie.Need-same-length Inv-loop μ-loop
@@ -95,12 +94,11 @@ returns c =
     let a = o .before .before .before .args in
     let gs : List Lease = take (a .count) (a .t2) in
     let all : l .k ≡ a .count = omega arith in
-    let n : length gs ≡ a .count = length-take-le (a .count) (a .t2) (omega (arith, slots (o .before .before .before))) in
-    (
+    let n : length gs ≡ a .count = length-take-le (a .count) (a .t2) (omega (arith, slots (o .before .before .before))) in (
       omega arith,
       reply-put (now (a .reply)) (o .put-option-head .last .0) (l .reply) gs
-      (o .put-option-head .ensures ∙ ap (λ (m : ℕ). put (now (a .reply)) 0 (optionHead (10 * m + 1))) (sym n))
-      (l .inv .3 ∙ ap (λ (m : ℕ). put (o .put-option-head .last .0) 3 (suboptionsBytes (map informationFor (take m (a .t2))))) all),
+          (o .put-option-head .ensures ∙ ap (λ (m : ℕ). put (now (a .reply)) 0 (optionHead (10 * m + 1))) (sym n))
+          (l .inv .3 ∙ ap (λ (m : ℕ). put (o .put-option-head .last .0) 3 (suboptionsBytes (map informationFor (take m (a .t2))))) all),
     )
 
 pub write-offers-spec : {M : Type 1} → statement M
