@@ -105,7 +105,7 @@ pools-exact l (p ∷ ps) xs best e =
 
 -- columns
 
-drop-prefixes : (i : ℕ) (ns ls : List ℕ) → drop i (prefixes ns ls) ≡ prefixes (drop i ns) (drop i ls)
+pub drop-prefixes : (i : ℕ) (ns ls : List ℕ) → drop i (prefixes ns ls) ≡ prefixes (drop i ns) (drop i ls)
 drop-prefixes zero ns ls = refl
 drop-prefixes (suc i) [] ls = refl
 drop-prefixes (suc i) (n ∷ ns) [] = sym (no-lengths (drop i ns))
