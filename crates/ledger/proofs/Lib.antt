@@ -11,3 +11,5 @@ pub mod FirstSentence
 pub mod Demand3Holds
 pub mod Converse
 pub mod SoundKept
+pub mod HistoriesHold
+pub mod ConservationHolds

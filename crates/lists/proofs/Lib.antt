@@ -10,4 +10,3 @@ pub mod GatherLaws
 pub mod ShiftLaws
 pub mod FillLaws
 pub mod SortingLaws
-pub mod PutLaws

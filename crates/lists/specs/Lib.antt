@@ -2,4 +2,3 @@ pub mod Lists
 pub mod Walk
 pub mod Put
 pub mod Sorting
-pub mod Put
