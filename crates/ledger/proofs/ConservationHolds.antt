@@ -9,9 +9,9 @@ use mathlib.Core.Option.{Option, none, some}
 use native.Mathlib.Omega.{arith}
 use lib.ListN.{length, drop, replicate}
 use lib.Dec.{leb, ltb, eqb}
-use borrow.Author.Tests.{ltb-true, ltb-false}
+use borrow.Author.Tests.{ltb-false}
 use Rattle.lists.specs.Lists.{All, those, somes}
-use Rattle.lists.proofs.Tests.{bool-cases, cond-true, cond-false}
+use Rattle.lists.proofs.Tests.{bool-cases, cond-false}
 use Rattle.lists.proofs.ThoseLaws.{those-yes, those-no}
 use Rattle.prefix.specs.declared.Prefix.{Prefix}
 use Rattle.prefix.specs.Prefixes.{size}
@@ -22,15 +22,15 @@ use Rattle.table.specs.declared.Lease.{Lease}
 use Rattle.table.specs.declared.LeaseTable.{LeaseTable}
 use Rattle.table.specs.Table.{leaseSlots, latest, noLease, prefixOf, poolsOf, present, sound, store}
 use Rattle.table.specs.Open.{given, openOk, fresh}
-use Rattle.table.proofs.TableLaws.{Good, sound-fine, sound-fewer, fine-those, fine-map, present-padded, present-stored, present-yes, present-no}
+use Rattle.table.proofs.TableLaws.{Good, sound-fine, sound-fewer, fine-those, fine-map, present-padded, present-stored}
 use Rattle.table.proofs.OpenLaws.{open-sound}
 use Rattle.ledger.specs.Ledger.{Answer, Result, Update, Row, firstOf, orElse, before, refuse, refuseUpdate, refusalPlace, requestsIn, entriesIn, entryOf, full, openRows, openTable, offer, add, offers, addAll, askOffers, informationFor, askRows, ask, named?, renew, takeRows, take, list, releaseRows, release, at?, withD, markRows, mark}
 use Rattle.ledger.specs.Demand3.{Call, run, none?, wellFormed, asksOf, replyEntries}
 use Rattle.ledger.specs.Histories.{Event, asked, taken, wasListed, returned, marked, saved, next, afterwards, Reachable, leasesOf}
 use Rattle.ledger.specs.Conservation.{addressesOf, addressesIn, grantedBy, ifAccepted, returnedBy, endedAt, endedBy, summed, FromLoad, FromOpen}
 use Rattle.ledger.proofs.ListFacts.{Opposite, opposite-not}
-use Rattle.ledger.proofs.RowLaws.{first-none, first-number, Numbered, by-rows}
-use Rattle.ledger.proofs.EmptySlots.{present-or-ended}
+use Rattle.ledger.proofs.RowLaws.{first-none, first-number, Numbered, by-rows, numbered-take, numbered-release, numbered-mark}
+use Rattle.ledger.proofs.EmptySlots.{present-or-ended, present-later}
 use Rattle.ledger.proofs.ReplyLaws.{reads-none}
 use Rattle.ledger.proofs.OfferLaws.{insert-perm}
 use Rattle.ledger.proofs.CallLaws.{rowsFor, numberFor, tableFor, Served, WellFormed, well, run-refused, called}
@@ -71,31 +71,9 @@ total-map : (f : Lease → Lease) → ((x : Lease) → prefixOf (f x) ≡ prefix
 total-map f e [] = refl
 total-map f e (y ∷ ys) = ap₂ _+_ (ap (λ (p : Prefix). size (p .length)) (e y)) (total-map f e ys)
 
--- THE LEASES OF A TABLE AT A LATER TIME
-
-later : (last now : ℕ) → last ≤ now → (xs : List Lease) → those (λ x. ltb now (x .expires)) (present last xs) ≡ present now xs
-unfolding present
-later last now l [] = refl
-later last now l (x ∷ xs) =
-    ⊎-elim
-    (λ (h : ltb now (x .expires) ≡ true).
-    let a = ltb-true now (x .expires) h in
-    ap (those (λ x. ltb now (x .expires))) (present-yes last x xs (omega arith))
-    ∙ cond-true (ltb now (x .expires)) _ _ h ∙ ap (λ (l : List Lease). x ∷ l) (later last now l xs) ∙ sym (present-yes now x xs a))
-    (λ (h : ltb now (x .expires) ≡ false).
-    let a = ltb-false now (x .expires) h in
-    ⊎-elim
-    (λ (k : ltb last (x .expires) ≡ true).
-    ap (those (λ x. ltb now (x .expires))) (present-yes last x xs (ltb-true last (x .expires) k))
-    ∙ cond-false (ltb now (x .expires)) _ _ h ∙ later last now l xs ∙ sym (present-no now x xs a))
-    (λ (k : ltb last (x .expires) ≡ false).
-    ap (those (λ x. ltb now (x .expires))) (present-no last x xs (ltb-false last (x .expires) k)) ∙ later last now l xs ∙ sym (present-no now x xs a))
-    (bool-cases (ltb last (x .expires))))
-    (bool-cases (ltb now (x .expires)))
-
 parts : (t : LeaseTable) (now : ℕ) → t .last ≤ now → addressesOf (present now (t .leases)) + endedAt now t ≡ addressesOf (leasesOf t)
 parts t now l =
-    ap (λ (xs : List Lease). addressesOf xs + endedAt now t) (sym (later (t .last) now l (t .leases)))
+    ap (λ (xs : List Lease). addressesOf xs + endedAt now t) (sym (present-later (t .last) now l (t .leases)))
     ∙ total-parts (λ x. ltb now (x .expires)) (λ x. leb (x .expires) now) (present-or-ended now) (leasesOf t)
 
 stored : (t : LeaseTable) (now : ℕ) (xs : List Lease) → All (Good (poolsOf t) now) xs → leasesOf (store t now xs) ≡ xs
@@ -146,21 +124,9 @@ module _ (t : LeaseTable) (now : ℕ) (s : sound t ≡ true) (since : t .last �
 abbrev AskBalance : LeaseTable → ℕ → Result → Type 0
 AskBalance t now r = Balance t now (addressesIn (replyEntries r)) 0 (r .answer .number) (r .table)
 
-numbered-ask : (t : LeaseTable) (now client : ℕ) (option reply : List ℕ) → Numbered (before 9 (askRows t now client option reply))
+numbered-before : (t : LeaseTable) (now client : ℕ) (option reply : List ℕ) → Numbered (before 9 (askRows t now client option reply))
 unfolding askRows
-numbered-ask t now client option reply = (refl, (refl, (refl, (refl, (refl, (refl, (refl, (refl, tt))))))))
-
-numbered-take : (t : LeaseTable) (now client : ℕ) (option reply : List ℕ) → Numbered (takeRows t now client option reply)
-unfolding takeRows
-numbered-take t now client option reply = (refl, (refl, (refl, (refl, (refl, (refl, (refl, (refl, (refl, tt)))))))))
-
-numbered-release : (t : LeaseTable) (now client : ℕ) (option : List ℕ) → Numbered (releaseRows t now client option)
-unfolding releaseRows
-numbered-release t now client option = (refl, (refl, (refl, (refl, (refl, (refl, (refl, (refl, tt))))))))
-
-numbered-mark : (t : LeaseTable) (now network len : ℕ) → Numbered (markRows t now network len)
-unfolding markRows
-numbered-mark t now network len = (refl, (refl, (refl, (refl, tt))))
+numbered-before t now client option reply = (refl, (refl, (refl, (refl, (refl, (refl, (refl, (refl, tt))))))))
 
 ask-balance : (t : LeaseTable) (now : ℕ) (c : Call) → AskBalance t now (run ask now t c)
 unfolding wellFormed
@@ -181,7 +147,7 @@ ask-balance t now c = ⊎-elim good bad (bool-cases (wellFormed now t c))
     bad : wellFormed now t c ≡ false → AskBalance t now (run ask now t c)
     bad e =
         let r = run-refused now t c e in
-        let z : eqb (r .0) 0 ≡ false = first-number (λ m. eqb m 0 ≡ false) (rowsFor now t c) (r .0) (numbered-ask t now (c .client) (c .option) (c .reply)) (r .1) in
+        let z : eqb (r .0) 0 ≡ false = first-number (λ m. eqb m 0 ≡ false) (rowsFor now t c) (r .0) (numbered-before t now (c .client) (c .option) (c .reply)) (r .1) in
         subst (AskBalance t now) (sym (r .2))
         (refused-balance t now 0 (r .0) z ∙ ap (λ (es : List Entry). addressesOf (leasesOf t) + addressesIn es) (sym (reads-none (r .0) (refusalPlace (c .option) (r .0)) t (c .reply))))
 

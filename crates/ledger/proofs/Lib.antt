@@ -13,3 +13,6 @@ pub mod Converse
 pub mod SoundKept
 pub mod HistoriesHold
 pub mod ConservationHolds
+pub mod ListDependsHolds
+pub mod Resuming
+pub mod NothingBehind

@@ -2,3 +2,4 @@ pub mod Ledger
 pub mod Demand3
 pub mod Histories
 pub mod Conservation
+pub mod ListDepends
