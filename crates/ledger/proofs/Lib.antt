@@ -16,3 +16,4 @@ pub mod ConservationHolds
 pub mod ListDependsHolds
 pub mod Resuming
 pub mod NothingBehind
+pub mod ExamplesHold

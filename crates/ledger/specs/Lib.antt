@@ -3,3 +3,4 @@ pub mod Demand3
 pub mod Histories
 pub mod Conservation
 pub mod ListDepends
+pub mod Examples
