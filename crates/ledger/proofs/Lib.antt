@@ -17,3 +17,4 @@ pub mod ListDependsHolds
 pub mod Resuming
 pub mod NothingBehind
 pub mod ExamplesHold
+pub mod Premises

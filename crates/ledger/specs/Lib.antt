@@ -4,3 +4,5 @@ pub mod Histories
 pub mod Conservation
 pub mod ListDepends
 pub mod Examples
+pub mod WrongServers
+pub mod SampleLists
