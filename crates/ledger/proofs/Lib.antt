@@ -18,3 +18,4 @@ pub mod Resuming
 pub mod NothingBehind
 pub mod ExamplesHold
 pub mod Premises
+pub mod WrongServersRefuted
