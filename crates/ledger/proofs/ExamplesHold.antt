@@ -1,4 +1,4 @@
--- P1 to P12 hold: one claim over one list, by computation.
+-- P1 to P12 hold: one claim over one list, by computation; and so do the further examples.
 -- Assumes nothing.
 use mathlib.Core.Path.{_≡_, refl}
 use mathlib.Core.List.{map}
@@ -10,9 +10,39 @@ use Rattle.option.specs.Writing.{twoBytes, fourBytes, requestBytes, entryHead, 
 use Rattle.option.specs.Selection.{selection?, readSelection}
 use Rattle.table.specs.Table.{unused?, empty?, prefixesOf, present, headOk, poolOk, leaseOk, ascends?, sound, store}
 use Rattle.table.specs.Open.{given, poolsApart?, openOk}
-use Rattle.ledger.specs.Ledger.{openTable, offer, offers, addAll, askRows, ask, takeRows, take}
-use Rattle.ledger.specs.Examples.{opened, buffer, does, doesAll, Example, examples}
+use Rattle.ledger.specs.Ledger.{openTable, offer, offers, addAll, askRows, ask, takeRows, take, listRows, list, releaseRows, release, markRows, mark}
+use Rattle.ledger.specs.Examples.{opened, buffer, shown, shownUpdate, does, doesAll, Example, examples}
+use Rattle.ledger.specs.SampleLists.{tableWith, lease, leasesFrom}
+use Rattle.ledger.specs.FurtherExamples.{numbers, withBytes, asking, entriesFrom, namingFrom, start, leased, offer5, mixed, held, listing, resuming, flagged, many, manyExpected, pages, pagesExpected, secondPages, secondPagesExpected, returns, returnsExpected, takes, takesExpected, marks, marksExpected, rowOrder, rowOrderExpected}
 
 pub examples-hold : map (λ (e : Example). e .got) examples ≡ map (λ (e : Example). e .expected) examples
-unfolding walk insertBy sortBy entryFields? fields? option? subInside? whenGood readRequest figuresAt entryAt entryFramed? readEntry readEntries readInformation readName readBody readSuboption readSuboptions readOption twoBytes fourBytes requestBytes entryHead entryBytes entriesBytes informationHead suboptionBytes suboptionsBytes optionHead optionBytes selection? readSelection unused? empty? prefixesOf present headOk poolOk leaseOk ascends? sound store given poolsApart? openOk openTable offer offers addAll askRows ask takeRows take opened buffer does doesAll examples
+unfolding walk insertBy sortBy entryFields? fields? option? subInside? whenGood readRequest figuresAt entryAt entryFramed? readEntry readEntries readInformation readName readBody readSuboption readSuboptions readOption twoBytes fourBytes requestBytes entryHead entryBytes entriesBytes informationHead suboptionBytes suboptionsBytes optionHead optionBytes selection? readSelection unused? empty? prefixesOf present headOk poolOk leaseOk ascends? sound store given poolsApart? openOk openTable offer offers addAll askRows ask takeRows take opened buffer shown shownUpdate does doesAll examples
 examples-hold = refl
+
+pub many-hold : many ≡ manyExpected
+unfolding walk insertBy sortBy entryFields? fields? option? subInside? whenGood readRequest figuresAt entryAt entryFramed? readEntry readEntries readInformation readName readBody readSuboption readSuboptions readOption twoBytes fourBytes requestBytes entryHead entryBytes entriesBytes informationHead suboptionBytes suboptionsBytes optionHead optionBytes unused? empty? prefixesOf present headOk poolOk leaseOk ascends? sound store given poolsApart? openOk openTable offer offers addAll askRows ask takeRows take listRows list releaseRows release markRows mark opened buffer numbers withBytes asking entriesFrom namingFrom start tableWith lease leasesFrom leased offer5 mixed held listing resuming flagged many
+many-hold = refl
+
+pub pages-hold : pages ≡ pagesExpected
+unfolding walk insertBy sortBy entryFields? fields? option? subInside? whenGood readRequest figuresAt entryAt entryFramed? readEntry readEntries readInformation readName readBody readSuboption readSuboptions readOption twoBytes fourBytes requestBytes entryHead entryBytes entriesBytes informationHead suboptionBytes suboptionsBytes optionHead optionBytes unused? empty? prefixesOf present headOk poolOk leaseOk ascends? sound store given poolsApart? openOk openTable offer offers addAll askRows ask takeRows take listRows list releaseRows release markRows mark opened buffer numbers withBytes asking entriesFrom namingFrom start tableWith lease leasesFrom leased offer5 mixed held listing resuming flagged pages
+pages-hold = refl
+
+pub second-pages-hold : secondPages ≡ secondPagesExpected
+unfolding walk insertBy sortBy entryFields? fields? option? subInside? whenGood readRequest figuresAt entryAt entryFramed? readEntry readEntries readInformation readName readBody readSuboption readSuboptions readOption twoBytes fourBytes requestBytes entryHead entryBytes entriesBytes informationHead suboptionBytes suboptionsBytes optionHead optionBytes unused? empty? prefixesOf present headOk poolOk leaseOk ascends? sound store given poolsApart? openOk openTable offer offers addAll askRows ask takeRows take listRows list releaseRows release markRows mark opened buffer numbers withBytes asking entriesFrom namingFrom start tableWith lease leasesFrom leased offer5 mixed held listing resuming flagged secondPages
+second-pages-hold = refl
+
+pub returns-hold : returns ≡ returnsExpected
+unfolding walk insertBy sortBy entryFields? fields? option? subInside? whenGood readRequest figuresAt entryAt entryFramed? readEntry readEntries readInformation readName readBody readSuboption readSuboptions readOption twoBytes fourBytes requestBytes entryHead entryBytes entriesBytes informationHead suboptionBytes suboptionsBytes optionHead optionBytes unused? empty? prefixesOf present headOk poolOk leaseOk ascends? sound store given poolsApart? openOk openTable offer offers addAll askRows ask takeRows take listRows list releaseRows release markRows mark opened buffer numbers withBytes asking entriesFrom namingFrom start tableWith lease leasesFrom leased offer5 mixed held listing resuming flagged returns
+returns-hold = refl
+
+pub takes-hold : takes ≡ takesExpected
+unfolding walk insertBy sortBy entryFields? fields? option? subInside? whenGood readRequest figuresAt entryAt entryFramed? readEntry readEntries readInformation readName readBody readSuboption readSuboptions readOption twoBytes fourBytes requestBytes entryHead entryBytes entriesBytes informationHead suboptionBytes suboptionsBytes optionHead optionBytes unused? empty? prefixesOf present headOk poolOk leaseOk ascends? sound store given poolsApart? openOk openTable offer offers addAll askRows ask takeRows take listRows list releaseRows release markRows mark opened buffer numbers withBytes asking entriesFrom namingFrom start tableWith lease leasesFrom leased offer5 mixed held listing resuming flagged takes
+takes-hold = refl
+
+pub marks-hold : marks ≡ marksExpected
+unfolding walk insertBy sortBy entryFields? fields? option? subInside? whenGood readRequest figuresAt entryAt entryFramed? readEntry readEntries readInformation readName readBody readSuboption readSuboptions readOption twoBytes fourBytes requestBytes entryHead entryBytes entriesBytes informationHead suboptionBytes suboptionsBytes optionHead optionBytes unused? empty? prefixesOf present headOk poolOk leaseOk ascends? sound store given poolsApart? openOk openTable offer offers addAll askRows ask takeRows take listRows list releaseRows release markRows mark opened buffer numbers withBytes asking entriesFrom namingFrom start tableWith lease leasesFrom leased offer5 mixed held listing resuming flagged marks
+marks-hold = refl
+
+pub row-order-hold : rowOrder ≡ rowOrderExpected
+unfolding walk insertBy sortBy entryFields? fields? option? subInside? whenGood readRequest figuresAt entryAt entryFramed? readEntry readEntries readInformation readName readBody readSuboption readSuboptions readOption twoBytes fourBytes requestBytes entryHead entryBytes entriesBytes informationHead suboptionBytes suboptionsBytes optionHead optionBytes unused? empty? prefixesOf present headOk poolOk leaseOk ascends? sound store given poolsApart? openOk openTable offer offers addAll askRows ask takeRows take listRows list releaseRows release markRows mark opened buffer numbers withBytes asking entriesFrom namingFrom start tableWith lease leasesFrom leased offer5 mixed held listing resuming flagged rowOrder
+row-order-hold = refl

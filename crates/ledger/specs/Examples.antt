@@ -32,10 +32,10 @@ abbrev pub naming : ℕ → ℕ → List ℕ
 naming network len = optionBytes (information false false (entry network len [] ∷ []) ∷ [])
 
 -- A call's number, its place, and the bytes written.
-abbrev pub shown : Result → List ℕ
+unfoldable pub shown : Result → List ℕ
 shown r = r .answer .number ∷ r .answer .place ∷ upTo (r .answer .bytes) (r .buffer)
 
-abbrev pub shownUpdate : Update → List ℕ
+unfoldable pub shownUpdate : Update → List ℕ
 shownUpdate r = r .answer .number ∷ r .answer .place ∷ []
 
 unfoldable pub does : LeaseTable → Event → List ℕ

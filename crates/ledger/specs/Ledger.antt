@@ -213,6 +213,7 @@ askOffers t now client option = offers t now client (present now (t .leases)) (r
 -- Rows 9 and 10: "If none is granted, the answer is the refusal of the first."
 unfoldable pub askRows : LeaseTable → ℕ → ℕ → List ℕ → List ℕ → List Row
 askRows t now client option reply =
+    let granted = somes (askOffers t now client option) in
     (1, ltb (length reply) 257)
     ∷ (5, not (sound t))
     ∷ (2, eqb client 0)
@@ -221,8 +222,8 @@ askRows t now client option reply =
     ∷ (6, refuses? 6 (readOption option))
     ∷ (7, refuses? 7 (readOption option))
     ∷ (8, not (forAsk (requestsIn option)))
-    ∷ (9, nothing? (somes (askOffers t now client option)) && full (present now (t .leases)))
-    ∷ (10, nothing? (somes (askOffers t now client option)))
+    ∷ (9, nothing? granted && full (present now (t .leases)))
+    ∷ (10, nothing? granted)
     ∷ []
 
 unfoldable pub ask : LeaseTable → ℕ → ℕ → List ℕ → List ℕ → Result

@@ -6,3 +6,4 @@ pub mod ListDepends
 pub mod Examples
 pub mod WrongServers
 pub mod SampleLists
+pub mod FurtherExamples
