@@ -23,9 +23,9 @@ use Rattle.table.specs.declared.Lease.{Lease}
 use Rattle.table.specs.declared.LeaseTable.{LeaseTable}
 use Rattle.table.specs.Table.{latest, poolsOf, unused?, empty?, prefixesOf, present, headOk, poolOk, leaseOk, ascends?, sound, store}
 use Rattle.ledger.specs.Ledger.{emptySlots, offer, offers, addAll, askRows, ask}
-use Rattle.ledger.specs.Demand3.{Call, Accepts, wellFormed, inUse, Fate, isGranted, wantsSlot, wantsSpace, wellFormedAsks, lengthsAsked, prefixesAt, CanBeChosen, granted, received, afterAll, AllGranted}
+use Rattle.ledger.specs.Demand3.{Call, Accepts, wellFormed, inUse, Fate, isGranted, wantsSlot, wantsSpace, wellFormedAsks, lengthsAsked, prefixesAt, CanBeChosen, granted, AllGranted}
 use Rattle.ledger.specs.Examples.{buffer, requesting}
-use Rattle.ledger.specs.SampleLists.{tableWith, lease, leasesFrom, call, two, three, Sample, malformedBetween, endedGround, prefixZero, lastSlots, filledExactly, fates, narrow, almostFull}
+use Rattle.ledger.specs.SampleLists.{tableWith, lease, leasesFrom, call, three, Sample, malformedBetween, endedGround, prefixZero, lastSlots, filledExactly, fates, narrow, crowded}
 use Rattle.ledger.proofs.Demand3Holds.{demand3}
 
 -- THE PREMISE AS A TEST
@@ -84,20 +84,18 @@ pub samples-meet :
 unfolding malformedBetween endedGround prefixZero lastSlots filledExactly tableWith lease leasesFrom call buffer walk entryFields? fields? option? subInside? whenGood readRequest figuresAt entryAt entryFramed? readEntry readEntries readInformation readName readBody readSuboption readSuboptions readOption unused? empty? prefixesOf present headOk poolOk leaseOk ascends? sound emptySlots askRows wellFormed
 samples-meet = refl
 
--- How many are well-formed in each, and how many leases are present after it: the first list has two, in the fourth 256 are there in the end.
-pub samples-after :
-    map (λ s. length (wellFormedAsks (s .now) (s .table) (s .calls)) ∷ length (present (s .now) (afterAll ask (s .now) (s .table) (s .calls) .leases)) ∷ [])
-    (malformedBetween ∷ endedGround ∷ prefixZero ∷ lastSlots ∷ filledExactly ∷ [])
-    ≡ (2 ∷ 2 ∷ []) ∷ (1 ∷ 1 ∷ []) ∷ (2 ∷ 2 ∷ []) ∷ (2 ∷ 256 ∷ []) ∷ (3 ∷ 3 ∷ []) ∷ []
-unfolding malformedBetween endedGround prefixZero lastSlots filledExactly tableWith lease leasesFrom call buffer walk insertBy entryFields? fields? option? subInside? whenGood readRequest figuresAt entryAt entryFramed? readEntry readEntries readInformation readName readBody readSuboption readSuboptions readOption twoBytes fourBytes requestBytes entryHead entryBytes entriesBytes informationHead suboptionBytes suboptionsBytes optionHead optionBytes unused? empty? prefixesOf present headOk poolOk leaseOk ascends? sound store emptySlots offer offers addAll askRows ask wellFormed afterAll
-samples-after = refl
+-- How many asks are well-formed in each, and how many slots are empty before: in the fourth exactly as many, so that 256 leases are there in the end.
+pub samples-count :
+    map (λ s. length (wellFormedAsks (s .now) (s .table) (s .calls)) ∷ emptySlots (s .now) (s .table) ∷ []) (malformedBetween ∷ endedGround ∷ prefixZero ∷ lastSlots ∷ filledExactly ∷ [])
+    ≡ (2 ∷ 256 ∷ []) ∷ (1 ∷ 256 ∷ []) ∷ (2 ∷ 256 ∷ []) ∷ (2 ∷ 2 ∷ []) ∷ (3 ∷ 256 ∷ []) ∷ []
+unfolding malformedBetween endedGround prefixZero lastSlots filledExactly tableWith lease leasesFrom call buffer walk entryFields? fields? option? subInside? whenGood readRequest figuresAt entryAt entryFramed? readEntry readEntries readInformation readName readBody readSuboption readSuboptions readOption unused? empty? prefixesOf present headOk poolOk leaseOk ascends? sound emptySlots askRows wellFormed
+samples-count = refl
 
--- THE FIRST SENTENCE: refused for want of ground between two that are granted, and for want of lines once no slot is empty.
+-- THE FIRST SENTENCE: refused for want of ground between two that are granted, and for want of lines where no slot is empty.
 pub refused-for :
     fates (inUse 1000 narrow) (granted ask 1000 narrow (call 7 (three 25 24 26)))
-    ∷ fates (inUse 1000 almostFull) (granted ask 1000 almostFull (call 7 (three 30 12 30)))
-    ∷ fates (inUse 1000 almostFull) (granted ask 1000 almostFull (call 7 (three 30 30 12)))
+    ∷ fates (inUse 1000 (crowded 256)) (granted ask 1000 (crowded 256) (call 7 (requesting 30)))
     ∷ []
-    ≡ (isGranted ∷ wantsSpace ∷ isGranted ∷ []) ∷ (isGranted ∷ wantsSpace ∷ isGranted ∷ []) ∷ (isGranted ∷ isGranted ∷ wantsSlot ∷ []) ∷ []
-unfolding narrow almostFull tableWith lease leasesFrom call buffer walk insertBy entryFields? fields? option? subInside? whenGood readRequest figuresAt entryAt entryFramed? readEntry readEntries readInformation readName readBody readSuboption readSuboptions readOption twoBytes fourBytes requestBytes entryHead entryBytes entriesBytes informationHead suboptionBytes suboptionsBytes optionHead optionBytes unused? empty? prefixesOf present headOk poolOk leaseOk ascends? sound store offer offers addAll askRows ask wellFormed granted
+    ≡ (isGranted ∷ wantsSpace ∷ isGranted ∷ []) ∷ (wantsSlot ∷ []) ∷ []
+unfolding narrow crowded tableWith lease leasesFrom call buffer walk insertBy entryFields? fields? option? subInside? whenGood readRequest figuresAt entryAt entryFramed? readEntry readEntries readInformation readName readBody readSuboption readSuboptions readOption twoBytes fourBytes requestBytes entryHead entryBytes entriesBytes informationHead suboptionBytes suboptionsBytes optionHead optionBytes unused? empty? prefixesOf present headOk poolOk leaseOk ascends? sound store offer offers addAll askRows ask wellFormed granted
 refused-for = refl

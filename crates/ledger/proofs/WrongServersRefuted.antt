@@ -25,7 +25,7 @@ use Rattle.table.specs.Table.{leaseSlots, poolsOf, unused?, empty?, prefixesOf,
 use Rattle.ledger.specs.Ledger.{Request, askLength, emptySlots, offer, offers, addAll, askRows, ask}
 use Rattle.ledger.specs.Demand3.{Server, Call, wellFormed, asksOf, entryPrefix, inUse, meets, Fate, wantsSpace, fate, NoneFree, RefusedRightly, granted, received, wellFormedCalls, AllGranted, Demand3}
 use Rattle.ledger.specs.Examples.{buffer}
-use Rattle.ledger.specs.SampleLists.{tableWith, lease, leasesFrom, call, two, three, Sample, almostFull}
+use Rattle.ledger.specs.SampleLists.{tableWith, lease, leasesFrom, call, two, three, Sample, crowded}
 use Rattle.ledger.specs.WrongServers.{refusesAll, samePrefix, leavesTable, firstOnly, answersTen, writesTwice}
 use Rattle.ledger.proofs.ListFacts.{somes-some}
 use Rattle.ledger.proofs.Premises.{free?, free-to, chosen}
@@ -84,40 +84,40 @@ not-samePrefix d =
 
 -- The entry written twice: with 254 leases the third of three requests would be refused for want of ground, and there is ground. (Were the entries
 -- counted and not the leases newly made, it would seem to want a slot.)
-three-well : wellFormed 1000 almostFull (call 7 (three 30 30 30)) ≡ true
-unfolding almostFull tableWith lease leasesFrom call buffer walk entryFields? fields? option? subInside? whenGood readRequest readInformation readName readBody readSuboption readSuboptions readOption unused? empty? prefixesOf present headOk poolOk leaseOk ascends? sound askRows wellFormed
+three-well : wellFormed 1000 (crowded 254) (call 7 (three 30 30 30)) ≡ true
+unfolding crowded tableWith lease leasesFrom call buffer walk entryFields? fields? option? subInside? whenGood readRequest readInformation readName readBody readSuboption readSuboptions readOption unused? empty? prefixesOf present headOk poolOk leaseOk ascends? sound askRows wellFormed
 three-well = refl
 
 -- What it grants: the first prefix for the first and for the second request.
 twice : Entry
 twice = record { network = 0x0a0003f8; length = 30; h = false; d = false; figures = [] }
 
-twice-granted : granted writesTwice 1000 almostFull (call 7 (three 30 30 30)) ≡ some twice ∷ some twice ∷ none ∷ []
-unfolding twice writesTwice almostFull tableWith lease leasesFrom call buffer walk insertBy entryFields? fields? option? subInside? whenGood readRequest figuresAt entryAt entryFramed? readEntry readEntries readInformation readName readBody readSuboption readSuboptions readOption twoBytes fourBytes requestBytes entryHead entryBytes entriesBytes informationHead suboptionBytes suboptionsBytes optionHead optionBytes unused? empty? prefixesOf present headOk poolOk leaseOk ascends? sound store offer offers addAll askRows ask granted
+twice-granted : granted writesTwice 1000 (crowded 254) (call 7 (three 30 30 30)) ≡ some twice ∷ some twice ∷ none ∷ []
+unfolding twice writesTwice crowded tableWith lease leasesFrom call buffer walk insertBy entryFields? fields? option? subInside? whenGood readRequest figuresAt entryAt entryFramed? readEntry readEntries readInformation readName readBody readSuboption readSuboptions readOption twoBytes fourBytes requestBytes entryHead entryBytes entriesBytes informationHead suboptionBytes suboptionsBytes optionHead optionBytes unused? empty? prefixesOf present headOk poolOk leaseOk ascends? sound store offer offers addAll askRows ask granted
 twice-granted = refl
 
 -- The prefixes in use that the third request meets: one more than at the start.
 unfoldable met : List Prefix
-met = prefix 0x0a0003f8 30 ∷ inUse 1000 almostFull
+met = prefix 0x0a0003f8 30 ∷ inUse 1000 (crowded 254)
 
-twice-met : meets (some twice) (meets (some twice) (inUse 1000 almostFull)) ≡ met
-unfolding met twice almostFull tableWith lease leasesFrom present
+twice-met : meets (some twice) (meets (some twice) (inUse 1000 (crowded 254))) ≡ met
+unfolding met twice crowded tableWith lease leasesFrom present
 twice-met = refl
 
 met-length : length met ≡ 255
-unfolding met almostFull tableWith lease leasesFrom present
+unfolding met crowded tableWith lease leasesFrom present
 met-length = refl
 
 met-fate : fate met none ≡ wantsSpace
-unfolding met almostFull tableWith lease leasesFrom present
+unfolding met crowded tableWith lease leasesFrom present
 met-fate = refl
 
-still-free : Free (poolsOf almostFull) met (prefix 0x0a0003fc 30)
-unfolding met almostFull tableWith lease leasesFrom present unused? prefixesOf
-still-free = free-to (poolsOf almostFull) met (prefix 0x0a0003fc 30) refl
+still-free : Free (poolsOf (crowded 254)) met (prefix 0x0a0003fc 30)
+unfolding met crowded tableWith lease leasesFrom present unused? prefixesOf
+still-free = free-to (poolsOf (crowded 254)) met (prefix 0x0a0003fc 30) refl
 
-three-asks : map (askLength almostFull) (asksOf (call 7 (three 30 30 30))) ≡ 30 ∷ 30 ∷ 30 ∷ []
-unfolding almostFull tableWith call walk fields? option? subInside? whenGood readRequest readInformation readName readBody readSuboption readSuboptions readOption
+three-asks : map (askLength (crowded 254)) (asksOf (call 7 (three 30 30 30))) ≡ 30 ∷ 30 ∷ 30 ∷ []
+unfolding crowded tableWith call walk fields? option? subInside? whenGood readRequest readInformation readName readBody readSuboption readSuboptions readOption
 three-asks = refl
 
 -- The first sentence of the third of three asks.
@@ -133,9 +133,9 @@ third t used (q ∷ r ∷ s ∷ rs) g h k a b c e f =
 pub not-writesTwice : Demand3 writesTwice → ⊥
 not-writesTwice d =
     let rs : List Request = asksOf (call 7 (three 30 30 30)) in
-    let f : RefusedRightly almostFull (inUse 1000 almostFull) rs (some twice ∷ some twice ∷ none ∷ []) =
-    subst (RefusedRightly almostFull (inUse 1000 almostFull) rs) twice-granted (d .sentence almostFull 1000 (call 7 (three 30 30 30)) three-well) in
-    let g : length met < leaseSlots → (fate met none ≡ wantsSpace) ↔ NoneFree almostFull met 30 =
-    subst (λ (used : List Prefix). length used < leaseSlots → (fate used none ≡ wantsSpace) ↔ NoneFree almostFull used 30) twice-met
-    (third almostFull (inUse 1000 almostFull) rs (some twice) (some twice) none 30 30 30 three-asks f) in
+    let f : RefusedRightly (crowded 254) (inUse 1000 (crowded 254)) rs (some twice ∷ some twice ∷ none ∷ []) =
+    subst (RefusedRightly (crowded 254) (inUse 1000 (crowded 254)) rs) twice-granted (d .sentence (crowded 254) 1000 (call 7 (three 30 30 30)) three-well) in
+    let g : length met < leaseSlots → (fate met none ≡ wantsSpace) ↔ NoneFree (crowded 254) met 30 =
+    subst (λ (used : List Prefix). length used < leaseSlots → (fate used none ≡ wantsSpace) ↔ NoneFree (crowded 254) used 30) twice-met
+    (third (crowded 254) (inUse 1000 (crowded 254)) rs (some twice) (some twice) none 30 30 30 three-asks f) in
     g (omega (arith, met-length)) .0 met-fate 0x0a0003fc still-free

@@ -83,10 +83,10 @@ prefixZero = record { table = tableWith 0x0a000100 24 []; now = 1000; calls = ca
 -- 254 leases, and two asks: exactly 256 at the end.
 unfoldable pub lastSlots : Sample
 lastSlots = record {
-  table = tableWith 0x0a000000 16 (leasesFrom 0x0a000000 254);
+  table = tableWith 0x0a000000 21 (leasesFrom 0x0a000000 254);
   now = 1000;
-  calls = call 7 (requesting 30) ∷ call 8 (requesting 20) ∷ [];
-  networks = 0x0a001000 ∷ 0x0a002000 ∷ [];
+  calls = call 7 (requesting 30) ∷ call 8 (requesting 22) ∷ [];
+  networks = 0x0a0003f8 ∷ 0x0a000400 ∷ [];
 }
 
 -- The ground filled exactly, by two calls.
@@ -103,9 +103,9 @@ abbrev pub fates : List Prefix → List (Option Entry) → List Fate
 fates used [] = []
 fates used (g ∷ gs) = fate used g ∷ fates (meets g used) gs
 
--- Refused for want of ground between two that are granted; and for want of lines once the table is full.
+-- Tables on which asks are refused: for want of ground, and (with 256 leases) for want of lines.
 unfoldable pub narrow : LeaseTable
 narrow = tableWith 0x0a000100 24 []
 
-unfoldable pub almostFull : LeaseTable
-almostFull = tableWith 0x0a000000 16 (leasesFrom 0x0a000000 254)
+unfoldable pub crowded : ℕ → LeaseTable
+crowded n = tableWith 0x0a000000 21 (leasesFrom 0x0a000000 n)

@@ -47,5 +47,5 @@ answersTen t now client option reply = record {
 unfoldable pub writesTwice : Server
 writesTwice t now client option reply =
     let xs = present now (t .leases) in
-    let gs = somes (upTo 1 (offers t now client xs (requestsIn option))) in
+    let gs = somes (map (offer t now client xs) (upTo 1 (requestsIn option))) in
     accept (store t now (addAll (map some gs) xs)) (optionBytes (map informationFor (gs ++ gs))) 2 reply
