@@ -105,16 +105,20 @@ returns =
 abbrev pub returnsExpected : List (List ℕ)
 returnsExpected = (0 ∷ 0 ∷ 0 ∷ 2 ∷ []) ∷ (0 ∷ 0 ∷ 0 ∷ 1 ∷ []) ∷ (0 ∷ 0 ∷ 0 ∷ 1 ∷ []) ∷ (11 ∷ 0 ∷ 0 ∷ 0 ∷ []) ∷ []
 
--- Take: the same entry twice is answered twice; flags are the table's, not the option's. With the entry's length and flags bytes.
+-- Take: the same entry twice is answered twice; flags are the table's, not the option's; leased until now + term, 1100 + 3600. With the entry's length
+-- and flags bytes.
 unfoldable pub takes : List (List ℕ)
 takes =
     numbers (take held 1001 5 (optionBytes (information false false (entriesFrom 0 1 ++ entriesFrom 0 1) ∷ [])) buffer .answer)
     ∷ withBytes (take held 1001 5 flagged buffer) 10 11
     ∷ withBytes (take (mark held 1001 0x0a000100 30 true .table) 1001 5 flagged buffer) 10 11
+    ∷ withBytes (list (take held 1100 5 flagged buffer .table) 4699 5 listing buffer) 10 11
+    ∷ withBytes (list (take held 1100 5 flagged buffer .table) 4700 5 listing buffer) 10 11
     ∷ []
 
 abbrev pub takesExpected : List (List ℕ)
-takesExpected = (0 ∷ 0 ∷ 20 ∷ 2 ∷ []) ∷ (0 ∷ 0 ∷ 13 ∷ 1 ∷ 30 ∷ 0 ∷ []) ∷ (0 ∷ 0 ∷ 13 ∷ 1 ∷ 30 ∷ 1 ∷ []) ∷ []
+takesExpected =
+    (0 ∷ 0 ∷ 20 ∷ 2 ∷ []) ∷ (0 ∷ 0 ∷ 13 ∷ 1 ∷ 30 ∷ 0 ∷ []) ∷ (0 ∷ 0 ∷ 13 ∷ 1 ∷ 30 ∷ 1 ∷ []) ∷ (0 ∷ 0 ∷ 13 ∷ 1 ∷ 30 ∷ 0 ∷ []) ∷ (11 ∷ 0 ∷ 0 ∷ 0 ∷ 0 ∷ 0 ∷ []) ∷ []
 
 -- Mark: no count; an ended lease, and another length, are not found.
 unfoldable pub marks : List (List ℕ)
