@@ -19,3 +19,5 @@ pub mod NothingBehind
 pub mod ExamplesHold
 pub mod Premises
 pub mod WrongServersRefuted
+pub mod Counts
+pub mod InRange

@@ -2,7 +2,7 @@
 -- Assumes nothing.
 use Prim.Native.Nat.{ℕ, zero, suc, _+_, _*_, _≤_, _<_}
 use mathlib.Core.Path.{_≡_, refl, sym, ap, subst, _∙_}
-use mathlib.Core.Bool.{Bool, true, false, cond}
+use mathlib.Core.Bool.{Bool, true, false, cond, true≢false}
 use mathlib.Core.Logic.{by-cases}
 use native.Mathlib.Decide.{decLe}
 use mathlib.Core.List.{List, [], _∷_, _++_}
@@ -14,13 +14,14 @@ use Rattle.lists.specs.Lists.{All, all?}
 use Rattle.lists.specs.Walk.{Turn, more, stop, onTurn, walk}
 use Rattle.lists.proofs.Tests.{and-to, all?-to}
 use Rattle.lists.proofs.ListLaws.{all-append}
+use Rattle.lists.proofs.DropLaws.{all-at}
 use Rattle.prefix.specs.Prefixes.{longest}
 use Rattle.option.specs.Values.{Entry, SuboptionValue, request, information, name, unknown, Outcome, refused, accepted}
 use Rattle.option.specs.Rules.{entryFields?, fields?}
 use Rattle.option.specs.Reading.{End, whole, badAt, subEnd, whenGood, readRequest, readEntry, readEntries, readInformation, readName, readBody, readSuboption, readSuboptions, ended, option?, readOption}
 use Rattle.option.proofs.EntryLaws.{entry-read}
 use Rattle.option.proofs.SuboptionLaws.{good-read, SuboptionRead, suboption-read, suboption-moves, suboption-ends, information-entries}
-use Rattle.ledger.specs.Ledger.{Request, suboptions, requests, entries, requestsIn, entriesIn}
+use Rattle.ledger.specs.Ledger.{Request, refuses?, suboptions, requests, entries, requestsIn, entriesIn}
 
 -- WHAT HOLDS OF EACH PIECE OF A WALK
 
@@ -180,6 +181,14 @@ option-long s e =
     let c = and-to (eqb (getD s 1 0 + 2) (length s)) (leb 2 (getD s 1 0)) (b .1) in
     omega (arith, eqb-true (getD s 1 0 + 2) (length s) (c .0), leb-true 2 (getD s 1 0) (c .1))
 
+short : (s : List ℕ) → All (λ b. b < 256) s → option? s ≡ true → length s ≤ 257
+unfolding option?
+short s a e =
+    let b = and-to (leb 2 (length s)) _ e in
+    let c = and-to (eqb (getD s 0 0) 220) _ (b .1) in
+    let d = and-to (eqb (getD s 1 0 + 2) (length s)) (leb 2 (getD s 1 0)) (c .1) in
+    omega (arith, eqb-true (getD s 1 0 + 2) (length s) (d .0), all-at (λ v. v < 256) s a 1 0 (leb-true 2 (length s) (b .0)))
+
 few : (s : List ℕ) → length s ≤ 257 → 3 + weigh bytesOf (suboptions (readOption s)) ≤ 257
 unfolding readOption readSuboptions
 few s l = go (option? s) refl
@@ -202,3 +211,12 @@ entries-few s l =
 
 pub requests-few : (s : List ℕ) → length s ≤ 257 → length (requestsIn s) ≤ 63
 requests-few s l = omega (arith, few s l, entries-of-weight (suboptions (readOption s)))
+
+-- An option of bytes that is no refusal of row 6 has at most 257 bytes.
+pub option-short : (s : List ℕ) → All (λ b. b < 256) s → refuses? 6 (readOption s) ≡ false → length s ≤ 257
+unfolding readOption
+option-short s a r = go (option? s) refl r
+  where
+    go : (b : Bool) → option? s ≡ b → refuses? 6 (cond b (ended (readSuboptions s 3 .0) (readSuboptions s 3 .1)) (refused 6 0)) ≡ false → length s ≤ 257
+    go true e f = short s a e
+    go false e f = absurd (true≢false f)

@@ -69,7 +69,7 @@ reads-none n place t reply = go (eqb n 0)
 
 -- THE REPLIES FIT: 25 granted requests need 253 bytes, 35 entries in one Information need 251.
 
-bare : (xs : List Lease) → All Bare (map entryOf xs)
+pub bare : (xs : List Lease) → All Bare (map entryOf xs)
 bare [] = tt
 bare (x ∷ xs) = (refl, bare xs)
 

@@ -85,13 +85,17 @@ first-number P (r ∷ rows) n a e =
     (λ (b : r .1 ≡ false). first-number P rows n (a .1) (sym (cond-false (r .1) (some (r .0)) (firstOf rows) b) ∙ e))
     (bool-cases (r .1))
 
-pub by-rows : {R : Type 0} (P : R → Type 0) (rows : List Row) (refusing : ℕ → R) (accepting : R) → Numbered rows
-    → ((n : ℕ) → eqb n 0 ≡ false → P (refusing n)) → (firstOf rows ≡ none → P accepting) → P (orElse (firstOf rows) refusing accepting)
-by-rows P rows refusing accepting k a b = go (firstOf rows) refl
+pub by-numbers : {R : Type 0} (Q : ℕ → Type 0) (P : R → Type 0) (rows : List Row) (refusing : ℕ → R) (accepting : R) → All (λ (r : Row). Q (r .0)) rows
+    → ((n : ℕ) → Q n → P (refusing n)) → (firstOf rows ≡ none → P accepting) → P (orElse (firstOf rows) refusing accepting)
+by-numbers Q P rows refusing accepting k a b = go (firstOf rows) refl
   where
     go : (o : Option ℕ) → firstOf rows ≡ o → P (orElse o refusing accepting)
     go none e = b e
-    go (some n) e = a n (first-number (λ m. eqb m 0 ≡ false) rows n k e)
+    go (some n) e = a n (first-number Q rows n k e)
+
+pub by-rows : {R : Type 0} (P : R → Type 0) (rows : List Row) (refusing : ℕ → R) (accepting : R) → Numbered rows
+    → ((n : ℕ) → eqb n 0 ≡ false → P (refusing n)) → (firstOf rows ≡ none → P accepting) → P (orElse (firstOf rows) refusing accepting)
+by-rows P rows refusing accepting k a b = by-numbers (λ m. eqb m 0 ≡ false) P rows refusing accepting k a b
 
 pub numbered-ask : (t : LeaseTable) (now client : ℕ) (option reply : List ℕ) → Numbered (askRows t now client option reply)
 unfolding askRows

@@ -7,3 +7,4 @@ pub mod Examples
 pub mod WrongServers
 pub mod SampleLists
 pub mod FurtherExamples
+pub mod Sizes
