@@ -31,7 +31,7 @@ use Rattle.table.proofs.TableLaws.{Good, sound-term, sound-fine, sound-fewer, f
 use Rattle.ledger.specs.Ledger.{Answer, Result, Update, Row, firstOf, before, refuse, Request, requestsIn, entriesIn, entryOf, holdTime, informationFor, askOffers, add, offer, offers, addAll, forAsk, askRows, ask, names?, named?, found, refusalPlace, renew, renewNamed, takeRows, take, listedIn, listRows, list, releaseRows, release, at?, withD, markRows, mark}
 use Rattle.ledger.specs.Sizes.{Word, Byte, Bytes, SizedPool, SizedLease, SizedTable, SizedAnswer}
 use Rattle.ledger.proofs.RowLaws.{first-none, by-numbers}
-use Rattle.ledger.proofs.ReadLaws.{requests-short, entries-few, option-short}
+use Rattle.ledger.proofs.ReadLaws.{requests-short, entries-few, option-short, place-short}
 use Rattle.ledger.proofs.ReplyLaws.{bare}
 use Rattle.ledger.proofs.Counts.{upTo-few, upTo-all, granted-few, ask-fits, found-few, information-fits}
 use Rattle.ledger.proofs.OfferLaws.{pools-good, pools-within, Offered, Offer, offer-is, Inv, offers-inv, offers-good, length-bounds}
@@ -152,8 +152,8 @@ pub record SizedUpdate (r : Update) : Type 0 where
   pub table : SizedTable (r .table)
   pub answer : SizedAnswer (r .answer)
 
-refusal-sized : (n place : ℕ) → n ≤ 14 → SizedAnswer (record { number = n; place = place; bytes = 0; count = 0 })
-refusal-sized n place l = record { number = l; bytes = omega arith; count = omega arith }
+refusal-sized : (n place : ℕ) → n ≤ 14 → place ≤ 257 → SizedAnswer (record { number = n; place = place; bytes = 0; count = 0 })
+refusal-sized n place l p = record { number = l; place = p; bytes = omega arith; count = omega arith }
 
 module _ (t : LeaseTable) (now client : ℕ) (option reply : List ℕ) (st : SizedTable t) (w : Word client) (o : Bytes option) (b : Bytes reply) where
   small-ask : All (λ (r : Row). r .0 ≤ 14) (askRows t now client option reply)
@@ -172,13 +172,13 @@ module _ (t : LeaseTable) (now client : ℕ) (option reply : List ℕ) (st : Siz
   unfolding releaseRows
   small-release = (omega arith, (omega arith, (omega arith, (omega arith, (omega arith, (omega arith, (omega arith, (omega arith, tt))))))))
 
-  refused-sized : (n place : ℕ) → n ≤ 14 → Sized (refuse n place t reply)
-  refused-sized n place l = record { table = st; buffer = b; answer = refusal-sized n place l }
+  refused-sized : (n : ℕ) → n ≤ 14 → Sized (refuse n (refusalPlace option n) t reply)
+  refused-sized n l = record { table = st; buffer = b; answer = refusal-sized n (refusalPlace option n) l (place-short option o n) }
 
   pub ask-sized : Sized (ask t now client option reply)
   unfolding ask askRows
   ask-sized =
-      by-numbers (λ n. n ≤ 14) Sized (askRows t now client option reply) _ _ small-ask (λ n l. refused-sized n (refusalPlace option n) l)
+      by-numbers (λ n. n ≤ 14) Sized (askRows t now client option reply) _ _ small-ask (λ n l. refused-sized n l)
       (λ e.
       let r = first-none (askRows t now client option reply) e in
       let s : sound t ≡ true = not-false (sound t) (r .1 .0) in
@@ -193,7 +193,7 @@ module _ (t : LeaseTable) (now client : ℕ) (option reply : List ℕ) (st : Siz
       record {
         table = store-sized t now (addAll (askOffers t now client option) xs) st (omega arith) (offers-sized t now client s l w (requestsIn option) xs (requests-short option) (present-sized t now st));
         buffer = buffer-sized (optionBytes (map informationFor gs)) reply (option-sized (map informationFor gs) (omega (arith, ask-fits gs few)) (suboptions-sized gs told)) b;
-        answer = record { number = omega arith; bytes = omega (arith, ask-fits gs few); count = omega arith };
+        answer = record { number = omega arith; place = omega arith; bytes = omega (arith, ask-fits gs few); count = omega arith };
       })
 
   found-told : sound t ≡ true → (es : List Entry) → All Told (found client (present now (t .leases)) es)
@@ -206,7 +206,7 @@ module _ (t : LeaseTable) (now client : ℕ) (option reply : List ℕ) (st : Siz
   pub take-sized : Sized (take t now client option reply)
   unfolding take takeRows
   take-sized =
-      by-numbers (λ n. n ≤ 14) Sized (takeRows t now client option reply) _ _ small-take (λ n l. refused-sized n (refusalPlace option n) l)
+      by-numbers (λ n. n ≤ 14) Sized (takeRows t now client option reply) _ _ small-take (λ n l. refused-sized n l)
       (λ e.
       let r = first-none (takeRows t now client option reply) e in
       let s : sound t ≡ true = not-false (sound t) (r .1 .0) in
@@ -221,13 +221,13 @@ module _ (t : LeaseTable) (now client : ℕ) (option reply : List ℕ) (st : Siz
             (λ x (k : SizedLease x). record { network = k .network; length = k .length; client = k .client; expires = omega (arith, sound-term t s .1) }) xs (present-sized t now st));
         buffer = buffer-sized (optionBytes (information false false (map entryOf gs) ∷ [])) reply
             (option-sized (information false false (map entryOf gs) ∷ []) (omega (arith, information-fits false false gs few)) (one-sized false false gs few (found-told s es))) b;
-        answer = record { number = omega arith; bytes = omega (arith, information-fits false false gs few); count = omega arith };
+        answer = record { number = omega arith; place = omega arith; bytes = omega (arith, information-fits false false gs few); count = omega arith };
       })
 
   pub list-sized : Sized (list t now client option reply)
   unfolding list listRows
   list-sized =
-      by-numbers (λ n. n ≤ 14) Sized (listRows t now client option reply) _ _ small-list (λ n l. refused-sized n (refusalPlace option n) l)
+      by-numbers (λ n. n ≤ 14) Sized (listRows t now client option reply) _ _ small-list (λ n l. refused-sized n l)
       (λ e.
       let r = first-none (listRows t now client option reply) e in
       let s : sound t ≡ true = not-false (sound t) (r .1 .0) in
@@ -241,13 +241,13 @@ module _ (t : LeaseTable) (now client : ℕ) (option reply : List ℕ) (st : Siz
         buffer = buffer-sized (optionBytes (information true (ltb 35 (length gs)) (map entryOf page) ∷ [])) reply
             (option-sized (information true (ltb 35 (length gs)) (map entryOf page) ∷ []) (omega (arith, information-fits true (ltb 35 (length gs)) page few))
             (one-sized true (ltb 35 (length gs)) page few (upTo-all Told 35 gs told))) b;
-        answer = record { number = omega arith; bytes = omega (arith, information-fits true (ltb 35 (length gs)) page few); count = omega arith };
+        answer = record { number = omega arith; place = omega arith; bytes = omega (arith, information-fits true (ltb 35 (length gs)) page few); count = omega arith };
       })
 
   pub release-sized : SizedUpdate (release t now client option)
   unfolding release releaseRows
   release-sized =
-      by-numbers (λ n. n ≤ 14) SizedUpdate (releaseRows t now client option) _ _ small-release (λ n l. record { table = st; answer = refusal-sized n (refusalPlace option n) l })
+      by-numbers (λ n. n ≤ 14) SizedUpdate (releaseRows t now client option) _ _ small-release (λ n l. record { table = st; answer = refusal-sized n (refusalPlace option n) l (place-short option o n) })
       (λ e.
       let r = first-none (releaseRows t now client option) e in
       let s : sound t ≡ true = not-false (sound t) (r .0) in
@@ -256,7 +256,7 @@ module _ (t : LeaseTable) (now client : ℕ) (option reply : List ℕ) (st : Siz
       let es : List Entry = entriesIn option in
       record {
         table = store-sized t now (those (λ x. not (named? client es x)) xs) st (omega arith) (those-all (λ x. not (named? client es x)) SizedLease xs (present-sized t now st));
-        answer = record { number = omega arith; bytes = omega arith; count = omega (arith, those-fewer (named? client es) xs, sound-fewer t s now) };
+        answer = record { number = omega arith; place = omega arith; bytes = omega arith; count = omega (arith, those-fewer (named? client es) xs, sound-fewer t s now) };
       })
 
 small-mark : (t : LeaseTable) (now network len : ℕ) → All (λ (r : Row). r .0 ≤ 14) (markRows t now network len)
@@ -266,7 +266,7 @@ small-mark t now network len = (omega arith, (omega arith, (omega arith, (omega 
 pub mark-sized : (t : LeaseTable) (now network len : ℕ) (d : Bool) → SizedTable t → SizedUpdate (mark t now network len d)
 unfolding mark markRows
 mark-sized t now network len d st =
-    by-numbers (λ n. n ≤ 14) SizedUpdate (markRows t now network len) _ _ (small-mark t now network len) (λ n l. record { table = st; answer = refusal-sized n 0 l })
+    by-numbers (λ n. n ≤ 14) SizedUpdate (markRows t now network len) _ _ (small-mark t now network len) (λ n l. record { table = st; answer = refusal-sized n 0 l (omega arith) })
     (λ e.
     let r = first-none (markRows t now network len) e in
     let l : now ≤ latest = ltb-false latest now (r .1 .1 .0) in
@@ -274,5 +274,5 @@ mark-sized t now network len d st =
     record {
       table = store-sized t now (map (λ x. cond (at? network len x) (withD d x) x) xs) st (omega arith)
           (map-sized (withD d) (at? network len) (λ x (k : SizedLease x). record { network = k .network; length = k .length; client = k .client; expires = k .expires }) xs (present-sized t now st));
-      answer = record { number = omega arith; bytes = omega arith; count = omega arith };
+      answer = record { number = omega arith; place = omega arith; bytes = omega arith; count = omega arith };
     })

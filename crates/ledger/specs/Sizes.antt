@@ -34,8 +34,9 @@ pub record SizedTable (t : LeaseTable) : Type 0 where
   pub default : Byte (t .«default_length»)
   pub last : Word (t .last)
 
--- An answer: the numbers of document 01, no more bytes than the smallest reply buffer has, no more entries than a table has leases or an option entries.
+-- An answer: the numbers of document 01, a place in the option, no more bytes than the smallest reply buffer has, no more entries than a table has leases or an option entries.
 pub record SizedAnswer (a : Answer) : Type 0 where
   pub number : a .number ≤ 14
+  pub place : a .place ≤ 257
   pub bytes : a .bytes ≤ 257
   pub count : a .count ≤ 256
