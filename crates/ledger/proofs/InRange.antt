@@ -16,7 +16,7 @@ use Rattle.lists.proofs.Tests.{bool-cases}
 use Rattle.lists.proofs.ListLaws.{all-map, all-map₂, all-append, all-image, any-all}
 use Rattle.lists.proofs.DropLaws.{all-drop}
 use Rattle.lists.proofs.ThoseLaws.{those-all, those-fewer, all-replicate}
-use Rattle.lists.proofs.SortingLaws.{insertBy-all}
+use Rattle.lists.proofs.SortingLaws.{insertBy-all, sortBy-all}
 use Rattle.prefix.specs.declared.Prefix.{Prefix}
 use Rattle.prefix.specs.Prefixes.{size, end, Inside}
 use Rattle.prefix.proofs.PrefixLaws.{size-positive}
@@ -26,9 +26,11 @@ use Rattle.option.specs.Writing.{bit, flags, fourBytes, twoBytes, entryHead, en
 use Rattle.option.proofs.WritingLaws.{option-length, bare-entries-length}
 use Rattle.table.specs.declared.Lease.{Lease}
 use Rattle.table.specs.declared.LeaseTable.{LeaseTable}
-use Rattle.table.specs.Table.{leaseSlots, latest, addresses, noLease, networkOf, prefixOf, poolsOf, padded, present, sound, store}
+use Rattle.table.specs.Table.{leaseSlots, latest, addresses, noPool, noLease, networkOf, prefixOf, poolsOf, padded, present, sound, store}
+use Rattle.table.specs.Slots.{poolNetwork}
+use Rattle.table.specs.Open.{given, sortPools}
 use Rattle.table.proofs.TableLaws.{Good, sound-term, sound-fine, sound-fewer, fine-those, store-sound}
-use Rattle.ledger.specs.Ledger.{Answer, Result, Update, Row, firstOf, before, refuse, Request, requestsIn, entriesIn, entryOf, holdTime, informationFor, askOffers, add, offer, offers, addAll, forAsk, askRows, ask, names?, named?, found, refusalPlace, renew, renewNamed, takeRows, take, listedIn, listRows, list, releaseRows, release, at?, withD, markRows, mark}
+use Rattle.ledger.specs.Ledger.{Answer, Result, Update, openRows, openTable, Row, firstOf, before, refuse, Request, requestsIn, entriesIn, entryOf, holdTime, informationFor, askOffers, add, offer, offers, addAll, forAsk, askRows, ask, names?, named?, found, refusalPlace, renew, renewNamed, takeRows, take, listedIn, listRows, list, releaseRows, release, at?, withD, markRows, mark}
 use Rattle.ledger.specs.Sizes.{Word, Byte, Bytes, SizedPool, SizedLease, SizedTable, SizedAnswer}
 use Rattle.ledger.proofs.RowLaws.{first-none, by-numbers}
 use Rattle.ledger.proofs.ReadLaws.{requests-short, entries-few, option-short, place-short}
@@ -274,5 +276,43 @@ mark-sized t now network len d st =
     record {
       table = store-sized t now (map (λ x. cond (at? network len x) (withD d x) x) xs) st (omega arith)
           (map-sized (withD d) (at? network len) (λ x (k : SizedLease x). record { network = k .network; length = k .length; client = k .client; expires = k .expires }) xs (present-sized t now st));
+      answer = record { number = omega arith; place = omega arith; bytes = omega arith; count = omega arith };
+    })
+
+-- OPEN
+
+given-sized : (networks lengths : List ℕ) → All Word networks → All Byte lengths → All SizedPool (given networks lengths)
+unfolding given
+given-sized [] lengths a b = tt
+given-sized (n ∷ networks) [] a b = tt
+given-sized (n ∷ networks) (l ∷ lengths) a b = (record { network = a .0; length = b .0 }, given-sized networks lengths (a .1) (b .1))
+
+no-pool-sized : SizedPool noPool
+no-pool-sized = record { network = omega arith; length = omega arith }
+
+pub open-sized : (networks lengths : List ℕ) (term defaultLength start : ℕ) → All Word networks → All Byte lengths → Word term → Byte defaultLength → Word start
+    → SizedUpdate (openTable networks lengths term defaultLength start)
+unfolding openTable
+open-sized networks lengths term defaultLength start n l t d s =
+    by-numbers (λ m. m ≤ 14) SizedUpdate (openRows networks lengths term defaultLength start) _ _ (omega arith, tt)
+    (λ m k. record {
+      table = record {
+        pools = all-replicate SizedPool 8 noPool no-pool-sized;
+        leases = all-replicate SizedLease 256 noLease no-lease-sized;
+        term = omega arith;
+        default = omega arith;
+        last = omega arith;
+      };
+      answer = refusal-sized m 0 k (omega arith);
+    })
+    (λ e. record {
+      table = record {
+        pools = all-append SizedPool (sortPools (given networks lengths)) (replicate (8 - length (sortPools (given networks lengths))) noPool)
+            (sortBy-all poolNetwork SizedPool (given networks lengths) (given-sized networks lengths n l)) (all-replicate SizedPool (8 - length (sortPools (given networks lengths))) noPool no-pool-sized);
+        leases = all-replicate SizedLease 256 noLease no-lease-sized;
+        term = t;
+        default = d;
+        last = s;
+      };
       answer = record { number = omega arith; place = omega arith; bytes = omega arith; count = omega arith };
     })
