@@ -21,3 +21,4 @@ pub mod Premises
 pub mod WrongServersRefuted
 pub mod Counts
 pub mod InRange
+pub mod StepLaws
