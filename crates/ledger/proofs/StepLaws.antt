@@ -15,10 +15,13 @@ use Rattle.lists.proofs.Tests.{bool-cases, cond-true, cond-false}
 use Rattle.prefix.specs.declared.Prefix.{Prefix}
 use Rattle.space.specs.Space.{grant}
 use Rattle.option.specs.Values.{Entry, SuboptionValue}
+use Rattle.option.specs.Reading.{four}
+use Rattle.option.specs.Selection.{Selected, address, selection?, readSelection}
+use Rattle.option.specs.Selection.{refused as refusedSelection}
 use Rattle.table.specs.declared.Lease.{Lease}
 use Rattle.table.specs.declared.LeaseTable.{LeaseTable}
 use Rattle.table.specs.Table.{prefixOf, poolsOf}
-use Rattle.ledger.specs.Ledger.{Row, firstOf, nothing?, Request, requests, entries, full, askLength, offered, offer, add, offers, addAll, names?, found, lastNetwork, position, above?}
+use Rattle.ledger.specs.Ledger.{Row, firstOf, orElse, read118, nothing?, Request, requests, entries, full, askLength, offered, offer, add, offers, addAll, names?, found, lastNetwork, position, above?}
 use Rattle.ledger.proofs.ListFacts.{somes-append}
 
 -- ROWS
@@ -106,3 +109,12 @@ above-from (some p) n =
     (λ (h : ltb p n ≡ true). h ∙ sym (le-leb (p + 1) n (omega (arith, ltb-true p n h))))
     (λ (h : ltb p n ≡ false). h ∙ sym (lt-leb (p + 1) n (omega (arith, ltb-false p n h))))
     (bool-cases (ltb p n))
+
+-- OPTION 118: the ledger's reading is that of crate `option`.
+pub read118-is : (s : List ℕ) → read118 s ≡ readSelection s
+unfolding read118 readSelection
+read118-is s = go (selection? s)
+  where
+    go : (b : Bool) → orElse (cond (not b) (some 6) none) refusedSelection (address (four s 2)) ≡ cond b (address (four s 2)) (refusedSelection 6)
+    go true = refl
+    go false = refl

@@ -4,8 +4,8 @@
 -- and the buffer after it. Return (`release`) and mark have no reply buffer; open has no table before it. Save and load stand in crate `image`.
 -- A refused call gives the first row that applies; the rows of each call stand in one list, in document 01's order.
 --
--- Numbers are as large as the types of the code let them be (32 bits for a network, a client and a time, 8 for a length and a byte): `Sizes` says so
--- of tables and bytes, and the laws of `InRange` say that arguments within these sizes give results within them.
+-- Numbers are as large as the types of the code let them be (32 bits for a network, a client and a time, 8 for a length and a byte). Neither a call nor
+-- `sound` tests that: `Sizes` says it of tables and bytes, and the laws of `InRange` say that arguments within these sizes give results within them.
 -- Assumes nothing: these are definitions.
 use Prim.Native.Nat.{ℕ, _+_}
 use mathlib.Core.Bool.{Bool, true, false, not, cond, _&&_}
@@ -18,8 +18,10 @@ use Rattle.lists.specs.Lists.{every, all?, any?, those, gather, somes}
 use Rattle.prefix.specs.declared.Prefix.{Prefix}
 use Rattle.space.specs.Space.{grant}
 use Rattle.option.specs.Values.{Entry, SuboptionValue, request, information, name, unknown, Outcome, refused, accepted}
-use Rattle.option.specs.Reading.{readOption}
+use Rattle.option.specs.Reading.{four, readOption}
 use Rattle.option.specs.Writing.{optionBytes}
+use Rattle.option.specs.Selection.{Selected, address, selection?}
+use Rattle.option.specs.Selection.{refused as refusedSelection}
 use Rattle.table.specs.declared.Lease.{Lease}
 use Rattle.table.specs.declared.LeaseTable.{LeaseTable}
 use Rattle.table.specs.Table.{leaseSlots, latest, prefixOf, poolsOf, empty?, present, sound, store, insert}
@@ -138,6 +140,17 @@ entryOf x = record { network = x .network; length = x .length; h = x .h; d = x .
 -- The place of a refusal: "7 also its place".
 abbrev pub refusalPlace : List ℕ → ℕ → ℕ
 refusalPlace option number = cond (eqb number 7) (placeIn (readOption option)) 0
+
+-- OPTION 118: "The desk reads and writes it, and acts on none". Reading has row 6 alone.
+
+abbrev pub read118Rows : List ℕ → List Row
+read118Rows option =
+    (6, not (selection? option))
+    ∷ []
+
+-- "code 118, Len 4, four address bytes"
+unfoldable pub read118 : List ℕ → Selected
+read118 option = orElse (firstOf (read118Rows option)) refusedSelection (address (four option 2))
 
 -- EMPTY SLOTS
 

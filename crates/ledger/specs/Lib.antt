@@ -1,5 +1,6 @@
 pub mod Ledger
 pub mod Demand3
+pub mod Choice
 pub mod Histories
 pub mod Conservation
 pub mod ListDepends
