@@ -1,0 +1,4 @@
+-- Laws that several proofs cite.
+pub mod FieldLaws
+pub mod ImageLaws
+pub mod Examples
