@@ -8,7 +8,7 @@ use mathlib.Core.List.{List, [], _∷_, _++_, append-assoc, append-nil}
 use mathlib.Core.Option.{Option, none, some}
 use native.Mathlib.Nat.{mul-suc}
 use native.Mathlib.Omega.{arith}
-use lib.ListN.{length, take, drop, getD, replicate, length-append, length-map}
+use lib.ListN.{length, take, drop, getD, replicate, length-append, length-drop}
 use lib.Dec.{leb, ltb, eqb}
 use borrow.Author.Tests.{leb-true, le-leb, lt-leb, eqb-true, eq-eqb, ne-eqb, not-true}
 use Rattle.lists.specs.Lists.{All, every, those, gather}
@@ -291,15 +291,15 @@ one-image t u a b = ((λ e. some-injective t u (sym (load-image t a) ∙ ap load
 
 -- HOW LONG AN IMAGE IS
 
-length-head : (x : Head) → length (headRecord x) ≡ 13
+pub length-head : (x : Head) → length (headRecord x) ≡ 13
 unfolding headRecord le16 le32
 length-head x = refl
 
-length-pool : (p : Pool) → length (poolRecord p) ≡ 9
+pub length-pool : (p : Pool) → length (poolRecord p) ≡ 9
 unfolding poolRecord le16 le32
 length-pool p = refl
 
-length-lease : (x : Lease) → length (leaseRecord x) ≡ 19
+pub length-lease : (x : Lease) → length (leaseRecord x) ≡ 19
 unfolding leaseRecord le16 le32
 length-lease x = refl
 
@@ -404,3 +404,39 @@ pool-long s p e = leb-true poolSize (length s) (every-to (poolTests s) (some-sam
 pub lease-long : (s : List ℕ) (x : Lease) → leaseAt s ≡ some x → leaseSize ≤ length s
 unfolding leaseAt
 lease-long s x e = leb-true leaseSize (length s) (every-to (leaseTests s) (some-same (every (leaseTests s)) (leaseIn s) x e .0) .0)
+
+-- WHAT LOAD ANSWERS, after the pools were read and `part` is left, of which the leases take `size` bytes.
+module _ (x : Head) (s part : List ℕ) (size : ℕ) (same : part ≡ poolsAt s .rest) (fits : size ≤ length part) (left : leasesAt part .rest ≡ drop size part) where
+  restLength : length (leasesAt (poolsAt s .rest) .rest) ≡ length part - size
+  restLength = ap (λ (l : List ℕ). length (leasesAt l .rest)) (sym same) ∙ ap length left ∙ length-drop size part
+
+  pub load-trailing : (size ≡ length part → ⊥) → afterHead (some x) s ≡ none
+  load-trailing h =
+      let more : length (leasesAt (poolsAt s .rest) .rest) ≡ 0 → ⊥ = λ e. h (omega (arith, restLength)) in
+      rw (ne-eqb (length (leasesAt (poolsAt s .rest) .rest)) 0 more)
+
+  module _ (all : size ≡ length part) (pools : List Pool) (leases : List Lease) (ps : pools ≡ paddedPools (poolsAt s .items)) (xs : leases ≡ padded (leasesAt part .items)) where
+    abbrev loaded : LeaseTable
+    loaded = record { pools = pools; leases = leases; term = x .term; «default_length» = x .«default_length»; last = x .last }
+
+    made : loaded ≡ tableWith x (poolsAt s .items) (leasesAt (poolsAt s .rest) .items)
+    made =
+        ap₂ (λ (p : List Pool) (l : List Lease). record { pools = p; leases = l; term = x .term; «default_length» = x .«default_length»; last = x .last })
+        ps (xs ∙ ap (λ (l : List ℕ). padded (leasesAt l .items)) same)
+
+    nothing : eqb (length (leasesAt (poolsAt s .rest) .rest)) 0 ≡ true
+    nothing = eq-eqb (length (leasesAt (poolsAt s .rest) .rest)) 0 (omega (arith, restLength))
+
+    pub load-unsound : sound loaded ≡ false → afterHead (some x) s ≡ none
+    load-unsound e = rw (nothing, ap sound (sym made) ∙ e)
+
+    pub load-sound : sound loaded ≡ true → afterHead (some x) s ≡ some loaded
+    load-sound e = rw (nothing, ap sound (sym made) ∙ e) (ap some (sym made))
+
+pub load-no-head : (s : List ℕ) → headAt s ≡ none → loadImage s ≡ none
+unfolding loadImage
+load-no-head s e = rw e
+
+pub load-head : (s : List ℕ) (x : Head) → headAt s ≡ some x → loadImage s ≡ afterHead (some x) (drop headSize s)
+unfolding loadImage
+load-head s x e = ap (λ (o : Option Head). afterHead o (drop headSize s)) e

@@ -2,3 +2,4 @@
 pub mod FieldLaws
 pub mod ImageLaws
 pub mod Examples
+pub mod WriteLaws
