@@ -10,8 +10,7 @@ use Rattle.lists.specs.Lists.{every, those, gather}
 use Rattle.table.specs.declared.Pool.{Pool}
 use Rattle.table.specs.declared.Lease.{Lease}
 use Rattle.table.specs.declared.LeaseTable.{LeaseTable}
-use Rattle.table.specs.Table.{poolSlots, leaseSlots, unused?, empty?, sound, padded, paddedPools}
-use Rattle.table.specs.Open.{blank}
+use Rattle.table.specs.Table.{poolSlots, leaseSlots, unused?, empty?, sound, padded, paddedPools, blank}
 use Rattle.image.specs.declared.Head.{Head}
 use Rattle.image.specs.declared.HeadRead.{HeadRead}
 use Rattle.image.specs.declared.PoolRead.{PoolRead}
