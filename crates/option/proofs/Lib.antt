@@ -4,3 +4,6 @@ pub mod EntryLaws
 pub mod SuboptionLaws
 pub mod WritingLaws
 pub mod WrittenReadsBack
+pub mod AcceptedWritesBack
+pub mod IgnoredBits
+pub mod MarkedExamples
