@@ -446,11 +446,11 @@ pub fn read_selection(s: &[u8]) -> Selection
     if s[0] != 118 {
         return Selection::NotTheOption;
     }
-    let len = wide(s[1]);
-    if len + 2 != s.len() {
+    let counted = wide(s[1]);
+    if counted + 2 != s.len() {
         return Selection::NotTheOption;
     }
-    if len != 4 {
+    if counted != 4 {
         return Selection::NotTheOption;
     }
     Selection::Address(four_at(s, 2))

@@ -457,12 +457,13 @@ pub fn write_option(list: SuboptionList, buf: &mut [u8]) -> Written
     if 254 < n {
         return Written::TooLong;
     }
-    if buf.len() < n + 3 {
+    let bytes = n + 3;
+    if buf.len() < bytes {
         return Written::TooLong;
     }
     put_option_head(buf, (n + 1) as u8);
     put_items(buf, items, count, entries, octets);
-    Written::Bytes(n + 3)
+    Written::Bytes(bytes)
 }
 
 // Option 118: an address, at the start of the buffer.
