@@ -7,25 +7,25 @@ use native.Mathlib.Nat.{add-assoc}
 use native.Mathlib.Numerals.{add-one}
 use mathlib.Core.Path.{_≡_, refl, sym, ap, ap₂, subst, _∙_}
 use mathlib.Core.List.{List, [], _∷_, _++_, map, append-assoc}
-use mathlib.Core.Bool.{Bool, true, false, cond, _&&_}
+use mathlib.Core.Bool.{Bool, true, false, cond}
 use lib.ListN.{length, getD, take, drop, length-append, length-drop, length-take, take-append-drop, drop-of-length-le}
 use lib.Seq.{drop-cons, drop-drop, drop-length}
 use lib.Dec.{eqb, leb, ltb}
-use borrow.Author.Tests.{eqb-true, leb-true, ltb-true, le-leb}
+use borrow.Author.Tests.{eqb-true, ltb-true, le-leb}
 use Rattle.lists.specs.Lists.{All, all?, gather}
-use Rattle.lists.specs.Walk.{Turn, more, stop, Placed, Tiles}
+use Rattle.lists.specs.Walk.{more, Placed, Tiles}
 use Rattle.lists.proofs.Tests.{and-to, and-of, all?-to, all?-of}
 use Rattle.lists.proofs.ListLaws.{all-map, all-map₂, all-image}
 use Rattle.lists.proofs.WalkLaws.{placed-pieces, placed-given, placed-tiles}
-use Rattle.option.specs.Values.{Entry, SuboptionValue, request, information, name, unknown, Outcome, accepted, refused}
+use Rattle.option.specs.Values.{Entry, SuboptionValue, unknown, accepted, refused}
 use Rattle.option.specs.Rules.{entryFields?, fields?}
-use Rattle.option.specs.Reading.{End, whole, badAt, bit1, bit2, two, four, figuresAt, entryAt, entryEnd, readEntry, readEntries, whenGood, subEnd, readRequest, readInformation, readName, readBody, readSuboption, readSuboptions, ended, option?, readOption}
-use Rattle.option.specs.Writing.{flags, twoBytes, fourBytes, requestBytes, entryHead, entryBytes, entriesBytes, informationHead, suboptionBytes, suboptionsBytes, optionHead, optionBytes, entryWritable?, writable?, Writing, written, writeOption}
+use Rattle.option.specs.Reading.{End, whole, badAt, bit1, bit2, two, four, figuresAt, entryAt, entryEnd, readEntry, readEntries, subEnd, readRequest, readInformation, readName, readBody, readSuboption, readSuboptions, ended, option?, readOption}
+use Rattle.option.specs.Writing.{flags, twoBytes, fourBytes, requestBytes, entryHead, entryBytes, entriesBytes, informationHead, suboptionBytes, suboptionsBytes, optionHead, optionBytes, entryWritable?, writable?, written, writeOption}
 use Rattle.option.specs.Places.{Bytes, placedSuboptions, placedEntries, PlainEntry, PlainAs, PlainSuboption, PlainOption}
-use Rattle.option.specs.Selection.{Selected, refused as refusedWith118, address, selection?, readSelection, selectionBytes}
-use Rattle.option.proofs.EntryLaws.{EntryFramed, entry-read, entry-end, entry-moves}
+use Rattle.option.specs.Selection.{refused as refusedWith118, address, selection?, readSelection, selectionBytes}
+use Rattle.option.proofs.RuleLaws.{option-to, selection-to}
+use Rattle.option.proofs.EntryLaws.{entry-read, entry-end, entry-moves}
 use Rattle.option.proofs.SuboptionLaws.{good-read, suboption-read, suboption-moves, suboption-whole}
-use Rattle.option.proofs.WritingLaws.{option-length}
 
 flags-same : (f : ℕ) → f < 4 → flags (bit2 f) (bit1 f) ≡ f
 flags-same zero h = refl
@@ -293,16 +293,14 @@ pub record Accepted (s : List ℕ) (subs : List SuboptionValue) : Type 0 where
   pub ends : readSuboptions s 3 .1 ≡ whole
 
 pub accepted-read : (s : List ℕ) (subs : List SuboptionValue) → readOption s ≡ accepted subs → Accepted s subs
-unfolding readOption option?
+unfolding readOption
 accepted-read s subs h = go (option? s) refl (readSuboptions s 3 .0) (readSuboptions s 3 .1) refl refl h
   where
     go : (ok : Bool) → option? s ≡ ok → (xs : List SuboptionValue) (e : End) → readSuboptions s 3 .0 ≡ xs → readSuboptions s 3 .1 ≡ e
         → cond ok (ended xs e) (refused 6 0) ≡ accepted subs → Accepted s subs
     go true o xs whole ex ee k =
-        let a = and-to (leb 2 (length s)) _ o in
-        let b = and-to (eqb (getD s 0 0) 220) _ (a .1) in
-        let c = and-to (eqb (getD s 1 0 + 2) (length s)) (leb 2 (getD s 1 0)) (b .1) in
-        record { code = eqb-true _ _ (b .0); len = eqb-true _ _ (c .0); some = leb-true _ _ (c .1); list = ex ∙ cc; ends = ee }
+        let f = option-to s o in
+        record { code = f .0 .code-byte; len = f .0 .len; some = f .1; list = ex ∙ cc; ends = ee }
     go true o xs (badAt p) ex ee k = let z : _≡_ {A = ℕ} 0 1 = cc in absurd (omega arith)
     go false o xs e ex ee k = let z : _≡_ {A = ℕ} 0 1 = cc in absurd (omega arith)
 
@@ -354,17 +352,15 @@ accepted-writes-back s subs capacity bytes plain h room =
 
 -- Option 118: an option that is accepted is written back as the same bytes.
 pub selection-writes-back : (s : List ℕ) (a : ℕ) → Bytes s → readSelection s ≡ address a → selectionBytes a ≡ s
-unfolding readSelection selection? selectionBytes fourBytes
+unfolding readSelection selectionBytes fourBytes
 selection-writes-back s a bytes h = go (selection? s) refl h
   where
     go : (ok : Bool) → selection? s ≡ ok → cond ok (address (four s 2)) (refusedWith118 6) ≡ address a → selectionBytes a ≡ s
     go true o k =
-        let p = and-to (leb 2 (length s)) _ o in
-        let q = and-to (eqb (getD s 0 0) 118) _ (p .1) in
-        let r = and-to (eqb (getD s 1 0 + 2) (length s)) (eqb (getD s 1 0) 4) (q .1) in
-        let code : getD s 0 0 ≡ 118 = eqb-true _ _ (q .0) in
-        let size : getD s 1 0 + 2 ≡ length s = eqb-true _ _ (r .0) in
-        let len : getD s 1 0 ≡ 4 = eqb-true _ _ (r .1) in
+        let p = selection-to s o in
+        let code : getD s 0 0 ≡ 118 = p .0 .code-byte in
+        let size : getD s 1 0 + 2 ≡ length s = p .0 .len in
+        let len : getD s 1 0 ≡ 4 = p .1 in
         let value : four s 2 ≡ a = cc in
         let f = four-same s bytes 2 in
         let none : drop 6 s ≡ [] = drop-of-length-le s {i = 6} (omega arith) in

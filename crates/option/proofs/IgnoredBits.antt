@@ -3,22 +3,23 @@
 use Prim.Native.Nat.{ℕ, _+_, _-_, _*_, _/_, _%_, _≤_, _<_}
 use native.Mathlib.Omega.{arith}
 use mathlib.Core.Path.{_≡_, refl, sym, ap, ap₂, subst, _∙_}
-use mathlib.Core.List.{List, [], _∷_, map}
-use mathlib.Core.Bool.{Bool, true, false, cond, _&&_}
+use mathlib.Core.List.{List, [], _∷_}
+use mathlib.Core.Bool.{Bool, true, false, cond}
 use lib.ListN.{length, getD, take, drop, length-take, length-drop}
 use lib.Seq.{getD-take, getD-drop, ext-getD}
 use lib.Dec.{eqb, leb, ltb}
-use borrow.Author.Tests.{eqb-true, leb-true, leb-false, ltb-true, eq-eqb, le-leb, lt-leb}
+use borrow.Author.Tests.{leb-true, leb-false, ltb-true, eq-eqb, le-leb, lt-leb}
 use Rattle.lists.specs.Lists.{All}
-use Rattle.lists.specs.Walk.{Turn, more, stop, Placed, Tiles}
+use Rattle.lists.specs.Walk.{more, Placed, Tiles}
 use Rattle.lists.proofs.Tests.{and-to}
-use Rattle.option.specs.Values.{Entry, SuboptionValue, request, information, name, unknown, Outcome, accepted, refused}
-use Rattle.option.specs.Reading.{End, whole, bit1, bit2, two, four, figuresAt, entryFramed?, entryAt, entryEnd, readEntry, readEntries, whenGood, subEnd, subInside?, readRequest, readInformation, readName, readBody, readSuboption, readSuboptions, ended, option?, readOption}
+use Rattle.option.specs.Values.{Entry, SuboptionValue, unknown, accepted}
+use Rattle.option.specs.Reading.{End, whole, bit1, bit2, two, four, figuresAt, entryFramed?, entryAt, entryEnd, readEntry, readEntries, subEnd, subInside?, readRequest, readInformation, readName, readBody, readSuboption, readSuboptions, readOption}
 use Rattle.option.specs.Writing.{flags, optionHead, optionBytes}
-use Rattle.option.specs.Places.{placedSuboptions, placedEntries, SameByte, SameBits, SameFrom, SameEntry, SameBody, SameSuboption, SameButIgnored}
+use Rattle.option.specs.Places.{placedSuboptions, placedEntries, SameFrom, SameEntry, SameBody, SameSuboption, SameButIgnored}
+use Rattle.option.proofs.RuleLaws.{option-of}
 use Rattle.option.proofs.FigureLaws.{figures-none, figures-one, figures-two, figures-three}
-use Rattle.option.proofs.EntryLaws.{EntryFramed, entry-read, entries-more, entries-stop}
-use Rattle.option.proofs.SuboptionLaws.{good-read, suboption-read, suboption-moves, suboption-ends, suboptions-more, suboptions-stop}
+use Rattle.option.proofs.EntryLaws.{entry-read, entries-more, entries-stop}
+use Rattle.option.proofs.SuboptionLaws.{good-read, suboption-read, suboption-moves, suboptions-more, suboptions-stop}
 use Rattle.option.proofs.AcceptedWritesBack.{placesOf, placed-entries, tiled-entries, given-entries, accepted-read, never-joined}
 
 -- The two bits go by the two low bits alone.
@@ -180,7 +181,7 @@ module _ (s t : List ℕ) where
 
 -- "Undefined flag bits are ignored on reading": an option that differs from an accepted one at most in them reads as the same list.
 pub ignored-bits-read-the-same : (s t : List ℕ) (subs : List SuboptionValue) → readOption s ≡ accepted subs → SameButIgnored s t → readOption t ≡ accepted subs
-unfolding readOption option?
+unfolding readOption
 ignored-bits-read-the-same s t subs h same =
     let a = accepted-read s subs h in
     let j = never-joined s subs h in
@@ -191,7 +192,7 @@ ignored-bits-read-the-same s t subs h same =
     let code : getD t 0 0 ≡ 220 = sym (same .code) ∙ a .code in
     let len : getD t 1 0 + 2 ≡ length t = ap (λ (n : ℕ). n + 2) (sym (same .len)) ∙ a .len ∙ same .size in
     let some : 2 ≤ getD t 1 0 = subst (λ (n : ℕ). 2 ≤ n) (same .len) (a .some) in
-    simp (le-leb _ _ two-long, eq-eqb _ _ code, eq-eqb _ _ len, le-leb _ _ some, read)
+    simp (option-of t (record { two-bytes = two-long; code-byte = code; len = len }) some, read)
 
 -- ".. and written as 0": of a flags byte that is written only the two low bits can be set, and the option's own flags are 0.
 pub written-flags : (b a : Bool) → flags b a < 4

@@ -1,6 +1,6 @@
 -- Laws of the suboptions of an option, and what an answer of the cursor tells.
 -- Assumes nothing.
-use Prim.Native.Nat.{ℕ, suc, _+_, _-_, _≤_, _<_}
+use Prim.Native.Nat.{ℕ, _+_, _-_, _≤_, _<_}
 use native.Mathlib.Omega.{arith}
 use mathlib.Core.Path.{_≡_, refl, sym, ap, ap₂, _∙_}
 use mathlib.Core.List.{List, [], _∷_}
@@ -15,7 +15,7 @@ use Rattle.lists.proofs.WalkLaws.{unroll-more, unroll-stop}
 use Rattle.option.specs.Values.{Entry, SuboptionValue, request, information, name, unknown}
 use Rattle.option.specs.Rules.{final, fields?}
 use Rattle.option.specs.Reading.{End, whole, badAt, subEnd, subInside?, whenGood, readEntries, readRequest, readInformation, readName, readBody, readSuboption, readSuboptions, ended}
-use Rattle.option.specs.Answers.{suboptionOf, cursorAt, stepOf, checkedOf}
+use Rattle.option.specs.Answers.{suboptionOf, stepOf, checkedOf}
 use Rattle.option.specs.declared.Suboption.{Suboption}
 use Rattle.option.specs.declared.Cursor.{Cursor}
 use Rattle.option.specs.declared.Step.the-variants as step

@@ -19,10 +19,6 @@ use Rattle.option.specs.declared.EntryCursor.{EntryCursor}
 use Rattle.option.specs.declared.EntryStep.{EntryStep}
 use Rattle.option.specs.declared.EntryStep.the-variants as entry-step
 use Rattle.option.specs.declared.Scan.{Scan}
-use Rattle.option.specs.declared.RequestFields.{RequestFields}
-use Rattle.option.specs.declared.InformationFields.{InformationFields}
-use Rattle.option.specs.declared.NameFields.{NameFields}
-use Rattle.option.specs.declared.UnknownFields.{UnknownFields}
 use Rattle.option.specs.declared.Suboption.{Suboption}
 use Rattle.option.specs.declared.Suboption.the-variants.{Request, Information, Name, Unknown}
 use Rattle.option.specs.declared.Cursor.{Cursor}
