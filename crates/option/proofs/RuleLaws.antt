@@ -8,7 +8,7 @@ use mathlib.Core.List.{List}
 use lib.ListN.{length, getD}
 use lib.Dec.{eqb, leb}
 use borrow.Author.Tests.{leb-true, eqb-true, eqb-false, not-true, le-leb, eq-eqb, ne-eqb}
-use Rattle.lists.specs.Lists.{All}
+use Rattle.lists.specs.Lists.{All, all?}
 use Rattle.lists.proofs.Tests.{and-to, and-of, all?-to, all?-of}
 use Rattle.prefix.specs.declared.Prefix.{Prefix}
 use Rattle.prefix.specs.declared.Checked.the-variants.{Good, BadLength, Misaligned}
@@ -17,7 +17,7 @@ use Rattle.prefix.proofs.PrefixLaws.{aligned-to, aligned-of}
 use Rattle.option.specs.Values.{Entry, SuboptionValue, request, information, name, unknown, accepted, refused}
 use Rattle.option.specs.Rules.{block?, final, entryFields?, fields?}
 use Rattle.option.specs.Reading.{End, whole, badAt, option?, readSuboptions, ended, readOption}
-use Rattle.option.specs.Writing.{entryWritable?}
+use Rattle.option.specs.Writing.{entryWritable?, writable?}
 use Rattle.option.specs.Selection.{selection?}
 use Rattle.option.specs.Answers.{checkedOf}
 use Rattle.option.specs.declared.Checked.the-variants as check
@@ -76,6 +76,32 @@ unfolding entryWritable?
 entry-writable-to e w =
     let t = and-to (leb (length (e .figures)) 3) (entryFields? e) w in
     (leb-true _ _ (t .0), entry-fields-to e (t .1))
+
+-- Row 13: a suboption that keeps the rules, with one or more entries, of at most three figures each, or one or more octets.
+abbrev pub Writable : SuboptionValue → Type 0
+Writable (request h i length′) = length′ ≤ longest
+Writable (information c s entries) = (1 ≤ length entries) × All (λ e. (length (e .figures) ≤ 3) × Block (e .network) (e .length)) entries
+Writable (name octets) = (1 ≤ length octets) × (final octets ≡ 0 → ⊥)
+Writable unknown = ⊥
+
+pub writable-to : (x : SuboptionValue) → writable? x ≡ true → Writable x
+unfolding writable?
+writable-to (request h i l) w = fields-to (request h i l) w
+writable-to (information c s entries) w =
+    let t = and-to (leb 1 (length entries)) (all? entryWritable? entries) w in
+    (leb-true _ _ (t .0), all?-to entryWritable? entry-writable-to entries (t .1))
+writable-to (name octets) w =
+    let t = and-to (leb 1 (length octets)) (fields? (name octets)) w in
+    (leb-true _ _ (t .0), fields-to (name octets) (t .1))
+writable-to unknown w = let z : _≡_ {A = Bool} false true = w in let y : _≡_ {A = ℕ} 0 1 = cc in absurd (omega arith)
+
+pub writable-of : (x : SuboptionValue) → Writable x → writable? x ≡ true
+unfolding writable?
+writable-of (request h i l) k = fields-of (request h i l) k
+writable-of (information c s entries) k =
+    and-of _ _ (le-leb _ _ (k .0)) (all?-of entryWritable? (λ e b. entry-writable-of e (b .0) (b .1)) entries (k .1))
+writable-of (name octets) k = and-of _ _ (le-leb _ _ (k .0)) (fields-of (name octets) (k .1))
+writable-of unknown k = absurd k
 
 -- Row 6, of options 220 and 118.
 pub record Framed (code : ℕ) (s : List ℕ) : Type 0 where

@@ -5,4 +5,5 @@ pub mod Writing
 pub mod Selection
 pub mod Places
 pub mod Answers
+pub mod Inner
 pub mod Examples
