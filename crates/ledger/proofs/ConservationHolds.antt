@@ -21,9 +21,9 @@ use Rattle.option.specs.Writing.{optionBytes}
 use Rattle.table.specs.declared.Lease.{Lease}
 use Rattle.table.specs.declared.LeaseTable.{LeaseTable}
 use Rattle.table.specs.Table.{leaseSlots, latest, noLease, prefixOf, poolsOf, present, sound, store}
-use Rattle.table.specs.Open.{given, openOk, fresh}
+use Rattle.opening.specs.Open.{given, openOk, fresh}
 use Rattle.table.proofs.TableLaws.{Good, sound-fine, sound-fewer, fine-those, fine-map, present-padded, present-stored}
-use Rattle.table.proofs.OpenLaws.{open-sound}
+use Rattle.opening.proofs.OpenLaws.{open-sound}
 use Rattle.ledger.specs.Ledger.{Answer, Result, Update, Row, firstOf, orElse, before, refuse, refuseUpdate, refusalPlace, requestsIn, entriesIn, entryOf, full, openRows, openTable, offer, add, offers, addAll, askOffers, informationFor, askRows, ask, named?, renew, takeRows, take, list, releaseRows, release, at?, withD, markRows, mark}
 use Rattle.ledger.specs.Demand3.{Call, run, none?, wellFormed, asksOf, replyEntries}
 use Rattle.ledger.specs.Histories.{Event, asked, taken, wasListed, returned, marked, saved, next, afterwards, Reachable, leasesOf}

@@ -9,7 +9,7 @@ use Rattle.option.specs.Reading.{option?, subInside?, whenGood, readRequest, fi
 use Rattle.option.specs.Writing.{twoBytes, fourBytes, requestBytes, entryHead, entryBytes, entriesBytes, informationHead, suboptionBytes, suboptionsBytes, optionHead, optionBytes}
 use Rattle.option.specs.Selection.{selection?}
 use Rattle.table.specs.Table.{unused?, empty?, prefixesOf, present, headOk, poolOk, leaseOk, ascends?, sound, store}
-use Rattle.table.specs.Open.{given, poolsApart?, openOk}
+use Rattle.opening.specs.Open.{given, poolsApart?, openOk}
 use Rattle.ledger.specs.Ledger.{read118, openTable, offer, offers, addAll, askRows, ask, takeRows, take, listRows, list, releaseRows, release, markRows, mark}
 use Rattle.ledger.specs.Examples.{opened, buffer, shown, shownUpdate, does, doesAll, Example, examples}
 use Rattle.ledger.specs.SampleLists.{tableWith, lease, leasesFrom}

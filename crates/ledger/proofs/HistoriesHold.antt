@@ -11,12 +11,12 @@ use Rattle.lists.specs.Lists.{Pairwise}
 use Rattle.lists.proofs.Tests.{bool-cases}
 use Rattle.prefix.specs.Prefixes.{Apart}
 use Rattle.table.specs.declared.LeaseTable.{LeaseTable}
-use Rattle.table.specs.declared.OpenAnswer.{OpenAnswer}
-use Rattle.table.specs.declared.OpenAnswer.the-variants.{Accepted, OutsideRules}
-use Rattle.table.specs.declared.Opened.{Opened}
-use Rattle.table.specs.Table.{prefixOf, present, sound}
-use Rattle.table.specs.Open.{given, openOk, fresh, blank, openNumber, opened as openedTable}
-use Rattle.table.proofs.OpenLaws.{open-sound}
+use Rattle.opening.specs.declared.OpenAnswer.{OpenAnswer}
+use Rattle.opening.specs.declared.OpenAnswer.the-variants.{Accepted, OutsideRules}
+use Rattle.opening.specs.declared.Opened.{Opened}
+use Rattle.table.specs.Table.{blank, prefixOf, present, sound}
+use Rattle.opening.specs.Open.{given, openOk, fresh, openNumber, opened as openedTable}
+use Rattle.opening.proofs.OpenLaws.{open-sound}
 use Rattle.ledger.specs.Ledger.{Answer, Update, orElse, refusal, refuseUpdate, acceptUpdate, openRows, openTable}
 use Rattle.ledger.specs.Histories.{Event, asked, taken, wasListed, returned, marked, saved, next, afterwards, Reachable, opened, loaded, called, leasesOf}
 use Rattle.ledger.proofs.SoundKept.{ask-keeps, take-keeps, list-keeps, release-keeps, mark-keeps, no-overlap}

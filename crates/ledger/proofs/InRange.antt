@@ -23,12 +23,13 @@ use Rattle.prefix.proofs.PrefixLaws.{size-positive}
 use Rattle.space.specs.Space.{Pools}
 use Rattle.option.specs.Values.{Entry, SuboptionValue, information}
 use Rattle.option.specs.Writing.{bit, flags, fourBytes, twoBytes, entryHead, entryBytes, entriesBytes, informationHead, suboptionBytes, suboptionsBytes, optionHead, optionBytes}
-use Rattle.option.proofs.WritingLaws.{option-length, bare-entries-length}
+use Rattle.option.proofs.WritingLaws.{option-length}
+use Rattle.option.proofs.Replies.{bare-entries-length}
 use Rattle.table.specs.declared.Lease.{Lease}
 use Rattle.table.specs.declared.LeaseTable.{LeaseTable}
 use Rattle.table.specs.Table.{leaseSlots, latest, addresses, noPool, noLease, networkOf, prefixOf, poolsOf, padded, present, sound, store}
-use Rattle.table.specs.Slots.{poolNetwork}
-use Rattle.table.specs.Open.{given, sortPools}
+use Rattle.opening.specs.Open.{poolNetwork}
+use Rattle.opening.specs.Open.{given, sortPools}
 use Rattle.table.proofs.TableLaws.{Good, sound-term, sound-fine, sound-fewer, fine-those, store-sound}
 use Rattle.ledger.specs.Ledger.{Answer, Result, Update, openRows, openTable, Row, firstOf, before, refuse, Request, requestsIn, entriesIn, entryOf, holdTime, informationFor, askOffers, add, offer, offers, addAll, forAsk, askRows, ask, names?, named?, found, refusalPlace, renew, renewNamed, takeRows, take, listedIn, listRows, list, releaseRows, release, at?, withD, markRows, mark}
 use Rattle.ledger.specs.Sizes.{Word, Byte, Bytes, SizedPool, SizedLease, SizedTable, SizedAnswer}

@@ -20,7 +20,7 @@ use Rattle.option.specs.Values.{Entry, SuboptionValue, information, Outcome, ac
 use Rattle.option.specs.Rules.{entryFields?}
 use Rattle.option.specs.Reading.{option?, readOption}
 use Rattle.option.specs.Writing.{optionBytes, entryWritable?, writable?}
-use Rattle.option.proofs.WritingLaws.{Bare, ask-reply-length, information-reply-length}
+use Rattle.option.proofs.Replies.{Bare, ask-reply-length, information-reply-length}
 use Rattle.option.proofs.WrittenReadsBack.{bytes-read-back}
 use Rattle.table.specs.declared.Lease.{Lease}
 use Rattle.table.specs.declared.LeaseTable.{LeaseTable}

@@ -24,8 +24,8 @@ use Rattle.option.specs.Selection.{Selected, address, selection?}
 use Rattle.option.specs.Selection.{refused as refusedSelection}
 use Rattle.table.specs.declared.Lease.{Lease}
 use Rattle.table.specs.declared.LeaseTable.{LeaseTable}
-use Rattle.table.specs.Table.{leaseSlots, latest, prefixOf, poolsOf, empty?, present, sound, store, insert}
-use Rattle.table.specs.Open.{given, openOk, fresh, blank}
+use Rattle.table.specs.Table.{leaseSlots, latest, blank, prefixOf, poolsOf, empty?, present, sound, store, insert}
+use Rattle.opening.specs.Open.{given, openOk, fresh}
 
 -- WHAT A CALL GIVES
 
