@@ -24,7 +24,7 @@ use Rattle.table.specs.Table.{leaseSlots, latest, noLease, prefixOf, poolsOf, p
 use Rattle.opening.specs.Open.{given, openOk, fresh}
 use Rattle.table.proofs.TableLaws.{Good, sound-fine, sound-fewer, fine-those, fine-map, present-padded, present-stored}
 use Rattle.opening.proofs.OpenLaws.{open-sound}
-use Rattle.ledger.specs.Ledger.{Answer, Result, Update, Row, firstOf, orElse, before, refuse, refuseUpdate, refusalPlace, requestsIn, entriesIn, entryOf, full, openRows, openTable, offer, add, offers, addAll, askOffers, informationFor, askRows, ask, named?, renew, takeRows, take, list, releaseRows, release, at?, withD, markRows, mark}
+use Rattle.ledger.specs.Ledger.{Answer, Result, Update, Row, firstOf, orElse, before, refuse, refuseUpdate, refusalPlace, requestsIn, entriesIn, entryOf, full, openRows, openTable, offer, add, offers, addAll, askOffers, informationFor, askRows, ask, namedBy?, renew, takeRows, take, list, releaseRows, release, at?, withD, markRows, mark}
 use Rattle.ledger.specs.Demand3.{Call, run, none?, wellFormed, asksOf, replyEntries}
 use Rattle.ledger.specs.Histories.{Event, asked, taken, wasListed, returned, marked, saved, next, afterwards, Reachable, leasesOf}
 use Rattle.ledger.specs.Conservation.{addressesOf, addressesIn, grantedBy, ifAccepted, returnedBy, endedAt, endedBy, summed, FromLoad, FromOpen}
@@ -168,18 +168,18 @@ take-balance t now client option reply s =
     (λ n e. refused-balance t now 0 n e)
     (λ e.
     let r = first-none (takeRows t now client option reply) e in
-    map-balance t now s (ltb-false now (t .last) (r .1 .1 .1 .0)) (named? client (entriesIn option)) (renew now (t .term)) (renew-mild t now s))
+    map-balance t now s (ltb-false now (t .last) (r .1 .1 .1 .0)) (namedBy? client (entriesIn option)) (renew now (t .term)) (renew-mild t now s))
 
 release-balance : (t : LeaseTable) (now client : ℕ) (option : List ℕ) → sound t ≡ true
-    → Balance t now 0 (addressesOf (those (named? client (entriesIn option)) (present now (t .leases)))) (release t now client option .answer .number) (release t now client option .table)
+    → Balance t now 0 (addressesOf (those (namedBy? client (entriesIn option)) (present now (t .leases)))) (release t now client option .answer .number) (release t now client option .table)
 unfolding release releaseRows
 release-balance t now client option s =
-    by-rows (λ (r : Update). Balance t now 0 (addressesOf (those (named? client (entriesIn option)) (present now (t .leases)))) (r .answer .number) (r .table)) (releaseRows t now client option) _ _
+    by-rows (λ (r : Update). Balance t now 0 (addressesOf (those (namedBy? client (entriesIn option)) (present now (t .leases)))) (r .answer .number) (r .table)) (releaseRows t now client option) _ _
     (numbered-release t now client option)
-    (λ n e. refused-balance t now (addressesOf (those (named? client (entriesIn option)) (present now (t .leases)))) n e)
+    (λ n e. refused-balance t now (addressesOf (those (namedBy? client (entriesIn option)) (present now (t .leases)))) n e)
     (λ e.
     let r = first-none (releaseRows t now client option) e in
-    those-balance t now s (ltb-false now (t .last) (r .1 .1 .0)) (λ x. not (named? client (entriesIn option) x)) (named? client (entriesIn option)) (opposite-not (named? client (entriesIn option))))
+    those-balance t now s (ltb-false now (t .last) (r .1 .1 .0)) (λ x. not (namedBy? client (entriesIn option) x)) (namedBy? client (entriesIn option)) (opposite-not (namedBy? client (entriesIn option))))
 
 mark-balance : (t : LeaseTable) (now network len : ℕ) (d : Bool) → sound t ≡ true
     → Balance t now 0 0 (mark t now network len d .answer .number) (mark t now network len d .table)

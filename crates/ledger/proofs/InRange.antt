@@ -31,7 +31,7 @@ use Rattle.table.specs.Table.{leaseSlots, latest, addresses, noPool, noLease, n
 use Rattle.opening.specs.Open.{poolNetwork}
 use Rattle.opening.specs.Open.{given, sortPools}
 use Rattle.table.proofs.TableLaws.{Good, sound-term, sound-fine, sound-fewer, fine-those, store-sound}
-use Rattle.ledger.specs.Ledger.{Answer, Result, Update, openRows, openTable, Row, firstOf, before, refuse, Request, requestsIn, entriesIn, entryOf, holdTime, informationFor, askOffers, add, offer, offers, addAll, forAsk, askRows, ask, names?, named?, found, refusalPlace, renew, renewNamed, takeRows, take, listedIn, listRows, list, releaseRows, release, at?, withD, markRows, mark}
+use Rattle.ledger.specs.Ledger.{Answer, Result, Update, openRows, openTable, Row, firstOf, before, refuse, Request, requestsIn, entriesIn, entryOf, holdTime, informationFor, askOffers, add, offer, offers, addAll, forAsk, askRows, ask, names?, namedBy?, found, refusalPlace, renew, renewNamed, takeRows, take, listedIn, listRows, list, releaseRows, release, at?, withD, markRows, mark}
 use Rattle.ledger.specs.Sizes.{Word, Byte, Bytes, SizedPool, SizedLease, SizedTable, SizedAnswer}
 use Rattle.ledger.proofs.RowLaws.{first-none, by-numbers}
 use Rattle.ledger.proofs.ReadLaws.{requests-short, entries-few, option-short, place-short}
@@ -220,7 +220,7 @@ module _ (t : LeaseTable) (now client : ℕ) (option reply : List ℕ) (st : Siz
       let few : length gs ≤ 35 = omega (arith, found-few t now client es s, entries-few option (option-short option o (r .1 .1 .1 .1 .1 .0))) in
       record {
         table = store-sized t now (renewNamed now (t .term) client es xs) st (omega arith)
-            (map-sized (renew now (t .term)) (named? client es)
+            (map-sized (renew now (t .term)) (namedBy? client es)
             (λ x (k : SizedLease x). record { network = k .network; length = k .length; client = k .client; expires = omega (arith, sound-term t s .1) }) xs (present-sized t now st));
         buffer = buffer-sized (optionBytes (information false false (map entryOf gs) ∷ [])) reply
             (option-sized (information false false (map entryOf gs) ∷ []) (omega (arith, information-fits false false gs few)) (one-sized false false gs few (found-told s es))) b;
@@ -258,8 +258,8 @@ module _ (t : LeaseTable) (now client : ℕ) (option reply : List ℕ) (st : Siz
       let xs : List Lease = present now (t .leases) in
       let es : List Entry = entriesIn option in
       record {
-        table = store-sized t now (those (λ x. not (named? client es x)) xs) st (omega arith) (those-all (λ x. not (named? client es x)) SizedLease xs (present-sized t now st));
-        answer = record { number = omega arith; place = omega arith; bytes = omega arith; count = omega (arith, those-fewer (named? client es) xs, sound-fewer t s now) };
+        table = store-sized t now (those (λ x. not (namedBy? client es x)) xs) st (omega arith) (those-all (λ x. not (namedBy? client es x)) SizedLease xs (present-sized t now st));
+        answer = record { number = omega arith; place = omega arith; bytes = omega arith; count = omega (arith, those-fewer (namedBy? client es) xs, sound-fewer t s now) };
       })
 
 small-mark : (t : LeaseTable) (now network len : ℕ) → All (λ (r : Row). r .0 ≤ 14) (markRows t now network len)

@@ -22,7 +22,7 @@ use Rattle.table.specs.declared.Lease.{Lease}
 use Rattle.table.specs.declared.LeaseTable.{LeaseTable}
 use Rattle.table.specs.Table.{latest, prefixOf, poolsOf, prefixesOf, padded, present, sound, store}
 use Rattle.table.proofs.TableLaws.{sound-whole, store-leases, store-last}
-use Rattle.ledger.specs.Ledger.{Answer, Result, Update, refuse, refuseUpdate, acceptance, accept, acceptUpdate, entryOf, offered, addAll, informationFor, renewNamed, position, listed, withD, Row, firstOf, orElse, refusalPlace, refuses?, nothing?, requestsIn, entriesIn, suboptions, full, Request, askLength, offer, offers, add, askOffers, forAsk, askRows, ask, named?, found, forTake, takeRows, take, forList, listedIn, listRows, list, releaseRows, release, at?, markRows, mark}
+use Rattle.ledger.specs.Ledger.{Answer, Result, Update, refuse, refuseUpdate, acceptance, accept, acceptUpdate, entryOf, offered, addAll, informationFor, renewNamed, position, listed, withD, Row, firstOf, orElse, refusalPlace, refuses?, nothing?, requestsIn, entriesIn, suboptions, full, Request, askLength, offer, offers, add, askOffers, forAsk, askRows, ask, namedBy?, found, forTake, takeRows, take, forList, listedIn, listRows, list, releaseRows, release, at?, markRows, mark}
 use Rattle.ledger.specs.Demand3.{Accepts}
 use Rattle.ledger.specs.Histories.{leasesOf}
 use Rattle.ledger.proofs.RowLaws.{Numbered, first-number, by-rows, numbered-ask, numbered-take, numbered-list, numbered-release, numbered-mark}
@@ -203,15 +203,15 @@ module _ (now : ℕ) (t u : LeaseTable) (a : Alike now t u) where
         ∙ ap (λ (xs : List Lease). withOption client option (sound u) (ltb now (u .last)) (own xs)) (a .leases)
       where
         own : List Lease → List Row
-        own xs = (8, not (forTake (suboptions (readOption option)))) ∷ (11, nothing? (those (named? client (entriesIn option)) xs)) ∷ []
+        own xs = (8, not (forTake (suboptions (readOption option)))) ∷ (11, nothing? (those (namedBy? client (entriesIn option)) xs)) ∷ []
 
     pub release-same : SameUpdate (release t now client option) (release u now client option)
     unfolding release
     release-same =
         same-rows SameUpdate (releaseRows t now client option) (releaseRows u now client option) _ _ _ _ release-rows-same (numbered-release t now client option)
         (λ n e. update-same n (refusalPlace option n) e)
-        (accept-update-same (store-same _ _ (ap (those (λ x. not (named? client (entriesIn option) x))) (a .leases)))
-        (ap (λ (xs : List Lease). length (those (named? client (entriesIn option)) xs)) (a .leases)))
+        (accept-update-same (store-same _ _ (ap (those (λ x. not (namedBy? client (entriesIn option) x))) (a .leases)))
+        (ap (λ (xs : List Lease). length (those (namedBy? client (entriesIn option)) xs)) (a .leases)))
 
   mark-rows-same : (network len : ℕ) → markRows t now network len ≡ markRows u now network len
   unfolding markRows

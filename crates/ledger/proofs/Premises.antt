@@ -25,7 +25,7 @@ use Rattle.table.specs.Table.{latest, poolsOf, unused?, empty?, prefixesOf, pre
 use Rattle.ledger.specs.Ledger.{emptySlots, offer, offers, addAll, askRows, ask}
 use Rattle.ledger.specs.Demand3.{Call, Accepts, wellFormed, inUse, Fate, isGranted, wantsSlot, wantsSpace, wellFormedAsks, lengthsAsked, prefixesAt, CanBeChosen, granted, AllGranted}
 use Rattle.ledger.specs.Examples.{buffer, requesting}
-use Rattle.ledger.specs.SampleLists.{tableWith, lease, leasesFrom, call, three, Sample, malformedBetween, endedGround, prefixZero, lastSlots, filledExactly, fates, narrow, crowded}
+use Rattle.ledger.specs.SampleLists.{tableWith, lease, leasesFrom, call, three, Sample, malformedBetween, endedGround, prefixZero, lastSlots, filledExactly, samples, fates, narrow, crowded}
 use Rattle.ledger.proofs.Demand3Holds.{demand3}
 
 -- THE PREMISE AS A TEST
@@ -78,17 +78,19 @@ chosen s e =
 pub sampled : (s : Sample) → every (tests s) ≡ true → AllGranted ask (s .now) (s .table) (s .calls)
 sampled s e = let c = chosen s e in demand3 .lists (s .table) (s .now) (s .calls) (c .0) (c .1) (c .2)
 
--- THE FIVE LISTS meet the premise.
-pub samples-meet :
-    map (λ s. every (tests s)) (malformedBetween ∷ endedGround ∷ prefixZero ∷ lastSlots ∷ filledExactly ∷ []) ≡ true ∷ true ∷ true ∷ true ∷ true ∷ []
-unfolding malformedBetween endedGround prefixZero lastSlots filledExactly tableWith lease leasesFrom call buffer walk entryFields? fields? option? subInside? whenGood readRequest figuresAt entryAt entryFramed? readEntry readEntries readInformation readName readBody readSuboption readSuboptions readOption unused? empty? prefixesOf present headOk poolOk leaseOk ascends? sound emptySlots askRows wellFormed
+-- THE FIVE LISTS meet the premise, so every well-formed ask of each is granted.
+pub samples-meet : all? (λ s. every (tests s)) samples ≡ true
+unfolding samples malformedBetween endedGround prefixZero lastSlots filledExactly tableWith lease leasesFrom call buffer walk entryFields? fields? option? subInside? whenGood readRequest figuresAt entryAt entryFramed? readEntry readEntries readInformation readName readBody readSuboption readSuboptions readOption unused? empty? prefixesOf present headOk poolOk leaseOk ascends? sound emptySlots askRows wellFormed
 samples-meet = refl
+
+pub samples-granted : All (λ s. AllGranted ask (s .now) (s .table) (s .calls)) samples
+samples-granted = all?-to (λ s. every (tests s)) sampled samples samples-meet
 
 -- How many asks are well-formed in each, and how many slots are empty before: in the fourth exactly as many, so that 256 leases are there in the end.
 pub samples-count :
-    map (λ s. length (wellFormedAsks (s .now) (s .table) (s .calls)) ∷ emptySlots (s .now) (s .table) ∷ []) (malformedBetween ∷ endedGround ∷ prefixZero ∷ lastSlots ∷ filledExactly ∷ [])
+    map (λ s. length (wellFormedAsks (s .now) (s .table) (s .calls)) ∷ emptySlots (s .now) (s .table) ∷ []) samples
     ≡ (2 ∷ 256 ∷ []) ∷ (1 ∷ 256 ∷ []) ∷ (2 ∷ 256 ∷ []) ∷ (2 ∷ 2 ∷ []) ∷ (3 ∷ 256 ∷ []) ∷ []
-unfolding malformedBetween endedGround prefixZero lastSlots filledExactly tableWith lease leasesFrom call buffer walk entryFields? fields? option? subInside? whenGood readRequest figuresAt entryAt entryFramed? readEntry readEntries readInformation readName readBody readSuboption readSuboptions readOption unused? empty? prefixesOf present headOk poolOk leaseOk ascends? sound emptySlots askRows wellFormed
+unfolding samples malformedBetween endedGround prefixZero lastSlots filledExactly tableWith lease leasesFrom call buffer walk entryFields? fields? option? subInside? whenGood readRequest figuresAt entryAt entryFramed? readEntry readEntries readInformation readName readBody readSuboption readSuboptions readOption unused? empty? prefixesOf present headOk poolOk leaseOk ascends? sound emptySlots askRows wellFormed
 samples-count = refl
 
 -- THE FIRST SENTENCE: refused for want of ground between two that are granted, and for want of lines where no slot is empty.

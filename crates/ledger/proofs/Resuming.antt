@@ -25,7 +25,7 @@ use Rattle.table.specs.declared.LeaseTable.{LeaseTable}
 use Rattle.table.specs.Table.{leaseSlots, prefixOf, padded, present, sound, store}
 use Rattle.table.proofs.Ascending.{Ascending, ascending-low}
 use Rattle.table.proofs.TableLaws.{sound-fine, present-padded}
-use Rattle.ledger.specs.Ledger.{Update, entryOf, suboptions, entriesIn, named?, lastNetwork, position, above?, listed, listedIn, releaseRows, release}
+use Rattle.ledger.specs.Ledger.{Update, entryOf, suboptions, entriesIn, namedBy?, lastNetwork, position, above?, listed, listedIn, releaseRows, release}
 use Rattle.ledger.specs.Histories.{Event, returned, next, afterwards}
 use Rattle.ledger.proofs.ListFacts.{those-those, those-same}
 use Rattle.ledger.proofs.EmptySlots.{present-later}
@@ -140,7 +140,7 @@ unfolding release store
 return-keeps t now client option later =
     served-or-not (λ (r : Update). StillThere t later (r .table) later) (releaseRows t now client option) _ _
     (λ n. ((λ x. true), all-kept (present later (t .leases))))
-    (λ e. ((λ x. ltb now (x .expires) && not (named? client (entriesIn option) x)), ended-later now later (λ x. not (named? client (entriesIn option) x)) (t .leases)))
+    (λ e. ((λ x. ltb now (x .expires) && not (namedBy? client (entriesIn option) x)), ended-later now later (λ x. not (namedBy? client (entriesIn option) x)) (t .leases)))
 
 -- A history of returns.
 abbrev pub AllReturns : List Event → Type 0

@@ -14,8 +14,8 @@ use Rattle.ledger.specs.Ledger.{Answer, Result, Update, read118, openTab
 use Rattle.ledger.specs.Histories.{Event, asked, taken, wasListed, returned, marked, saved, next}
 
 -- A table opened at 1000 with these pools, term 3600 and default length 28.
-unfoldable pub opened : List ℕ → List ℕ → LeaseTable
-opened networks lengths = openTable networks lengths 3600 28 1000 .table
+unfoldable pub newTable : List ℕ → List ℕ → LeaseTable
+newTable networks lengths = openTable networks lengths 3600 28 1000 .table
 
 unfoldable pub buffer : List ℕ
 buffer = replicate 257 0
@@ -85,25 +85,25 @@ examples =
     shows (reads (readOption (0xdc ∷ 5 ∷ 0 ∷ 1 ∷ 2 ∷ 0 ∷ 0x18 ∷ []))) (reads (accepted (request false false 24 ∷ [])))
     -- P2 the offer of 10.0.1.0/24 is `DC 0B 00 02 08 00 0A 00 01 00 18 00 00`
     ∷ shows (writes (naming 0x0a000100 24)) (writes (0xdc ∷ 0x0b ∷ 0 ∷ 2 ∷ 8 ∷ 0 ∷ 0x0a ∷ 0 ∷ 1 ∷ 0 ∷ 0x18 ∷ 0 ∷ 0 ∷ []))
-    ∷ shows (answers (doesAll (opened (0x0a000100 ∷ []) (24 ∷ [])) (askFor 1 24 ∷ []))) (answers (offering 1 0 24 ∷ []))
+    ∷ shows (answers (doesAll (newTable (0x0a000100 ∷ []) (24 ∷ [])) (askFor 1 24 ∷ []))) (answers (offering 1 0 24 ∷ []))
     -- P3 `DC 05 00 01 02 00 1E` is accepted; with `1F`, 7 at place 3
     ∷ shows (reads (readOption (0xdc ∷ 5 ∷ 0 ∷ 1 ∷ 2 ∷ 0 ∷ 0x1e ∷ []))) (reads (accepted (request false false 30 ∷ [])))
-    ∷ shows (answers (doesAll (opened (0x0a000100 ∷ []) (24 ∷ [])) (askFor 1 30 ∷ askFor 1 31 ∷ []))) (answers (offering 1 0 30 ∷ refusing 7 3 ∷ []))
+    ∷ shows (answers (doesAll (newTable (0x0a000100 ∷ []) (24 ∷ [])) (askFor 1 30 ∷ askFor 1 31 ∷ []))) (answers (offering 1 0 30 ∷ refusing 7 3 ∷ []))
     -- P4 `DC 01 00` gets 6; `DC 02 00 01` gets 7 at place 3
-    ∷ shows (answers (doesAll (opened (0x0a000100 ∷ []) (24 ∷ [])) (asked 1000 1 (0xdc ∷ 1 ∷ 0 ∷ []) buffer ∷ asked 1000 1 (0xdc ∷ 2 ∷ 0 ∷ 1 ∷ []) buffer ∷ [])))
+    ∷ shows (answers (doesAll (newTable (0x0a000100 ∷ []) (24 ∷ [])) (asked 1000 1 (0xdc ∷ 1 ∷ 0 ∷ []) buffer ∷ asked 1000 1 (0xdc ∷ 2 ∷ 0 ∷ 1 ∷ []) buffer ∷ [])))
     (answers (refusing 6 0 ∷ refusing 7 3 ∷ []))
     -- P5 root 10.0.1.0/24, each ask from another station: asks 26, 25, 27 get 10.0.1.0, 10.0.1.128, 10.0.1.64; then 26 gets 10
-    ∷ shows (answers (doesAll (opened (0x0a000100 ∷ []) (24 ∷ [])) (askFor 1 26 ∷ askFor 2 25 ∷ askFor 3 27 ∷ askFor 4 26 ∷ [])))
+    ∷ shows (answers (doesAll (newTable (0x0a000100 ∷ []) (24 ∷ [])) (askFor 1 26 ∷ askFor 2 25 ∷ askFor 3 27 ∷ askFor 4 26 ∷ [])))
     (answers (offering 1 0 26 ∷ offering 1 128 25 ∷ offering 1 64 27 ∷ refusing 10 0 ∷ []))
     -- P6 roots 10.0.0.0/25 and 10.0.0.128/25: ask 24 gets 10
-    ∷ shows (answers (doesAll (opened (0x0a000000 ∷ 0x0a000080 ∷ []) (25 ∷ 25 ∷ [])) (askFor 1 24 ∷ []))) (answers (refusing 10 0 ∷ []))
+    ∷ shows (answers (doesAll (newTable (0x0a000000 ∷ 0x0a000080 ∷ []) (25 ∷ 25 ∷ [])) (askFor 1 24 ∷ []))) (answers (refusing 10 0 ∷ []))
     -- P7 roots 10.0.0.0/24 and 10.0.8.0/26: ask 27 gets 10.0.8.0/27; then 24 gets 10.0.0.0
-    ∷ shows (answers (doesAll (opened (0x0a000000 ∷ 0x0a000800 ∷ []) (24 ∷ 26 ∷ [])) (askFor 1 27 ∷ askFor 2 24 ∷ []))) (answers (offering 8 0 27 ∷ offering 0 0 24 ∷ []))
+    ∷ shows (answers (doesAll (newTable (0x0a000000 ∷ 0x0a000800 ∷ []) (24 ∷ 26 ∷ [])) (askFor 1 27 ∷ askFor 2 24 ∷ []))) (answers (offering 8 0 27 ∷ offering 0 0 24 ∷ []))
     -- P8 prefix 0, default 28, P5's root empty: 10.0.1.0/28
-    ∷ shows (answers (doesAll (opened (0x0a000100 ∷ []) (24 ∷ [])) (askFor 1 0 ∷ []))) (answers (offering 1 0 28 ∷ []))
+    ∷ shows (answers (doesAll (newTable (0x0a000100 ∷ []) (24 ∷ [])) (askFor 1 0 ∷ []))) (answers (offering 1 0 28 ∷ []))
     -- P9 held at 1000: a take at 1119 succeeds; a first take at 1120 gets 11
-    ∷ shows (answers (doesAll (opened (0x0a000100 ∷ []) (24 ∷ [])) (askFor 7 26 ∷ takeAt 1119 7 0x0a000100 26 ∷ []))) (answers (offering 1 0 26 ∷ offering 1 0 26 ∷ []))
-    ∷ shows (answers (doesAll (opened (0x0a000100 ∷ []) (24 ∷ [])) (askFor 7 26 ∷ takeAt 1120 7 0x0a000100 26 ∷ []))) (answers (offering 1 0 26 ∷ refusing 11 0 ∷ []))
+    ∷ shows (answers (doesAll (newTable (0x0a000100 ∷ []) (24 ∷ [])) (askFor 7 26 ∷ takeAt 1119 7 0x0a000100 26 ∷ []))) (answers (offering 1 0 26 ∷ offering 1 0 26 ∷ []))
+    ∷ shows (answers (doesAll (newTable (0x0a000100 ∷ []) (24 ∷ [])) (askFor 7 26 ∷ takeAt 1120 7 0x0a000100 26 ∷ []))) (answers (offering 1 0 26 ∷ refusing 11 0 ∷ []))
     -- P10 an entry 10.0.1.1/24 gets 7
     ∷ shows (reads (readOption (0xdc ∷ 0x0b ∷ 0 ∷ 2 ∷ 8 ∷ 0 ∷ 10 ∷ 0 ∷ 1 ∷ 1 ∷ 24 ∷ 0 ∷ 0 ∷ []))) (reads (refused 7 3))
     -- P11 stat-len 4 with four bytes is accepted, 3 with three gets 7

@@ -10,7 +10,7 @@ use Rattle.option.specs.Writing.{optionBytes}
 use Rattle.table.specs.declared.Lease.{Lease}
 use Rattle.table.specs.declared.LeaseTable.{LeaseTable}
 use Rattle.ledger.specs.Ledger.{Answer, Result, Update, ask, take, list, release, mark}
-use Rattle.ledger.specs.Examples.{opened, buffer, entry}
+use Rattle.ledger.specs.Examples.{newTable, buffer, entry}
 use Rattle.ledger.specs.SampleLists.{tableWith, leasesFrom}
 
 -- number, place, bytes, count
@@ -33,7 +33,7 @@ unfoldable pub namingFrom : ℕ → ℕ → List ℕ
 namingFrom from n = optionBytes (information false false (entriesFrom from n) ∷ [])
 
 unfoldable pub start : LeaseTable
-start = opened (0x0a000100 ∷ []) (24 ∷ [])
+start = newTable (0x0a000100 ∷ []) (24 ∷ [])
 
 -- n leases of client 5.
 unfoldable pub leased : ℕ → LeaseTable

@@ -256,8 +256,8 @@ forTake subs = every (nothing? (requests subs) ∷ not (nothing? (entries subs))
 abbrev pub names? : ℕ → Lease → Entry → Bool
 names? client x e = every (eqb (x .client) client ∷ eqb (x .network) (e .network) ∷ eqb (x .length) (e .length) ∷ [])
 
-abbrev pub named? : ℕ → List Entry → Lease → Bool
-named? client es x = any? (names? client x) es
+abbrev pub namedBy? : ℕ → List Entry → Lease → Bool
+namedBy? client es x = any? (names? client x) es
 
 -- The leases that entries name, "in order".
 abbrev pub found : ℕ → List Lease → List Entry → List Lease
@@ -268,7 +268,7 @@ abbrev pub renew : ℕ → ℕ → Lease → Lease
 renew now term x = record { network = x .network; length = x .length; client = x .client; leased = true; h = x .h; d = x .d; expires = now + term }
 
 abbrev pub renewNamed : ℕ → ℕ → ℕ → List Entry → List Lease → List Lease
-renewNamed now term client es xs = map (λ x. cond (named? client es x) (renew now term x) x) xs
+renewNamed now term client es xs = map (λ x. cond (namedBy? client es x) (renew now term x) x) xs
 
 unfoldable pub takeRows : LeaseTable → ℕ → ℕ → List ℕ → List ℕ → List Row
 takeRows t now client option reply =
@@ -298,17 +298,17 @@ take t now client option reply =
 abbrev pub forList : List Request → Bool
 forList rs = every (not (nothing? rs) ∷ all? (λ r. r .i) rs ∷ [])
 
--- "The position is the network of the last entry of the last Information with c and s set". `found`: the one before these entries or suboptions.
+-- "The position is the network of the last entry of the last Information with c and s set". `earlier`: the one before these entries or suboptions.
 abbrev pub lastNetwork : Option ℕ → List Entry → Option ℕ
-lastNetwork found [] = found
-lastNetwork found (e ∷ es) = lastNetwork (some (e .network)) es
+lastNetwork earlier [] = earlier
+lastNetwork earlier (e ∷ es) = lastNetwork (some (e .network)) es
 
 abbrev pub position : Option ℕ → List SuboptionValue → Option ℕ
-position found [] = found
-position found (request h i length ∷ subs) = position found subs
-position found (information c s es ∷ subs) = position (cond (c && s) (lastNetwork found es) found) subs
-position found (name octets ∷ subs) = position found subs
-position found (unknown ∷ subs) = position found subs
+position earlier [] = earlier
+position earlier (request h i length ∷ subs) = position earlier subs
+position earlier (information c s es ∷ subs) = position (cond (c && s) (lastNetwork earlier es) earlier) subs
+position earlier (name octets ∷ subs) = position earlier subs
+position earlier (unknown ∷ subs) = position earlier subs
 
 -- "with network above the position"; "without one, all lines are meant"
 abbrev pub above? : Option ℕ → ℕ → Bool
@@ -354,7 +354,7 @@ releaseRows t now client option =
     ∷ (6, refuses? 6 (readOption option))
     ∷ (7, refuses? 7 (readOption option))
     ∷ (8, not (forTake (suboptions (readOption option))))
-    ∷ (11, nothing? (those (named? client (entriesIn option)) (present now (t .leases))))
+    ∷ (11, nothing? (those (namedBy? client (entriesIn option)) (present now (t .leases))))
     ∷ []
 
 -- "Held lines may be returned." The count is "of lines it struck by its entries".
@@ -364,7 +364,7 @@ release t now client option =
     let es = entriesIn option in
     orElse (firstOf (releaseRows t now client option))
     (λ number. refuseUpdate number (refusalPlace option number) t)
-    (acceptUpdate (store t now (those (λ x. not (named? client es x)) xs)) (length (those (named? client es) xs)))
+    (acceptUpdate (store t now (those (λ x. not (namedBy? client es x)) xs)) (length (those (namedBy? client es) xs)))
 
 -- MARK: "sets or clears d on the present line with a given network and length"; "Mark has no station"
 

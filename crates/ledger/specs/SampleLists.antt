@@ -98,6 +98,9 @@ filledExactly = record {
   networks = 0x0a000100 ∷ 0x0a000180 ∷ 0x0a000140 ∷ [];
 }
 
+unfoldable pub samples : List Sample
+samples = malformedBetween ∷ endedGround ∷ prefixZero ∷ lastSlots ∷ filledExactly ∷ []
+
 -- The fates of a call's asks, each on what it meets.
 abbrev pub fates : List Prefix → List (Option Entry) → List Fate
 fates used [] = []
