@@ -7,13 +7,14 @@ use mathlib.Core.Bool.{Bool, true, false, not}
 use mathlib.Core.List.{List, [], _∷_, _++_, map}
 use mathlib.Core.Option.{Option, none, some}
 use native.Mathlib.Omega.{arith}
-use lib.ListN.{length, length-append}
+use lib.ListN.{length, getD, length-append}
 use lib.ListN.{take as upTo}
 use lib.Dec.{leb, eqb}
 use borrow.Author.Tests.{leb-true, eqb-true}
 use Rattle.lists.specs.Lists.{All, every, all?, those, gather, somes}
 use Rattle.lists.proofs.Tests.{bool-cases, every-to}
 use Rattle.lists.proofs.ListLaws.{all-map}
+use Rattle.lists.proofs.DropLaws.{all-at}
 use Rattle.lists.proofs.ThoseLaws.{those-yes, those-no, those-none}
 use Rattle.prefix.specs.Prefixes.{end}
 use Rattle.prefix.proofs.PrefixLaws.{size-positive}
@@ -85,6 +86,24 @@ named-once client from e (x ∷ xs) s =
     ))
     (λ (h : names? client x e ≡ false).
     omega (arith, ap length (those-no (λ x. names? client x e) x xs h), named-once client (end (prefixOf x)) e xs (s .1)))
+    (bool-cases (names? client x e))
+
+-- The one that it names, at its place.
+pub named-one : (client from : ℕ) (e : Entry) (xs : List Lease) → Ascending prefixOf from xs → (i : ℕ) (d : Lease) → i < length xs → names? client (getD xs i d) e ≡ true
+    → those (λ x. names? client x e) xs ≡ getD xs i d ∷ []
+named-one client from e [] s i d l h = absurd (omega arith)
+named-one client from e (x ∷ xs) s zero d l h =
+    let up : All (λ y. x .network < y .network) xs =
+    all-map (λ y (k : end (prefixOf x) ≤ y .network). omega (arith, size-positive (x .length))) xs (ascending-low prefixOf (end (prefixOf x)) xs (s .1)) in
+    those-yes (λ x. names? client x e) x xs h
+    ∙ ap (λ (l : List Lease). x ∷ l) (not-named client (x .network) e xs (eqb-true (x .network) (e .network) (every-to (nameTests client x e) h .1 .0)) up)
+named-one client from e (x ∷ xs) s (suc i) d l h =
+    let low : end (prefixOf x) ≤ getD xs i d .network = all-at (λ y. end (prefixOf x) ≤ y .network) xs (ascending-low prefixOf (end (prefixOf x)) xs (s .1)) i d (omega arith) in
+    let there : getD xs i d .network ≡ e .network = eqb-true (getD xs i d .network) (e .network) (every-to (nameTests client (getD xs i d) e) h .1 .0) in
+    ⊎-elim
+    (λ (k : names? client x e ≡ true).
+    absurd (omega (arith, low, there, eqb-true (x .network) (e .network) (every-to (nameTests client x e) k .1 .0), size-positive (x .length))))
+    (λ (k : names? client x e ≡ false). those-no (λ x. names? client x e) x xs k ∙ named-one client (end (prefixOf x)) e xs (s .1) i d (omega arith) h)
     (bool-cases (names? client x e))
 
 found-few-in : (client : ℕ) (xs : List Lease) → Ascending prefixOf 0 xs → (es : List Entry) → length (found client xs es) ≤ length es

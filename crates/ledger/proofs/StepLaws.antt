@@ -3,7 +3,7 @@
 use Prim.Native.Nat.{ℕ, zero, suc, _+_, _≤_, _<_}
 use mathlib.Core.Path.{_≡_, refl, sym, ap, ap₂, _∙_}
 use mathlib.Core.Logic.{_⊎_, inl, inr, ⊎-elim}
-use mathlib.Core.Bool.{Bool, true, false, not, cond, _&&_}
+use mathlib.Core.Bool.{Bool, true, false, not, cond, _&&_, _||_}
 use mathlib.Core.List.{List, [], _∷_, _++_, map, append-assoc}
 use mathlib.Core.Option.{Option, none, some}
 use native.Mathlib.Omega.{arith}
@@ -21,7 +21,7 @@ use Rattle.option.specs.Selection.{refused as refusedSelection}
 use Rattle.table.specs.declared.Lease.{Lease}
 use Rattle.table.specs.declared.LeaseTable.{LeaseTable}
 use Rattle.table.specs.Table.{prefixOf, poolsOf}
-use Rattle.ledger.specs.Ledger.{Row, firstOf, orElse, read118, nothing?, Request, requests, entries, full, askLength, offered, offer, add, offers, addAll, names?, found, lastNetwork, position, above?}
+use Rattle.ledger.specs.Ledger.{Row, firstOf, orElse, read118, nothing?, Request, requests, entries, full, askLength, offered, offer, add, offers, addAll, names?, namedBy?, found, lastNetwork, position, above?}
 use Rattle.ledger.proofs.ListFacts.{somes-append}
 
 -- ROWS
@@ -91,6 +91,15 @@ found-append client xs [] fs = refl
 found-append client xs (e ∷ es) fs =
     ap (λ (l : List Lease). those (λ x. names? client x e) xs ++ l) (found-append client xs es fs)
     ∙ sym (append-assoc (those (λ x. names? client x e) xs) (found client xs es) (found client xs fs))
+
+-- A lease is named by entries if it is by those so far or by the next.
+pub named-append : (client : ℕ) (es fs : List Entry) (x : Lease) → namedBy? client (es ++ fs) x ≡ namedBy? client es x || namedBy? client fs x
+named-append client [] fs x = refl
+named-append client (e ∷ es) fs x = ap (λ (b : Bool). names? client x e || b) (named-append client es fs x) ∙ sym (or-assoc (names? client x e) (namedBy? client es x) (namedBy? client fs x))
+  where
+    or-assoc : (a b c : Bool) → ((a || b) || c) ≡ (a || (b || c))
+    or-assoc true b c = refl
+    or-assoc false b c = refl
 
 pub last-append : (p : Option ℕ) (es : List Entry) (e : Entry) → lastNetwork p (es ++ (e ∷ [])) ≡ some (e .network)
 last-append p [] e = refl
