@@ -1,1 +1,4 @@
 pub mod Lists
+pub mod Walk
+pub mod Put
+pub mod Sorting

@@ -1,0 +1,37 @@
+-- Fields of a record: numbers of two and of four bytes, and records read one after another.
+-- Assumes nothing: these are definitions.
+use Prim.Native.Nat.{ℕ, zero, suc, _+_, _*_, _/_, _%_}
+use mathlib.Core.List.{List, [], _∷_}
+use mathlib.Core.Option.{Option, none, some}
+use lib.ListN.{drop, getD}
+
+-- "all little-endian"
+unfoldable pub le16 : ℕ → List ℕ
+le16 n = n % 256 ∷ n / 256 ∷ []
+
+unfoldable pub le32 : ℕ → List ℕ
+le32 n = n % 256 ∷ n / 256 % 256 ∷ n / 65536 % 256 ∷ n / 16777216 ∷ []
+
+-- The numbers that the two and the four bytes from a position on spell.
+unfoldable pub number16 : List ℕ → ℕ → ℕ
+number16 s at = getD s at 0 + 256 * getD s (at + 1) 0
+
+unfoldable pub number32 : List ℕ → ℕ → ℕ
+number32 s at = getD s at 0 + 256 * getD s (at + 1) 0 + 65536 * getD s (at + 2) 0 + 16777216 * getD s (at + 3) 0
+
+-- What was read from the front of some bytes, and the bytes after it.
+pub record Run (A : Type 0) : Type 0 where
+  pub items : List A
+  pub rest : List ℕ
+
+abbrev pub before : {A : Type 0} → A → Run A → Run A
+before x r = record { items = x ∷ r .items; rest = r .rest }
+
+abbrev pub onItem : {A : Type 0} → Option A → List ℕ → Run A → Run A
+onItem none s later = record { items = []; rest = s }
+onItem (some x) s later = before x later
+
+-- The records of one size that stand at the front, as far as `read` finds one, and at most so many.
+unfoldable pub records : {A : Type 0} → (List ℕ → Option A) → ℕ → ℕ → List ℕ → Run A
+records read size zero s = record { items = []; rest = s }
+records read size (suc limit) s = let later = records read size limit (drop size s) in onItem (read s) s later

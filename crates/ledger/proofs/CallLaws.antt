@@ -1,0 +1,218 @@
+-- One well-formed ask call, whole; and a call that is not well-formed.
+-- Assumes nothing.
+use Prim.Native.Nat.{ℕ, zero, suc, _+_, _-_, _≤_, _<_}
+use mathlib.Core.Path.{_≡_, refl, sym, ap, ap₂, subst, _∙_}
+use mathlib.Core.Logic.{_⊎_, inl, inr, ⊎-elim}
+use mathlib.Core.Bool.{Bool, true, false, not, cond, true≢false, false≢true}
+use mathlib.Core.List.{List, [], _∷_, _++_, map, nil≢cons}
+use mathlib.Core.Option.{Option, none, some}
+use native.Mathlib.Omega.{arith}
+use lib.ListN.{length, drop, replicate, length-map}
+use lib.Dec.{leb, ltb, eqb}
+use borrow.Author.Tests.{ltb-false, le-ltb, eqb-false, not-false}
+use Rattle.lists.specs.Lists.{All, somes}
+use Rattle.lists.proofs.Tests.{bool-cases, cond-true, cond-false}
+use Rattle.prefix.specs.declared.Prefix.{Prefix}
+use Rattle.space.specs.Space.{Pools}
+use Rattle.option.specs.Values.{Entry}
+use Rattle.option.specs.Reading.{readOption}
+use Rattle.option.specs.Writing.{optionBytes}
+use Rattle.table.specs.declared.Lease.{Lease}
+use Rattle.table.specs.declared.LeaseTable.{LeaseTable}
+use Rattle.table.specs.Table.{leaseSlots, latest, noLease, prefixOf, poolsOf, present, sound, store}
+use Rattle.table.proofs.TableLaws.{Good, sound-fine, sound-fewer, store-sound, present-stored}
+use Rattle.ledger.specs.Ledger.{full, Answer, Result, Row, firstOf, before, refuse, Request, refuses?, requestsIn, entryOf, refusalPlace, forAsk, askRows, offers, addAll, askOffers, informationFor, ask}
+use Rattle.ledger.specs.Demand3.{Call, run, none?, wellFormed, Accepts, asksOf, replyEntries, pairOff, confirmed, granted, inUse, Fate, isGranted, wantsSlot, wantsSpace, fate}
+use Rattle.ledger.proofs.RowLaws.{first-none, none-to, none-not, answerAsk, ask-served, ask-refused}
+use Rattle.ledger.proofs.ReadLaws.{requests-short}
+use Rattle.ledger.proofs.OfferLaws.{pools-good, Inv, offers-inv, offers-good}
+use Rattle.ledger.proofs.ReplyLaws.{reads-none, reads-back}
+use Rattle.ledger.proofs.AskLaws.{entry?, pairs, kept, confirm, confirm-none, addAll-none}
+
+-- The rows of a call before 9.
+abbrev pub rowsFor : ℕ → LeaseTable → Call → List Row
+rowsFor now t c = before 9 (askRows t now (c .client) (c .option) (c .reply))
+
+pub record WellFormed (now : ℕ) (t : LeaseTable) (c : Call) : Type 0 where
+  pub buffer : 257 ≤ length (c .reply)
+  pub sound : sound t ≡ true
+  pub named : c .client ≡ 0 → ⊥
+  pub accepted : Accepts t now
+  pub asks : forAsk (asksOf c) ≡ true
+
+pub well : (now : ℕ) (t : LeaseTable) (c : Call) → wellFormed now t c ≡ true → WellFormed now t c
+unfolding wellFormed askRows
+well now t c e =
+    let r = first-none (rowsFor now t c) (none-to (firstOf (rowsFor now t c)) e) in
+    record {
+      buffer = ltb-false (length (c .reply)) 257 (r .0);
+      sound = not-false (sound t) (r .1 .0);
+      named = eqb-false (c .client) 0 (r .1 .1 .0);
+      accepted = (ltb-false now (t .last) (r .1 .1 .1 .0), ltb-false latest now (r .1 .1 .1 .1 .0));
+      asks = not-false (forAsk (asksOf c)) (r .1 .1 .1 .1 .1 .1 .1 .0);
+    }
+
+run-well : (now : ℕ) (t : LeaseTable) (c : Call) → wellFormed now t c ≡ true
+    → run ask now t c ≡ answerAsk t now (c .reply) (present now (t .leases)) (askOffers t now (c .client) (c .option)) (somes (askOffers t now (c .client) (c .option)))
+unfolding wellFormed
+run-well now t c e = ask-served t now (c .client) (c .option) (c .reply) (none-to (firstOf (rowsFor now t c)) e)
+
+-- A call that is not well-formed is refused, and changes nothing.
+pub run-refused : (now : ℕ) (t : LeaseTable) (c : Call) → wellFormed now t c ≡ false → (n : ℕ) × (firstOf (rowsFor now t c) ≡ some n) × (run ask now t c ≡ refuse n (refusalPlace (c .option) n) t (c .reply))
+unfolding wellFormed
+run-refused now t c e = let n = none-not (firstOf (rowsFor now t c)) e in (n .0, n .1, ask-refused t now (c .client) (c .option) (c .reply) (n .0) (n .1))
+
+pub run-not : (now : ℕ) (t : LeaseTable) (c : Call) → wellFormed now t c ≡ false → (run ask now t c .table ≡ t) × (run ask now t c .buffer ≡ c .reply)
+run-not now t c e = let f = run-refused now t c e .2 in (ap (λ (r : Result). r .table) f, ap (λ (r : Result). r .buffer) f)
+
+-- On two sound tables that accept the time a call is well-formed alike.
+pub well-same : (now : ℕ) (t u : LeaseTable) (c : Call) → sound t ≡ true → sound u ≡ true → Accepts t now → Accepts u now → wellFormed now u c ≡ wellFormed now t c
+unfolding wellFormed askRows
+well-same now t u c st su at au =
+    ap₂ (λ (a b : Bool). none? (firstOf (
+    (1, ltb (length (c .reply)) 257)
+    ∷ (5, not a)
+    ∷ (2, eqb (c .client) 0)
+    ∷ (3, b)
+    ∷ (4, ltb latest now)
+    ∷ (6, refuses? 6 (readOption (c .option)))
+    ∷ (7, refuses? 7 (readOption (c .option)))
+    ∷ (8, not (forAsk (asksOf c)))
+    ∷ [])))
+    (su ∙ sym st) (le-ltb now (u .last) (au .0) ∙ sym (le-ltb now (t .last) (at .0)))
+
+-- ONE CALL
+
+-- The number of a call: 0 if something is granted, otherwise the refusal of its first ask.
+abbrev pub numberFor : List Lease → List Lease → ℕ
+numberFor xs [] = cond (full xs) 9 10
+numberFor xs (g ∷ gs) = 0
+
+-- The table after a call: what it was if nothing is granted.
+abbrev pub tableFor : LeaseTable → ℕ → List (Option Lease) → List Lease → List Lease → LeaseTable
+tableFor t now os xs [] = t
+tableFor t now os xs (g ∷ gs) = store t now (addAll os xs)
+
+-- What is so of the result of a call whose requests were offered `os` on the leases `xs`.
+pub record Served (t : LeaseTable) (now client : ℕ) (rs : List Request) (xs : List Lease) (os : List (Option Lease)) (r : Result) : Type 0 where
+  pub given : map (confirmed now client (r .table)) (pairOff t rs (replyEntries r)) ≡ map entry? os
+  pub told : replyEntries r ≡ map entryOf (somes os)
+  pub number : r .answer .number ≡ numberFor xs (somes os)
+  pub count : r .answer .count ≡ length (somes os)
+  pub table : r .table ≡ tableFor t now os xs (somes os)
+  pub good : All (Good (poolsOf t) now) (addAll os xs)
+  pub left : present now (r .table .leases) ≡ addAll os xs
+  pub sound : sound (r .table) ≡ true
+  pub since : r .table .last ≤ now
+  pub pools : r .table .pools ≡ t .pools
+  pub default : r .table .«default_length» ≡ t .«default_length»
+
+module _ (now : ℕ) (t : LeaseTable) (c : Call) (w : WellFormed now t c) where
+  good : Pools (poolsOf t)
+  good = pools-good t (w .sound)
+
+  xs : List Lease
+  xs = present now (t .leases)
+
+  os : List (Option Lease)
+  os = offers t now (c .client) xs (asksOf c)
+
+  served : (gs : List Lease) → somes os ≡ gs → Served t now (c .client) (asksOf c) xs os (answerAsk t now (c .reply) xs os gs)
+  unfolding os xs store
+  served [] e = record {
+    given =
+        ap (λ (es : List Entry). map (confirmed now (c .client) t) (pairOff t (asksOf c) es)) (reads-none (cond (full xs) 9 10) 0 t (c .reply) ∙ ap (map entryOf) (sym e))
+        ∙ ap (map (confirmed now (c .client) t)) (pairs t good now (c .client) (asksOf c) xs)
+        ∙ confirm-none now (c .client) t os e;
+    told = reads-none (cond (full xs) 9 10) 0 t (c .reply) ∙ ap (map entryOf) (sym e);
+    number = ap (numberFor xs) (sym e);
+    count = ap length (sym e);
+    table = ap (tableFor t now os xs) (sym e);
+    good = subst (All (Good (poolsOf t) now)) (sym (addAll-none os xs e)) (sound-fine t (w .sound) now .0);
+    left = sym (addAll-none os xs e);
+    sound = w .sound;
+    since = w .accepted .0;
+    pools = refl;
+    default = refl;
+  }
+  served (g ∷ gs) e =
+      let i : Inv t now (c .client) good (addAll os xs) =
+      offers-inv t now (c .client) good (w .sound) (w .named) (asksOf c) xs (requests-short (c .option)) (record { fine = sound-fine t (w .sound) now; fit = sound-fewer t (w .sound) now }) in
+      let a : All (Good (poolsOf t) now) (g ∷ gs) =
+      subst (All (Good (poolsOf t) now)) e (offers-good t now (c .client) good (w .sound) (w .named) (asksOf c) xs (requests-short (c .option))) in
+      let u : LeaseTable = store t now (addAll os xs) in
+      let rest : List ℕ = drop (length (optionBytes (map informationFor (g ∷ gs)))) (c .reply) in
+      record {
+        given =
+            ap (λ (es : List Entry). map (confirmed now (c .client) u) (pairOff t (asksOf c) es)) (reads-back (poolsOf t) now g gs rest a ∙ ap (map entryOf) (sym e))
+            ∙ ap (map (confirmed now (c .client) u)) (pairs t good now (c .client) (asksOf c) xs)
+            ∙ confirm now (c .client) (leaseSlots - length (addAll os xs)) u (addAll os xs) refl os (kept t good now (c .client) (asksOf c) xs);
+        told = reads-back (poolsOf t) now g gs rest a ∙ ap (map entryOf) (sym e);
+        number = ap (numberFor xs) (sym e);
+        count = ap length (sym e);
+        table = ap (tableFor t now os xs) (sym e);
+        good = i .fine .0;
+        left = present-stored (poolsOf t) now (addAll os xs) (i .fine .0);
+        sound = store-sound t now (addAll os xs) (w .sound) (w .accepted .1) (i .fit) (i .fine);
+        since = omega arith;
+        pools = refl;
+        default = refl;
+      }
+
+pub called : (now : ℕ) (t : LeaseTable) (c : Call) → wellFormed now t c ≡ true
+    → Served t now (c .client) (asksOf c) (present now (t .leases)) (offers t now (c .client) (present now (t .leases)) (asksOf c)) (run ask now t c)
+unfolding os xs
+called now t c e =
+    subst (Served t now (c .client) (asksOf c) (present now (t .leases)) (offers t now (c .client) (present now (t .leases)) (asksOf c))) (sym (run-well now t c e))
+    (served now t c (well now t c e) (somes (offers t now (c .client) (present now (t .leases)) (asksOf c))) refl)
+
+pub granted-is : (now : ℕ) (t : LeaseTable) (c : Call) → wellFormed now t c ≡ true
+    → granted ask now t c ≡ map entry? (offers t now (c .client) (present now (t .leases)) (asksOf c))
+unfolding granted
+granted-is now t c e = called now t c e .given
+
+-- THE REPLY TELLS WHAT IS GRANTED AND NOTHING ELSE, in order: entries pair off, and none is left over.
+somes-told : (os : List (Option Lease)) → map entryOf (somes os) ≡ somes (map entry? os)
+somes-told [] = refl
+somes-told (none ∷ os) = somes-told os
+somes-told (some x ∷ os) = ap (λ (l : List Entry). entryOf x ∷ l) (somes-told os)
+
+pub reply-is-granted : (now : ℕ) (t : LeaseTable) (c : Call) → wellFormed now t c ≡ true → replyEntries (run ask now t c) ≡ somes (granted ask now t c)
+reply-is-granted now t c e =
+    called now t c e .told ∙ somes-told (offers t now (c .client) (present now (t .leases)) (asksOf c)) ∙ ap somes (sym (granted-is now t c e))
+
+-- "If none is granted, the answer is the refusal of the first": 9 if it wants a slot, 10 if it wants space.
+abbrev pub numberOf : Fate → ℕ
+numberOf isGranted = 0
+numberOf wantsSlot = 9
+numberOf wantsSpace = 10
+
+pub refused-number : (now : ℕ) (t : LeaseTable) (c : Call) → wellFormed now t c ≡ true → somes (granted ask now t c) ≡ []
+    → (run ask now t c .answer .number ≡ numberOf (fate (inUse now t) none)) × (run ask now t c .answer .count ≡ 0)
+refused-number now t c e n =
+    let os : List (Option Lease) = offers t now (c .client) (present now (t .leases)) (asksOf c) in
+    let z : somes os ≡ [] = nil-map (somes os) (somes-told os ∙ ap somes (sym (granted-is now t c e)) ∙ n) in (
+      called now t c e .number ∙ ap (numberFor (present now (t .leases))) z ∙ ap (λ (k : ℕ). cond (leb leaseSlots k) 9 10) (sym (length-map (present now (t .leases)) prefixOf))
+          ∙ same (leb leaseSlots (length (inUse now t))),
+      called now t c e .count ∙ ap length z,
+    )
+  where
+    nil-map : (ys : List Lease) → map entryOf ys ≡ [] → ys ≡ []
+    nil-map [] q = refl
+    nil-map (y ∷ ys) q = absurd (nil≢cons (sym q))
+
+    same : (b : Bool) → _≡_ {A = ℕ} (cond b 9 10) (numberOf (cond b wantsSlot wantsSpace))
+    same true = refl
+    same false = refl
+
+-- The number is 0 where something is granted, and the count is that of the entries.
+pub accepted-number : (now : ℕ) (t : LeaseTable) (c : Call) → wellFormed now t c ≡ true → (g : Entry) (gs : List Entry) → somes (granted ask now t c) ≡ g ∷ gs
+    → (run ask now t c .answer .number ≡ 0) × (run ask now t c .answer .count ≡ length (replyEntries (run ask now t c)))
+accepted-number now t c e g gs n =
+    let os : List (Option Lease) = offers t now (c .client) (present now (t .leases)) (asksOf c) in
+    let q : map entryOf (somes os) ≡ g ∷ gs = somes-told os ∙ ap somes (sym (granted-is now t c e)) ∙ n in
+    (called now t c e .number ∙ some-number (somes os) q, called now t c e .count ∙ sym (length-map (somes os) entryOf) ∙ ap length (sym (called now t c e .told)))
+  where
+    some-number : (ys : List Lease) → map entryOf ys ≡ g ∷ gs → numberFor (present now (t .leases)) ys ≡ 0
+    some-number [] q = absurd (nil≢cons q)
+    some-number (y ∷ ys) q = refl

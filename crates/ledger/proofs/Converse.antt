@@ -1,0 +1,181 @@
+-- THE CONVERSE of demand 3's list: where every well-formed ask of a list is granted, the prefixes could be chosen and there was a slot for each.
+-- Assumes nothing.
+use Prim.Native.Nat.{ℕ, suc, _+_, _≤_}
+use mathlib.Core.Path.{_≡_, refl, sym, ap, ap₂, subst, _∙_}
+use mathlib.Core.Logic.{_↔_, ⊎-elim}
+use mathlib.Core.Bool.{Bool, true, false}
+use mathlib.Core.List.{List, [], _∷_, _++_, map, map-append, nil≢cons, head-eq-of-cons-eq, tail-eq-of-cons-eq, List·Permᴰ, Permᴰ·refl}
+use mathlib.Core.Option.{Option, none, some, Option·some-ne-none}
+use native.Mathlib.Omega.{arith}
+use lib.ListN.{length, length-append, length-map}
+use Rattle.lists.specs.Lists.{All, Pairwise, those, gather}
+use Rattle.lists.proofs.Tests.{bool-cases}
+use Rattle.lists.proofs.ThoseLaws.{those-yes, those-no}
+use Rattle.lists.proofs.Permutations.{perm-length}
+use Rattle.prefix.specs.declared.Prefix.{Prefix}
+use Rattle.prefix.specs.Prefixes.{Apart}
+use Rattle.space.specs.Space.{Pools, Free, Packing, grant, withGrant, serve, after}
+use Rattle.space.proofs.ListTheorem.{serve-packing}
+use Rattle.space.proofs.Permuted.{grant-perm}
+use Rattle.option.specs.Values.{Entry}
+use Rattle.table.specs.declared.Lease.{Lease}
+use Rattle.table.specs.declared.LeaseTable.{LeaseTable}
+use Rattle.table.specs.Table.{leaseSlots, prefixOf, prefixesOf, poolsOf, present, sound}
+use Rattle.table.proofs.TableLaws.{sound-fewer}
+use Rattle.ledger.specs.Ledger.{Request, entryOf, askLength, offer, add, offers, addAll, ask}
+use Rattle.ledger.specs.Demand3.{Call, run, Received, received, wellFormed, Accepts, asksOf, granted, entryPrefix, inUse, wellFormedCalls, wellFormedAsks, lengthsAsked, prefixesAt, CanBeChosen, AllGranted}
+use Rattle.ledger.proofs.ListFacts.{split-some}
+use Rattle.ledger.proofs.EmptySlots.{empty-slots}
+use Rattle.ledger.proofs.OfferLaws.{prefixes, prefix?, pools-good, Offered, Offer, offer-is, add-perm}
+use Rattle.ledger.proofs.AskLaws.{entry?}
+use Rattle.ledger.proofs.CallLaws.{run-not, called, granted-is}
+use Rattle.ledger.proofs.Demand3Holds.{serve-append, addAll-perm, State, same, next, start, pools-same, lens-same, offers-length, all-granted}
+
+-- "every well-formed ask is granted"
+abbrev pub EveryGranted : ℕ → LeaseTable → List Call → Type 0
+EveryGranted now t cs = (given : List Entry) × (gather (λ v. granted ask now (v .got) (v .call)) (wellFormedCalls ask now t cs) ≡ map some given)
+
+-- The leases behind entries that lack nothing.
+told-leases : (os : List (Option Lease)) (es : List Entry) → map entry? os ≡ map some es → (ys : List Lease) × (os ≡ map some ys) × (map entryOf ys ≡ es)
+told-leases [] [] e = ([], refl, refl)
+told-leases [] (g ∷ gs) e = absurd (nil≢cons e)
+told-leases (none ∷ os) [] e = absurd (nil≢cons (sym e))
+told-leases (some x ∷ os) [] e = absurd (nil≢cons (sym e))
+told-leases (none ∷ os) (g ∷ gs) e = absurd (Option·some-ne-none g (sym (head-eq-of-cons-eq e)))
+told-leases (some x ∷ os) (g ∷ gs) e =
+    let r = told-leases os gs (tail-eq-of-cons-eq e) in
+    let h : some (entryOf x) ≡ some g = head-eq-of-cons-eq e in
+    let k : entryOf x ≡ g = cc in
+    (x ∷ r .0, ap (λ (l : List (Option Lease)). some x ∷ l) (r .1), ap₂ (λ (b : Entry) (l : List Entry). b ∷ l) k (r .2))
+
+prefixes-told : (ys : List Lease) → map entryPrefix (map entryOf ys) ≡ prefixes ys
+prefixes-told [] = refl
+prefixes-told (y ∷ ys) = ap (λ (l : List Prefix). prefixOf y ∷ l) (prefixes-told ys)
+
+-- Offers that lack nothing are the grants of crate `space`.
+module _ (t : LeaseTable) (good : Pools (poolsOf t)) (now client : ℕ) where
+  abbrev Granted : List Request → List Lease → List Prefix → List Lease → Type 0
+  Granted rs xs ls ys =
+      (serve (poolsOf t) ls (map (askLength t) rs) ≡ map some (prefixes ys))
+      × List·Permᴰ (prefixes (addAll (offers t now client xs rs) xs)) (after (poolsOf t) ls (map (askLength t) rs))
+
+  granted-step : (r : Request) (rs : List Request) (xs : List Lease) (ls : List Prefix) (o : Option Lease) (y : Lease) (ys : List Lease) → Offer t now client xs r o
+      → grant (poolsOf t) (prefixes xs) (askLength t r) ≡ grant (poolsOf t) ls (askLength t r)
+      → o ∷ offers t now client (add o xs) rs ≡ some y ∷ map some ys
+      → (offers t now client (add o xs) rs ≡ map some ys → List·Permᴰ (prefixes (add o xs)) (withGrant (prefix? o) ls)
+      → (serve (poolsOf t) (withGrant (prefix? o) ls) (map (askLength t) rs) ≡ map some (prefixes ys))
+      × List·Permᴰ (prefixes (addAll (offers t now client (add o xs) rs) (add o xs))) (after (poolsOf t) (withGrant (prefix? o) ls) (map (askLength t) rs)))
+      → List·Permᴰ (prefixes xs) ls
+      → (serve (poolsOf t) ls (map (askLength t) (r ∷ rs)) ≡ map some (prefixes (y ∷ ys)))
+      × List·Permᴰ (prefixes (addAll (o ∷ offers t now client (add o xs) rs) xs)) (after (poolsOf t) ls (map (askLength t) (r ∷ rs)))
+  unfolding addAll
+  granted-step r rs xs ls none y ys f same e k p = let h : none ≡ some y = head-eq-of-cons-eq e in let z : _≡_ {A = ℕ} 0 1 = cc in absurd (omega arith)
+  granted-step r rs xs ls (some x) y ys f same e k p =
+      let h : some x ≡ some y = head-eq-of-cons-eq e in
+      let q : x ≡ y = cc in
+      let g : some (prefixOf x) ≡ grant (poolsOf t) ls (askLength t r) = sym (f .granted) ∙ same in
+      let m = k (tail-eq-of-cons-eq e) (add-perm t now client good xs ls (some x) p) in (
+        ap (λ (b : Option Prefix). b ∷ serve (poolsOf t) (withGrant b ls) (map (askLength t) rs)) (sym g)
+            ∙ ap₂ (λ (b : Lease) (l : List (Option Prefix)). some (prefixOf b) ∷ l) q (m .0),
+        subst (λ (b : Option Prefix). List·Permᴰ (prefixes (addAll (offers t now client (add (some x) xs) rs) (add (some x) xs))) (after (poolsOf t) (withGrant b ls) (map (askLength t) rs))) g (m .1),
+      )
+
+  all-offers : (rs : List Request) (xs : List Lease) (ls : List Prefix) (ys : List Lease) → List·Permᴰ (prefixes xs) ls → offers t now client xs rs ≡ map some ys → Granted rs xs ls ys
+  unfolding offers addAll
+  all-offers [] xs ls [] p e = (refl, p)
+  all-offers [] xs ls (y ∷ ys) p e = absurd (nil≢cons e)
+  all-offers (r ∷ rs) xs ls [] p e = absurd (nil≢cons (sym e))
+  all-offers (r ∷ rs) xs ls (y ∷ ys) p e =
+      let o : Option Lease = offer t now client xs r in
+      granted-step r rs xs ls o y ys (offer-is t now client good xs r) (grant-perm (poolsOf t) p (askLength t r)) e
+      (λ d q. all-offers rs (add o xs) (withGrant (prefix? o) ls) ys q d) p
+
+module _ (t : LeaseTable) (now : ℕ) (st : sound t ≡ true) (ac : Accepts t now) where
+  abbrev kept? : Received → Bool
+  kept? v = wellFormed now t (v .call)
+
+  abbrev gives : Received → List (Option Entry)
+  gives v = granted ask now (v .got) (v .call)
+
+  -- From any table that the list goes through.
+  abbrev Back : List Call → Type 0
+  Back cs = (u : LeaseTable) (ls : List Prefix) (given : List Entry) → State t now u → List·Permᴰ (inUse now u) ls → gather gives (those kept? (received ask now u cs)) ≡ map some given
+      → (serve (poolsOf t) ls (lengthsAsked now t cs) ≡ map some (map entryPrefix given)) × (length (present now (u .leases)) + length (wellFormedAsks now t cs) ≤ leaseSlots)
+
+  back-none : Back []
+  unfolding received
+  back-none u ls [] s p e = (refl, omega (arith, sound-fewer u (s .sound) now))
+  back-none u ls (g ∷ gs) s p e = absurd (nil≢cons e)
+
+  back-not : (c : Call) (cs : List Call) → wellFormed now t c ≡ false → Back cs → Back (c ∷ cs)
+  unfolding received
+  back-not c cs b k u ls given s p e =
+      let v : Received = record { call = c; got = u } in
+      let vs : List Received = received ask now (run ask now u c .table) cs in
+      let f : those (wellFormed now t) (c ∷ cs) ≡ those (wellFormed now t) cs = those-no (wellFormed now t) c cs b in
+      let q : run ask now u c .table ≡ u = run-not now u c (same t now st ac u c s ∙ b) .0 in
+      let m = k (run ask now u c .table) ls given (next t now st ac u c s) (subst (λ (w : LeaseTable). List·Permᴰ (inUse now w) ls) (sym q) p) (ap (gather gives) (sym (those-no kept? v vs b)) ∙ e) in (
+        ap (λ (z : List Call). serve (poolsOf t) ls (map (askLength t) (gather asksOf z))) f ∙ m .0,
+        omega (arith, ap (λ (w : LeaseTable). length (present now (w .leases))) q, ap (λ (z : List Call). length (gather asksOf z)) f, m .1),
+      )
+
+  back-well : (c : Call) (cs : List Call) → wellFormed now t c ≡ true → Back cs → Back (c ∷ cs)
+  unfolding received
+  back-well c cs b k u ls given s p e =
+      let xs : List Lease = present now (u .leases) in
+      let v : Received = record { call = c; got = u } in
+      let vs : List Received = received ask now (run ask now u c .table) cs in
+      let js : List ℕ = map (askLength t) (asksOf c) in
+      let good : Pools (poolsOf u) = pools-good u (s .sound) in
+      let w : wellFormed now u c ≡ true = same t now st ac u c s ∙ b in
+      let f : those (wellFormed now t) (c ∷ cs) ≡ c ∷ those (wellFormed now t) cs = those-yes (wellFormed now t) c cs b in
+      let r = split-some (granted ask now u c) (gather gives (those kept? vs)) given (ap (gather gives) (sym (those-yes kept? v vs b)) ∙ e) in
+      let a = told-leases (offers u now (c .client) xs (asksOf c)) (r .0) (sym (granted-is now u c w) ∙ r .2) in
+      let m = all-offers u good now (c .client) (asksOf c) xs ls (a .0) p (a .1) in
+      let d : serve (poolsOf t) ls js ≡ map some (prefixes (a .0)) =
+      sym (ap₂ (λ (ps : List Prefix) (z : List ℕ). serve ps ls z) (pools-same t now st ac u s) (lens-same t now st ac u (asksOf c) s)) ∙ m .0 in
+      let q : List·Permᴰ (inUse now (run ask now u c .table)) (after (poolsOf t) ls js) =
+      subst (λ (z : List Lease). List·Permᴰ (prefixes z) (after (poolsOf t) ls js)) (sym (called now u c w .left))
+      (subst (λ (z : List Prefix). List·Permᴰ (prefixes (addAll (offers u now (c .client) xs (asksOf c)) xs)) z)
+      (ap₂ (λ (ps : List Prefix) (z : List ℕ). after ps ls z) (pools-same t now st ac u s) (lens-same t now st ac u (asksOf c) s)) (m .1)) in
+      let n : length (present now (run ask now u c .table .leases)) ≡ length xs + length (asksOf c) =
+      ap length (called now u c w .left) ∙ ap (λ (z : List (Option Lease)). length (addAll z xs)) (a .1) ∙ perm-length (addAll-perm (a .0) xs) ∙ length-append xs (a .0)
+      ∙ omega (arith, length-map (a .0) some, ap length (a .1), offers-length t now st ac u now (c .client) (asksOf c) xs) in
+      let rest = k (run ask now u c .table) (after (poolsOf t) ls js) (r .1) (next t now st ac u c s) q (r .3) in (
+        ap (λ (z : List Call). serve (poolsOf t) ls (map (askLength t) (gather asksOf z))) f
+            ∙ ap (serve (poolsOf t) ls) (map-append (askLength t) (asksOf c) (wellFormedAsks now t cs))
+            ∙ serve-append (poolsOf t) ls js (lengthsAsked now t cs)
+            ∙ ap₂ (λ (x y : List (Option Prefix)). x ++ y) (d ∙ ap (map some) (sym (prefixes-told (a .0)) ∙ ap (map entryPrefix) (a .2))) (rest .0)
+            ∙ sym (map-append some (map entryPrefix (r .0)) (map entryPrefix (r .1)))
+            ∙ ap (map some) (sym (map-append entryPrefix (r .0) (r .1)) ∙ ap (map entryPrefix) (sym (r .4))),
+        omega (arith, n, rest .1, ap (λ (z : List Call). length (gather asksOf z)) f, length-append (asksOf c) (wellFormedAsks now t cs)),
+      )
+
+  back : (cs : List Call) → Back cs
+  back [] = back-none
+  back (c ∷ cs) = ⊎-elim (λ (b : wellFormed now t c ≡ true). back-well c cs b (back cs)) (λ (b : wellFormed now t c ≡ false). back-not c cs b (back cs)) (bool-cases (wellFormed now t c))
+
+placed-back : (ps : List Prefix) (lens : List ℕ) → map (λ (p : Prefix). p .length) ps ≡ lens → prefixesAt (map (λ (p : Prefix). p .network) ps) lens ≡ ps
+placed-back [] [] e = refl
+placed-back [] (l ∷ lens) e = absurd (nil≢cons e)
+placed-back (p ∷ ps) [] e = absurd (nil≢cons (sym e))
+placed-back (p ∷ ps) (l ∷ lens) e =
+    ap₂ (λ (n : ℕ) (z : List Prefix). record { network = p .network; length = n } ∷ z) (sym (head-eq-of-cons-eq e)) (placed-back ps lens (tail-eq-of-cons-eq e))
+
+pub converse : (t : LeaseTable) (now : ℕ) (cs : List Call) → sound t ≡ true → Accepts t now → EveryGranted now t cs → CanBeChosen now t cs
+converse t now cs st ac g =
+    let ps : List Prefix = map entryPrefix (g .0) in
+    let b = back t now st ac cs t (inUse now t) (g .0) (start t now st ac) (Permᴰ·refl (inUse now t)) (g .1) in
+    let k : Packing (poolsOf t) (inUse now t) (lengthsAsked now t cs) ps = serve-packing (poolsOf t) (pools-good t st) (lengthsAsked now t cs) (inUse now t) ps (b .0) in
+    let q : prefixesAt (map (λ (p : Prefix). p .network) ps) (lengthsAsked now t cs) ≡ ps = placed-back ps (lengthsAsked now t cs) (k .asked) in
+    record {
+      networks = map (λ (p : Prefix). p .network) ps;
+      enough = length-map ps (λ (p : Prefix). p .network) ∙ sym (length-map ps (λ (p : Prefix). p .length)) ∙ ap length (k .asked);
+      free = subst (All (Free (poolsOf t) (inUse now t))) (sym q) (k .free);
+      apart = subst (Pairwise Apart) (sym q) (k .disjoint);
+      slots = omega (arith, b .1, empty-slots t now st);
+    }
+
+-- Every well-formed ask is granted exactly if the prefixes can be chosen and there is a slot for each.
+pub granted⇔choosable : (t : LeaseTable) (now : ℕ) (cs : List Call) → sound t ≡ true → Accepts t now → EveryGranted now t cs ↔ CanBeChosen now t cs
+granted⇔choosable t now cs st ac = (converse t now cs st ac, (λ p. let a = all-granted t now st ac cs p in (a .given, a .all)))

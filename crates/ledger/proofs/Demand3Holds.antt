@@ -1,0 +1,325 @@
+-- DEMAND 3 IS MET by the ledger's ask.
+-- Assumes nothing.
+use Prim.Native.Nat.{ℕ, zero, suc, _+_, _-_, _≤_, _<_}
+use mathlib.Core.Path.{_≡_, refl, sym, ap, ap₂, subst, _∙_}
+use mathlib.Core.Logic.{_⊎_, _↔_, inl, inr, ⊎-elim, by-cases}
+use native.Mathlib.Decide.{decLe}
+use mathlib.Core.Bool.{Bool, true, false, not, cond, true≢false}
+use mathlib.Core.List.{List, [], _∷_, _++_, map, map-append, append-assoc, nil≢cons, head-eq-of-cons-eq, tail-eq-of-cons-eq, List·Permᴰ, Permᴰ·refl, Permᴰ·symm, Permᴰ·append-nil, Permᴰ·append-right, Permᴰ·middle}
+use mathlib.Core.Option.{Option, none, some, Option·some-ne-none}
+use native.Mathlib.Omega.{arith}
+use lib.ListN.{length, length-append, length-map}
+use lib.Dec.{leb, eqb}
+use Rattle.lists.specs.Lists.{All, Pairwise, those, gather, somes}
+use Rattle.lists.proofs.Tests.{bool-cases, cond-true, cond-false}
+use Rattle.lists.proofs.Permutations.{perm-length}
+use Rattle.prefix.specs.declared.Prefix.{Prefix}
+use Rattle.prefix.specs.Prefixes.{prefix, Apart}
+use Rattle.space.specs.Space.{Pools, Free, Packing, grant, withGrant, serve, after}
+use Rattle.space.proofs.ListTheorem.{list-theorem, serve-packing}
+use Rattle.option.specs.Values.{Entry}
+use Rattle.table.specs.declared.Lease.{Lease}
+use Rattle.table.specs.declared.LeaseTable.{LeaseTable}
+use Rattle.table.specs.Table.{leaseSlots, latest, prefixOf, prefixesOf, poolsOf, present, sound, insert}
+use Rattle.table.proofs.TableLaws.{sound-fewer}
+use Rattle.ledger.specs.Ledger.{Result, Request, entryOf, holdTime, askLength, offer, add, offers, addAll, ask, emptySlots}
+use Rattle.ledger.specs.Demand3.{Call, run, Received, received, afterAll, wellFormed, Accepts, asksOf, granted, entryPrefix, inUse, wellFormedCalls, wellFormedAsks, lengthsAsked, prefixesAt, CanBeChosen, leaseFor, made, AllGranted, Untouched, Demand3}
+use Rattle.ledger.proofs.ListFacts.{somes-some, split-some}
+use Rattle.ledger.proofs.EmptySlots.{empty-slots}
+use Rattle.ledger.proofs.OfferLaws.{prefixes, prefix?, pools-good, insert-perm, Offered, Offer, offer-is, offers-serve, offers-after}
+use Rattle.ledger.proofs.AskLaws.{entry?}
+use Rattle.ledger.proofs.CallLaws.{WellFormed, well, run-not, well-same, Served, called, granted-is}
+use Rattle.ledger.proofs.FirstSentence.{first-sentence}
+
+-- LISTS
+
+-- A choice of networks is a packing of crate `space`.
+placed-lengths : (ns lens : List ℕ) → length ns ≡ length lens → map (λ (b : Prefix). b .length) (prefixesAt ns lens) ≡ lens
+placed-lengths [] [] e = refl
+placed-lengths [] (l ∷ lens) e = absurd (omega (arith, e))
+placed-lengths (n ∷ ns) [] e = absurd (omega (arith, e))
+placed-lengths (n ∷ ns) (l ∷ lens) e = ap (λ (js : List ℕ). l ∷ js) (placed-lengths ns lens (omega (arith, e)))
+
+choice : (now : ℕ) (t : LeaseTable) (cs : List Call) (p : CanBeChosen now t cs) → Packing (poolsOf t) (inUse now t) (lengthsAsked now t cs) (prefixesAt (p .networks) (lengthsAsked now t cs))
+choice now t cs p = record {
+  asked = placed-lengths (p .networks) (lengthsAsked now t cs) (p .enough);
+  free = p .free;
+  disjoint = p .apart;
+}
+
+entries-some : (ys : List Lease) → map entry? (map some ys) ≡ map some (map entryOf ys)
+entries-some [] = refl
+entries-some (y ∷ ys) = ap (λ (l : List (Option Entry)). some (entryOf y) ∷ l) (entries-some ys)
+
+pub serve-append : (pools ls : List Prefix) (js ks : List ℕ) → serve pools ls (js ++ ks) ≡ serve pools ls js ++ serve pools (after pools ls js) ks
+serve-append pools ls [] ks = refl
+serve-append pools ls (j ∷ js) ks = ap (λ (l : List (Option Prefix)). grant pools ls j ∷ l) (serve-append pools (withGrant (grant pools ls j) ls) js ks)
+
+all-somes : (os : List (Option Lease)) (gs : List Prefix) → map prefix? os ≡ map some gs → (ys : List Lease) × (os ≡ map some ys) × (prefixes ys ≡ gs)
+all-somes [] [] e = ([], refl, refl)
+all-somes [] (g ∷ gs) e = absurd (nil≢cons e)
+all-somes (none ∷ os) [] e = absurd (nil≢cons (sym e))
+all-somes (some x ∷ os) [] e = absurd (nil≢cons (sym e))
+all-somes (none ∷ os) (g ∷ gs) e = absurd (Option·some-ne-none g (sym (head-eq-of-cons-eq e)))
+all-somes (some x ∷ os) (g ∷ gs) e =
+    let r = all-somes os gs (tail-eq-of-cons-eq e) in
+    let h : some (prefixOf x) ≡ some g = head-eq-of-cons-eq e in
+    let k : prefixOf x ≡ g = cc in
+    (x ∷ r .0, ap (λ (l : List (Option Lease)). some x ∷ l) (r .1), ap₂ (λ (b : Prefix) (l : List Prefix). b ∷ l) k (r .2))
+
+lengths-of : (ys : List Lease) → map (λ (z : Entry). z .length) (map entryOf ys) ≡ map (λ (x : Lease). x .length) ys
+lengths-of [] = refl
+lengths-of (y ∷ ys) = ap (λ (l : List ℕ). y .length ∷ l) (lengths-of ys)
+
+prefixes-of : (ys : List Lease) → map entryPrefix (map entryOf ys) ≡ prefixes ys
+prefixes-of [] = refl
+prefixes-of (y ∷ ys) = ap (λ (l : List Prefix). prefixOf y ∷ l) (prefixes-of ys)
+
+pub addAll-perm : (ys xs : List Lease) → List·Permᴰ (addAll (map some ys) xs) (xs ++ ys)
+unfolding addAll
+addAll-perm [] xs = Permᴰ·symm (Permᴰ·append-nil xs)
+addAll-perm (y ∷ ys) xs =
+    List·Permᴰ.List·Permᴰ·trans (addAll-perm ys _)
+    (List·Permᴰ.List·Permᴰ·trans (Permᴰ·append-right ys (insert-perm y xs)) (Permᴰ·symm (Permᴰ·middle y xs ys)))
+
+-- each lease offered is the one that its entry tells
+
+lease-path : (now client : ℕ) (x : Lease) → x .client ≡ client → x .leased ≡ false → x .expires ≡ now + holdTime → x ≡ leaseFor now client (entryOf x)
+lease-path now client x p q r = λ i. record { network = x .network; length = x .length; client = p i; leased = q i; h = x .h; d = x .d; expires = r i }
+
+module _ (t : LeaseTable) (good : Pools (poolsOf t)) (now client : ℕ) where
+  told-step : (xs : List Lease) (r : Request) (o : Option Lease) (os : List (Option Lease)) → Offer t now client xs r o → map (leaseFor now client) (map entryOf (somes os)) ≡ somes os
+      → map (leaseFor now client) (map entryOf (somes (o ∷ os))) ≡ somes (o ∷ os)
+  told-step xs r none os f e = e
+  told-step xs r (some x) os f e = ap₂ (λ (y : Lease) (l : List Lease). y ∷ l) (sym (lease-path now client x (f .owner) (f .leased) (f .until))) e
+
+  told : (rs : List Request) (xs : List Lease) → map (leaseFor now client) (map entryOf (somes (offers t now client xs rs))) ≡ somes (offers t now client xs rs)
+  unfolding offers
+  told [] xs = refl
+  told (r ∷ rs) xs = told-step xs r (offer t now client xs r) (offers t now client (add (offer t now client xs r) xs) rs) (offer-is t now client good xs r) (told rs (add (offer t now client xs r) xs))
+
+  length-step : (xs : List Lease) (r : Request) (rs : List Request) (o : Option Lease) (os : List (Option Lease)) (y : Lease) (ys : List Lease) → Offer t now client xs r o
+      → o ∷ os ≡ some y ∷ map some ys → (os ≡ map some ys → map (λ (x : Lease). x .length) ys ≡ map (askLength t) rs)
+      → map (λ (x : Lease). x .length) (y ∷ ys) ≡ map (askLength t) (r ∷ rs)
+  length-step xs r rs none os y ys f e k = let h : none ≡ some y = head-eq-of-cons-eq e in let z : _≡_ {A = ℕ} 0 1 = cc in absurd (omega arith)
+  length-step xs r rs (some x) os y ys f e k =
+      let h : some x ≡ some y = head-eq-of-cons-eq e in
+      let q : x ≡ y = cc in
+      ap₂ (λ (n : ℕ) (l : List ℕ). n ∷ l) (ap (λ (z : Lease). z .length) (sym q) ∙ f .len) (k (tail-eq-of-cons-eq e))
+
+  lengths-told : (rs : List Request) (xs ys : List Lease) → offers t now client xs rs ≡ map some ys → map (λ (x : Lease). x .length) ys ≡ map (askLength t) rs
+  unfolding offers
+  lengths-told [] xs [] e = refl
+  lengths-told [] xs (y ∷ ys) e = absurd (nil≢cons e)
+  lengths-told (r ∷ rs) xs [] e = absurd (nil≢cons (sym e))
+  lengths-told (r ∷ rs) xs (y ∷ ys) e =
+      length-step xs r rs (offer t now client xs r) (offers t now client (add (offer t now client xs r) xs) rs) y ys (offer-is t now client good xs r) e
+      (lengths-told rs (add (offer t now client xs r) xs) ys)
+
+-- the tables that a list goes through
+
+pub record State (t : LeaseTable) (now : ℕ) (u : LeaseTable) : Type 0 where
+  pub sound : sound u ≡ true
+  pub since : u .last ≤ now
+  pub pools : u .pools ≡ t .pools
+  pub default : u .«default_length» ≡ t .«default_length»
+
+module _ (t : LeaseTable) (now : ℕ) (st : sound t ≡ true) (ac : Accepts t now) where
+  pub same : (u : LeaseTable) (c : Call) → State t now u → wellFormed now u c ≡ wellFormed now t c
+  same u c s = well-same now t u c st (s .sound) ac (s .since, ac .1)
+
+  pub next : (u : LeaseTable) (c : Call) → State t now u → State t now (run ask now u c .table)
+  next u c s =
+      ⊎-elim
+      (λ (e : wellFormed now u c ≡ true).
+      let k = called now u c e in
+      record { sound = k .sound; since = k .since; pools = k .pools ∙ s .pools; default = k .default ∙ s .default })
+      (λ (e : wellFormed now u c ≡ false). subst (State t now) (sym (run-not now u c e .0)) s)
+      (bool-cases (wellFormed now u c))
+
+  untouched-from : (cs : List Call) (u : LeaseTable) → State t now u
+      → All (λ v. wellFormed now t (v .call) ≡ false → (run ask now (v .got) (v .call) .table ≡ v .got) × (run ask now (v .got) (v .call) .buffer ≡ v .call .reply)) (received ask now u cs)
+  unfolding received
+  untouched-from [] u s = tt
+  untouched-from (c ∷ cs) u s = ((λ e. run-not now u c (same u c s ∙ e)), untouched-from cs (run ask now u c .table) (next u c s))
+
+  -- the list, from any table that it goes through
+
+  abbrev kept? : Received → Bool
+  kept? v = wellFormed now t (v .call)
+
+  abbrev gives : Received → List (Option Entry)
+  gives v = granted ask now (v .got) (v .call)
+
+  record Goes (cs : List Call) (u : LeaseTable) (gs : List Prefix) : Type 0 where
+    given : List Entry
+    all : gather gives (those kept? (received ask now u cs)) ≡ map some given
+    are : map entryPrefix given ≡ gs
+    lens : map (λ (e : Entry). e .length) given ≡ lengthsAsked now t cs
+    left : List·Permᴰ (present now (afterAll ask now u cs .leases)) (present now (u .leases) ++ gather (made ask now) (those kept? (received ask now u cs)))
+
+  goes-none : (u : LeaseTable) (gs : List Prefix) → _≡_ {A = List (Option Prefix)} [] (map some gs) → Goes [] u gs
+  unfolding received afterAll
+  goes-none u [] e = record { given = []; all = refl; are = refl; lens = refl; left = Permᴰ·symm (Permᴰ·append-nil (present now (u .leases))) }
+  goes-none u (g ∷ gs) e = absurd (nil≢cons e)
+
+  goes-not : (c : Call) (cs : List Call) (u : LeaseTable) (gs : List Prefix) → State t now u → wellFormed now t c ≡ false → Goes cs (run ask now u c .table) gs → Goes (c ∷ cs) u gs
+  unfolding received afterAll
+  goes-not c cs u gs s e k =
+      let v : Received = record { call = c; got = u } in
+      let vs : List Received = received ask now (run ask now u c .table) cs in
+      let f : those kept? (v ∷ vs) ≡ those kept? vs = cond-false (wellFormed now t c) (v ∷ those kept? vs) (those kept? vs) e in
+      let q : run ask now u c .table ≡ u = run-not now u c (same u c s ∙ e) .0 in
+      record {
+        given = k .given;
+        all = ap (gather gives) f ∙ k .all;
+        are = k .are;
+        lens = k .lens ∙ ap (λ (z : List Call). map (askLength t) (gather asksOf z)) (sym (cond-false (wellFormed now t c) (c ∷ those (wellFormed now t) cs) (those (wellFormed now t) cs) e));
+        left = subst (List·Permᴰ (present now (afterAll ask now (run ask now u c .table) cs .leases)))
+            (ap₂ (λ (w : LeaseTable) (l : List Received). present now (w .leases) ++ gather (made ask now) l) q (sym f)) (k .left);
+      }
+
+  pub lens-same : (u : LeaseTable) (rs : List Request) → State t now u → map (askLength u) rs ≡ map (askLength t) rs
+  lens-same u rs s = ap (λ (n : ℕ). map (λ (r : Request). cond (eqb (r .length) 0) n (r .length)) rs) (s .default)
+
+  goes-well : (c : Call) (cs : List Call) (u : LeaseTable) (ys : List Lease) (g₁ g₂ : List Prefix) → State t now u → wellFormed now t c ≡ true
+      → offers u now (c .client) (present now (u .leases)) (asksOf c) ≡ map some ys → prefixes ys ≡ g₁
+      → Goes cs (run ask now u c .table) g₂ → Goes (c ∷ cs) u (g₁ ++ g₂)
+  unfolding received afterAll
+  goes-well c cs u ys g₁ g₂ s e o b k =
+      let xs : List Lease = present now (u .leases) in
+      let w : wellFormed now u c ≡ true = same u c s ∙ e in
+      let good : Pools (poolsOf u) = pools-good u (s .sound) in
+      let v : Received = record { call = c; got = u } in
+      let vs : List Received = received ask now (run ask now u c .table) cs in
+      let f : those kept? (v ∷ vs) ≡ v ∷ those kept? vs = cond-true (wellFormed now t c) (v ∷ those kept? vs) (those kept? vs) e in
+      let h : granted ask now u c ≡ map some (map entryOf ys) = granted-is now u c w ∙ ap (map entry?) o ∙ entries-some ys in
+      let so : somes (offers u now (c .client) xs (asksOf c)) ≡ ys = ap somes o ∙ somes-some ys in
+      let m : made ask now v ≡ ys =
+      ap (λ (l : List (Option Entry)). map (leaseFor now (c .client)) (somes l)) h
+      ∙ ap (map (leaseFor now (c .client))) (somes-some (map entryOf ys))
+      ∙ ap (λ (l : List Lease). map (leaseFor now (c .client)) (map entryOf l)) (sym so)
+      ∙ told u good now (c .client) (asksOf c) xs ∙ so in
+      let p : List·Permᴰ (present now (run ask now u c .table .leases)) (xs ++ ys) =
+      subst (λ (l : List Lease). List·Permᴰ l (xs ++ ys)) (sym (called now u c w .left ∙ ap (λ (l : List (Option Lease)). addAll l xs) o)) (addAll-perm ys xs) in
+      record {
+        given = map entryOf ys ++ k .given;
+        all = ap (gather gives) f ∙ ap₂ (λ (a b : List (Option Entry)). a ++ b) h (k .all) ∙ sym (map-append some (map entryOf ys) (k .given));
+        are = map-append entryPrefix (map entryOf ys) (k .given) ∙ ap₂ (λ (a b : List Prefix). a ++ b) (prefixes-of ys ∙ b) (k .are);
+        lens =
+            map-append (λ (z : Entry). z .length) (map entryOf ys) (k .given)
+            ∙ ap₂ (λ (a b : List ℕ). a ++ b) (lengths-of ys ∙ lengths-told u good now (c .client) (asksOf c) xs ys o ∙ lens-same u (asksOf c) s) (k .lens)
+            ∙ sym (map-append (askLength t) (asksOf c) (wellFormedAsks now t cs))
+            ∙ ap (λ (z : List Call). map (askLength t) (gather asksOf z)) (sym (cond-true (wellFormed now t c) (c ∷ those (wellFormed now t) cs) (those (wellFormed now t) cs) e));
+        left =
+            List·Permᴰ.List·Permᴰ·trans (k .left)
+            (subst (List·Permᴰ (present now (run ask now u c .table .leases) ++ gather (made ask now) (those kept? vs)))
+            (append-assoc xs ys (gather (made ask now) (those kept? vs)) ∙ ap (λ (l : List Lease). xs ++ (l ++ gather (made ask now) (those kept? vs))) (sym m) ∙ ap (λ (l : List Received). xs ++ gather (made ask now) l) (sym f))
+            (Permᴰ·append-right (gather (made ask now) (those kept? vs)) p));
+      }
+
+  pub pools-same : (u : LeaseTable) → State t now u → poolsOf u ≡ poolsOf t
+  pools-same u s = ap prefixesOf (s .pools)
+
+  pub offers-length : (u : LeaseTable) (now′ client : ℕ) (rs : List Request) (xs : List Lease) → length (offers u now′ client xs rs) ≡ length rs
+  unfolding offers
+  offers-length u now′ client [] xs = refl
+  offers-length u now′ client (r ∷ rs) xs = ap suc (offers-length u now′ client rs (add (offer u now′ client xs r) xs))
+
+  abbrev Claim : List Call → Type 0
+  Claim cs = (u : LeaseTable) (ls gs : List Prefix) → State t now u → List·Permᴰ (inUse now u) ls → serve (poolsOf t) ls (lengthsAsked now t cs) ≡ map some gs
+      → length (present now (u .leases)) + length (wellFormedAsks now t cs) ≤ leaseSlots → Goes cs u gs
+
+  step-not : (c : Call) (cs : List Call) → wellFormed now t c ≡ false → Claim cs → Claim (c ∷ cs)
+  step-not c cs b k u ls gs s p e l =
+      let f : those (wellFormed now t) (c ∷ cs) ≡ those (wellFormed now t) cs =
+      cond-false (wellFormed now t c) (c ∷ those (wellFormed now t) cs) (those (wellFormed now t) cs) b in
+      let q : run ask now u c .table ≡ u = run-not now u c (same u c s ∙ b) .0 in
+      goes-not c cs u gs s b
+      (k (run ask now u c .table) ls gs (next u c s)
+      (subst (λ (w : LeaseTable). List·Permᴰ (inUse now w) ls) (sym q) p)
+      (subst (λ (z : List Call). serve (poolsOf t) ls (map (askLength t) (gather asksOf z)) ≡ map some gs) f e)
+      (omega (arith, ap (λ (w : LeaseTable). length (present now (w .leases))) q, ap (λ (z : List Call). length (gather asksOf z)) f)))
+
+  step-well : (c : Call) (cs : List Call) → wellFormed now t c ≡ true → Claim cs → Claim (c ∷ cs)
+  step-well c cs b k u ls gs s p e l =
+      let xs : List Lease = present now (u .leases) in
+      let js : List ℕ = map (askLength t) (asksOf c) in
+      let good : Pools (poolsOf u) = pools-good u (s .sound) in
+      let w : wellFormed now u c ≡ true = same u c s ∙ b in
+      let f : those (wellFormed now t) (c ∷ cs) ≡ c ∷ those (wellFormed now t) cs =
+      cond-true (wellFormed now t c) (c ∷ those (wellFormed now t) cs) (those (wellFormed now t) cs) b in
+      let room : length xs + (length (asksOf c) + length (wellFormedAsks now t cs)) ≤ leaseSlots =
+      omega (arith, ap (λ (z : List Call). length (gather asksOf z)) f, length-append (asksOf c) (wellFormedAsks now t cs)) in
+      let o : lengthsAsked now t (c ∷ cs) ≡ js ++ lengthsAsked now t cs =
+      ap (λ (z : List Call). map (askLength t) (gather asksOf z)) f ∙ map-append (askLength t) (asksOf c) (wellFormedAsks now t cs) in
+      let r = split-some (serve (poolsOf t) ls js) (serve (poolsOf t) (after (poolsOf t) ls js) (lengthsAsked now t cs)) gs
+      (sym (serve-append (poolsOf t) ls js (lengthsAsked now t cs)) ∙ ap (serve (poolsOf t) ls) (sym o) ∙ e) in
+      let a = all-somes (offers u now (c .client) xs (asksOf c)) (r .0)
+      (offers-serve u now (c .client) good (asksOf c) xs ls (omega arith) p ∙ ap₂ (λ (ps : List Prefix) (z : List ℕ). serve ps ls z) (pools-same u s) (lens-same u (asksOf c) s) ∙ r .2) in
+      let q : List·Permᴰ (inUse now (run ask now u c .table)) (after (poolsOf t) ls js) =
+      subst (λ (z : List Lease). List·Permᴰ (prefixes z) (after (poolsOf t) ls js)) (sym (called now u c w .left))
+      (subst (λ (z : List Prefix). List·Permᴰ (prefixes (addAll (offers u now (c .client) xs (asksOf c)) xs)) z)
+      (ap₂ (λ (ps : List Prefix) (z : List ℕ). after ps ls z) (pools-same u s) (lens-same u (asksOf c) s))
+      (offers-after u now (c .client) good (asksOf c) xs ls (omega arith) p)) in
+      let n : length (present now (run ask now u c .table .leases)) ≡ length xs + length (asksOf c) =
+      ap length (called now u c w .left) ∙ ap (λ (z : List (Option Lease)). length (addAll z xs)) (a .1) ∙ perm-length (addAll-perm (a .0) xs) ∙ length-append xs (a .0)
+      ∙ omega (arith, length-map (a .0) some, ap length (a .1), offers-length u now (c .client) (asksOf c) xs) in
+      subst (Goes (c ∷ cs) u) (sym (r .4))
+      (goes-well c cs u (a .0) (r .0) (r .1) s b (a .1) (a .2)
+      (k (run ask now u c .table) (after (poolsOf t) ls js) (r .1) (next u c s) q (r .3) (omega arith)))
+
+  goes : (cs : List Call) → Claim cs
+  goes [] = λ u ls gs s p e l. goes-none u gs e
+  goes (c ∷ cs) =
+      ⊎-elim (λ (b : wellFormed now t c ≡ true). step-well c cs b (goes cs)) (λ (b : wellFormed now t c ≡ false). step-not c cs b (goes cs)) (bool-cases (wellFormed now t c))
+
+  pub start : State t now t
+  start = record { sound = st; since = ac .0; pools = refl; default = refl }
+
+  pub all-granted : (cs : List Call) → CanBeChosen now t cs → AllGranted ask now t cs
+  all-granted cs p =
+      let m = list-theorem (poolsOf t) (pools-good t st) (inUse now t) (lengthsAsked now t cs) (prefixesAt (p .networks) (lengthsAsked now t cs)) (choice now t cs p) in
+      let g = goes cs t (inUse now t) (m .0) start (Permᴰ·refl (inUse now t)) (m .1) (omega (arith, p .slots, empty-slots t now st)) in
+      record {
+        given = g .given;
+        all = g .all;
+        lengths = g .lens;
+        free = subst (All (Free (poolsOf t) (inUse now t))) (sym (g .are)) (m .2 .free);
+        apart = subst (Pairwise Apart) (sym (g .are)) (m .2 .disjoint);
+        left = g .left;
+      }
+
+  pub untouched : (cs : List Call) → Untouched ask now t cs
+  untouched cs = untouched-from cs t start
+
+-- On a table that is not sound, or at a time not accepted, no call is well-formed, and each gets the table that the first got.
+none-touch : (t : LeaseTable) (now : ℕ) → ((c : Call) → wellFormed now t c ≡ false) → (cs : List Call) (u : LeaseTable) → u ≡ t
+    → All (λ v. wellFormed now t (v .call) ≡ false → (run ask now (v .got) (v .call) .table ≡ v .got) × (run ask now (v .got) (v .call) .buffer ≡ v .call .reply)) (received ask now u cs)
+unfolding received
+none-touch t now f [] u e = tt
+none-touch t now f (c ∷ cs) u e =
+    let w : wellFormed now u c ≡ false = ap (λ (x : LeaseTable). wellFormed now x c) e ∙ f c in
+    ((λ _. run-not now u c w), none-touch t now f cs (run ask now u c .table) (run-not now u c w .0 ∙ e))
+
+never : (t : LeaseTable) (now : ℕ) → (sound t ≡ true → Accepts t now → ⊥) → (c : Call) → wellFormed now t c ≡ false
+never t now k c =
+    ⊎-elim (λ (e : wellFormed now t c ≡ true). absurd (k (well now t c e .sound) (well now t c e .accepted))) (λ (e : wellFormed now t c ≡ false). e) (bool-cases (wellFormed now t c))
+
+untouched-always : (t : LeaseTable) (now : ℕ) (cs : List Call) → Untouched ask now t cs
+untouched-always t now cs =
+    ⊎-elim
+    (λ (s : sound t ≡ true).
+    by-cases (decLe (t .last) now)
+    (λ a. by-cases (decLe now latest) (λ b. untouched t now s (a, b) cs) (λ b. none-touch t now (never t now (λ _ q. b (q .1))) cs t refl))
+    (λ a. none-touch t now (never t now (λ _ q. a (q .0))) cs t refl))
+    (λ (s : sound t ≡ false). none-touch t now (never t now (λ p _. true≢false (sym p ∙ s))) cs t refl)
+    (bool-cases (sound t))
+
+-- DEMAND 3
+pub demand3 : Demand3 ask
+demand3 = record {
+  sentence = first-sentence;
+  lists = λ t now cs s a p. all-granted t now s a cs p;
+  untouched = untouched-always;
+}

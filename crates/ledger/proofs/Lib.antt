@@ -1,0 +1,24 @@
+-- Laws of the definitions, and the theorems.
+pub mod ListFacts
+pub mod RowLaws
+pub mod ReadLaws
+pub mod OfferLaws
+pub mod ReplyLaws
+pub mod EmptySlots
+pub mod AskLaws
+pub mod CallLaws
+pub mod FirstSentence
+pub mod Demand3Holds
+pub mod Converse
+pub mod SoundKept
+pub mod HistoriesHold
+pub mod ConservationHolds
+pub mod ListDependsHolds
+pub mod Resuming
+pub mod NothingBehind
+pub mod ExamplesHold
+pub mod Premises
+pub mod WrongServersRefuted
+pub mod Counts
+pub mod InRange
+pub mod StepLaws

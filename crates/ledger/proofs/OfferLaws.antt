@@ -1,0 +1,203 @@
+-- Laws of the offers of one call: what an offer is, that they keep the leases good and ascending, and that they are the grants of crate `space`.
+-- Assumes nothing.
+use Prim.Native.Nat.{ℕ, zero, suc, _+_, _-_, _≤_, _<_}
+use mathlib.Core.Path.{_≡_, refl, sym, ap, subst, _∙_}
+use mathlib.Core.Logic.{_⊎_, inl, inr, ⊎-elim}
+use mathlib.Core.Bool.{Bool, true, false, not, cond}
+use mathlib.Core.List.{List, [], _∷_, map, List·Permᴰ}
+use mathlib.Core.Option.{Option, none, some}
+use native.Mathlib.Omega.{arith}
+use lib.ListN.{length, length-map}
+use lib.Dec.{leb, eqb}
+use borrow.Author.Tests.{leb-true, leb-false, eqb-false}
+use Rattle.lists.specs.Lists.{All, Any, Pairwise, somes}
+use Rattle.lists.proofs.Tests.{bool-cases, cond-true, cond-false}
+use Rattle.lists.proofs.ListLaws.{all-map, all-image, pairwise-image}
+use Rattle.lists.proofs.Permutations.{perm-map, perm-length}
+use Rattle.lists.proofs.SortingLaws.{insertBy-perm}
+use Rattle.prefix.specs.declared.Prefix.{Prefix}
+use Rattle.prefix.specs.Prefixes.{longest, end, Aligned, Apart}
+use Rattle.space.specs.Space.{Pools, Free, Takes, grant, withGrant, serve, after}
+use Rattle.space.proofs.ListTheorem.{refused⇔none-free, granted-free}
+use Rattle.space.proofs.Rules.{grant-takes}
+use Rattle.space.proofs.Permuted.{grant-perm}
+use Rattle.table.specs.declared.Pool.{Pool}
+use Rattle.table.specs.declared.Lease.{Lease}
+use Rattle.table.specs.declared.LeaseTable.{LeaseTable}
+use Rattle.table.specs.Table.{leaseSlots, addresses, poolPrefix, prefixOf, networkOf, unused?, prefixesOf, poolsOf, sound, insert}
+use Rattle.table.proofs.Ascending.{used, ascending-apart}
+use Rattle.table.proofs.TableLaws.{GoodPool, Good, Fine, GoodPools, sound-pools, sound-default, insert-fine}
+use Rattle.ledger.specs.Ledger.{Request, askLength, full, holdTime, offered, offer, add, offers, addAll}
+
+abbrev pub prefixes : List Lease → List Prefix
+prefixes xs = map prefixOf xs
+
+abbrev pub prefix? : Option Lease → Option Prefix
+prefix? none = none
+prefix? (some x) = some (prefixOf x)
+
+pub insert-perm : (x : Lease) (ys : List Lease) → List·Permᴰ (insert x ys) (x ∷ ys)
+insert-perm x ys = insertBy-perm networkOf x ys
+
+-- THE POOLS OF A SOUND TABLE, as crate `space` wants them.
+
+pub pools-good : (t : LeaseTable) → sound t ≡ true → Pools (poolsOf t)
+unfolding prefixesOf
+pools-good t e =
+    let g = sound-pools t e in
+    let ps : List Pool = used unused? (t .pools) in
+    record {
+      lengths = all-image poolPrefix (λ p. (1 ≤ p .length) × (p .length ≤ longest)) ps (all-map (λ p (k : GoodPool p). (omega (arith, k .short), k .long)) ps (g .good));
+      aligned = all-image poolPrefix Aligned ps (all-map (λ p (k : GoodPool p). k .aligned) ps (g .good));
+      disjoint = pairwise-image poolPrefix Apart ps (ascending-apart poolPrefix 0 ps (g .ascending));
+    }
+
+pub pools-within : (t : LeaseTable) → sound t ≡ true → All (λ p. end p ≤ addresses) (poolsOf t)
+unfolding prefixesOf
+pools-within t e = let ps : List Pool = used unused? (t .pools) in all-image poolPrefix (λ p. end p ≤ addresses) ps (all-map (λ p (k : GoodPool p). k .within) ps (sound-pools t e .good))
+
+pub length-bounds : (t : LeaseTable) → sound t ≡ true → (r : Request) → r .length ≤ longest → (1 ≤ askLength t r) × (askLength t r ≤ longest)
+length-bounds t s r l =
+    ⊎-elim
+    (λ (e : eqb (r .length) 0 ≡ true). rw (e) (sound-default t s))
+    (λ (e : eqb (r .length) 0 ≡ false). let z = eqb-false (r .length) 0 e in rw (e) (positive (r .length) z, l))
+    (bool-cases (eqb (r .length) 0))
+  where
+    positive : (n : ℕ) → (n ≡ 0 → ⊥) → 1 ≤ n
+    positive zero z = absurd (z refl)
+    positive (suc n) z = omega arith
+
+-- WHAT AN OFFER IS
+
+module _ (t : LeaseTable) (now client : ℕ) where
+  pub record Offered (xs : List Lease) (r : Request) (x : Lease) : Type 0 where
+    pub room : length xs < leaseSlots
+    pub len : x .length ≡ askLength t r
+    pub h : x .h ≡ r .h
+    pub d : x .d ≡ false
+    pub owner : x .client ≡ client
+    pub leased : x .leased ≡ false
+    pub until : x .expires ≡ now + holdTime
+    pub granted : grant (poolsOf t) (prefixes xs) (askLength t r) ≡ some (prefixOf x)
+    pub free : Free (poolsOf t) (prefixes xs) (prefixOf x)
+
+  abbrev pub Offer : List Lease → Request → Option Lease → Type 0
+  Offer xs r none = (leaseSlots ≤ length xs) ⊎ (grant (poolsOf t) (prefixes xs) (askLength t r) ≡ none)
+  Offer xs r (some x) = Offered xs r x
+
+  module _ (good : Pools (poolsOf t)) where
+    offered-is : (xs : List Lease) (r : Request) → length xs < leaseSlots → (g : Option Prefix) → grant (poolsOf t) (prefixes xs) (askLength t r) ≡ g
+        → Offer xs r (offered now client (r .h) g)
+    offered-is xs r l none e = inr e
+    offered-is xs r l (some p) e =
+        let f = granted-free (poolsOf t) good (prefixes xs) (askLength t r) p e in
+        record {
+          room = l;
+          len = f .1;
+          h = refl;
+          d = refl;
+          owner = refl;
+          leased = refl;
+          until = refl;
+          granted = e;
+          free = f .0;
+        }
+
+    pub offer-is : (xs : List Lease) (r : Request) → Offer xs r (offer t now client xs r)
+    unfolding offer
+    offer-is xs r =
+        ⊎-elim
+        (λ (e : full xs ≡ true). subst (Offer xs r) (sym (cond-true (full xs) _ _ e)) (inl (leb-true leaseSlots (length xs) e)))
+        (λ (e : full xs ≡ false).
+        subst (Offer xs r) (sym (cond-false (full xs) _ _ e))
+        (offered-is xs r (leb-false leaseSlots (length xs) e) (grant (poolsOf t) (prefixes xs) (askLength t r)) refl))
+        (bool-cases (full xs))
+
+    -- The leases stay good, ascending, and no more than there are slots.
+
+    pub record Inv (xs : List Lease) : Type 0 where
+      pub fine : Fine (poolsOf t) now 0 xs
+      pub fit : length xs ≤ leaseSlots
+
+    module _ (s : sound t ≡ true) (named : client ≡ 0 → ⊥) where
+      pub offered-good : (xs : List Lease) (r : Request) (x : Lease) → r .length ≤ longest → Offered xs r x → Good (poolsOf t) now x
+      offered-good xs r x l o =
+          let b = length-bounds t s r l in
+          record {
+            short = omega (arith, o .len, b .0);
+            long = omega (arith, o .len, b .1);
+            aligned = o .free .aligned;
+            client = λ e. named (sym (o .owner) ∙ e);
+            later = omega (arith, o .until);
+            pooled = o .free .pooled;
+          }
+
+      add-inv : (xs : List Lease) (r : Request) → r .length ≤ longest → (o : Option Lease) → Offer xs r o → Inv xs → Inv (add o xs)
+      add-inv xs r l none f i = i
+      add-inv xs r l (some x) f i = record {
+        fine = insert-fine (poolsOf t) now x xs (offered-good xs r x l f) (f .free .unused) (i .fine);
+        fit = omega (arith, perm-length (insert-perm x xs), f .room);
+      }
+
+      pub offers-inv : (rs : List Request) (xs : List Lease) → All (λ r. r .length ≤ longest) rs → Inv xs → Inv (addAll (offers t now client xs rs) xs)
+      unfolding offers addAll
+      offers-inv [] xs a i = i
+      offers-inv (r ∷ rs) xs a i =
+          offers-inv rs (add (offer t now client xs r) xs) (a .1) (add-inv xs r (a .0) (offer t now client xs r) (offer-is xs r) i)
+
+      some-good : (xs : List Lease) (r : Request) → r .length ≤ longest → (o : Option Lease) → Offer xs r o → (ys : List (Option Lease)) → All (Good (poolsOf t) now) (somes ys)
+          → All (Good (poolsOf t) now) (somes (o ∷ ys))
+      some-good xs r l none f ys a = a
+      some-good xs r l (some x) f ys a = (offered-good xs r x l f, a)
+
+      pub offers-good : (rs : List Request) (xs : List Lease) → All (λ r. r .length ≤ longest) rs → All (Good (poolsOf t) now) (somes (offers t now client xs rs))
+      unfolding offers
+      offers-good [] xs a = tt
+      offers-good (r ∷ rs) xs a =
+          some-good xs r (a .0) (offer t now client xs r) (offer-is xs r) (offers t now client (add (offer t now client xs r) xs) rs)
+          (offers-good rs (add (offer t now client xs r) xs) (a .1))
+
+    -- The offers are the grants of crate `space`.
+
+    offer-grant : (xs : List Lease) (r : Request) → length xs < leaseSlots → (o : Option Lease) → Offer xs r o → prefix? o ≡ grant (poolsOf t) (prefixes xs) (askLength t r)
+    offer-grant xs r l none (inl f) = absurd (omega arith)
+    offer-grant xs r l none (inr f) = sym f
+    offer-grant xs r l (some x) f = sym (f .granted)
+
+    pub add-perm : (xs : List Lease) (ls : List Prefix) (o : Option Lease) → List·Permᴰ (prefixes xs) ls → List·Permᴰ (prefixes (add o xs)) (withGrant (prefix? o) ls)
+    add-perm xs ls none p = p
+    add-perm xs ls (some x) p = List·Permᴰ.List·Permᴰ·trans (perm-map prefixOf (insert-perm x xs)) (List·Permᴰ.List·Permᴰ·cons refl p)
+
+    pub add-length : (xs : List Lease) (o : Option Lease) → length (add o xs) ≤ suc (length xs)
+    add-length xs none = omega arith
+    add-length xs (some x) = omega (arith, perm-length (insert-perm x xs))
+
+    pub offers-serve : (rs : List Request) (xs : List Lease) (ls : List Prefix) → length xs + length rs ≤ leaseSlots → List·Permᴰ (prefixes xs) ls
+        → map prefix? (offers t now client xs rs) ≡ serve (poolsOf t) ls (map (askLength t) rs)
+    unfolding offers
+    offers-serve [] xs ls l p = refl
+    offers-serve (r ∷ rs) xs ls l p =
+        let o : Option Lease = offer t now client xs r in
+        let e : prefix? o ≡ grant (poolsOf t) ls (askLength t r) = offer-grant xs r (omega arith) o (offer-is xs r) ∙ grant-perm (poolsOf t) p (askLength t r) in
+        let f : map prefix? (offers t now client (add o xs) rs) ≡ serve (poolsOf t) (withGrant (prefix? o) ls) (map (askLength t) rs) =
+        offers-serve rs (add o xs) (withGrant (prefix? o) ls) (omega (arith, add-length xs o)) (add-perm xs ls o p) in
+        ap (λ (l : List (Option Prefix)). prefix? o ∷ l) f ∙ ap (λ (g : Option Prefix). g ∷ serve (poolsOf t) (withGrant g ls) (map (askLength t) rs)) e
+
+    pub offers-after : (rs : List Request) (xs : List Lease) (ls : List Prefix) → length xs + length rs ≤ leaseSlots → List·Permᴰ (prefixes xs) ls
+        → List·Permᴰ (prefixes (addAll (offers t now client xs rs) xs)) (after (poolsOf t) ls (map (askLength t) rs))
+    unfolding offers addAll
+    offers-after [] xs ls l p = p
+    offers-after (r ∷ rs) xs ls l p =
+        let o : Option Lease = offer t now client xs r in
+        let e : prefix? o ≡ grant (poolsOf t) ls (askLength t r) = offer-grant xs r (omega arith) o (offer-is xs r) ∙ grant-perm (poolsOf t) p (askLength t r) in
+        offers-after rs (add o xs) (withGrant (grant (poolsOf t) ls (askLength t r)) ls) (omega (arith, add-length xs o))
+        (subst (λ (g : Option Prefix). List·Permᴰ (prefixes (add o xs)) (withGrant g ls)) e (add-perm xs ls o p))
+
+-- THE CHOICE: "An ask of length p takes, among whole free blocks of length at most p, the smallest, the lowest network among equals, and of that the
+-- lowest part of length p." On any sound table, with any leases present.
+pub offer-takes : (t : LeaseTable) → sound t ≡ true → (now client : ℕ) (xs : List Lease) (r : Request) (x : Lease) → offer t now client xs r ≡ some x
+    → Takes (poolsOf t) (map prefixOf xs) (askLength t r) (prefixOf x)
+offer-takes t s now client xs r x e =
+    let good : Pools (poolsOf t) = pools-good t s in
+    let o : Offered t now client xs r x = subst (Offer t now client xs r) e (offer-is t now client good xs r) in
+    grant-takes (poolsOf t) good (map prefixOf xs) (askLength t r) (prefixOf x) .0 (o .granted)

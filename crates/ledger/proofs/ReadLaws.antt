@@ -1,0 +1,297 @@
+-- What the reader gives: the length of a request is at most 30, an entry is a block, and an option has at most 63 requests and 35 entries.
+-- Assumes nothing.
+use Prim.Native.Nat.{ℕ, zero, suc, _+_, _*_, _≤_, _<_}
+use mathlib.Core.Path.{_≡_, refl, sym, ap, subst, _∙_}
+use mathlib.Core.Bool.{Bool, true, false, cond, _&&_, true≢false}
+use mathlib.Core.Logic.{by-cases}
+use native.Mathlib.Decide.{decLe}
+use mathlib.Core.List.{List, [], _∷_, _++_}
+use native.Mathlib.Omega.{arith}
+use lib.ListN.{length, getD, length-append}
+use lib.Dec.{leb, eqb, ltb}
+use borrow.Author.Tests.{leb-true, leb-false, eqb-true}
+use Rattle.lists.specs.Lists.{All, all?}
+use Rattle.lists.specs.Walk.{Turn, more, stop, onTurn, walk}
+use Rattle.lists.proofs.Tests.{and-to, all?-to}
+use Rattle.lists.proofs.WalkLaws.{more-not-stop}
+use Rattle.lists.proofs.ListLaws.{all-append}
+use Rattle.lists.proofs.DropLaws.{all-at}
+use Rattle.prefix.specs.Prefixes.{longest}
+use Rattle.option.specs.Values.{Entry, SuboptionValue, request, information, name, unknown, Outcome, refused, accepted}
+use Rattle.option.specs.Rules.{entryFields?, fields?}
+use Rattle.option.specs.Reading.{End, whole, badAt, subEnd, subInside?, whenGood, readRequest, readEntry, readEntries, readInformation, readName, readBody, readSuboption, readSuboptions, ended, option?, readOption}
+use Rattle.option.proofs.EntryLaws.{entry-read}
+use Rattle.option.proofs.SuboptionLaws.{good-read, SuboptionRead, suboption-read, suboption-moves, suboption-ends, information-entries}
+use Rattle.ledger.specs.Ledger.{Request, refuses?, placeIn, refusalPlace, suboptions, requests, entries, requestsIn, entriesIn}
+
+-- WHAT HOLDS OF EACH PIECE OF A WALK
+
+module _ {A B : Type 0} (P : A → Type 0) (turn : ℕ → Turn A B) (out : B) (p : (at : ℕ) (a : A) (next : ℕ) → turn at ≡ more a next → P a) where
+  turn-all : (at : ℕ) (t : Turn A B) (k : ℕ → List A × B) → turn at ≡ t → ((next : ℕ) → All P (k next .0)) → All P (onTurn t k .0)
+  turn-all at (more a next) k e h = (p at a next e, h next)
+  turn-all at (stop b) k e h = tt
+
+  pub walk-all : (fuel at : ℕ) → All P (walk turn out fuel at .0)
+  unfolding walk
+  walk-all zero at = tt
+  walk-all (suc fuel) at = turn-all at (turn at) (λ next. walk turn out fuel next) refl (λ next. walk-all fuel next)
+
+abbrev pub weigh : {A : Type 0} → (A → ℕ) → List A → ℕ
+weigh w [] = 0
+weigh w (a ∷ rest) = w a + weigh w rest
+
+-- Pieces that each need so many positions.
+module _ {A B : Type 0} (w : A → ℕ) (turn : ℕ → Turn A B) (out : B) (N : ℕ) (p : (at : ℕ) (a : A) (next : ℕ) → turn at ≡ more a next → (at + w a ≤ next) × (next ≤ N)) where
+  turn-weight : (at : ℕ) (t : Turn A B) (k : ℕ → List A × B) → at ≤ N → turn at ≡ t → ((next : ℕ) → next ≤ N → next + weigh w (k next .0) ≤ N) → at + weigh w (onTurn t k .0) ≤ N
+  turn-weight at (more a next) k l e h = let q = p at a next e in omega (arith, h next (q .1), q)
+  turn-weight at (stop b) k l e h = omega arith
+
+  pub walk-weight : (fuel at : ℕ) → at ≤ N → at + weigh w (walk turn out fuel at .0) ≤ N
+  unfolding walk
+  walk-weight zero at l = omega arith
+  walk-weight (suc fuel) at l = turn-weight at (turn at) (λ next. walk turn out fuel next) l refl (λ next h. walk-weight fuel next h)
+
+-- THE FIELDS OF WHAT IS READ
+
+abbrev Gives : Turn SuboptionValue End → Type 0
+Gives t = (x : SuboptionValue) (next : ℕ) → t ≡ more x next → fields? x ≡ true
+
+cond-gives : (b : Bool) (t u : Turn SuboptionValue End) → Gives t → Gives u → Gives (cond b t u)
+cond-gives true t u p q = p
+cond-gives false t u p q = q
+
+good-gives : (framed : Bool) (x : SuboptionValue) (at end : ℕ) → Gives (whenGood framed x at end)
+good-gives framed x at end y next h = let g = good-read framed x at end y next h in subst (λ (v : SuboptionValue). fields? v ≡ true) (g .2) (g .1)
+
+body-gives : (number : ℕ) (s : List ℕ) (at end : ℕ) → Gives (readBody number s at end)
+unfolding readBody readRequest readInformation readName fields?
+body-gives number s at end =
+    cond-gives (eqb number 1) (readRequest s at end) _ (good-gives _ _ at end)
+    (cond-gives (eqb number 2) (readInformation s at end) _ (good-gives _ _ at end)
+    (cond-gives (eqb number 3) (readName s at end) _ (good-gives _ _ at end)
+    (λ x next h. let q : unknown ≡ x = cc in subst (λ (v : SuboptionValue). fields? v ≡ true) q refl)))
+
+ended-all : (P : SuboptionValue → Type 0) (subs : List SuboptionValue) (e : End) → All P subs → All P (suboptions (ended subs e))
+ended-all P subs whole a = a
+ended-all P subs (badAt place) a = tt
+
+pub fields-read : (s : List ℕ) → All (λ x. fields? x ≡ true) (suboptions (readOption s))
+unfolding readOption readSuboptions
+fields-read s = go (option? s)
+  where
+    go : (b : Bool) → All (λ x. fields? x ≡ true) (suboptions (cond b (ended (readSuboptions s 3 .0) (readSuboptions s 3 .1)) (refused 6 0)))
+    go true =
+        ended-all (λ x. fields? x ≡ true) (readSuboptions s 3 .0) (readSuboptions s 3 .1)
+        (walk-all (λ x. fields? x ≡ true) (readSuboption s) whole
+        (λ at x next e. body-gives (getD s at 0) s at (subEnd s at) x next (suboption-read s at x next e .body)) (suc (length s)) 3)
+    go false = tt
+
+requests-fields : (subs : List SuboptionValue) → All (λ x. fields? x ≡ true) subs → All (λ r. r .length ≤ longest) (requests subs)
+unfolding fields?
+requests-fields [] a = tt
+requests-fields (request h i len ∷ subs) a = (leb-true len longest (a .0), requests-fields subs (a .1))
+requests-fields (information c s es ∷ subs) a = requests-fields subs (a .1)
+requests-fields (name octets ∷ subs) a = requests-fields subs (a .1)
+requests-fields (unknown ∷ subs) a = requests-fields subs (a .1)
+
+-- "prefix length 0 to 30"
+pub requests-short : (s : List ℕ) → All (λ r. r .length ≤ longest) (requestsIn s)
+requests-short s = requests-fields (suboptions (readOption s)) (fields-read s)
+
+entries-fields : (subs : List SuboptionValue) → All (λ x. fields? x ≡ true) subs → All (λ e. entryFields? e ≡ true) (entries subs)
+unfolding fields?
+entries-fields [] a = tt
+entries-fields (request h i len ∷ subs) a = entries-fields subs (a .1)
+entries-fields (information c s es ∷ subs) a =
+    all-append (λ e. entryFields? e ≡ true) es (entries subs) (all?-to entryFields? (λ e h. h) es (a .0)) (entries-fields subs (a .1))
+entries-fields (name octets ∷ subs) a = entries-fields subs (a .1)
+entries-fields (unknown ∷ subs) a = entries-fields subs (a .1)
+
+-- "An entry's prefix is 1 to 30, and network bits past the prefix are 0."
+pub entries-blocks : (s : List ℕ) → All (λ e. entryFields? e ≡ true) (entriesIn s)
+entries-blocks s = entries-fields (suboptions (readOption s)) (fields-read s)
+
+-- HOW MANY
+
+-- The bytes that a request and an information need at least.
+abbrev bytesOf : SuboptionValue → ℕ
+bytesOf (request h i len) = 4
+bytesOf (information c s es) = 3 + 7 * length es
+bytesOf (name octets) = 0
+bytesOf unknown = 0
+
+entries-weight : (s : List ℕ) (end at : ℕ) → at ≤ end → at + 7 * length (readEntries s end at .0) ≤ end
+unfolding readEntries
+entries-weight s end at l =
+    omega (arith, walk-weight (λ (e : Entry). 7) (readEntry s end) false end (λ at e next h. let r = entry-read s end at e next h in omega (arith, r .0 .whole, r .2)) (suc end) at l, sevens (readEntries s end at .0))
+  where
+    sevens : (es : List Entry) → weigh (λ (e : Entry). 7) es ≡ 7 * length es
+    sevens [] = refl
+    sevens (e ∷ es) = omega (arith, sevens es)
+
+abbrev Needs : ℕ → Turn SuboptionValue End → Type 0
+Needs at t = (h i : Bool) (len next : ℕ) → t ≡ more (request h i len) next → at + 4 ≡ next
+
+cond-needs : (b : Bool) (at : ℕ) (t u : Turn SuboptionValue End) → Needs at t → Needs at u → Needs at (cond b t u)
+cond-needs true at t u p q = p
+cond-needs false at t u p q = q
+
+body-needs : (number : ℕ) (s : List ℕ) (at end : ℕ) → Needs at (readBody number s at end)
+unfolding readBody readRequest readInformation readName
+body-needs number s at end =
+    cond-needs (eqb number 1) at (readRequest s at end) _
+    (λ h i len next e. let g = good-read (eqb end (at + 4)) _ at end (request h i len) next e in omega (arith, eqb-true end (at + 4) (g .0), g .3))
+    (cond-needs (eqb number 2) at (readInformation s at end) _
+    (λ h i len next e. let g = good-read _ _ at end (request h i len) next e in let w = g .2 in let z : _≡_ {A = ℕ} 0 1 = cc in absurd (omega arith))
+    (cond-needs (eqb number 3) at (readName s at end) _
+    (λ h i len next e. let g = good-read _ _ at end (request h i len) next e in let w = g .2 in let z : _≡_ {A = ℕ} 0 1 = cc in absurd (omega arith))
+    (λ h i len next e. let z : _≡_ {A = ℕ} 0 1 = cc in absurd (omega arith))))
+
+sub-weight : (s : List ℕ) (at : ℕ) (x : SuboptionValue) (next : ℕ) → readSuboption s at ≡ more x next → at + bytesOf x ≤ next
+sub-weight s at (request h i len) next e = omega (arith, body-needs (getD s at 0) s at (subEnd s at) h i len next (suboption-read s at (request h i len) next e .body))
+sub-weight s at (information c t es) next e =
+    let r = information-entries s at c t es next e in
+    omega (arith, entries-weight s next (at + 3) (omega (arith, r .0)), ap (λ (p : List Entry × Bool). length (p .0)) (r .1))
+sub-weight s at (name octets) next e = omega (arith, suboption-moves s at (name octets) next e .0)
+sub-weight s at unknown next e = omega (arith, suboption-moves s at unknown next e .0)
+
+entries-of-weight : (subs : List SuboptionValue) → 4 * length (requests subs) + 7 * length (entries subs) ≤ weigh bytesOf subs
+entries-of-weight [] = omega arith
+entries-of-weight (request h i len ∷ subs) = omega (arith, entries-of-weight subs)
+entries-of-weight (information c s es ∷ subs) = omega (arith, entries-of-weight subs, length-append es (entries subs))
+entries-of-weight (name octets ∷ subs) = omega (arith, entries-of-weight subs)
+entries-of-weight (unknown ∷ subs) = omega (arith, entries-of-weight subs)
+
+-- Where there is an entry there is an information around it.
+entries-head : (subs : List SuboptionValue) → 1 ≤ length (entries subs) → 3 + 7 * length (entries subs) ≤ weigh bytesOf subs
+entries-head [] h = absurd (omega arith)
+entries-head (request h i len ∷ subs) k = omega (arith, entries-head subs k)
+entries-head (information c s es ∷ subs) k = omega (arith, entries-of-weight subs, length-append es (entries subs))
+entries-head (name octets ∷ subs) k = omega (arith, entries-head subs k)
+entries-head (unknown ∷ subs) k = omega (arith, entries-head subs k)
+
+ended-weight : (subs : List SuboptionValue) (e : End) → weigh bytesOf (suboptions (ended subs e)) ≤ weigh bytesOf subs
+ended-weight subs whole = omega arith
+ended-weight subs (badAt place) = omega arith
+
+option-long : (s : List ℕ) → option? s ≡ true → 4 ≤ length s
+unfolding option?
+option-long s e =
+    let a = and-to (leb 2 (length s)) _ e in
+    let b = and-to (eqb (getD s 0 0) 220) _ (a .1) in
+    let c = and-to (eqb (getD s 1 0 + 2) (length s)) (leb 2 (getD s 1 0)) (b .1) in
+    omega (arith, eqb-true (getD s 1 0 + 2) (length s) (c .0), leb-true 2 (getD s 1 0) (c .1))
+
+short : (s : List ℕ) → All (λ b. b < 256) s → option? s ≡ true → length s ≤ 257
+unfolding option?
+short s a e =
+    let b = and-to (leb 2 (length s)) _ e in
+    let c = and-to (eqb (getD s 0 0) 220) _ (b .1) in
+    let d = and-to (eqb (getD s 1 0 + 2) (length s)) (leb 2 (getD s 1 0)) (c .1) in
+    omega (arith, eqb-true (getD s 1 0 + 2) (length s) (d .0), all-at (λ v. v < 256) s a 1 0 (leb-true 2 (length s) (b .0)))
+
+few : (s : List ℕ) → length s ≤ 257 → 3 + weigh bytesOf (suboptions (readOption s)) ≤ 257
+unfolding readOption readSuboptions
+few s l = go (option? s) refl
+  where
+    go : (b : Bool) → option? s ≡ b → 3 + weigh bytesOf (suboptions (cond b (ended (readSuboptions s 3 .0) (readSuboptions s 3 .1)) (refused 6 0))) ≤ 257
+    go true e =
+        omega (
+          arith,
+          ended-weight (readSuboptions s 3 .0) (readSuboptions s 3 .1),
+          walk-weight bytesOf (readSuboption s) whole (length s) (λ at x next e. (sub-weight s at x next e, suboption-moves s at x next e .1)) (suc (length s)) 3 (omega (arith, option-long s e)),
+        )
+    go false e = omega arith
+
+-- An option holds at most 35 entries and at most 63 requests.
+pub entries-few : (s : List ℕ) → length s ≤ 257 → length (entriesIn s) ≤ 35
+entries-few s l =
+    by-cases (decLe 1 (length (entriesIn s)))
+    (λ h. omega (arith, few s l, entries-head (suboptions (readOption s)) h))
+    (λ h. omega arith)
+
+pub requests-few : (s : List ℕ) → length s ≤ 257 → length (requestsIn s) ≤ 63
+requests-few s l = omega (arith, few s l, entries-of-weight (suboptions (readOption s)))
+
+-- An option of bytes that is no refusal of row 6 has at most 257 bytes.
+pub option-short : (s : List ℕ) → All (λ b. b < 256) s → refuses? 6 (readOption s) ≡ false → length s ≤ 257
+unfolding readOption
+option-short s a r = go (option? s) refl r
+  where
+    go : (b : Bool) → option? s ≡ b → refuses? 6 (cond b (ended (readSuboptions s 3 .0) (readSuboptions s 3 .1)) (refused 6 0)) ≡ false → length s ≤ 257
+    go true e f = short s a e
+    go false e f = absurd (true≢false f)
+
+-- THE PLACE of a bad suboption lies in the option.
+
+module _ {A B : Type 0} (P : B → Type 0) (turn : ℕ → Turn A B) (out : B) (q : P out) (p : (at : ℕ) (b : B) → turn at ≡ stop b → P b) where
+  turn-reason : (at : ℕ) (t : Turn A B) (k : ℕ → List A × B) → turn at ≡ t → ((next : ℕ) → P (k next .1)) → P (onTurn t k .1)
+  turn-reason at (more a next) k e h = h next
+  turn-reason at (stop b) k e h = p at b e
+
+  walk-reason : (fuel at : ℕ) → P (walk turn out fuel at .1)
+  unfolding walk
+  walk-reason zero at = q
+  walk-reason (suc fuel) at = turn-reason at (turn at) (λ next. walk turn out fuel next) refl (λ next. walk-reason fuel next)
+
+abbrev Within : ℕ → End → Type 0
+Within n whole = Unit {0}
+Within n (badAt place) = place ≤ n
+
+abbrev StopsAt : ℕ → Turn SuboptionValue End → Type 0
+StopsAt at t = (b : End) → t ≡ stop b → b ≡ badAt at
+
+cond-stops : (b : Bool) (at : ℕ) (t u : Turn SuboptionValue End) → StopsAt at t → StopsAt at u → StopsAt at (cond b t u)
+cond-stops true at t u p q = p
+cond-stops false at t u p q = q
+
+good-stops : (framed : Bool) (x : SuboptionValue) (at end : ℕ) → StopsAt at (whenGood framed x at end)
+unfolding whenGood
+good-stops framed x at end = go (framed && fields? x)
+  where
+    go : (c : Bool) → StopsAt at (cond c (more x end) (stop (badAt at)))
+    go true b e = absurd (more-not-stop x end b e)
+    go false b e = let z : badAt at ≡ b = cc in sym z
+
+body-stops : (number : ℕ) (s : List ℕ) (at end : ℕ) → StopsAt at (readBody number s at end)
+unfolding readBody readRequest readInformation readName
+body-stops number s at end =
+    cond-stops (eqb number 1) at (readRequest s at end) _ (good-stops _ _ at end)
+    (cond-stops (eqb number 2) at (readInformation s at end) _ (good-stops _ _ at end)
+    (cond-stops (eqb number 3) at (readName s at end) _ (good-stops _ _ at end)
+    (λ b e. absurd (more-not-stop unknown end b e))))
+
+sub-stops : (s : List ℕ) (at : ℕ) (b : End) → readSuboption s at ≡ stop b → Within (length s) b
+unfolding readSuboption
+sub-stops s at b = go (leb (length s) at) (subInside? s at) refl b
+  where
+    go : (p q : Bool) → leb (length s) at ≡ p → (b : End) → cond p (stop whole) (cond q (readBody (getD s at 0) s at (subEnd s at)) (stop (badAt at))) ≡ stop b → Within (length s) b
+    go true q l b e = let z : whole ≡ b = cc in subst (Within (length s)) z tt
+    go false true l b e = subst (Within (length s)) (sym (body-stops (getD s at 0) s at (subEnd s at) b e)) (omega (arith, leb-false (length s) at l))
+    go false false l b e = let z : badAt at ≡ b = cc in subst (Within (length s)) z (omega (arith, leb-false (length s) at l))
+
+pub place-inside : (s : List ℕ) → placeIn (readOption s) ≤ length s
+unfolding readOption readSuboptions
+place-inside s = go (option? s)
+  where
+    ended-place : (subs : List SuboptionValue) (e : End) → Within (length s) e → placeIn (ended subs e) ≤ length s
+    ended-place subs whole w = omega arith
+    ended-place subs (badAt place) w = w
+
+    go : (b : Bool) → placeIn (cond b (ended (readSuboptions s 3 .0) (readSuboptions s 3 .1)) (refused 6 0)) ≤ length s
+    go true = ended-place (readSuboptions s 3 .0) (readSuboptions s 3 .1) (walk-reason (Within (length s)) (readSuboption s) whole tt (sub-stops s) (suc (length s)) 3)
+    go false = omega arith
+
+-- "7 also its place": at most 257.
+pub place-short : (s : List ℕ) → All (λ b. b < 256) s → (n : ℕ) → refusalPlace s n ≤ 257
+unfolding readOption
+place-short s a n = go (eqb n 7)
+  where
+    at : (b : Bool) → option? s ≡ b → placeIn (cond b (ended (readSuboptions s 3 .0) (readSuboptions s 3 .1)) (refused 6 0)) ≤ length s
+        → placeIn (cond b (ended (readSuboptions s 3 .0) (readSuboptions s 3 .1)) (refused 6 0)) ≤ 257
+    at true e l = omega (arith, short s a e)
+    at false e l = omega arith
+
+    go : (b : Bool) → cond b (placeIn (readOption s)) 0 ≤ 257
+    go true = at (option? s) refl (place-inside s)
+    go false = omega arith

@@ -1,0 +1,84 @@
+-- What a reply reads back as: the entries of the leases that it tells of; and that a reply fits any buffer that row 1 lets pass.
+-- Assumes nothing.
+use Prim.Native.Nat.{ℕ, zero, suc, _+_, _*_, _≤_, _<_}
+use mathlib.Core.Path.{_≡_, refl, sym, ap, subst, _∙_}
+use mathlib.Core.Bool.{Bool, true, false, not, cond, _&&_}
+use mathlib.Core.List.{List, [], _∷_, _++_, map}
+use native.Mathlib.Omega.{arith}
+use lib.ListN.{length, length-map}
+use lib.ListN.{take as upTo}
+use lib.Seq.{take-append-seam}
+use lib.Dec.{leb, eqb}
+use borrow.Author.Tests.{le-leb}
+use Rattle.lists.specs.Lists.{All, all?}
+use Rattle.lists.proofs.Tests.{and-of, all?-of}
+use Rattle.lists.proofs.ListLaws.{all-map, all-image}
+use Rattle.prefix.specs.declared.Prefix.{Prefix}
+use Rattle.prefix.specs.Prefixes.{prefix, checked}
+use Rattle.prefix.proofs.PrefixLaws.{aligned-of}
+use Rattle.option.specs.Values.{Entry, SuboptionValue, information, Outcome, accepted}
+use Rattle.option.specs.Rules.{entryFields?}
+use Rattle.option.specs.Reading.{option?, readOption}
+use Rattle.option.specs.Writing.{optionBytes, entryWritable?, writable?}
+use Rattle.option.proofs.Replies.{Bare, ask-reply-length, information-reply-length}
+use Rattle.option.proofs.WrittenReadsBack.{bytes-read-back}
+use Rattle.table.specs.declared.Lease.{Lease}
+use Rattle.table.specs.declared.LeaseTable.{LeaseTable}
+use Rattle.table.proofs.TableLaws.{Good}
+use Rattle.ledger.specs.Ledger.{Answer, Result, refuse, suboptions, entries, entriesIn, entryOf, informationFor}
+use Rattle.ledger.specs.Demand3.{replyEntries}
+
+-- A good lease is a block, so its entry can be written.
+pub entry-writable : (ps : List Prefix) (now : ℕ) (x : Lease) → Good ps now x → entryWritable? (entryOf x) ≡ true
+unfolding entryWritable? entryFields?
+entry-writable ps now x g = rw (le-leb 1 (x .length) (g .short), le-leb (x .length) 30 (g .long), aligned-of (prefix (x .network) (x .length)) (g .aligned))
+
+informations-writable : (ps : List Prefix) (now : ℕ) (xs : List Lease) → All (Good ps now) xs → All (λ v. writable? v ≡ true) (map informationFor xs)
+unfolding writable?
+informations-writable ps now xs a =
+    all-image informationFor (λ v. writable? v ≡ true) xs (all-map (λ x (g : Good ps now x). and-of (entryWritable? (entryOf x)) true (entry-writable ps now x g) refl) xs a)
+
+pub information-writable : (c s : Bool) (ps : List Prefix) (now : ℕ) (x : Lease) (xs : List Lease) → All (Good ps now) (x ∷ xs)
+    → writable? (information c s (map entryOf (x ∷ xs))) ≡ true
+unfolding writable?
+information-writable c s ps now x xs a =
+    and-of _ _ (le-leb 1 (length (map entryOf (x ∷ xs))) (omega arith))
+    (all?-of entryWritable? (λ e (h : entryWritable? e ≡ true). h) (map entryOf (x ∷ xs))
+    (all-image entryOf (λ e. entryWritable? e ≡ true) (x ∷ xs) (all-map (λ y (g : Good ps now y). entry-writable ps now y g) (x ∷ xs) a)))
+
+entries-of : (xs : List Lease) → entries (map informationFor xs) ≡ map entryOf xs
+entries-of [] = refl
+entries-of (x ∷ xs) = ap (λ (l : List Entry). entryOf x ∷ l) (entries-of xs)
+
+-- The bytes that an ask writes read back as its entries.
+pub reads-back : (ps : List Prefix) (now : ℕ) (x : Lease) (xs : List Lease) (rest : List ℕ) → All (Good ps now) (x ∷ xs)
+    → entriesIn (upTo (length (optionBytes (map informationFor (x ∷ xs)))) (optionBytes (map informationFor (x ∷ xs)) ++ rest)) ≡ map entryOf (x ∷ xs)
+reads-back ps now x xs rest a =
+    ap entriesIn (take-append-seam (optionBytes (map informationFor (x ∷ xs))) rest)
+    ∙ ap (λ (o : Outcome). entries (suboptions o)) (bytes-read-back (map informationFor (x ∷ xs)) (omega arith) (informations-writable ps now (x ∷ xs) a))
+    ∙ entries-of (x ∷ xs)
+
+-- A refusal has no entries.
+pub reads-none : (n place : ℕ) (t : LeaseTable) (reply : List ℕ) → replyEntries (refuse n place t reply) ≡ []
+unfolding readOption option?
+reads-none n place t reply = go (eqb n 0)
+  where
+    go : (b : Bool) → cond b (entriesIn (upTo 0 reply)) [] ≡ []
+    go true = refl
+    go false = refl
+
+-- THE REPLIES FIT: 25 granted requests need 253 bytes, 35 entries in one Information need 251.
+
+pub bare : (xs : List Lease) → All Bare (map entryOf xs)
+bare [] = tt
+bare (x ∷ xs) = (refl, bare xs)
+
+infos : (xs : List Lease) → map informationFor xs ≡ map (λ e. information false false (e ∷ [])) (map entryOf xs)
+infos [] = refl
+infos (x ∷ xs) = ap (λ (l : List SuboptionValue). informationFor x ∷ l) (infos xs)
+
+pub ask-bytes : (xs : List Lease) → length (optionBytes (map informationFor xs)) ≡ 3 + 10 * length xs
+ask-bytes xs = ap (λ (l : List SuboptionValue). length (optionBytes l)) (infos xs) ∙ ask-reply-length (map entryOf xs) (bare xs) ∙ ap (λ (n : ℕ). 3 + 10 * n) (length-map xs entryOf)
+
+pub information-bytes : (c s : Bool) (xs : List Lease) → length (optionBytes (information c s (map entryOf xs) ∷ [])) ≡ 6 + 7 * length xs
+information-bytes c s xs = information-reply-length c s (map entryOf xs) (bare xs) ∙ ap (λ (n : ℕ). 6 + 7 * n) (length-map xs entryOf)

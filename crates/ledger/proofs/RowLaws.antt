@@ -1,0 +1,168 @@
+-- Laws of the rows: what it means that none applies, the two ways that a call goes, and an ask whose rows before 9 do not apply.
+-- Assumes nothing.
+use Prim.Native.Nat.{ℕ}
+use mathlib.Core.Path.{_≡_, refl, sym, ap, subst, _∙_}
+use mathlib.Core.Logic.{_⊎_, inl, inr, ⊎-elim}
+use mathlib.Core.Bool.{Bool, true, false, not, cond, _&&_, true≢false, false≢true}
+use mathlib.Core.List.{List, [], _∷_, _++_, map}
+use mathlib.Core.Option.{Option, none, some, Option·some-ne-none}
+use native.Mathlib.Omega.{arith}
+use lib.ListN.{length}
+use lib.Dec.{ltb, eqb}
+use Rattle.lists.specs.Lists.{All, somes}
+use Rattle.lists.proofs.Tests.{bool-cases, cond-true, cond-false}
+use Rattle.option.specs.Reading.{readOption}
+use Rattle.option.specs.Writing.{optionBytes}
+use Rattle.table.specs.declared.Lease.{Lease}
+use Rattle.table.specs.declared.LeaseTable.{LeaseTable}
+use Rattle.table.specs.Table.{latest, present, sound, store}
+use Rattle.ledger.specs.Ledger.{Result, refuse, accept, Row, firstOf, orElse, before, nothing?, refuses?, refusalPlace, requestsIn, full, forAsk, informationFor, addAll, askOffers, askRows, ask, takeRows, listRows, releaseRows, markRows}
+use Rattle.ledger.specs.Demand3.{none?}
+
+pub first-none : (rows : List Row) → firstOf rows ≡ none → All (λ (r : Row). r .1 ≡ false) rows
+first-none [] e = tt
+first-none (r ∷ rows) e =
+    ⊎-elim
+    (λ (b : r .1 ≡ true). absurd (Option·some-ne-none (r .0) (sym (cond-true (r .1) (some (r .0)) (firstOf rows) b) ∙ e)))
+    (λ (b : r .1 ≡ false). (b, first-none rows (sym (cond-false (r .1) (some (r .0)) (firstOf rows) b) ∙ e)))
+    (bool-cases (r .1))
+
+pub none-first : (rows : List Row) → All (λ (r : Row). r .1 ≡ false) rows → firstOf rows ≡ none
+none-first [] a = refl
+none-first (r ∷ rows) a = cond-false (r .1) (some (r .0)) (firstOf rows) (a .0) ∙ none-first rows (a .1)
+
+-- Rows before a row that applies do not matter if none of them does; rows after one do not matter.
+pub first-after : (rows more : List Row) → firstOf rows ≡ none → firstOf (rows ++ more) ≡ firstOf more
+first-after [] more e = refl
+first-after (r ∷ rows) more e =
+    let a = first-none (r ∷ rows) e in
+    cond-false (r .1) (some (r .0)) (firstOf (rows ++ more)) (a .0) ∙ first-after rows more (none-first rows (a .1))
+
+pub first-kept : (rows more : List Row) (n : ℕ) → firstOf rows ≡ some n → firstOf (rows ++ more) ≡ some n
+first-kept [] more n e = absurd (Option·some-ne-none n (sym e))
+first-kept (r ∷ rows) more n e =
+    ⊎-elim
+    (λ (b : r .1 ≡ true). cond-true (r .1) (some (r .0)) (firstOf (rows ++ more)) b ∙ sym (cond-true (r .1) (some (r .0)) (firstOf rows) b) ∙ e)
+    (λ (b : r .1 ≡ false).
+    cond-false (r .1) (some (r .0)) (firstOf (rows ++ more)) b ∙ first-kept rows more n (sym (cond-false (r .1) (some (r .0)) (firstOf rows) b) ∙ e))
+    (bool-cases (r .1))
+
+pub none-to : {A : Type 0} (o : Option A) → none? o ≡ true → o ≡ none
+none-to none e = refl
+none-to (some x) e = absurd (false≢true e)
+
+pub none-not : {A : Type 0} (o : Option A) → none? o ≡ false → (x : A) × (o ≡ some x)
+none-not none e = absurd (true≢false e)
+none-not (some x) e = (x, refl)
+
+-- A call is refused or served.
+pub served-or-not : {R : Type 0} (P : R → Type 0) (rows : List Row) (refusing : ℕ → R) (accepting : R)
+    → ((n : ℕ) → P (refusing n)) → (firstOf rows ≡ none → P accepting) → P (orElse (firstOf rows) refusing accepting)
+served-or-not P rows refusing accepting a b = go (firstOf rows) b
+  where
+    go : (o : Option ℕ) → (o ≡ none → P accepting) → P (orElse o refusing accepting)
+    go none k = k refl
+    go (some n) k = a n
+
+-- A call whose first row is known.
+pub refused-with : {R : Type 0} (P : R → Type 0) (rows : List Row) (refusing : ℕ → R) (accepting : R) (n : ℕ) → firstOf rows ≡ some n
+    → P (refusing n) → P (orElse (firstOf rows) refusing accepting)
+refused-with P rows refusing accepting n e p = subst (λ (o : Option ℕ). P (orElse o refusing accepting)) (sym e) p
+
+pub accepted-with : {R : Type 0} (P : R → Type 0) (rows : List Row) (refusing : ℕ → R) (accepting : R) → firstOf rows ≡ none
+    → P accepting → P (orElse (firstOf rows) refusing accepting)
+accepted-with P rows refusing accepting e p = subst (λ (o : Option ℕ). P (orElse o refusing accepting)) (sym e) p
+
+-- The rows have no number 0, so a refusal is not accepted.
+abbrev pub Numbered : List Row → Type 0
+Numbered rows = All (λ (r : Row). eqb (r .0) 0 ≡ false) rows
+
+pub first-number : (P : ℕ → Type 0) (rows : List Row) (n : ℕ) → All (λ (r : Row). P (r .0)) rows → firstOf rows ≡ some n → P n
+first-number P [] n a e = absurd (Option·some-ne-none n (sym e))
+first-number P (r ∷ rows) n a e =
+    ⊎-elim
+    (λ (b : r .1 ≡ true). let q : some (r .0) ≡ some n = sym (cond-true (r .1) (some (r .0)) (firstOf rows) b) ∙ e in let z : r .0 ≡ n = cc in subst P z (a .0))
+    (λ (b : r .1 ≡ false). first-number P rows n (a .1) (sym (cond-false (r .1) (some (r .0)) (firstOf rows) b) ∙ e))
+    (bool-cases (r .1))
+
+pub by-numbers : {R : Type 0} (Q : ℕ → Type 0) (P : R → Type 0) (rows : List Row) (refusing : ℕ → R) (accepting : R) → All (λ (r : Row). Q (r .0)) rows
+    → ((n : ℕ) → Q n → P (refusing n)) → (firstOf rows ≡ none → P accepting) → P (orElse (firstOf rows) refusing accepting)
+by-numbers Q P rows refusing accepting k a b = go (firstOf rows) refl
+  where
+    go : (o : Option ℕ) → firstOf rows ≡ o → P (orElse o refusing accepting)
+    go none e = b e
+    go (some n) e = a n (first-number Q rows n k e)
+
+pub by-rows : {R : Type 0} (P : R → Type 0) (rows : List Row) (refusing : ℕ → R) (accepting : R) → Numbered rows
+    → ((n : ℕ) → eqb n 0 ≡ false → P (refusing n)) → (firstOf rows ≡ none → P accepting) → P (orElse (firstOf rows) refusing accepting)
+by-rows P rows refusing accepting k a b = by-numbers (λ m. eqb m 0 ≡ false) P rows refusing accepting k a b
+
+pub numbered-ask : (t : LeaseTable) (now client : ℕ) (option reply : List ℕ) → Numbered (askRows t now client option reply)
+unfolding askRows
+numbered-ask t now client option reply = (refl, (refl, (refl, (refl, (refl, (refl, (refl, (refl, (refl, (refl, tt))))))))))
+
+pub numbered-take : (t : LeaseTable) (now client : ℕ) (option reply : List ℕ) → Numbered (takeRows t now client option reply)
+unfolding takeRows
+numbered-take t now client option reply = (refl, (refl, (refl, (refl, (refl, (refl, (refl, (refl, (refl, tt)))))))))
+
+pub numbered-list : (t : LeaseTable) (now client : ℕ) (option reply : List ℕ) → Numbered (listRows t now client option reply)
+unfolding listRows
+numbered-list t now client option reply = (refl, (refl, (refl, (refl, (refl, (refl, (refl, (refl, (refl, tt)))))))))
+
+pub numbered-release : (t : LeaseTable) (now client : ℕ) (option : List ℕ) → Numbered (releaseRows t now client option)
+unfolding releaseRows
+numbered-release t now client option = (refl, (refl, (refl, (refl, (refl, (refl, (refl, (refl, tt))))))))
+
+pub numbered-mark : (t : LeaseTable) (now network len : ℕ) → Numbered (markRows t now network len)
+unfolding markRows
+numbered-mark t now network len = (refl, (refl, (refl, (refl, tt))))
+
+-- ASK: rows 1 to 8, and rows 9 and 10.
+
+-- What an ask answers whose rows before 9 do not apply: `gs` are the leases granted.
+abbrev pub answerAsk : LeaseTable → ℕ → List ℕ → List Lease → List (Option Lease) → List Lease → Result
+answerAsk t now reply xs os [] = refuse (cond (full xs) 9 10) 0 t reply
+answerAsk t now reply xs os (g ∷ gs) = accept (store t now (addAll os xs)) (optionBytes (map informationFor (g ∷ gs))) (length (g ∷ gs)) reply
+
+module _ (t : LeaseTable) (now client : ℕ) (option reply : List ℕ) where
+  xs : List Lease
+  xs = present now (t .leases)
+
+  os : List (Option Lease)
+  os = askOffers t now client option
+
+  -- Rows 9 and 10.
+  abbrev ownRows : List Lease → List Row
+  ownRows gs = (9, nothing? gs && full xs) ∷ (10, nothing? gs) ∷ []
+
+  rows-split : askRows t now client option reply ≡ before 9 (askRows t now client option reply) ++ ownRows (somes os)
+  unfolding askRows xs os
+  rows-split = refl
+
+  own : (gs : List Lease)
+      → orElse (firstOf (ownRows gs)) (λ number. refuse number (refusalPlace option number) t reply)
+      (accept (store t now (addAll os xs)) (optionBytes (map informationFor gs)) (length gs) reply)
+      ≡ answerAsk t now reply xs os gs
+  own (g ∷ gs) = refl
+  own [] = go (full xs)
+    where
+      go : (b : Bool)
+          → orElse (cond b (some 9) (some 10)) (λ number. refuse number (refusalPlace option number) t reply)
+          (accept (store t now (addAll os xs)) (optionBytes (map informationFor [])) (length (map informationFor [])) reply)
+          ≡ refuse (cond b 9 10) 0 t reply
+      go true = refl
+      go false = refl
+
+  pub ask-served : firstOf (before 9 (askRows t now client option reply)) ≡ none
+      → ask t now client option reply ≡ answerAsk t now reply (present now (t .leases)) (askOffers t now client option) (somes (askOffers t now client option))
+  unfolding ask xs os
+  ask-served e =
+      ap (λ (o : Option ℕ). orElse o (λ number. refuse number (refusalPlace option number) t reply) (accept (store t now (addAll os xs)) (optionBytes (map informationFor (somes os))) (length (somes os)) reply))
+      (ap firstOf rows-split ∙ first-after (before 9 (askRows t now client option reply)) (ownRows (somes os)) e)
+      ∙ own (somes os)
+
+  pub ask-refused : (n : ℕ) → firstOf (before 9 (askRows t now client option reply)) ≡ some n → ask t now client option reply ≡ refuse n (refusalPlace option n) t reply
+  unfolding ask xs os
+  ask-refused n e =
+      ap (λ (o : Option ℕ). orElse o (λ number. refuse number (refusalPlace option number) t reply) (accept (store t now (addAll os xs)) (optionBytes (map informationFor (somes os))) (length (somes os)) reply))
+      (ap firstOf rows-split ∙ first-kept (before 9 (askRows t now client option reply)) (ownRows (somes os)) n e)

@@ -1,0 +1,1 @@
+// No code: the crate is its definitions (specs/) and their laws (proofs/).

@@ -1,0 +1,25 @@
+-- Laws of gathered lists.
+-- Assumes nothing.
+use Prim.Native.Nat.{ℕ, _+_, _*_}
+use native.Mathlib.Omega.{arith}
+use mathlib.Core.Path.{_≡_, refl, sym, ap, _∙_}
+use mathlib.Core.List.{List, [], _∷_, _++_, map, append-assoc, append-nil}
+use lib.ListN.{length, length-append}
+use Rattle.lists.specs.Lists.{All, gather}
+
+module _ {A B : Type 0} (f : A → List B) where
+  pub gather-append : (xs ys : List A) → gather f (xs ++ ys) ≡ gather f xs ++ gather f ys
+  gather-append [] ys = refl
+  gather-append (x ∷ xs) ys = ap (λ (l : List B). f x ++ l) (gather-append xs ys) ∙ sym (append-assoc (f x) (gather f xs) (gather f ys))
+
+  pub gather-one : (x : A) → gather f (x ∷ []) ≡ f x
+  gather-one x = append-nil (f x)
+
+  -- Where each list has n elements.
+  pub length-gather : (n : ℕ) (xs : List A) → All (λ x. length (f x) ≡ n) xs → length (gather f xs) ≡ n * length xs
+  length-gather n [] a = omega arith
+  length-gather n (x ∷ xs) a = length-append (f x) (gather f xs) ∙ omega (arith, a .0, length-gather n xs (a .1))
+
+pub gather-map : {A B C : Type 0} (g : A → B) (f : B → List C) (xs : List A) → gather f (map g xs) ≡ gather (λ x. f (g x)) xs
+gather-map g f [] = refl
+gather-map g f (x ∷ xs) = ap (λ l. f (g x) ++ l) (gather-map g f xs)

@@ -1,0 +1,80 @@
+-- The code's answers, from what the definitions of Reading say, and document 01's number and place for each.
+-- Assumes nothing: these are definitions.
+use Prim.Native.Nat.{ℕ, _+_}
+use mathlib.Core.List.{List}
+use mathlib.Core.Bool.{Bool, true, false, cond}
+use lib.ListN.{length, getD}
+use lib.Dec.{eqb}
+use Rattle.lists.specs.Walk.{Turn, more, stop}
+use Rattle.option.specs.Values.{Entry, SuboptionValue, request, information, name, unknown, Outcome, refused, accepted}
+use Rattle.option.specs.Reading.{End, whole, badAt}
+use Rattle.option.specs.Selection as selection
+use Rattle.option.specs.declared.Selection.{Selection}
+use Rattle.option.specs.declared.Selection.the-variants as selected
+use Rattle.option.specs.declared.Figures.{Figures}
+use Rattle.option.specs.declared.EntryFields.{EntryFields}
+use Rattle.option.specs.declared.EntryCursor.{EntryCursor}
+use Rattle.option.specs.declared.EntryStep.{EntryStep}
+use Rattle.option.specs.declared.EntryStep.the-variants as entry-step
+use Rattle.option.specs.declared.Suboption.{Suboption}
+use Rattle.option.specs.declared.Suboption.the-variants.{Request, Information, Name, Unknown}
+use Rattle.option.specs.declared.Cursor.{Cursor}
+use Rattle.option.specs.declared.Step.{Step}
+use Rattle.option.specs.declared.Step.the-variants as step
+use Rattle.option.specs.declared.Checked.{Checked}
+use Rattle.option.specs.declared.Checked.the-variants.{Good, NotTheOption, BadSuboption}
+
+-- At most three figures as the code holds them: how many there are, and 0 for those that are not there.
+abbrev pub figuresOf : List ℕ → Figures
+figuresOf l = record { count = length l; «high_water» = getD l 0 0; «in_use» = getD l 1 0; unusable = getD l 2 0 }
+
+abbrev pub fieldsOf : Entry → EntryFields
+fieldsOf e = record { network = e .network; length = e .length; h = e .h; d = e .d; figures = figuresOf (e .figures) }
+
+-- The places of the entries from `at` to `end`.
+abbrev pub entriesFrom : ℕ → ℕ → EntryCursor
+entriesFrom at end = record { at = at; end = end }
+
+abbrev pub entryStepOf : ℕ → Turn Entry Bool → EntryStep
+entryStepOf end (more e next) = entry-step.Entry (fieldsOf e) (entriesFrom next end)
+entryStepOf end (stop true) = entry-step.End
+entryStepOf end (stop false) = entry-step.Cut
+
+-- A suboption whose number byte is at `at` and that ends before `end`.
+abbrev pub suboptionOf : SuboptionValue → ℕ → ℕ → Suboption
+suboptionOf (request h i length) at end = Request (record { h = h; i = i; length = length; at = at })
+suboptionOf (information c s entries) at end = Information (record { c = c; s = s; at = at; entries = entriesFrom (at + 3) end })
+suboptionOf (name octets) at end = Name (record { at = at; start = at + 2; end = end })
+suboptionOf unknown at end = Unknown (record { at = at; end = end })
+
+abbrev pub cursorAt : ℕ → Cursor
+cursorAt at = record { at = at }
+
+abbrev pub stepOf : ℕ → Turn SuboptionValue End → Step
+stepOf at (more x next) = step.Piece (suboptionOf x at next) (cursorAt next)
+stepOf at (stop whole) = step.End
+stepOf at (stop (badAt place)) = step.Bad place
+
+abbrev pub checkedOf : Outcome → Checked
+checkedOf (accepted subs) = Good
+checkedOf (refused number place) = cond (eqb number 6) NotTheOption (BadSuboption place)
+
+-- Document 01's number and place for each answer of the check; 0 is no refusal.
+abbrev pub numberOf : Checked → ℕ
+numberOf Good = 0
+numberOf NotTheOption = 6
+numberOf (BadSuboption place) = 7
+
+abbrev pub placeOf : Checked → ℕ
+placeOf Good = 0
+placeOf NotTheOption = 0
+placeOf (BadSuboption place) = place
+
+-- The same of option 118.
+abbrev pub selectionOf : selection.Selected → Selection
+selectionOf (selection.address a) = selected.Address a
+selectionOf (selection.refused number) = selected.NotTheOption
+
+abbrev pub selectionNumber : Selection → ℕ
+selectionNumber (selected.Address a) = 0
+selectionNumber selected.NotTheOption = 6

@@ -1,0 +1,9 @@
+pub mod Values
+pub mod Rules
+pub mod Reading
+pub mod Writing
+pub mod Selection
+pub mod Places
+pub mod Answers
+pub mod Inner
+pub mod Examples

@@ -1,0 +1,130 @@
+-- Option 220 (RFC 6656) as bytes: what a list of bytes reads as. The rules are those of document 01, "Option 220 as bytes".
+-- Each suboption has a framing test, of its Len and what that must hold, and the field test of Rules.
+-- Assumes nothing: these are definitions.
+use Prim.Native.Nat.{ℕ, suc, _+_, _-_, _*_, _/_, _%_}
+use mathlib.Core.List.{List, _∷_, []}
+use mathlib.Core.Bool.{Bool, true, false, cond, _&&_}
+use lib.ListN.{length, getD, take, drop}
+use lib.Dec.{eqb, leb, ltb}
+use Rattle.lists.specs.Walk.{Turn, more, stop, walk}
+use Rattle.option.specs.Values.{Entry, SuboptionValue, request, information, name, unknown, Outcome, refused, accepted}
+use Rattle.option.specs.Rules.{fields?}
+
+-- "high byte first": numbers of two and of four bytes.
+abbrev pub two : List ℕ → ℕ → ℕ
+two s at = getD s at 0 * 256 + getD s (at + 1) 0
+
+abbrev pub four : List ℕ → ℕ → ℕ
+four s at = ((getD s at 0 * 256 + getD s (at + 1) 0) * 256 + getD s (at + 2) 0) * 256 + getD s (at + 3) 0
+
+-- The bits of value 1 and 2 of a flags byte. Rule 6: "Undefined flag bits are ignored on reading": no other bit is looked at,
+-- and nothing of the option's own flags.
+abbrev pub bit1 : ℕ → Bool
+bit1 flags = eqb (flags % 2) 1
+
+abbrev pub bit2 : ℕ → Bool
+bit2 flags = eqb (flags / 2 % 2) 1
+
+-- Rule 1 (RFC 6656, section 3): "Code 220, Len, option flags, then suboptions. .. The input must be the option exactly: its length is Len + 2."
+-- Row 6: "under 2 bytes, other code, Len wrong, or (220) Len 0 or 1".
+unfoldable pub option? : List ℕ → Bool
+option? s =
+    leb 2 (length s)
+    && (eqb (getD s 0 0) 220
+    && (eqb (getD s 1 0 + 2) (length s)
+    && leb 2 (getD s 1 0)))
+
+-- Rule 2 (sections 3.1 to 3.4): "Each suboption is a number, a Len without those two bytes, and a body."
+-- The place after the suboption whose number byte is at `at`, and that it lies in the option with its Len byte.
+abbrev pub subEnd : List ℕ → ℕ → ℕ
+subEnd s at = at + 2 + getD s (at + 1) 0
+
+unfoldable pub subInside? : List ℕ → ℕ → Bool
+subInside? s at = leb (at + 2) (length s) && leb (subEnd s at) (length s)
+
+-- How a reading of suboptions ends: at the end of the option, or at a bad one, with the place of its number byte.
+pub data End : Type 0 where
+  whole : End
+  badAt : ℕ → End
+
+-- A suboption from `at` to `end`: good if its framing is right and its fields keep the rules.
+unfoldable pub whenGood : Bool → SuboptionValue → ℕ → ℕ → Turn SuboptionValue End
+whenGood framed x at end = cond (framed && fields? x) (more x end) (stop (badAt at))
+
+-- Rule 3 (section 3.1): "Request (1): Len 2, flags (h is bit value 1, i is 2), prefix length".
+unfoldable pub readRequest : List ℕ → ℕ → ℕ → Turn SuboptionValue End
+readRequest s at end =
+    whenGood (eqb end (at + 4))
+    (request (bit1 (getD s (at + 2) 0)) (bit2 (getD s (at + 2) 0)) (getD s (at + 3) 0))
+    at end
+
+-- Rule 4 (section 3.2.1): "network (4 bytes, high byte first), prefix, flags with h and d in the two low bits, stat-len, that many bytes of
+-- figures." "Figures are 16-bit, high byte first: high water, in use, unusable; those past the third are stepped over."
+-- The figures in n bytes from `at` on.
+unfoldable pub figuresAt : List ℕ → ℕ → ℕ → List ℕ
+figuresAt s at n = take (n / 2) (two s at ∷ two s (at + 2) ∷ two s (at + 4) ∷ [])
+
+unfoldable pub entryAt : List ℕ → ℕ → Entry
+entryAt s at = record {
+  network = four s at;
+  length = getD s (at + 4) 0;
+  h = bit2 (getD s (at + 5) 0);
+  d = bit1 (getD s (at + 5) 0);
+  figures = figuresAt s (at + 7) (getD s (at + 6) 0);
+}
+
+abbrev pub entryEnd : List ℕ → ℕ → ℕ
+entryEnd s at = at + 7 + getD s (at + 6) 0
+
+-- "Stat-len is even and within the suboption": the framing of an entry in an information that ends at `end`, which lies in the option.
+unfoldable pub entryFramed? : List ℕ → ℕ → ℕ → Bool
+entryFramed? s end at =
+    leb end (length s)
+    && (leb (at + 7) end
+    && (eqb (getD s (at + 6) 0 % 2) 0
+    && leb (entryEnd s at) end))
+
+unfoldable pub readEntry : List ℕ → ℕ → ℕ → Turn Entry Bool
+readEntry s end at = cond (leb end at) (stop true) (cond (entryFramed? s end at) (more (entryAt s at) (entryEnd s at)) (stop false))
+
+-- The entries from `at` to the information's end, and whether they are all framed.
+unfoldable pub readEntries : List ℕ → ℕ → ℕ → List Entry × Bool
+readEntries s end at = walk (readEntry s end) false (suc end) at
+
+-- (section 3.2): "Information (2): flags with c and s in the two low bits, then one or more entries".
+unfoldable pub readInformation : List ℕ → ℕ → ℕ → Turn SuboptionValue End
+readInformation s at end =
+    whenGood (ltb (at + 3) end && readEntries s end (at + 3) .1)
+    (information (bit2 (getD s (at + 2) 0)) (bit1 (getD s (at + 2) 0)) (readEntries s end (at + 3) .0))
+    at end
+
+-- Rule 5 (section 3.3): "Name (3): Len at least 1".
+unfoldable pub readName : List ℕ → ℕ → ℕ → Turn SuboptionValue End
+readName s at end = whenGood (ltb (at + 2) end) (name (take (end - (at + 2)) (drop (at + 2) s))) at end
+
+-- Rule 2: "unknown ones are stepped over".
+unfoldable pub readBody : ℕ → List ℕ → ℕ → ℕ → Turn SuboptionValue End
+readBody number s at end =
+    cond (eqb number 1) (readRequest s at end)
+    (cond (eqb number 2) (readInformation s at end)
+    (cond (eqb number 3) (readName s at end)
+    (more unknown end)))
+
+-- What stands at a place of the option: its end, or a suboption.
+unfoldable pub readSuboption : List ℕ → ℕ → Turn SuboptionValue End
+readSuboption s at =
+    cond (leb (length s) at) (stop whole)
+    (cond (subInside? s at) (readBody (getD s at 0) s at (subEnd s at)) (stop (badAt at)))
+
+-- Rule 7: "Repeated suboptions are never joined": each is a value of its own, in order.
+unfoldable pub readSuboptions : List ℕ → ℕ → List SuboptionValue × End
+readSuboptions s at = walk (readSuboption s) whole (suc (length s)) at
+
+-- Row 7: "bad suboption; with the place of the first one's number byte, the code byte being place 0".
+abbrev pub ended : List SuboptionValue → End → Outcome
+ended subs whole = accepted subs
+ended subs (badAt place) = refused 7 place
+
+-- The whole option: row 6, then row 7. The suboptions begin at place 3.
+unfoldable pub readOption : List ℕ → Outcome
+readOption s = cond (option? s) (ended (readSuboptions s 3 .0) (readSuboptions s 3 .1)) (refused 6 0)

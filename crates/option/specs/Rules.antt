@@ -1,0 +1,32 @@
+-- The rules of a suboption's fields, which the reader and the writer share. (How its bytes are framed is in Reading.)
+-- Assumes nothing: these are definitions.
+use Prim.Native.Nat.{ℕ, _-_}
+use mathlib.Core.Bool.{Bool, true, false, not}
+use mathlib.Core.List.{List}
+use lib.ListN.{length, getD}
+use lib.Dec.{eqb, leb}
+use Rattle.lists.specs.Lists.{all?}
+use Rattle.prefix.specs.Prefixes.{checked, longest}
+use Rattle.prefix.specs.declared.Checked.{Checked}
+use Rattle.prefix.specs.declared.Checked.the-variants.{Good, BadLength, Misaligned}
+use Rattle.option.specs.Values.{Entry, SuboptionValue, request, information, name, unknown}
+
+-- Rule 4: "An entry's prefix is 1 to 30, and network bits past the prefix are 0": it is a block, as Prefix::new decides.
+abbrev pub block? : Checked → Bool
+block? (Good p) = true
+block? BadLength = false
+block? Misaligned = false
+
+unfoldable pub entryFields? : Entry → Bool
+entryFields? e = block? (checked (e .network) (e .length))
+
+-- The octet that a name ends with.
+abbrev pub final : List ℕ → ℕ
+final octets = getD octets (length octets - 1) 0
+
+-- Rule 3: "prefix length 0 to 30". Rule 4: each entry. Rule 5: "not ended by a zero byte".
+unfoldable pub fields? : SuboptionValue → Bool
+fields? (request h i length) = leb length longest
+fields? (information c s entries) = all? entryFields? entries
+fields? (name octets) = not (eqb (final octets) 0)
+fields? unknown = true

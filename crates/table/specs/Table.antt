@@ -1,0 +1,150 @@
+-- The lease table (document 01: the book): what is present at a time, when a table is sound, and what an accepted call stores.
+-- Assumes nothing: these are definitions.
+use Prim.Native.Nat.{ℕ, _-_}
+use mathlib.Core.Bool.{Bool, true, false, not, cond, _&&_}
+use mathlib.Core.List.{List, [], _∷_, _++_, map}
+use lib.ListN.{length, replicate}
+use lib.Dec.{leb, ltb, eqb}
+use Rattle.lists.specs.Lists.{every, all?, any?, those}
+use Rattle.lists.specs.Sorting.{insertBy}
+use Rattle.prefix.specs.declared.Prefix.{Prefix}
+use Rattle.prefix.specs.Prefixes.{shortest, longest, prefix, end, aligned?, inside?}
+use Rattle.table.specs.declared.Pool.{Pool}
+use Rattle.table.specs.declared.Lease.{Lease}
+use Rattle.table.specs.declared.LeaseTable.{LeaseTable}
+
+-- The slots of a table, as POOLS and LEASES in the code: "1 to 8 roots", "256 empty lines".
+abbrev pub poolSlots : ℕ
+poolSlots = 8
+
+abbrev pub leaseSlots : ℕ
+leaseSlots = 256
+
+-- Row 4 and row 12: no time is above 4,292,375,295.
+abbrev pub latest : ℕ
+latest = 4292375295
+
+-- How many addresses there are: an address has 32 bits.
+abbrev pub addresses : ℕ
+addresses = 4294967296
+
+-- The prefix of a pool (document 01: a root), and of a lease (document 01: a line).
+abbrev pub poolPrefix : Pool → Prefix
+poolPrefix p = prefix (p .network) (p .length)
+
+abbrev pub prefixOf : Lease → Prefix
+prefixOf x = prefix (x .network) (x .length)
+
+abbrev pub networkOf : Lease → ℕ
+networkOf x = x .network
+
+-- An unused pool slot, and an empty lease slot (document 01: an empty line): "all zero".
+abbrev pub noPool : Pool
+noPool = record { network = 0; length = 0 }
+
+abbrev pub noLease : Lease
+noLease = record { network = 0; length = 0; client = 0; leased = false; h = false; d = false; expires = 0 }
+
+abbrev pub poolZeros : Pool → List Bool
+poolZeros p = eqb (p .network) 0 ∷ eqb (p .length) 0 ∷ []
+
+unfoldable pub unused? : Pool → Bool
+unused? p = every (poolZeros p)
+
+abbrev pub leaseZeros : Lease → List Bool
+leaseZeros x = eqb (x .network) 0 ∷ eqb (x .length) 0 ∷ eqb (x .client) 0 ∷ not (x .leased) ∷ not (x .h) ∷ not (x .d) ∷ eqb (x .expires) 0 ∷ []
+
+unfoldable pub empty? : Lease → Bool
+empty? x = every (leaseZeros x)
+
+-- The pools that are used, as prefixes.
+unfoldable pub prefixesOf : List Pool → List Prefix
+prefixesOf ps = map poolPrefix (those (λ p. not (unused? p)) ps)
+
+abbrev pub poolsOf : LeaseTable → List Prefix
+poolsOf t = prefixesOf (t .pools)
+
+-- The leases present at a time: "lines with end at or before now count as absent, and as empty lines". An empty slot expires at 0, so it is none.
+unfoldable pub present : ℕ → List Lease → List Lease
+present now xs = those (λ x. ltb now (x .expires)) xs
+
+-- Row 12, the head: "a term (60 to 2,592,000 s), a length for asks with prefix 0 (1 to 30)", "start time (above 4,292,375,295)".
+abbrev pub headRules : ℕ → ℕ → ℕ → List Bool
+headRules term defaultLength last =
+    leb 60 term ∷ leb term 2592000 ∷ leb shortest defaultLength ∷ leb defaultLength longest ∷ leb last latest ∷ []
+
+unfoldable pub headOk : ℕ → ℕ → ℕ → Bool
+headOk term defaultLength last = every (headRules term defaultLength last)
+
+-- Row 12, a pool: "A root has length 8 to 30, is aligned (its network is a multiple of its size)". Its addresses have 32 bits.
+abbrev pub poolRules : Pool → List Bool
+poolRules p = leb 8 (p .length) ∷ leb (p .length) longest ∷ aligned? (poolPrefix p) ∷ leb (end (poolPrefix p)) addresses ∷ []
+
+unfoldable pub poolOk : Pool → Bool
+poolOk p = every (poolRules p)
+
+-- A lease: "A line is a block inside one root, a station (not 0), held or leased, the bits h and d, and an end"; "each line is as just said and
+-- aligned"; "every line's end is after the last time"; "A block length runs from 1 to 30".
+abbrev pub leaseRules : List Prefix → ℕ → Lease → List Bool
+leaseRules pools last x =
+    leb shortest (x .length)
+    ∷ leb (x .length) longest
+    ∷ aligned? (prefixOf x)
+    ∷ not (eqb (x .client) 0)
+    ∷ ltb last (x .expires)
+    ∷ any? (inside? (prefixOf x)) pools
+    ∷ []
+
+unfoldable pub leaseOk : List Prefix → ℕ → Lease → Bool
+leaseOk pools last x = every (leaseRules pools last x)
+
+-- From the address `from` on the slots "ascend by network without overlap", each as `ok` says; those that are `none?` follow, and no other after them.
+unfoldable pub ascends? : {A : Type 0} → (A → Bool) → (A → Bool) → (A → Prefix) → ℕ → List A → Bool
+ascends? none? ok prefixOf from [] = true
+ascends? none? ok prefixOf from (x ∷ xs) =
+    let rest = ascends? none? ok prefixOf (end (prefixOf x)) xs in
+    cond (none? x) (all? none? xs) (leb from (prefixOf x .network) && (ok x && rest))
+
+abbrev pub poolsAscend? : List Pool → Bool
+poolsAscend? ps = ascends? unused? poolOk poolPrefix 0 ps
+
+abbrev pub leasesAscend? : List Prefix → ℕ → ℕ → List Lease → Bool
+leasesAscend? pools last from xs = ascends? empty? (leaseOk pools last) prefixOf from xs
+
+-- SOUND: "head and roots keep open's rules (row 12), each line is as just said and aligned, roots and lines each ascend by network without overlap,
+-- every line's end is after the last time, empty lines and unused roots follow and are all zero". It is measured against the last time, never now.
+abbrev pub tableRules : LeaseTable → List Bool
+tableRules t =
+    eqb (length (t .pools)) poolSlots
+    ∷ eqb (length (t .leases)) leaseSlots
+    ∷ headOk (t .term) (t .«default_length») (t .last)
+    ∷ ltb 0 (length (poolsOf t))
+    ∷ poolsAscend? (t .pools)
+    ∷ leasesAscend? (poolsOf t) (t .last) 0 (t .leases)
+    ∷ []
+
+unfoldable pub sound : LeaseTable → Bool
+sound t = every (tableRules t)
+
+-- Leases in the table's slots, with empty slots behind them; the same for pools.
+abbrev pub padded : List Lease → List Lease
+padded xs = xs ++ replicate (leaseSlots - length xs) noLease
+
+abbrev pub paddedPools : List Pool → List Pool
+paddedPools ps = ps ++ replicate (poolSlots - length ps) noPool
+
+-- The table of all zeros, which is not sound: what a refusal holds in a table's place.
+abbrev pub blank : LeaseTable
+blank = record { pools = replicate poolSlots noPool; leases = replicate leaseSlots noLease; term = 0; «default_length» = 0; last = 0 }
+
+-- The table with other leases.
+abbrev pub withLeases : LeaseTable → List Lease → LeaseTable
+withLeases t xs = record { pools = t .pools; leases = xs; term = t .term; «default_length» = t .«default_length»; last = t .last }
+
+-- The table that an accepted call leaves: these leases, every other slot empty, and the time as the last time.
+unfoldable pub store : LeaseTable → ℕ → List Lease → LeaseTable
+store t now xs = record { pools = t .pools; leases = padded xs; term = t .term; «default_length» = t .«default_length»; last = now }
+
+-- A lease among others, ascending by network.
+abbrev pub insert : Lease → List Lease → List Lease
+insert x xs = insertBy networkOf x xs
