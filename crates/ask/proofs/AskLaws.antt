@@ -30,10 +30,10 @@ use Rattle.table.specs.declared.Lease.{Lease}
 use Rattle.table.specs.declared.Pool.{Pool}
 use Rattle.table.specs.declared.LeaseTable.{LeaseTable}
 use Rattle.table.specs.Table.{leaseSlots, poolSlots, noLease, noPool, networkOf, poolPrefix, prefixOf, prefixesOf, poolsOf, unused?, padded, present, sound, store, insert}
-use Rattle.table.specs.Slots.{insertLease}
+use Rattle.slots.specs.Slots.{insertLease}
 use Rattle.table.proofs.Ascending.{used}
 use Rattle.table.proofs.TableLaws.{Good, length-padded, sound-fewer, sound-fine, sound-pools-whole, sound-pool-slots, fine-long}
-use Rattle.table.proofs.SlotLaws.{insert-padded}
+use Rattle.slots.proofs.SlotLaws.{insert-padded}
 use Rattle.ledger.specs.Ledger as ledger
 use Rattle.ledger.specs.Ledger.{Request, Result, Row, firstOf, orElse, acceptance, refuse, accept, refusalPlace, nothing?, suboptions, requests, forAsk, full, offers, add, addAll, informationFor, askRows, ask}
 use Rattle.ledger.proofs.OfferLaws as offer-laws

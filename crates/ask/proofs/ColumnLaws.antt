@@ -18,7 +18,7 @@ use Rattle.space.specs.Scan.{prefixes}
 use Rattle.space.proofs.LevelLaws.{drop-prefixes, prefixes-next, prefixes-end}
 use Rattle.table.specs.declared.Lease.{Lease}
 use Rattle.table.specs.Table.{leaseSlots, prefixOf}
-use Rattle.table.specs.Slots.{placeFor}
+use Rattle.slots.specs.Slots.{placeFor}
 use Rattle.ask.specs.Serving.{columns, placeOf, insertedAt}
 
 module _ (ns ls : List ℕ) (same : length ns ≡ length ls) (network i whole : ℕ) (at : whole ≡ i + placeOf network (drop i (columns ns ls))) where

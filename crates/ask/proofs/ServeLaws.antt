@@ -26,10 +26,10 @@ use Rattle.table.specs.declared.Lease.{Lease}
 use Rattle.table.specs.declared.Pool.{Pool}
 use Rattle.table.specs.declared.LeaseTable.{LeaseTable}
 use Rattle.table.specs.Table.{leaseSlots, noLease, networkOf, poolPrefix, prefixOf, prefixesOf, poolsOf, unused?, padded, present, sound, insert}
-use Rattle.table.specs.Slots.{placeFor}
+use Rattle.slots.specs.Slots.{placeFor}
 use Rattle.table.proofs.Ascending.{Ascending, used, ascending-low}
 use Rattle.table.proofs.TableLaws.{Fine, Good, fine-long, sound-pools, sound-fine, sound-fewer}
-use Rattle.table.proofs.SlotLaws.{insert-padded}
+use Rattle.slots.proofs.SlotLaws.{insert-padded}
 use Rattle.ledger.specs.Ledger as ledger
 use Rattle.ledger.specs.Ledger.{Request, askLength, full, offered, offer, offers, add, addAll}
 use Rattle.ledger.proofs.OfferLaws as offer-laws

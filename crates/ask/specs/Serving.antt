@@ -17,7 +17,7 @@ use Rattle.space.specs.declared.Fit.{Fit}
 use Rattle.table.specs.declared.Lease.{Lease}
 use Rattle.table.specs.declared.LeaseTable.{LeaseTable}
 use Rattle.table.specs.Table.{leaseSlots, noLease, prefixOf, poolsOf, present, padded, sound}
-use Rattle.table.specs.Slots.{insertLease}
+use Rattle.slots.specs.Slots.{insertLease}
 use Rattle.ledger.specs.Ledger as ledger
 use Rattle.answers.specs.declared.Answer.{Answer}
 use Rattle.answers.specs.declared.Answer.the-variants.{NoSlot, NoSpace}

@@ -269,7 +269,7 @@ fn insert_all(
     let mut k: usize = 0;
     while k < count {
         let x = granted[k];
-        let next = table::insert(leases, x);
+        let next = slots::insert(leases, x);
         leases = next;
         k += 1;
     }
@@ -355,8 +355,8 @@ pub fn ask(t: LeaseTable, time: u32, client: u32, option: &[u8], reply: &mut [u8
         };
     }
     let leases = t.leases;
-    let present = table::remove_expired(leases, time);
-    let count = table::count_present(leases, time);
+    let present = slots::remove_expired(leases, time);
+    let count = slots::count_present(leases, time);
     let pools = t.pools;
     let columns = pool_columns(pools);
     let used = table::pools_used(pools);

@@ -10,9 +10,11 @@ use Rattle.lists.specs.Lists.{every, those, gather}
 use Rattle.table.specs.declared.Pool.{Pool}
 use Rattle.table.specs.declared.Lease.{Lease}
 use Rattle.table.specs.declared.LeaseTable.{LeaseTable}
-use Rattle.table.specs.Table.{poolSlots, leaseSlots, unused?, empty?, sound, padded, paddedPools}
-use Rattle.table.specs.Open.{blank}
+use Rattle.table.specs.Table.{poolSlots, leaseSlots, unused?, empty?, sound, padded, paddedPools, blank}
 use Rattle.image.specs.declared.Head.{Head}
+use Rattle.image.specs.declared.HeadRead.{HeadRead}
+use Rattle.image.specs.declared.PoolRead.{PoolRead}
+use Rattle.image.specs.declared.LeaseRead.{LeaseRead}
 use Rattle.image.specs.declared.LoadAnswer.{LoadAnswer}
 use Rattle.image.specs.declared.LoadAnswer.the-variants.{Accepted, Unsound}
 use Rattle.image.specs.declared.Loaded.{Loaded}
@@ -57,7 +59,7 @@ headOf t = record { term = t .term; «default_length» = t .«default_length»; 
 
 -- The image: "Roots then lines, ascending, nothing after."
 unfoldable pub imageOf : LeaseTable → List ℕ
-imageOf t = headRecord (headOf t) ++ gather poolRecord (usedPools t) ++ gather leaseRecord (usedLeases t)
+imageOf t = headRecord (headOf t) ++ (gather poolRecord (usedPools t) ++ gather leaseRecord (usedLeases t))
 
 -- WHAT IS READ. A record is read where the bytes have its length and its kind, and its fields are in range.
 
@@ -114,6 +116,19 @@ leaseTests s =
 
 unfoldable pub leaseAt : List ℕ → Option Lease
 leaseAt s = cond (every (leaseTests s)) (some (leaseIn s)) none
+
+-- The same, as the code's answers.
+abbrev pub headRead : Option Head → HeadRead
+headRead none = HeadRead.Other
+headRead (some x) = HeadRead.Found x
+
+abbrev pub poolRead : Option Pool → PoolRead
+poolRead none = PoolRead.Other
+poolRead (some p) = PoolRead.Found p
+
+abbrev pub leaseRead : Option Lease → LeaseRead
+leaseRead none = LeaseRead.Other
+leaseRead (some x) = LeaseRead.Found x
 
 abbrev pub poolsAt : List ℕ → Run Pool
 poolsAt s = records poolAt poolSize poolSlots s

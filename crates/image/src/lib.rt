@@ -5,12 +5,13 @@ use table::LeaseTable;
 use table::POOLS;
 use table::Pool;
 ghost use mathlib.Core.Path.{_≡_};
-ghost use Prim.Native.Nat.{ℕ, _+_, _*_, _≤_, _<_};
-ghost use lib.ListN.{length, take, drop, replicate};
-ghost use Rattle.lists.specs.Lists.{gather};
+ghost use mathlib.Core.Bool.{not};
+ghost use mathlib.Core.Option.{none, some};
+ghost use Prim.Native.Nat.{_+_, _*_, _≤_, _<_};
+ghost use lib.ListN.{length, take, drop};
+ghost use Rattle.lists.specs.Lists.{those, gather};
 ghost use Rattle.lists.specs.Put.{put};
-ghost use Rattle.table.specs.Table.{poolSlots, leaseSlots, padded, paddedPools};
-ghost use Rattle.table.specs.Open.{blank};
+ghost use Rattle.table.specs.Table.{poolSlots, leaseSlots, empty?, padded, paddedPools};
 ghost use Rattle.image.specs.Fields.{le16, le32, number16, number32};
 ghost use Rattle.image.specs.Image.{
   headRecord,
@@ -21,8 +22,13 @@ ghost use Rattle.image.specs.Image.{
   headAt,
   poolAt,
   leaseAt,
+  leaseIn,
+  headRead,
+  poolRead,
+  leaseRead,
   poolsAt,
   leasesAt,
+  afterHead,
   loadImage,
   loadedOf,
   saved,
@@ -50,4 +56,384 @@ pub enum SaveAnswer {
     Written(usize),
     NotSound,
     TooSmall,
+}
+
+// FIELDS
+
+fn wide(x: u8) -> u32
+    ensures { λ r. ⌜ (r ≡ x) × (r < 256) ⌝ }
+{
+    x as u32
+}
+
+// The number that two bytes spell, low byte first.
+fn read16(s: &[u8], at: usize) -> u32
+    requires { ⌜ at + 2 ≤ length (now s) ⌝ }
+    ensures { λ r. ⌜ r ≡ number16 (now (s .entry)) at ⌝ }
+{
+    wide(s[at]) + 256 * wide(s[at + 1])
+}
+
+// The number that four bytes spell, low byte first.
+fn read32(s: &[u8], at: usize) -> u32
+    requires { ⌜ at + 4 ≤ length (now s) ⌝ }
+    ensures { λ r. ⌜ r ≡ number32 (now (s .entry)) at ⌝ }
+{
+    wide(s[at]) + 256 * wide(s[at + 1]) + 65536 * wide(s[at + 2]) + 16777216 * wide(s[at + 3])
+}
+
+fn put16(out: &mut [u8], at: usize, n: u16)
+    requires { ⌜ at + 2 ≤ length (now out) ⌝ }
+    ensures { λ _. ⌜ now (out .exit) ≡ put (now (out .entry)) at (le16 n) ⌝ }
+{
+    out[at] = (n % 256) as u8;
+    out[at + 1] = (n / 256) as u8;
+}
+
+fn put32(out: &mut [u8], at: usize, n: u32)
+    requires { ⌜ at + 4 ≤ length (now out) ⌝ }
+    ensures { λ _. ⌜ now (out .exit) ≡ put (now (out .entry)) at (le32 n) ⌝ }
+{
+    out[at] = (n % 256) as u8;
+    out[at + 1] = (n / 256 % 256) as u8;
+    out[at + 2] = (n / 65536 % 256) as u8;
+    out[at + 3] = (n / 16777216) as u8;
+}
+
+fn state_byte(leased: bool) -> u8
+    ensures { λ r. ⌜ r ≡ stateByte leased ⌝ }
+{
+    if leased { 2 } else { 1 }
+}
+
+fn flags_byte(h: bool, d: bool) -> u8
+    ensures { λ r. ⌜ r ≡ flagsByte h d ⌝ }
+{
+    if h {
+        if d { 3 } else { 1 }
+    } else {
+        if d { 2 } else { 0 }
+    }
+}
+
+// READING RECORDS
+
+pub enum HeadRead {
+    Found(Head),
+    Other,
+}
+
+pub enum PoolRead {
+    Found(Pool),
+    Other,
+}
+
+pub enum LeaseRead {
+    Found(Lease),
+    Other,
+}
+
+// The head record at the front of the bytes.
+pub fn head_at(s: &[u8]) -> HeadRead
+    ensures { λ r. ⌜ r ≡ headRead (headAt (now (s .entry))) ⌝ }
+{
+    if s.len() < 13 {
+        return HeadRead::Other;
+    }
+    if read16(s, 0) != 11 {
+        return HeadRead::Other;
+    }
+    if read16(s, 2) != 1 {
+        return HeadRead::Other;
+    }
+    HeadRead::Found(Head {
+        term: read32(s, 4),
+        default_length: s[8],
+        last: read32(s, 9),
+    })
+}
+
+// The pool record at the front of the bytes; an unused slot has none.
+pub fn pool_at(s: &[u8]) -> PoolRead
+    ensures { λ r. ⌜ r ≡ poolRead (poolAt (now (s .entry))) ⌝ }
+{
+    if s.len() < 9 {
+        return PoolRead::Other;
+    }
+    if read16(s, 0) != 7 {
+        return PoolRead::Other;
+    }
+    if read16(s, 2) != 2 {
+        return PoolRead::Other;
+    }
+    let p = Pool {
+        network: read32(s, 4),
+        length: s[8],
+    };
+    if table::pool_unused(p) {
+        return PoolRead::Other;
+    }
+    PoolRead::Found(p)
+}
+
+// The fields of a lease record at the front of the bytes.
+fn lease_in(s: &[u8]) -> Lease
+    requires { ⌜ 19 ≤ length (now s) ⌝ }
+    ensures { λ r. ⌜ r ≡ leaseIn (now (s .entry)) ⌝ }
+{
+    let flags = s[10];
+    Lease {
+        network: read32(s, 4),
+        length: s[8],
+        client: read32(s, 11),
+        leased: s[9] == 2,
+        h: flags % 2 == 1,
+        d: flags / 2 % 2 == 1,
+        expires: read32(s, 15),
+    }
+}
+
+// The lease record at the front of the bytes; an empty slot has none.
+pub fn lease_at(s: &[u8]) -> LeaseRead
+    ensures { λ r. ⌜ r ≡ leaseRead (leaseAt (now (s .entry))) ⌝ }
+{
+    if s.len() < 19 {
+        return LeaseRead::Other;
+    }
+    if read16(s, 0) != 17 {
+        return LeaseRead::Other;
+    }
+    if read16(s, 2) != 3 {
+        return LeaseRead::Other;
+    }
+    if s[9] < 1 {
+        return LeaseRead::Other;
+    }
+    if 2 < s[9] {
+        return LeaseRead::Other;
+    }
+    if 3 < s[10] {
+        return LeaseRead::Other;
+    }
+    let x = lease_in(s);
+    if table::lease_empty(x) {
+        return LeaseRead::Other;
+    }
+    LeaseRead::Found(x)
+}
+
+// The pools at the front of some bytes, in slots, and how many bytes they take.
+struct PoolsRead {
+    pools: [Pool; POOLS],
+    size: usize,
+}
+
+struct LeasesRead {
+    leases: [Lease; LEASES],
+    size: usize,
+}
+
+fn read_pools(s: &[u8]) -> PoolsRead
+    ensures { λ r. ⌜ r .size ≤ length (now (s .entry)) ⌝ }
+    ensures { λ r. ⌜ r .pools ≡ paddedPools (poolsAt (now (s .entry)) .items) ⌝ }
+    ensures { λ r. ⌜ poolsAt (now (s .entry)) .rest ≡ drop (r .size) (now (s .entry)) ⌝ }
+{
+    let none = table::no_pool();
+    let mut pools = [none; POOLS];
+    let mut n: usize = 0;
+    let mut at: usize = 0;
+    while n < POOLS {
+        let PoolRead::Found(p) = pool_at(&s[at..]) else {
+            return PoolsRead { pools, size: at };
+        };
+        pools[n] = p;
+        at = at + 9;
+        n = n + 1;
+    }
+    PoolsRead { pools, size: at }
+}
+
+fn read_leases(s: &[u8]) -> LeasesRead
+    ensures { λ r. ⌜ r .size ≤ length (now (s .entry)) ⌝ }
+    ensures { λ r. ⌜ r .leases ≡ padded (leasesAt (now (s .entry)) .items) ⌝ }
+    ensures { λ r. ⌜ leasesAt (now (s .entry)) .rest ≡ drop (r .size) (now (s .entry)) ⌝ }
+{
+    let none = table::no_lease();
+    let mut leases = [none; LEASES];
+    let mut n: usize = 0;
+    let mut at: usize = 0;
+    while n < LEASES {
+        let LeaseRead::Found(x) = lease_at(&s[at..]) else {
+            return LeasesRead { leases, size: at };
+        };
+        leases[n] = x;
+        at = at + 19;
+        n = n + 1;
+    }
+    LeasesRead { leases, size: at }
+}
+
+// LOAD
+
+fn refused_load() -> Loaded
+    ensures { λ r. ⌜ r ≡ loadedOf none ⌝ }
+{
+    let none = table::no_pool();
+    let pools = [none; POOLS];
+    let leases = table::no_leases();
+    Loaded {
+        answer: LoadAnswer::Unsound,
+        table: LeaseTable {
+            pools,
+            leases,
+            term: 0,
+            default_length: 0,
+            last: 0,
+        },
+    }
+}
+
+// The pools and the leases after a head, if nothing follows them and the table is sound.
+fn load_after(head: Head, s: &[u8]) -> Loaded
+    ensures { λ r. ⌜ r ≡ loadedOf (afterHead (some head) (now (s .entry))) ⌝ }
+{
+    let first = read_pools(s);
+    let from = first.size;
+    let second = read_leases(&s[from..]);
+    if second.size != s.len() - from {
+        return refused_load();
+    }
+    let pools = first.pools;
+    let leases = second.leases;
+    let t = LeaseTable {
+        pools,
+        leases,
+        term: head.term,
+        default_length: head.default_length,
+        last: head.last,
+    };
+    if !table::sound(t) {
+        return refused_load();
+    }
+    Loaded {
+        answer: LoadAnswer::Accepted,
+        table: t,
+    }
+}
+
+// The table that these bytes are the image of. One pass over the bytes and one over the table.
+pub fn load(bytes: &[u8]) -> Loaded
+    ensures { λ r. ⌜ r ≡ loadedOf (loadImage (now (bytes .entry))) ⌝ }
+{
+    let HeadRead::Found(head) = head_at(bytes) else {
+        return refused_load();
+    };
+    load_after(head, &bytes[13..])
+}
+
+// SAVE
+
+// How many lease slots are used.
+fn leases_used(leases: [Lease; LEASES]) -> usize
+    ensures { λ r. ⌜ r ≡ length (those (λ x. not (empty? x)) leases) ⌝ }
+    ensures { λ r. ⌜ r ≤ leaseSlots ⌝ }
+{
+    let mut n: usize = 0;
+    let mut i: usize = 0;
+    while i < LEASES {
+        let x = leases[i];
+        if !table::lease_empty(x) {
+            n = n + 1;
+        }
+        i = i + 1;
+    }
+    n
+}
+
+fn put_head(out: &mut [u8], head: Head)
+    requires { ⌜ 13 ≤ length (now out) ⌝ }
+    ensures { λ _. ⌜ now (out .exit) ≡ put (now (out .entry)) 0 (headRecord head) ⌝ }
+{
+    put16(out, 0, 11);
+    put16(out, 2, 1);
+    put32(out, 4, head.term);
+    out[8] = head.default_length;
+    put32(out, 9, head.last);
+}
+
+fn put_pool(out: &mut [u8], at: usize, p: Pool)
+    requires { ⌜ at + 9 ≤ length (now out) ⌝ }
+    ensures { λ _. ⌜ now (out .exit) ≡ put (now (out .entry)) at (poolRecord p) ⌝ }
+{
+    put16(out, at, 7);
+    put16(out, at + 2, 2);
+    put32(out, at + 4, p.network);
+    out[at + 8] = p.length;
+}
+
+fn put_lease(out: &mut [u8], at: usize, x: Lease)
+    requires { ⌜ at + 19 ≤ length (now out) ⌝ }
+    ensures { λ _. ⌜ now (out .exit) ≡ put (now (out .entry)) at (leaseRecord x) ⌝ }
+{
+    put16(out, at, 17);
+    put16(out, at + 2, 3);
+    put32(out, at + 4, x.network);
+    out[at + 8] = x.length;
+    out[at + 9] = state_byte(x.leased);
+    out[at + 10] = flags_byte(x.h, x.d);
+    put32(out, at + 11, x.client);
+    put32(out, at + 15, x.expires);
+}
+
+fn put_pools(out: &mut [u8], at: usize, pools: [Pool; POOLS], n: usize)
+    requires { ⌜ (n ≤ poolSlots) × (at + 9 * n ≤ length (now out)) ⌝ }
+    ensures { λ _. ⌜ now (out .exit) ≡ put (now (out .entry)) at (gather poolRecord (take n pools)) ⌝ }
+{
+    let mut i: usize = 0;
+    while i < n {
+        let p = pools[i];
+        put_pool(out, at + 9 * i, p);
+        i = i + 1;
+    }
+}
+
+fn put_leases(out: &mut [u8], at: usize, leases: [Lease; LEASES], n: usize)
+    requires { ⌜ (n ≤ leaseSlots) × (at + 19 * n ≤ length (now out)) ⌝ }
+    ensures { λ _. ⌜ now (out .exit) ≡ put (now (out .entry)) at (gather leaseRecord (take n leases)) ⌝ }
+{
+    let mut i: usize = 0;
+    while i < n {
+        let x = leases[i];
+        put_lease(out, at + 19 * i, x);
+        i = i + 1;
+    }
+}
+
+// The image of a sound table into a buffer that holds it; the bytes after it stay, and a refusal leaves all of them.
+pub fn save(t: LeaseTable, out: &mut [u8]) -> SaveAnswer
+    ensures { λ r. ⌜ (r, now (out .exit)) ≡ saved t (now (out .entry)) ⌝ }
+{
+    if !table::sound(t) {
+        return SaveAnswer::NotSound;
+    }
+    let pools = t.pools;
+    let leases = t.leases;
+    let n = table::pools_used(pools);
+    let m = leases_used(leases);
+    let from = 13 + 9 * n;
+    let size = from + 19 * m;
+    if out.len() < size {
+        return SaveAnswer::TooSmall;
+    }
+    put_head(
+        out,
+        Head {
+            term: t.term,
+            default_length: t.default_length,
+            last: t.last,
+        },
+    );
+    put_pools(out, 13, pools, n);
+    put_leases(out, from, leases, m);
+    SaveAnswer::Written(size)
 }

@@ -58,12 +58,12 @@ unfolding wellFormed
 run-well now t c e = ask-served t now (c .client) (c .option) (c .reply) (none-to (firstOf (rowsFor now t c)) e)
 
 -- A call that is not well-formed is refused, and changes nothing.
-pub run-refused : (now : ℕ) (t : LeaseTable) (c : Call) → wellFormed now t c ≡ false → (n : ℕ) × (run ask now t c ≡ refuse n (refusalPlace (c .option) n) t (c .reply))
+pub run-refused : (now : ℕ) (t : LeaseTable) (c : Call) → wellFormed now t c ≡ false → (n : ℕ) × (firstOf (rowsFor now t c) ≡ some n) × (run ask now t c ≡ refuse n (refusalPlace (c .option) n) t (c .reply))
 unfolding wellFormed
-run-refused now t c e = let n = none-not (firstOf (rowsFor now t c)) e in (n .0, ask-refused t now (c .client) (c .option) (c .reply) (n .0) (n .1))
+run-refused now t c e = let n = none-not (firstOf (rowsFor now t c)) e in (n .0, n .1, ask-refused t now (c .client) (c .option) (c .reply) (n .0) (n .1))
 
 pub run-not : (now : ℕ) (t : LeaseTable) (c : Call) → wellFormed now t c ≡ false → (run ask now t c .table ≡ t) × (run ask now t c .buffer ≡ c .reply)
-run-not now t c e = let f = run-refused now t c e .1 in (ap (λ (r : Result). r .table) f, ap (λ (r : Result). r .buffer) f)
+run-not now t c e = let f = run-refused now t c e .2 in (ap (λ (r : Result). r .table) f, ap (λ (r : Result). r .buffer) f)
 
 -- On two sound tables that accept the time a call is well-formed alike.
 pub well-same : (now : ℕ) (t u : LeaseTable) (c : Call) → sound t ≡ true → sound u ≡ true → Accepts t now → Accepts u now → wellFormed now u c ≡ wellFormed now t c
@@ -88,12 +88,19 @@ abbrev pub numberFor : List Lease → List Lease → ℕ
 numberFor xs [] = cond (full xs) 9 10
 numberFor xs (g ∷ gs) = 0
 
+-- The table after a call: what it was if nothing is granted.
+abbrev pub tableFor : LeaseTable → ℕ → List (Option Lease) → List Lease → List Lease → LeaseTable
+tableFor t now os xs [] = t
+tableFor t now os xs (g ∷ gs) = store t now (addAll os xs)
+
 -- What is so of the result of a call whose requests were offered `os` on the leases `xs`.
 pub record Served (t : LeaseTable) (now client : ℕ) (rs : List Request) (xs : List Lease) (os : List (Option Lease)) (r : Result) : Type 0 where
   pub given : map (confirmed now client (r .table)) (pairOff t rs (replyEntries r)) ≡ map entry? os
   pub told : replyEntries r ≡ map entryOf (somes os)
   pub number : r .answer .number ≡ numberFor xs (somes os)
   pub count : r .answer .count ≡ length (somes os)
+  pub table : r .table ≡ tableFor t now os xs (somes os)
+  pub good : All (Good (poolsOf t) now) (addAll os xs)
   pub left : present now (r .table .leases) ≡ addAll os xs
   pub sound : sound (r .table) ≡ true
   pub since : r .table .last ≤ now
@@ -120,6 +127,8 @@ module _ (now : ℕ) (t : LeaseTable) (c : Call) (w : WellFormed now t c) where
     told = reads-none (cond (full xs) 9 10) 0 t (c .reply) ∙ ap (map entryOf) (sym e);
     number = ap (numberFor xs) (sym e);
     count = ap length (sym e);
+    table = ap (tableFor t now os xs) (sym e);
+    good = subst (All (Good (poolsOf t) now)) (sym (addAll-none os xs e)) (sound-fine t (w .sound) now .0);
     left = sym (addAll-none os xs e);
     sound = w .sound;
     since = w .accepted .0;
@@ -141,6 +150,8 @@ module _ (now : ℕ) (t : LeaseTable) (c : Call) (w : WellFormed now t c) where
         told = reads-back (poolsOf t) now g gs rest a ∙ ap (map entryOf) (sym e);
         number = ap (numberFor xs) (sym e);
         count = ap length (sym e);
+        table = ap (tableFor t now os xs) (sym e);
+        good = i .fine .0;
         left = present-stored (poolsOf t) now (addAll os xs) (i .fine .0);
         sound = store-sound t now (addAll os xs) (w .sound) (w .accepted .1) (i .fit) (i .fine);
         since = omega arith;

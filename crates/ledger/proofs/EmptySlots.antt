@@ -4,7 +4,7 @@ use Prim.Native.Nat.{ℕ, _+_, _-_, _≤_}
 use mathlib.Core.Path.{_≡_, refl, sym, ap, _∙_}
 use mathlib.Core.Logic.{inl, inr, ⊎-elim}
 use mathlib.Core.Bool.{Bool, true, false, cond}
-use mathlib.Core.List.{List, map}
+use mathlib.Core.List.{List, [], _∷_, map}
 use native.Mathlib.Omega.{arith}
 use lib.ListN.{length, length-map}
 use lib.Dec.{leb, ltb}
@@ -14,7 +14,7 @@ use Rattle.lists.proofs.Tests.{bool-cases, cond-true, cond-false}
 use Rattle.table.specs.declared.Lease.{Lease}
 use Rattle.table.specs.declared.LeaseTable.{LeaseTable}
 use Rattle.table.specs.Table.{leaseSlots, prefixOf, empty?, present, sound}
-use Rattle.table.proofs.TableLaws.{empty-to, sound-slots}
+use Rattle.table.proofs.TableLaws.{empty-to, sound-slots, present-yes, present-no}
 use Rattle.ledger.specs.Ledger.{emptySlot?, emptySlots}
 use Rattle.ledger.specs.Demand3.{inUse}
 use Rattle.ledger.proofs.ListFacts.{Opposite, count-parts}
@@ -42,6 +42,27 @@ present-or-empty now x =
     (λ (h : (ltb now (x .expires) ≡ true) × (leb (x .expires) now ≡ false)). inl (h .0, empty-ended now x ∙ h .1))
     (λ (h : (ltb now (x .expires) ≡ false) × (leb (x .expires) now ≡ true)). inr (h .0, empty-ended now x ∙ h .1))
     (present-or-ended now x)
+
+-- Those present later are, of those present now, the ones that have not ended by then.
+pub present-later : (last now : ℕ) → last ≤ now → (xs : List Lease) → those (λ x. ltb now (x .expires)) (present last xs) ≡ present now xs
+unfolding present
+present-later last now l [] = refl
+present-later last now l (x ∷ xs) =
+    ⊎-elim
+    (λ (h : ltb now (x .expires) ≡ true).
+    let a = ltb-true now (x .expires) h in
+    ap (those (λ x. ltb now (x .expires))) (present-yes last x xs (omega arith))
+    ∙ cond-true (ltb now (x .expires)) _ _ h ∙ ap (λ (l : List Lease). x ∷ l) (present-later last now l xs) ∙ sym (present-yes now x xs a))
+    (λ (h : ltb now (x .expires) ≡ false).
+    let a = ltb-false now (x .expires) h in
+    ⊎-elim
+    (λ (k : ltb last (x .expires) ≡ true).
+    ap (those (λ x. ltb now (x .expires))) (present-yes last x xs (ltb-true last (x .expires) k))
+    ∙ cond-false (ltb now (x .expires)) _ _ h ∙ present-later last now l xs ∙ sym (present-no now x xs a))
+    (λ (k : ltb last (x .expires) ≡ false).
+    ap (those (λ x. ltb now (x .expires))) (present-no last x xs (ltb-false last (x .expires) k)) ∙ present-later last now l xs ∙ sym (present-no now x xs a))
+    (bool-cases (ltb last (x .expires))))
+    (bool-cases (ltb now (x .expires)))
 
 -- On a sound table the empty slots at a time are the capacity less those present.
 pub empty-slots : (t : LeaseTable) (now : ℕ) → sound t ≡ true → length (present now (t .leases)) + emptySlots now t ≡ leaseSlots

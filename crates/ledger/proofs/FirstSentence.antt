@@ -1,5 +1,6 @@
 -- The first sentence of demand 3, of the ledger's ask: "While the book has an empty line, a well-formed ask is refused for want of ground exactly when
--- no free aligned block of its length lies inside a root"; and for want of lines exactly when the table that it meets has no empty slot.
+-- no free aligned block of its length lies inside a root"; and for want of lines exactly when the table that it meets has no empty slot. And what is
+-- granted is document 01's choice.
 -- Assumes nothing.
 use Prim.Native.Nat.{ℕ, zero, suc, _+_, _-_, _≤_, _<_}
 use mathlib.Core.Path.{_≡_, refl, sym, ap, subst, _∙_}
@@ -11,22 +12,24 @@ use native.Mathlib.Omega.{arith}
 use lib.ListN.{length, length-map}
 use lib.Dec.{leb, eqb}
 use borrow.Author.Tests.{leb-true, leb-false, le-leb, lt-leb, eqb-true}
-use Rattle.lists.specs.Lists.{All, any?}
+use Rattle.lists.specs.Lists.{All, Holds, any?}
 use Rattle.lists.proofs.Tests.{bool-cases, cond-true, cond-false, every-to}
 use Rattle.lists.proofs.Permutations.{perm-length}
 use Rattle.prefix.specs.declared.Prefix.{Prefix}
 use Rattle.prefix.specs.Prefixes.{size, prefix, end, Apart}
 use Rattle.prefix.proofs.PrefixLaws.{size-positive}
 use Rattle.prefix.proofs.Nesting.{prefix-path, inside-refl, apart-absurd}
-use Rattle.space.specs.Space.{Pools, Free}
+use Rattle.space.specs.Space.{Pools, Free, Takes}
 use Rattle.space.proofs.ListTheorem.{refused⇔none-free}
-use Rattle.space.proofs.Permuted.{free-perm}
+use Rattle.space.proofs.Permuted.{grant-perm, free-perm}
+use Rattle.space.proofs.Rules.{grant-takes}
 use Rattle.option.specs.Values.{Entry}
 use Rattle.table.specs.declared.Lease.{Lease}
 use Rattle.table.specs.declared.LeaseTable.{LeaseTable}
 use Rattle.table.specs.Table.{leaseSlots, prefixOf, poolsOf, present}
 use Rattle.ledger.specs.Ledger.{Request, askLength, offer, add, offers, ask}
 use Rattle.ledger.specs.Demand3.{Call, wellFormed, asksOf, granted, entryPrefix, inUse, same?, meets, Fate, isGranted, wantsSlot, wantsSpace, fate, NoneFree, RefusedRightly}
+use Rattle.ledger.specs.Choice.{ChosenRightly}
 use Rattle.ledger.proofs.OfferLaws.{prefixes, pools-good, Offered, Offer, offer-is, add-perm}
 use Rattle.ledger.proofs.AskLaws.{entry?}
 use Rattle.ledger.proofs.CallLaws.{WellFormed, well, granted-is}
@@ -97,3 +100,23 @@ pub first-sentence : (t : LeaseTable) (now : ℕ) (c : Call) → wellFormed now 
 first-sentence t now c e =
     subst (RefusedRightly t (inUse now t) (asksOf c)) (sym (granted-is now t c e))
     (rightly t (pools-good t (well now t c e .sound)) now (c .client) (asksOf c) (present now (t .leases)) (inUse now t) (Permᴰ·refl (inUse now t)))
+
+-- THE CHOICE of each ask that is granted is document 01's.
+module _ (t : LeaseTable) (good : Pools (poolsOf t)) (now client : ℕ) where
+  chosen : (xs : List Lease) (used : List Prefix) (r : Request) (o : Option Lease) → List·Permᴰ (prefixes xs) used → Offer t now client xs r o
+      → Holds (λ e. Takes (poolsOf t) used (askLength t r) (entryPrefix e)) (entry? o)
+  chosen xs used r none p f = tt
+  chosen xs used r (some x) p f = grant-takes (poolsOf t) good used (askLength t r) (prefixOf x) .0 (sym (grant-perm (poolsOf t) p (askLength t r)) ∙ f .granted)
+
+  all-chosen : (rs : List Request) (xs : List Lease) (used : List Prefix) → List·Permᴰ (prefixes xs) used → ChosenRightly t used rs (map entry? (offers t now client xs rs))
+  unfolding offers
+  all-chosen [] xs used p = tt
+  all-chosen (r ∷ rs) xs used p =
+      let o : Option Lease = offer t now client xs r in
+      let f : Offer t now client xs r o = offer-is t now client good xs r in
+      (chosen xs used r o p f, all-chosen rs (add o xs) (meets (entry? o) used) (meets-perm t good now client xs used r o f p))
+
+pub chosen-rightly : (t : LeaseTable) (now : ℕ) (c : Call) → wellFormed now t c ≡ true → ChosenRightly t (inUse now t) (asksOf c) (granted ask now t c)
+chosen-rightly t now c e =
+    subst (ChosenRightly t (inUse now t) (asksOf c)) (sym (granted-is now t c e))
+    (all-chosen t (pools-good t (well now t c e .sound)) now (c .client) (asksOf c) (present now (t .leases)) (inUse now t) (Permᴰ·refl (inUse now t)))

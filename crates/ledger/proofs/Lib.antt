@@ -11,3 +11,14 @@ pub mod FirstSentence
 pub mod Demand3Holds
 pub mod Converse
 pub mod SoundKept
+pub mod HistoriesHold
+pub mod ConservationHolds
+pub mod ListDependsHolds
+pub mod Resuming
+pub mod NothingBehind
+pub mod ExamplesHold
+pub mod Premises
+pub mod WrongServersRefuted
+pub mod Counts
+pub mod InRange
+pub mod StepLaws

@@ -37,20 +37,7 @@ Opposite {A} p q = (x : A) → ((p x ≡ true) × (q x ≡ false)) ⊎ ((p x ≡
 pub opposite-not : {A : Type 0} (q : A → Bool) → Opposite (λ x. not (q x)) q
 opposite-not q x = ⊎-elim (λ (h : q x ≡ true). inr (not-to (q x) h, h)) (λ (h : q x ≡ false). inl (not-of (q x) h, h)) (bool-cases (q x))
 
--- They part a list, and any sum over it.
-module _ {A : Type 0} (w : A → ℕ) where
-  abbrev pub sum : List A → ℕ
-  sum [] = 0
-  sum (x ∷ xs) = w x + sum xs
-
-  pub sum-parts : (p q : A → Bool) → Opposite p q → (xs : List A) → sum (those p xs) + sum (those q xs) ≡ sum xs
-  sum-parts p q o [] = refl
-  sum-parts p q o (x ∷ xs) =
-      ⊎-elim
-      (λ (h : (p x ≡ true) × (q x ≡ false)). omega (arith, ap sum (those-yes p x xs (h .0)), ap sum (those-no q x xs (h .1)), sum-parts p q o xs))
-      (λ (h : (p x ≡ false) × (q x ≡ true)). omega (arith, ap sum (those-no p x xs (h .0)), ap sum (those-yes q x xs (h .1)), sum-parts p q o xs))
-      (o x)
-
+-- They part a list.
 pub count-parts : {A : Type 0} (p q : A → Bool) → Opposite p q → (xs : List A) → length (those p xs) + length (those q xs) ≡ length xs
 count-parts p q o [] = refl
 count-parts p q o (x ∷ xs) =

@@ -2,25 +2,27 @@
 -- Assumes nothing.
 use Prim.Native.Nat.{ℕ, zero, suc, _+_, _*_, _≤_, _<_}
 use mathlib.Core.Path.{_≡_, refl, sym, ap, subst, _∙_}
-use mathlib.Core.Bool.{Bool, true, false, cond}
+use mathlib.Core.Bool.{Bool, true, false, cond, _&&_, true≢false}
 use mathlib.Core.Logic.{by-cases}
 use native.Mathlib.Decide.{decLe}
 use mathlib.Core.List.{List, [], _∷_, _++_}
 use native.Mathlib.Omega.{arith}
 use lib.ListN.{length, getD, length-append}
 use lib.Dec.{leb, eqb, ltb}
-use borrow.Author.Tests.{leb-true, eqb-true}
+use borrow.Author.Tests.{leb-true, leb-false, eqb-true}
 use Rattle.lists.specs.Lists.{All, all?}
 use Rattle.lists.specs.Walk.{Turn, more, stop, onTurn, walk}
 use Rattle.lists.proofs.Tests.{and-to, all?-to}
+use Rattle.lists.proofs.WalkLaws.{more-not-stop}
 use Rattle.lists.proofs.ListLaws.{all-append}
+use Rattle.lists.proofs.DropLaws.{all-at}
 use Rattle.prefix.specs.Prefixes.{longest}
 use Rattle.option.specs.Values.{Entry, SuboptionValue, request, information, name, unknown, Outcome, refused, accepted}
 use Rattle.option.specs.Rules.{entryFields?, fields?}
-use Rattle.option.specs.Reading.{End, whole, badAt, subEnd, whenGood, readRequest, readEntry, readEntries, readInformation, readName, readBody, readSuboption, readSuboptions, ended, option?, readOption}
+use Rattle.option.specs.Reading.{End, whole, badAt, subEnd, subInside?, whenGood, readRequest, readEntry, readEntries, readInformation, readName, readBody, readSuboption, readSuboptions, ended, option?, readOption}
 use Rattle.option.proofs.EntryLaws.{entry-read}
 use Rattle.option.proofs.SuboptionLaws.{good-read, SuboptionRead, suboption-read, suboption-moves, suboption-ends, information-entries}
-use Rattle.ledger.specs.Ledger.{Request, suboptions, requests, entries, requestsIn, entriesIn}
+use Rattle.ledger.specs.Ledger.{Request, refuses?, placeIn, refusalPlace, suboptions, requests, entries, requestsIn, entriesIn}
 
 -- WHAT HOLDS OF EACH PIECE OF A WALK
 
@@ -180,6 +182,14 @@ option-long s e =
     let c = and-to (eqb (getD s 1 0 + 2) (length s)) (leb 2 (getD s 1 0)) (b .1) in
     omega (arith, eqb-true (getD s 1 0 + 2) (length s) (c .0), leb-true 2 (getD s 1 0) (c .1))
 
+short : (s : List ℕ) → All (λ b. b < 256) s → option? s ≡ true → length s ≤ 257
+unfolding option?
+short s a e =
+    let b = and-to (leb 2 (length s)) _ e in
+    let c = and-to (eqb (getD s 0 0) 220) _ (b .1) in
+    let d = and-to (eqb (getD s 1 0 + 2) (length s)) (leb 2 (getD s 1 0)) (c .1) in
+    omega (arith, eqb-true (getD s 1 0 + 2) (length s) (d .0), all-at (λ v. v < 256) s a 1 0 (leb-true 2 (length s) (b .0)))
+
 few : (s : List ℕ) → length s ≤ 257 → 3 + weigh bytesOf (suboptions (readOption s)) ≤ 257
 unfolding readOption readSuboptions
 few s l = go (option? s) refl
@@ -202,3 +212,86 @@ entries-few s l =
 
 pub requests-few : (s : List ℕ) → length s ≤ 257 → length (requestsIn s) ≤ 63
 requests-few s l = omega (arith, few s l, entries-of-weight (suboptions (readOption s)))
+
+-- An option of bytes that is no refusal of row 6 has at most 257 bytes.
+pub option-short : (s : List ℕ) → All (λ b. b < 256) s → refuses? 6 (readOption s) ≡ false → length s ≤ 257
+unfolding readOption
+option-short s a r = go (option? s) refl r
+  where
+    go : (b : Bool) → option? s ≡ b → refuses? 6 (cond b (ended (readSuboptions s 3 .0) (readSuboptions s 3 .1)) (refused 6 0)) ≡ false → length s ≤ 257
+    go true e f = short s a e
+    go false e f = absurd (true≢false f)
+
+-- THE PLACE of a bad suboption lies in the option.
+
+module _ {A B : Type 0} (P : B → Type 0) (turn : ℕ → Turn A B) (out : B) (q : P out) (p : (at : ℕ) (b : B) → turn at ≡ stop b → P b) where
+  turn-reason : (at : ℕ) (t : Turn A B) (k : ℕ → List A × B) → turn at ≡ t → ((next : ℕ) → P (k next .1)) → P (onTurn t k .1)
+  turn-reason at (more a next) k e h = h next
+  turn-reason at (stop b) k e h = p at b e
+
+  walk-reason : (fuel at : ℕ) → P (walk turn out fuel at .1)
+  unfolding walk
+  walk-reason zero at = q
+  walk-reason (suc fuel) at = turn-reason at (turn at) (λ next. walk turn out fuel next) refl (λ next. walk-reason fuel next)
+
+abbrev Within : ℕ → End → Type 0
+Within n whole = Unit {0}
+Within n (badAt place) = place ≤ n
+
+abbrev StopsAt : ℕ → Turn SuboptionValue End → Type 0
+StopsAt at t = (b : End) → t ≡ stop b → b ≡ badAt at
+
+cond-stops : (b : Bool) (at : ℕ) (t u : Turn SuboptionValue End) → StopsAt at t → StopsAt at u → StopsAt at (cond b t u)
+cond-stops true at t u p q = p
+cond-stops false at t u p q = q
+
+good-stops : (framed : Bool) (x : SuboptionValue) (at end : ℕ) → StopsAt at (whenGood framed x at end)
+unfolding whenGood
+good-stops framed x at end = go (framed && fields? x)
+  where
+    go : (c : Bool) → StopsAt at (cond c (more x end) (stop (badAt at)))
+    go true b e = absurd (more-not-stop x end b e)
+    go false b e = let z : badAt at ≡ b = cc in sym z
+
+body-stops : (number : ℕ) (s : List ℕ) (at end : ℕ) → StopsAt at (readBody number s at end)
+unfolding readBody readRequest readInformation readName
+body-stops number s at end =
+    cond-stops (eqb number 1) at (readRequest s at end) _ (good-stops _ _ at end)
+    (cond-stops (eqb number 2) at (readInformation s at end) _ (good-stops _ _ at end)
+    (cond-stops (eqb number 3) at (readName s at end) _ (good-stops _ _ at end)
+    (λ b e. absurd (more-not-stop unknown end b e))))
+
+sub-stops : (s : List ℕ) (at : ℕ) (b : End) → readSuboption s at ≡ stop b → Within (length s) b
+unfolding readSuboption
+sub-stops s at b = go (leb (length s) at) (subInside? s at) refl b
+  where
+    go : (p q : Bool) → leb (length s) at ≡ p → (b : End) → cond p (stop whole) (cond q (readBody (getD s at 0) s at (subEnd s at)) (stop (badAt at))) ≡ stop b → Within (length s) b
+    go true q l b e = let z : whole ≡ b = cc in subst (Within (length s)) z tt
+    go false true l b e = subst (Within (length s)) (sym (body-stops (getD s at 0) s at (subEnd s at) b e)) (omega (arith, leb-false (length s) at l))
+    go false false l b e = let z : badAt at ≡ b = cc in subst (Within (length s)) z (omega (arith, leb-false (length s) at l))
+
+pub place-inside : (s : List ℕ) → placeIn (readOption s) ≤ length s
+unfolding readOption readSuboptions
+place-inside s = go (option? s)
+  where
+    ended-place : (subs : List SuboptionValue) (e : End) → Within (length s) e → placeIn (ended subs e) ≤ length s
+    ended-place subs whole w = omega arith
+    ended-place subs (badAt place) w = w
+
+    go : (b : Bool) → placeIn (cond b (ended (readSuboptions s 3 .0) (readSuboptions s 3 .1)) (refused 6 0)) ≤ length s
+    go true = ended-place (readSuboptions s 3 .0) (readSuboptions s 3 .1) (walk-reason (Within (length s)) (readSuboption s) whole tt (sub-stops s) (suc (length s)) 3)
+    go false = omega arith
+
+-- "7 also its place": at most 257.
+pub place-short : (s : List ℕ) → All (λ b. b < 256) s → (n : ℕ) → refusalPlace s n ≤ 257
+unfolding readOption
+place-short s a n = go (eqb n 7)
+  where
+    at : (b : Bool) → option? s ≡ b → placeIn (cond b (ended (readSuboptions s 3 .0) (readSuboptions s 3 .1)) (refused 6 0)) ≤ length s
+        → placeIn (cond b (ended (readSuboptions s 3 .0) (readSuboptions s 3 .1)) (refused 6 0)) ≤ 257
+    at true e l = omega (arith, short s a e)
+    at false e l = omega arith
+
+    go : (b : Bool) → cond b (placeIn (readOption s)) 0 ≤ 257
+    go true = at (option? s) refl (place-inside s)
+    go false = omega arith

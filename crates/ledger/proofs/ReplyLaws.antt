@@ -20,7 +20,7 @@ use Rattle.option.specs.Values.{Entry, SuboptionValue, information, Outcome, ac
 use Rattle.option.specs.Rules.{entryFields?}
 use Rattle.option.specs.Reading.{option?, readOption}
 use Rattle.option.specs.Writing.{optionBytes, entryWritable?, writable?}
-use Rattle.option.proofs.WritingLaws.{Bare, ask-reply-length, information-reply-length}
+use Rattle.option.proofs.Replies.{Bare, ask-reply-length, information-reply-length}
 use Rattle.option.proofs.WrittenReadsBack.{bytes-read-back}
 use Rattle.table.specs.declared.Lease.{Lease}
 use Rattle.table.specs.declared.LeaseTable.{LeaseTable}
@@ -69,7 +69,7 @@ reads-none n place t reply = go (eqb n 0)
 
 -- THE REPLIES FIT: 25 granted requests need 253 bytes, 35 entries in one Information need 251.
 
-bare : (xs : List Lease) → All Bare (map entryOf xs)
+pub bare : (xs : List Lease) → All Bare (map entryOf xs)
 bare [] = tt
 bare (x ∷ xs) = (refl, bare xs)
 

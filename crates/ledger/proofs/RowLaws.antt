@@ -16,7 +16,7 @@ use Rattle.option.specs.Writing.{optionBytes}
 use Rattle.table.specs.declared.Lease.{Lease}
 use Rattle.table.specs.declared.LeaseTable.{LeaseTable}
 use Rattle.table.specs.Table.{latest, present, sound, store}
-use Rattle.ledger.specs.Ledger.{Result, refuse, accept, Row, firstOf, orElse, before, nothing?, refuses?, refusalPlace, requestsIn, full, forAsk, informationFor, addAll, askOffers, askRows, ask}
+use Rattle.ledger.specs.Ledger.{Result, refuse, accept, Row, firstOf, orElse, before, nothing?, refuses?, refusalPlace, requestsIn, full, forAsk, informationFor, addAll, askOffers, askRows, ask, takeRows, listRows, releaseRows, markRows}
 use Rattle.ledger.specs.Demand3.{none?}
 
 pub first-none : (rows : List Row) → firstOf rows ≡ none → All (λ (r : Row). r .1 ≡ false) rows
@@ -85,13 +85,37 @@ first-number P (r ∷ rows) n a e =
     (λ (b : r .1 ≡ false). first-number P rows n (a .1) (sym (cond-false (r .1) (some (r .0)) (firstOf rows) b) ∙ e))
     (bool-cases (r .1))
 
-pub by-rows : {R : Type 0} (P : R → Type 0) (rows : List Row) (refusing : ℕ → R) (accepting : R) → Numbered rows
-    → ((n : ℕ) → eqb n 0 ≡ false → P (refusing n)) → (firstOf rows ≡ none → P accepting) → P (orElse (firstOf rows) refusing accepting)
-by-rows P rows refusing accepting k a b = go (firstOf rows) refl
+pub by-numbers : {R : Type 0} (Q : ℕ → Type 0) (P : R → Type 0) (rows : List Row) (refusing : ℕ → R) (accepting : R) → All (λ (r : Row). Q (r .0)) rows
+    → ((n : ℕ) → Q n → P (refusing n)) → (firstOf rows ≡ none → P accepting) → P (orElse (firstOf rows) refusing accepting)
+by-numbers Q P rows refusing accepting k a b = go (firstOf rows) refl
   where
     go : (o : Option ℕ) → firstOf rows ≡ o → P (orElse o refusing accepting)
     go none e = b e
-    go (some n) e = a n (first-number (λ m. eqb m 0 ≡ false) rows n k e)
+    go (some n) e = a n (first-number Q rows n k e)
+
+pub by-rows : {R : Type 0} (P : R → Type 0) (rows : List Row) (refusing : ℕ → R) (accepting : R) → Numbered rows
+    → ((n : ℕ) → eqb n 0 ≡ false → P (refusing n)) → (firstOf rows ≡ none → P accepting) → P (orElse (firstOf rows) refusing accepting)
+by-rows P rows refusing accepting k a b = by-numbers (λ m. eqb m 0 ≡ false) P rows refusing accepting k a b
+
+pub numbered-ask : (t : LeaseTable) (now client : ℕ) (option reply : List ℕ) → Numbered (askRows t now client option reply)
+unfolding askRows
+numbered-ask t now client option reply = (refl, (refl, (refl, (refl, (refl, (refl, (refl, (refl, (refl, (refl, tt))))))))))
+
+pub numbered-take : (t : LeaseTable) (now client : ℕ) (option reply : List ℕ) → Numbered (takeRows t now client option reply)
+unfolding takeRows
+numbered-take t now client option reply = (refl, (refl, (refl, (refl, (refl, (refl, (refl, (refl, (refl, tt)))))))))
+
+pub numbered-list : (t : LeaseTable) (now client : ℕ) (option reply : List ℕ) → Numbered (listRows t now client option reply)
+unfolding listRows
+numbered-list t now client option reply = (refl, (refl, (refl, (refl, (refl, (refl, (refl, (refl, (refl, tt)))))))))
+
+pub numbered-release : (t : LeaseTable) (now client : ℕ) (option : List ℕ) → Numbered (releaseRows t now client option)
+unfolding releaseRows
+numbered-release t now client option = (refl, (refl, (refl, (refl, (refl, (refl, (refl, (refl, tt))))))))
+
+pub numbered-mark : (t : LeaseTable) (now network len : ℕ) → Numbered (markRows t now network len)
+unfolding markRows
+numbered-mark t now network len = (refl, (refl, (refl, (refl, tt))))
 
 -- ASK: rows 1 to 8, and rows 9 and 10.
 

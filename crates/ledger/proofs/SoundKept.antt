@@ -20,7 +20,7 @@ use Rattle.table.specs.declared.Lease.{Lease}
 use Rattle.table.specs.declared.LeaseTable.{LeaseTable}
 use Rattle.table.specs.Table.{latest, prefixOf, poolsOf, present, sound, store}
 use Rattle.table.proofs.TableLaws.{Good, sound-term, sound-fine, fine-apart, map-sound, those-sound}
-use Rattle.ledger.specs.Ledger.{Answer, Result, Update, Row, firstOf, orElse, refuse, refuseUpdate, refusalPlace, entriesIn, askRows, ask, named?, renew, renewNamed, takeRows, take, listRows, list, releaseRows, release, at?, withD, markRows, mark}
+use Rattle.ledger.specs.Ledger.{Answer, Result, Update, Row, firstOf, orElse, refuse, refuseUpdate, refusalPlace, entriesIn, askRows, ask, namedBy?, renew, renewNamed, takeRows, take, listRows, list, releaseRows, release, at?, withD, markRows, mark}
 use Rattle.ledger.specs.Demand3.{Call, wellFormed}
 use Rattle.ledger.proofs.RowLaws.{first-none, served-or-not, refused-with}
 use Rattle.ledger.proofs.CallLaws.{run-not, called}
@@ -71,7 +71,7 @@ take-keeps t now client option reply s =
     served-or-not (λ (r : Result). sound (r .table) ≡ true) (takeRows t now client option reply) _ _ (λ n. s)
     (λ e.
     let r = first-none (takeRows t now client option reply) e in
-    map-keeps t now s (ltb-false latest now (r .1 .1 .1 .1 .0)) (named? client (entriesIn option)) (renew now (t .term)) (renew-mild t now s))
+    map-keeps t now s (ltb-false latest now (r .1 .1 .1 .1 .0)) (namedBy? client (entriesIn option)) (renew now (t .term)) (renew-mild t now s))
 
 -- "List changes nothing": the table is what it was, sound or not.
 pub list-keeps : (t : LeaseTable) (now client : ℕ) (option reply : List ℕ) → list t now client option reply .table ≡ t
@@ -84,7 +84,7 @@ release-keeps t now client option s =
     served-or-not (λ (r : Update). sound (r .table) ≡ true) (releaseRows t now client option) _ _ (λ n. s)
     (λ e.
     let r = first-none (releaseRows t now client option) e in
-    those-sound t now (λ x. not (named? client (entriesIn option) x)) s (ltb-false latest now (r .1 .1 .1 .0)))
+    those-sound t now (λ x. not (namedBy? client (entriesIn option) x)) s (ltb-false latest now (r .1 .1 .1 .0)))
 
 pub mark-keeps : (t : LeaseTable) (now network len : ℕ) (d : Bool) → sound t ≡ true → sound (mark t now network len d .table) ≡ true
 unfolding mark markRows

@@ -12,7 +12,7 @@ use Rattle.option.specs.Values.{Entry}
 use Rattle.table.specs.declared.Lease.{Lease}
 use Rattle.table.specs.declared.LeaseTable.{LeaseTable}
 use Rattle.table.specs.Table.{present, sound}
-use Rattle.ledger.specs.Ledger.{Answer, Result, Update, openTable, entriesIn, named?, ask, take, list, release, mark}
+use Rattle.ledger.specs.Ledger.{Answer, Result, Update, openTable, entriesIn, namedBy?, ask, take, list, release, mark}
 use Rattle.ledger.specs.Demand3.{replyEntries}
 use Rattle.ledger.specs.Histories.{Event, asked, taken, wasListed, returned, marked, saved, next, afterwards, leasesOf}
 
@@ -43,7 +43,7 @@ returnedBy t (asked now client option reply) = 0
 returnedBy t (taken now client option reply) = 0
 returnedBy t (wasListed now client option reply) = 0
 returnedBy t (returned now client option) =
-    ifAccepted (release t now client option .answer) (addressesOf (those (named? client (entriesIn option)) (present now (t .leases))))
+    ifAccepted (release t now client option .answer) (addressesOf (those (namedBy? client (entriesIn option)) (present now (t .leases))))
 returnedBy t (marked now network len d) = 0
 returnedBy t saved = 0
 

@@ -7,7 +7,7 @@ use mathlib.Core.List.{List, [], _∷_}
 use Rattle.table.specs.declared.Lease.{Lease}
 use Rattle.table.specs.declared.LeaseTable.{LeaseTable}
 use Rattle.table.specs.Table.{present, sound}
-use Rattle.table.specs.Open.{openOk}
+use Rattle.opening.specs.Open.{openOk}
 use Rattle.ledger.specs.Ledger.{Result, Update, openTable, ask, take, list, release, mark}
 
 -- A call on a table, with its arguments: the time, the client, the option's bytes, the reply buffer's. Save reads the table and leaves it.

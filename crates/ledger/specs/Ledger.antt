@@ -4,8 +4,8 @@
 -- and the buffer after it. Return (`release`) and mark have no reply buffer; open has no table before it. Save and load stand in crate `image`.
 -- A refused call gives the first row that applies; the rows of each call stand in one list, in document 01's order.
 --
--- Numbers are as large as the types of the code let them be (32 bits for a network, a client and a time, 8 for a length and a byte): `Sizes` says so
--- of tables and bytes, and the laws of `InRange` say that arguments within these sizes give results within them.
+-- Numbers are as large as the types of the code let them be (32 bits for a network, a client and a time, 8 for a length and a byte). Neither a call nor
+-- `sound` tests that: `Sizes` says it of tables and bytes, and the laws of `InRange` say that arguments within these sizes give results within them.
 -- Assumes nothing: these are definitions.
 use Prim.Native.Nat.{ℕ, _+_}
 use mathlib.Core.Bool.{Bool, true, false, not, cond, _&&_}
@@ -18,12 +18,14 @@ use Rattle.lists.specs.Lists.{every, all?, any?, those, gather, somes}
 use Rattle.prefix.specs.declared.Prefix.{Prefix}
 use Rattle.space.specs.Space.{grant}
 use Rattle.option.specs.Values.{Entry, SuboptionValue, request, information, name, unknown, Outcome, refused, accepted}
-use Rattle.option.specs.Reading.{readOption}
+use Rattle.option.specs.Reading.{four, readOption}
 use Rattle.option.specs.Writing.{optionBytes}
+use Rattle.option.specs.Selection.{Selected, address, selection?}
+use Rattle.option.specs.Selection.{refused as refusedSelection}
 use Rattle.table.specs.declared.Lease.{Lease}
 use Rattle.table.specs.declared.LeaseTable.{LeaseTable}
-use Rattle.table.specs.Table.{leaseSlots, latest, prefixOf, poolsOf, empty?, present, sound, store, insert}
-use Rattle.table.specs.Open.{given, openOk, fresh, blank}
+use Rattle.table.specs.Table.{leaseSlots, latest, blank, prefixOf, poolsOf, empty?, present, sound, store, insert}
+use Rattle.opening.specs.Open.{given, openOk, fresh}
 
 -- WHAT A CALL GIVES
 
@@ -139,6 +141,17 @@ entryOf x = record { network = x .network; length = x .length; h = x .h; d = x .
 abbrev pub refusalPlace : List ℕ → ℕ → ℕ
 refusalPlace option number = cond (eqb number 7) (placeIn (readOption option)) 0
 
+-- OPTION 118: "The desk reads and writes it, and acts on none". Reading has row 6 alone.
+
+abbrev pub read118Rows : List ℕ → List Row
+read118Rows option =
+    (6, not (selection? option))
+    ∷ []
+
+-- "code 118, Len 4, four address bytes"
+unfoldable pub read118 : List ℕ → Selected
+read118 option = orElse (firstOf (read118Rows option)) refusedSelection (address (four option 2))
+
 -- EMPTY SLOTS
 
 -- "At time now, lines with end at or before now count as absent, and as empty lines." (`present` of crate `table` has those that are left.)
@@ -213,6 +226,7 @@ askOffers t now client option = offers t now client (present now (t .leases)) (r
 -- Rows 9 and 10: "If none is granted, the answer is the refusal of the first."
 unfoldable pub askRows : LeaseTable → ℕ → ℕ → List ℕ → List ℕ → List Row
 askRows t now client option reply =
+    let granted = somes (askOffers t now client option) in
     (1, ltb (length reply) 257)
     ∷ (5, not (sound t))
     ∷ (2, eqb client 0)
@@ -221,8 +235,8 @@ askRows t now client option reply =
     ∷ (6, refuses? 6 (readOption option))
     ∷ (7, refuses? 7 (readOption option))
     ∷ (8, not (forAsk (requestsIn option)))
-    ∷ (9, nothing? (somes (askOffers t now client option)) && full (present now (t .leases)))
-    ∷ (10, nothing? (somes (askOffers t now client option)))
+    ∷ (9, nothing? granted && full (present now (t .leases)))
+    ∷ (10, nothing? granted)
     ∷ []
 
 unfoldable pub ask : LeaseTable → ℕ → ℕ → List ℕ → List ℕ → Result
@@ -242,8 +256,8 @@ forTake subs = every (nothing? (requests subs) ∷ not (nothing? (entries subs))
 abbrev pub names? : ℕ → Lease → Entry → Bool
 names? client x e = every (eqb (x .client) client ∷ eqb (x .network) (e .network) ∷ eqb (x .length) (e .length) ∷ [])
 
-abbrev pub named? : ℕ → List Entry → Lease → Bool
-named? client es x = any? (names? client x) es
+abbrev pub namedBy? : ℕ → List Entry → Lease → Bool
+namedBy? client es x = any? (names? client x) es
 
 -- The leases that entries name, "in order".
 abbrev pub found : ℕ → List Lease → List Entry → List Lease
@@ -254,7 +268,7 @@ abbrev pub renew : ℕ → ℕ → Lease → Lease
 renew now term x = record { network = x .network; length = x .length; client = x .client; leased = true; h = x .h; d = x .d; expires = now + term }
 
 abbrev pub renewNamed : ℕ → ℕ → ℕ → List Entry → List Lease → List Lease
-renewNamed now term client es xs = map (λ x. cond (named? client es x) (renew now term x) x) xs
+renewNamed now term client es xs = map (λ x. cond (namedBy? client es x) (renew now term x) x) xs
 
 unfoldable pub takeRows : LeaseTable → ℕ → ℕ → List ℕ → List ℕ → List Row
 takeRows t now client option reply =
@@ -284,17 +298,17 @@ take t now client option reply =
 abbrev pub forList : List Request → Bool
 forList rs = every (not (nothing? rs) ∷ all? (λ r. r .i) rs ∷ [])
 
--- "The position is the network of the last entry of the last Information with c and s set". `found`: the one before these entries or suboptions.
+-- "The position is the network of the last entry of the last Information with c and s set". `earlier`: the one before these entries or suboptions.
 abbrev pub lastNetwork : Option ℕ → List Entry → Option ℕ
-lastNetwork found [] = found
-lastNetwork found (e ∷ es) = lastNetwork (some (e .network)) es
+lastNetwork earlier [] = earlier
+lastNetwork earlier (e ∷ es) = lastNetwork (some (e .network)) es
 
 abbrev pub position : Option ℕ → List SuboptionValue → Option ℕ
-position found [] = found
-position found (request h i length ∷ subs) = position found subs
-position found (information c s es ∷ subs) = position (cond (c && s) (lastNetwork found es) found) subs
-position found (name octets ∷ subs) = position found subs
-position found (unknown ∷ subs) = position found subs
+position earlier [] = earlier
+position earlier (request h i length ∷ subs) = position earlier subs
+position earlier (information c s es ∷ subs) = position (cond (c && s) (lastNetwork earlier es) earlier) subs
+position earlier (name octets ∷ subs) = position earlier subs
+position earlier (unknown ∷ subs) = position earlier subs
 
 -- "with network above the position"; "without one, all lines are meant"
 abbrev pub above? : Option ℕ → ℕ → Bool
@@ -340,7 +354,7 @@ releaseRows t now client option =
     ∷ (6, refuses? 6 (readOption option))
     ∷ (7, refuses? 7 (readOption option))
     ∷ (8, not (forTake (suboptions (readOption option))))
-    ∷ (11, nothing? (those (named? client (entriesIn option)) (present now (t .leases))))
+    ∷ (11, nothing? (those (namedBy? client (entriesIn option)) (present now (t .leases))))
     ∷ []
 
 -- "Held lines may be returned." The count is "of lines it struck by its entries".
@@ -350,7 +364,7 @@ release t now client option =
     let es = entriesIn option in
     orElse (firstOf (releaseRows t now client option))
     (λ number. refuseUpdate number (refusalPlace option number) t)
-    (acceptUpdate (store t now (those (λ x. not (named? client es x)) xs)) (length (those (named? client es) xs)))
+    (acceptUpdate (store t now (those (λ x. not (namedBy? client es x)) xs)) (length (those (namedBy? client es) xs)))
 
 -- MARK: "sets or clears d on the present line with a given network and length"; "Mark has no station"
 

@@ -1,4 +1,11 @@
 pub mod Ledger
 pub mod Demand3
+pub mod Choice
 pub mod Histories
 pub mod Conservation
+pub mod ListDepends
+pub mod Examples
+pub mod WrongServers
+pub mod SampleLists
+pub mod FurtherExamples
+pub mod Sizes

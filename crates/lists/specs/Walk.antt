@@ -1,6 +1,7 @@
 -- Reading pieces one after another from a position on, until a turn stops: what every reader of records does.
 -- Assumes nothing: these are definitions.
 use Prim.Native.Nat.{ℕ, zero, suc}
+use mathlib.Core.Path.{_≡_}
 use mathlib.Core.List.{List, [], _∷_}
 
 -- What stands at a position: a piece with the position after it, or the end of the reading with its reason.
@@ -28,3 +29,8 @@ pub record Placed (A : Type 0) : Type 0 where
 abbrev pub placed : {A B : Type 0} → ℕ → Turn A B → Turn (Placed A) B
 placed at (more a next) = more (record { at = at; piece = a; next = next }) next
 placed at (stop b) = stop b
+
+-- The pieces follow one another without a gap from a position to another.
+abbrev pub Tiles : {A : Type 0} → ℕ → List (Placed A) → ℕ → Type 0
+Tiles at [] end = at ≡ end
+Tiles at (p ∷ ps) end = (p .at ≡ at) × Tiles (p .next) ps end

@@ -1,6 +1,12 @@
 -- Laws of the definitions.
+pub mod RuleLaws
 pub mod FigureLaws
 pub mod EntryLaws
 pub mod SuboptionLaws
+pub mod PieceLaws
 pub mod WritingLaws
 pub mod WrittenReadsBack
+pub mod Replies
+pub mod AcceptedWritesBack
+pub mod IgnoredBits
+pub mod MarkedExamples

@@ -1,6 +1,6 @@
 -- Laws of the suboptions of an option, and what an answer of the cursor tells.
 -- Assumes nothing.
-use Prim.Native.Nat.{ℕ, suc, _+_, _-_, _≤_, _<_}
+use Prim.Native.Nat.{ℕ, _+_, _-_, _≤_, _<_}
 use native.Mathlib.Omega.{arith}
 use mathlib.Core.Path.{_≡_, refl, sym, ap, ap₂, _∙_}
 use mathlib.Core.List.{List, [], _∷_}
@@ -15,7 +15,7 @@ use Rattle.lists.proofs.WalkLaws.{unroll-more, unroll-stop}
 use Rattle.option.specs.Values.{Entry, SuboptionValue, request, information, name, unknown}
 use Rattle.option.specs.Rules.{final, fields?}
 use Rattle.option.specs.Reading.{End, whole, badAt, subEnd, subInside?, whenGood, readEntries, readRequest, readInformation, readName, readBody, readSuboption, readSuboptions, ended}
-use Rattle.option.specs.Answers.{suboptionOf, cursorAt, stepOf, checkedOf}
+use Rattle.option.specs.Answers.{suboptionOf, stepOf, checkedOf}
 use Rattle.option.specs.declared.Suboption.{Suboption}
 use Rattle.option.specs.declared.Cursor.{Cursor}
 use Rattle.option.specs.declared.Step.the-variants as step
@@ -157,3 +157,35 @@ information-entries s at c t es next h =
     let some : at + 3 < end = ltb-true (at + 3) end (f .0) in
     let last : end ≡ next = g .2 in
     (omega arith, ap (λ (m : ℕ). readEntries s m (at + 3)) (sym last) ∙ ap₂ (λ (x : List Entry) (y : Bool). (x, y)) (g .1) (f .1))
+
+-- Only the end of the option is the end of a reading that is whole.
+good-not-whole : (framed : Bool) (x : SuboptionValue) (at end : ℕ) → whenGood framed x at end ≡ stop whole → ⊥
+unfolding whenGood
+good-not-whole framed x at end h = go (framed && fields? x) h
+  where
+    go : (b : Bool) → cond b (more x end) (stop (badAt at)) ≡ stop whole → ⊥
+    go true k = let z : _≡_ {A = ℕ} 0 1 = cc in omega arith
+    go false k = let z : _≡_ {A = ℕ} 0 1 = cc in omega arith
+
+cond-not : (b : Bool) (t u : Turn SuboptionValue End) → (t ≡ stop whole → ⊥) → (u ≡ stop whole → ⊥) → cond b t u ≡ stop whole → ⊥
+cond-not true t u p q = p
+cond-not false t u p q = q
+
+body-not-whole : (number : ℕ) (s : List ℕ) (at end : ℕ) → readBody number s at end ≡ stop whole → ⊥
+unfolding readBody readRequest readInformation readName
+body-not-whole number s at end =
+    cond-not (eqb number 1) (readRequest s at end) _ (good-not-whole _ _ at end)
+    (cond-not (eqb number 2) (readInformation s at end) _ (good-not-whole _ _ at end)
+    (cond-not (eqb number 3) (readName s at end) _ (good-not-whole _ _ at end)
+    (λ (h : more unknown end ≡ stop whole). let z : _≡_ {A = ℕ} 0 1 = cc in omega arith)))
+
+finished : (p q : Bool) (t : Turn SuboptionValue End) (at : ℕ) → (t ≡ stop whole → ⊥) → cond p (stop whole) (cond q t (stop (badAt at))) ≡ stop whole → p ≡ true
+finished true q t at never h = refl
+finished false true t at never h = absurd (never h)
+finished false false t at never h = let z : _≡_ {A = ℕ} 0 1 = cc in absurd (omega arith)
+
+pub suboption-whole : (s : List ℕ) (at : ℕ) → readSuboption s at ≡ stop whole → length s ≤ at
+unfolding readSuboption
+suboption-whole s at h =
+    leb-true (length s) at
+    (finished (leb (length s) at) (subInside? s at) (readBody (getD s at 0) s at (subEnd s at)) at (body-not-whole (getD s at 0) s at (subEnd s at)) h)

@@ -1,6 +1,6 @@
 -- "A written option reads back as the same list of suboptions, entries and figures included."
 -- Assumes nothing.
-use Prim.Native.Nat.{ℕ, zero, suc, _+_, _-_, _*_, _/_, _%_, _≤_, _<_}
+use Prim.Native.Nat.{ℕ, _+_, _-_, _*_, _/_, _%_, _≤_, _<_}
 use native.Mathlib.Omega.{arith}
 use native.Mathlib.Nat.{add-zero, add-assoc}
 use mathlib.Core.Path.{_≡_, refl, sym, ap, ap₂, _∙_}
@@ -8,17 +8,16 @@ use mathlib.Core.List.{List, [], _∷_, _++_, append-assoc}
 use mathlib.Core.Bool.{Bool, true, false, cond, _&&_}
 use lib.ListN.{length, getD, take, drop, length-append, length-drop}
 use lib.Seq.{getD-drop, drop-drop, drop-at, take-at}
-use lib.Dec.{eqb, leb, ltb}
-use borrow.Author.Tests.{eq-eqb, ne-eqb, le-leb, lt-leb, lt-ltb, leb-true}
+use lib.Dec.{leb}
+use borrow.Author.Tests.{eq-eqb, le-leb, lt-leb, lt-ltb, leb-true}
 use Rattle.lists.specs.Lists.{All, all?, gather}
-use Rattle.lists.specs.Walk.{more, stop}
+use Rattle.lists.specs.Walk.{more}
 use Rattle.lists.proofs.Tests.{and-to, all?-to, all?-of}
-use Rattle.lists.proofs.ListLaws.{all-map}
-use Rattle.option.specs.Values.{Entry, SuboptionValue, request, information, name, unknown, Outcome, accepted}
+use Rattle.option.specs.Values.{Entry, SuboptionValue, request, information, name, unknown, accepted}
 use Rattle.option.specs.Rules.{entryFields?, fields?}
-use Rattle.option.specs.Reading.{End, whole, bit1, bit2, two, four, figuresAt, entryFramed?, entryAt, readEntry, readEntries, whenGood, subInside?, readRequest, readInformation, readName, readBody, readSuboption, readSuboptions, option?, readOption}
-use Rattle.option.specs.Writing.{twoBytes, fourBytes, flags, requestBytes, entryHead, entryBytes, entriesBytes, informationHead, suboptionBytes, suboptionsBytes, optionHead, optionBytes, entryWritable?, writable?, Writing, refusedWith, written, writeOption}
-use Rattle.option.specs.Selection.{Selected, address, selection?, readSelection, selectionBytes, writeSelection}
+use Rattle.option.specs.Reading.{End, whole, bit1, bit2, four, figuresAt, entryFramed?, entryAt, readEntry, readEntries, whenGood, subInside?, readRequest, readInformation, readName, readBody, readSuboption, readSuboptions, option?, readOption}
+use Rattle.option.specs.Writing.{twoBytes, fourBytes, flags, requestBytes, entryHead, entryBytes, entriesBytes, informationHead, suboptionBytes, suboptionsBytes, optionHead, optionBytes, entryWritable?, writable?, refusedWith, written, writeOption}
+use Rattle.option.specs.Selection.{address, selection?, readSelection, selectionBytes}
 use Rattle.option.proofs.EntryLaws.{entries-more, entries-stop}
 use Rattle.option.proofs.SuboptionLaws.{suboptions-more, suboptions-stop}
 use Rattle.option.proofs.WritingLaws.{entry-length}

@@ -5,10 +5,8 @@ use mathlib.Core.List.{List}
 use mathlib.Core.Bool.{Bool, true, false, cond}
 use lib.ListN.{length, getD}
 use lib.Dec.{eqb}
-use Rattle.lists.specs.Lists.{all?}
 use Rattle.lists.specs.Walk.{Turn, more, stop}
 use Rattle.option.specs.Values.{Entry, SuboptionValue, request, information, name, unknown, Outcome, refused, accepted}
-use Rattle.option.specs.Rules.{entryFields?}
 use Rattle.option.specs.Reading.{End, whole, badAt}
 use Rattle.option.specs.Selection as selection
 use Rattle.option.specs.declared.Selection.{Selection}
@@ -18,11 +16,6 @@ use Rattle.option.specs.declared.EntryFields.{EntryFields}
 use Rattle.option.specs.declared.EntryCursor.{EntryCursor}
 use Rattle.option.specs.declared.EntryStep.{EntryStep}
 use Rattle.option.specs.declared.EntryStep.the-variants as entry-step
-use Rattle.option.specs.declared.Scan.{Scan}
-use Rattle.option.specs.declared.RequestFields.{RequestFields}
-use Rattle.option.specs.declared.InformationFields.{InformationFields}
-use Rattle.option.specs.declared.NameFields.{NameFields}
-use Rattle.option.specs.declared.UnknownFields.{UnknownFields}
 use Rattle.option.specs.declared.Suboption.{Suboption}
 use Rattle.option.specs.declared.Suboption.the-variants.{Request, Information, Name, Unknown}
 use Rattle.option.specs.declared.Cursor.{Cursor}
@@ -46,10 +39,6 @@ abbrev pub entryStepOf : ℕ → Turn Entry Bool → EntryStep
 entryStepOf end (more e next) = entry-step.Entry (fieldsOf e) (entriesFrom next end)
 entryStepOf end (stop true) = entry-step.End
 entryStepOf end (stop false) = entry-step.Cut
-
--- What one pass over the entries finds.
-abbrev pub scanOf : List Entry × Bool → Scan
-scanOf r = record { framed = r .1; fields = all? entryFields? (r .0) }
 
 -- A suboption whose number byte is at `at` and that ends before `end`.
 abbrev pub suboptionOf : SuboptionValue → ℕ → ℕ → Suboption

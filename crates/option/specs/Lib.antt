@@ -3,4 +3,7 @@ pub mod Rules
 pub mod Reading
 pub mod Writing
 pub mod Selection
+pub mod Places
 pub mod Answers
+pub mod Inner
+pub mod Examples

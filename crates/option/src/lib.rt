@@ -1,7 +1,7 @@
 // Options 220 (RFC 6656) and 118 (RFC 3011), read from bytes.
 ghost use mathlib.Core.Path.{_≡_};
 ghost use Prim.Native.Nat.{_+_, _≤_, _<_};
-ghost use lib.ListN.{length as count};
+ghost use lib.ListN.{length};
 ghost use Rattle.option.specs.Rules.{block?};
 ghost use Rattle.option.specs.Reading.{
   two,
@@ -21,12 +21,12 @@ ghost use Rattle.option.specs.Reading.{
 ghost use Rattle.option.specs.Answers.{
   figuresOf,
   entryStepOf,
-  scanOf,
   cursorAt,
   stepOf,
   checkedOf,
   selectionOf,
 };
+ghost use Rattle.option.specs.Inner.{scanOf};
 ghost use Rattle.option.specs.Selection.{readSelection};
 ghost use Rattle.prefix.specs.Prefixes.{checked};
 
@@ -146,7 +146,7 @@ fn wide32(x: u8) -> u32
 
 // The number of two bytes at a position, the high byte first.
 fn two_at(s: &[u8], at: usize) -> u16
-    requires { ⌜ at + 2 ≤ count (now s) ⌝ }
+    requires { ⌜ at + 2 ≤ length (now s) ⌝ }
     ensures { λ r. ⌜ r ≡ two (now (s .entry)) at ⌝ }
 {
     wide16(s[at]) * 256 + wide16(s[at + 1])
@@ -154,7 +154,7 @@ fn two_at(s: &[u8], at: usize) -> u16
 
 // The number of four bytes at a position, the high byte first.
 fn four_at(s: &[u8], at: usize) -> u32
-    requires { ⌜ at + 4 ≤ count (now s) ⌝ }
+    requires { ⌜ at + 4 ≤ length (now s) ⌝ }
     ensures { λ r. ⌜ r ≡ four (now (s .entry)) at ⌝ }
 {
     ((wide32(s[at]) * 256 + wide32(s[at + 1])) * 256 + wide32(s[at + 2])) * 256 + wide32(s[at + 3])
@@ -162,7 +162,7 @@ fn four_at(s: &[u8], at: usize) -> u32
 
 // The figures in n bytes from a position on, of which the first three count.
 fn figures_at(s: &[u8], at: usize, n: usize) -> Figures
-    requires { ⌜ at + n ≤ count (now s) ⌝ }
+    requires { ⌜ at + n ≤ length (now s) ⌝ }
     ensures { λ r. ⌜ r ≡ figuresOf (figuresAt (now (s .entry)) at n) ⌝ }
 {
     if n < 2 {
@@ -282,7 +282,7 @@ fn scan_entries(s: &[u8], at: usize, end: usize) -> Scan
 
 // A request whose number byte is at a place and that ends before `end`: framing, then fields.
 fn request_at(s: &[u8], at: usize, end: usize) -> Step
-    requires { ⌜ (at + 2 ≤ end) × (end ≤ count (now s)) ⌝ }
+    requires { ⌜ (at + 2 ≤ end) × (end ≤ length (now s)) ⌝ }
     ensures { λ r. ⌜ r ≡ stepOf at (readRequest (now (s .entry)) at end) ⌝ }
 {
     if end != at + 4 {
@@ -306,7 +306,7 @@ fn request_at(s: &[u8], at: usize, end: usize) -> Step
 
 // An information, likewise.
 fn information_at(s: &[u8], at: usize, end: usize) -> Step
-    requires { ⌜ (at + 2 ≤ end) × (end ≤ count (now s)) ⌝ }
+    requires { ⌜ (at + 2 ≤ end) × (end ≤ length (now s)) ⌝ }
     ensures { λ r. ⌜ r ≡ stepOf at (readInformation (now (s .entry)) at end) ⌝ }
 {
     if end <= at + 3 {
@@ -333,7 +333,7 @@ fn information_at(s: &[u8], at: usize, end: usize) -> Step
 
 // A name, likewise.
 fn name_at(s: &[u8], at: usize, end: usize) -> Step
-    requires { ⌜ (at + 2 ≤ end) × (end ≤ count (now s)) ⌝ }
+    requires { ⌜ (at + 2 ≤ end) × (end ≤ length (now s)) ⌝ }
     ensures { λ r. ⌜ r ≡ stepOf at (readName (now (s .entry)) at end) ⌝ }
 {
     if end <= at + 2 {
@@ -354,7 +354,7 @@ fn name_at(s: &[u8], at: usize, end: usize) -> Step
 
 // Any suboption, likewise, by its number.
 fn body_at(number: u8, s: &[u8], at: usize, end: usize) -> Step
-    requires { ⌜ (at + 2 ≤ end) × (end ≤ count (now s)) ⌝ }
+    requires { ⌜ (at + 2 ≤ end) × (end ≤ length (now s)) ⌝ }
     ensures { λ r. ⌜ r ≡ stepOf at (readBody number (now (s .entry)) at end) ⌝ }
 {
     match number {
@@ -397,7 +397,7 @@ impl Cursor {
 
 // The check of the suboptions.
 fn check_suboptions(s: &[u8]) -> Checked
-    requires { ⌜ 3 ≤ count (now s) ⌝ }
+    requires { ⌜ 3 ≤ length (now s) ⌝ }
     ensures { λ r. ⌜ r ≡ checkedOf (ended (readSuboptions (now (s .entry)) 3 .0) (readSuboptions (now (s .entry)) 3 .1)) ⌝ }
 {
     let mut cursor = Cursor { at: 3 };
@@ -446,11 +446,11 @@ pub fn read_selection(s: &[u8]) -> Selection
     if s[0] != 118 {
         return Selection::NotTheOption;
     }
-    let len = wide(s[1]);
-    if len + 2 != s.len() {
+    let counted = wide(s[1]);
+    if counted + 2 != s.len() {
         return Selection::NotTheOption;
     }
-    if len != 4 {
+    if counted != 4 {
         return Selection::NotTheOption;
     }
     Selection::Address(four_at(s, 2))

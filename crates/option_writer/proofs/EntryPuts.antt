@@ -2,8 +2,8 @@
 -- Assumes nothing.
 use Prim.Native.Nat.{ℕ, _+_, _-_, _*_, _≤_, _<_}
 use native.Mathlib.Omega.{arith}
-use mathlib.Core.Path.{_≡_, refl, sym, ap, ap₂, _∙_}
-use mathlib.Core.Bool.{Bool, true, _&&_}
+use mathlib.Core.Path.{_≡_, refl, sym, ap, _∙_}
+use mathlib.Core.Bool.{true}
 use mathlib.Core.List.{List, [], _∷_, _++_, map}
 use lib.ListN.{length, getD, length-take, length-append, length-replicate, replicate}
 use lib.Dec.{leb}
@@ -12,14 +12,13 @@ use Rattle.lists.specs.Lists.{all?, gather}
 use Rattle.lists.specs.Put.{put}
 use Rattle.lists.proofs.Tests.{and-to}
 use Rattle.lists.proofs.PutLaws.{put-nothing, put-more}
-use Rattle.option.specs.Values.{Entry}
 use Rattle.option.specs.Rules.{entryFields?}
 use Rattle.option.specs.Writing.{twoBytes, entryHead, entryBytes, entriesBytes, entryWritable?}
 use Rattle.option.specs.declared.EntryFields.{EntryFields}
 use Rattle.option.specs.declared.Figures.{Figures}
 use Rattle.option.proofs.WritingLaws.{entry-head-length, entry-length, entries-append, entries-one}
 use Rattle.option_writer.specs.Lists.{figuresIn, entryOf, part}
-use Rattle.option_writer.proofs.PartLaws.{length-part, part-more, map-append, map-part-at, length-map-part, all?-at}
+use Rattle.option_writer.proofs.PartLaws.{part-more, map-append, map-part-at, length-map-part, all?-at}
 
 pub figures-count : (f : Figures) → length (figuresIn f) ≡ f .count
 unfolding figuresIn

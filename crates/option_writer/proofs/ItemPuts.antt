@@ -4,7 +4,7 @@ use Prim.Native.Nat.{ℕ, zero, suc, _+_, _-_, _*_, _≤_, _<_}
 use native.Mathlib.Omega.{arith}
 use native.Mathlib.Numerals.{add-one}
 use mathlib.Core.Path.{_≡_, refl, sym, ap, ap₂, subst, _∙_}
-use mathlib.Core.Bool.{Bool, true, false, cond, _&&_, and-false}
+use mathlib.Core.Bool.{Bool, true, false, _&&_, and-false}
 use mathlib.Core.List.{List, [], _∷_, _++_, map}
 use lib.ListN.{length, getD, set, take, length-append, length-take, length-map, List·getD-map}
 use lib.Seq.{take-suc, getD-take}
@@ -12,10 +12,10 @@ use lib.Dec.{leb}
 use borrow.Author.Tests.{leb-true, le-leb, lt-leb}
 use Rattle.lists.specs.Lists.{all?, gather}
 use Rattle.lists.specs.Put.{put}
-use Rattle.lists.proofs.Tests.{and-to, bool-cases}
+use Rattle.lists.proofs.Tests.{and-to}
 use Rattle.lists.proofs.PutLaws.{put-more, put-before}
-use Rattle.option.specs.Values.{Entry, SuboptionValue, request, information, name, unknown}
-use Rattle.option.specs.Writing.{fourBytes, entriesBytes, informationHead, suboptionBytes, suboptionsBytes, optionHead, optionBytes, entryWritable?, writable?, Writing, refusedWith, written, writeOption}
+use Rattle.option.specs.Values.{Entry, SuboptionValue, information, name, unknown}
+use Rattle.option.specs.Writing.{fourBytes, entriesBytes, informationHead, suboptionBytes, suboptionsBytes, optionHead, optionBytes, entryWritable?, writable?, writeOption}
 use Rattle.option.specs.Selection.{selectionBytes, writeSelection}
 use Rattle.option.specs.declared.EntryFields.{EntryFields}
 use Rattle.option.proofs.WritingLaws.{information-length, option-length, suboptions-append, suboptions-one}
@@ -27,7 +27,6 @@ use Rattle.option_writer.specs.declared.NameItem.{NameItem}
 use Rattle.option_writer.specs.declared.Slot.{Slot}
 use Rattle.option_writer.specs.declared.Written.{Written}
 use Rattle.option_writer.specs.declared.Written.the-variants as written-as
-use Rattle.option_writer.specs.declared.Measured.{Measured}
 use Rattle.option_writer.specs.declared.Measured.the-variants.{Bytes, Outside}
 use Rattle.option_writer.proofs.PartLaws.{length-part, map-append, all?-at}
 use Rattle.option_writer.proofs.StoreLaws.{two-stores}

@@ -4,3 +4,5 @@ pub mod PartLaws
 pub mod EntryPuts
 pub mod MeasureLaws
 pub mod ItemPuts
+pub mod ReaderToWriter
+pub mod BufferReadsBack

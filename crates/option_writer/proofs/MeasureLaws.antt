@@ -3,21 +3,21 @@
 use Prim.Native.Nat.{ℕ, suc, _+_, _-_, _*_, _≤_, _<_}
 use native.Mathlib.Omega.{arith}
 use native.Mathlib.Numerals.{add-one}
-use mathlib.Core.Path.{_≡_, refl, sym, ap, ap₂, _∙_}
-use mathlib.Core.Bool.{Bool, true, false, cond, not, _&&_, and-false}
-use mathlib.Core.List.{List, [], _∷_, _++_, map}
+use mathlib.Core.Path.{_≡_, refl, sym, ap, _∙_}
+use mathlib.Core.Bool.{Bool, true, false, cond, and-false}
+use mathlib.Core.List.{List, _∷_, map}
 use lib.ListN.{length, getD, take, drop, length-append, length-take, length-map, drop-of-length-le, List·getD-map}
 use lib.Seq.{drop-cons, getD-take}
-use lib.Dec.{eqb, leb}
+use lib.Dec.{leb}
 use borrow.Author.Tests.{leb-true, leb-false, le-leb, lt-leb, eq-eqb, ne-eqb}
 use Rattle.lists.specs.Lists.{all?, gather}
 use Rattle.prefix.specs.Prefixes.{checked}
-use Rattle.option.specs.Values.{Entry, SuboptionValue, request, information, name, unknown}
+use Rattle.option.specs.Values.{Entry, SuboptionValue, information}
 use Rattle.option.specs.Rules.{block?, final, entryFields?, fields?}
 use Rattle.option.specs.Writing.{entryBytes, entriesBytes, suboptionBytes, suboptionsBytes, entryWritable?, writable?}
 use Rattle.option.specs.declared.EntryFields.{EntryFields}
 use Rattle.option.proofs.WritingLaws.{information-length}
-use Rattle.option_writer.specs.Lists.{figuresIn, entryOf, part, informationIn, nameIn, listed, valueAt}
+use Rattle.option_writer.specs.Lists.{entryOf, part, informationIn, nameIn, listed, valueAt}
 use Rattle.option_writer.specs.Inner.{measureOf, measureOne, measureList}
 use Rattle.option_writer.specs.declared.InformationItem.{InformationItem}
 use Rattle.option_writer.specs.declared.NameItem.{NameItem}

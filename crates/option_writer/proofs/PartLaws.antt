@@ -1,13 +1,13 @@
 -- Laws of a part of a list: its length, one element more, and what holds of each of its elements.
 -- Assumes nothing.
-use Prim.Native.Nat.{ℕ, zero, suc, _+_, _-_, _≤_, _<_}
+use Prim.Native.Nat.{ℕ, zero, suc, _+_, _≤_, _<_}
 use native.Mathlib.Omega.{arith}
 use native.Mathlib.Numerals.{add-one}
-use mathlib.Core.Path.{_≡_, refl, sym, ap, _∙_}
+use mathlib.Core.Path.{_≡_, refl, ap, _∙_}
 use mathlib.Core.Bool.{Bool, true}
 use mathlib.Core.List.{List, [], _∷_, _++_, map}
-use lib.ListN.{length, getD, take, drop, length-take, length-drop, length-map, List·getD-map}
-use lib.Seq.{take-suc, getD-take, getD-drop, drop-cons}
+use lib.ListN.{length, getD, drop, length-take, length-drop, length-map, List·getD-map}
+use lib.Seq.{take-suc, getD-take, getD-drop}
 use Rattle.lists.specs.Lists.{All, all?}
 use Rattle.lists.proofs.Tests.{all?-to}
 use Rattle.option_writer.specs.Lists.{part}

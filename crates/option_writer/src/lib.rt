@@ -5,7 +5,7 @@ ghost use mathlib.Core.Path.{_≡_};
 ghost use mathlib.Core.Bool.{true};
 ghost use mathlib.Core.List.{map};
 ghost use Prim.Native.Nat.{_+_, _*_, _≤_, _<_};
-ghost use lib.ListN.{length as size, set, take};
+ghost use lib.ListN.{length, set, take};
 ghost use Rattle.lists.specs.Lists.{all?, gather};
 ghost use Rattle.lists.specs.Put.{put};
 ghost use Rattle.option.specs.Values.{request};
@@ -200,7 +200,7 @@ fn put_figures(buf: &mut [u8], at: usize, f: Figures)
 // An entry with its figures; the place after it.
 fn put_full_entry(buf: &mut [u8], at: usize, e: EntryFields) -> usize
     requires { ⌜ (at ≤ 1000000) × (e .figures .count ≤ 3) ⌝ }
-    ensures { λ r. ⌜ (now (buf .exit) ≡ put (now (buf .entry)) at (entryBytes (entryOf e))) × (r ≡ at + size (entryBytes (entryOf e))) ⌝ }
+    ensures { λ r. ⌜ (now (buf .exit) ≡ put (now (buf .entry)) at (entryBytes (entryOf e))) × (r ≡ at + length (entryBytes (entryOf e))) ⌝ }
 {
     let f = e.figures;
     let n = f.count;
@@ -218,7 +218,7 @@ fn put_entries(
     count: usize,
 ) -> usize
     requires { ⌜ (at ≤ 100000) × (first + count ≤ 64) × (all? entryWritable? (map entryOf (part first count entries)) ≡ true) ⌝ }
-    ensures { λ r. ⌜ (now (buf .exit) ≡ put (now (buf .entry)) at (entriesBytes (map entryOf (part first count entries)))) × (r ≡ at + size (entriesBytes (map entryOf (part first count entries)))) ⌝ }
+    ensures { λ r. ⌜ (now (buf .exit) ≡ put (now (buf .entry)) at (entriesBytes (map entryOf (part first count entries)))) × (r ≡ at + length (entriesBytes (map entryOf (part first count entries)))) ⌝ }
 {
     let mut p = at;
     let mut i: usize = 0;
@@ -444,7 +444,7 @@ fn put_items(
 
 // Option 220: all of a list of suboptions, at the start of the buffer. Everything is checked before the first byte is written.
 pub fn write_option(list: SuboptionList, buf: &mut [u8]) -> Written
-    ensures { λ r. ⌜ (r, now (buf .exit)) ≡ into (writeOption (size (now (buf .entry))) (suboptionsOf list)) (now (buf .entry)) ⌝ }
+    ensures { λ r. ⌜ (r, now (buf .exit)) ≡ into (writeOption (length (now (buf .entry))) (suboptionsOf list)) (now (buf .entry)) ⌝ }
 {
     let count = list.count;
     let items = list.items;
@@ -457,17 +457,18 @@ pub fn write_option(list: SuboptionList, buf: &mut [u8]) -> Written
     if 254 < n {
         return Written::TooLong;
     }
-    if buf.len() < n + 3 {
+    let bytes = n + 3;
+    if buf.len() < bytes {
         return Written::TooLong;
     }
     put_option_head(buf, (n + 1) as u8);
     put_items(buf, items, count, entries, octets);
-    Written::Bytes(n + 3)
+    Written::Bytes(bytes)
 }
 
 // Option 118: an address, at the start of the buffer.
 pub fn write_selection(address: u32, buf: &mut [u8]) -> Written
-    ensures { λ r. ⌜ (r, now (buf .exit)) ≡ into (writeSelection (size (now (buf .entry))) address) (now (buf .entry)) ⌝ }
+    ensures { λ r. ⌜ (r, now (buf .exit)) ≡ into (writeSelection (length (now (buf .entry))) address) (now (buf .entry)) ⌝ }
 {
     if buf.len() < 6 {
         return Written::TooLong;

@@ -2,5 +2,3 @@
 pub mod Ascending
 pub mod TableLaws
 pub mod Scan
-pub mod SlotLaws
-pub mod OpenLaws

@@ -133,6 +133,10 @@ padded xs = xs ++ replicate (leaseSlots - length xs) noLease
 abbrev pub paddedPools : List Pool → List Pool
 paddedPools ps = ps ++ replicate (poolSlots - length ps) noPool
 
+-- The table of all zeros, which is not sound: what a refusal holds in a table's place.
+abbrev pub blank : LeaseTable
+blank = record { pools = replicate poolSlots noPool; leases = replicate leaseSlots noLease; term = 0; «default_length» = 0; last = 0 }
+
 -- The table with other leases.
 abbrev pub withLeases : LeaseTable → List Lease → LeaseTable
 withLeases t xs = record { pools = t .pools; leases = xs; term = t .term; «default_length» = t .«default_length»; last = t .last }

@@ -10,7 +10,7 @@ use lib.Seq.{length-take-le, getD-take, drop-cons}
 use borrow.Author.Needs.{needs}
 use Rattle.table.specs.declared.Lease.{Lease}
 use Rattle.table.specs.Table.{noLease}
-use Rattle.table.specs.Slots.{insertLease}
+use Rattle.slots.specs.Slots.{insertLease}
 use Rattle.ask.specs.Serving.{insertSlots}
 use Rattle.ask.proofs.insert_all.Statement.{statement}
 use Rattle.ask.proofs.insert_all.Tie as tie

@@ -10,7 +10,8 @@ use Rattle.lists.specs.Walk.{more}
 use Rattle.option.specs.Values.{Entry}
 use Rattle.option.specs.Rules.{entryFields?}
 use Rattle.option.specs.Reading.{readEntry, readEntries}
-use Rattle.option.specs.Answers.{fieldsOf, scanOf}
+use Rattle.option.specs.Answers.{fieldsOf}
+use Rattle.option.specs.Inner.{scanOf}
 use Rattle.option.proofs.EntryLaws.{entry-moves, told-entry, told-cut, told-entries-end, scanAfter, scan-turn, scan-stop, entry-fields}
 use Rattle.option.proofs.scan_entries.Statement.{statement}
 use Rattle.option.proofs.scan_entries.Tie as tie

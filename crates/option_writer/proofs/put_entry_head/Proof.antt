@@ -1,7 +1,6 @@
 -- `put_entry_head` meets its contract: four bytes, then three.
 -- Assumes nothing.
-use Prim.Native.Nat.{ℕ}
-use mathlib.Core.Path.{refl, ap, _∙_}
+use mathlib.Core.Path.{refl}
 use borrow.Author.Needs.{needs}
 use Rattle.option.specs.Writing.{fourBytes, entryHead}
 use Rattle.option_writer.proofs.StoreLaws.{four-and-three}

@@ -1,7 +1,6 @@
 -- `put_information_head` meets its contract: past the end nothing changes.
 -- Assumes nothing.
-use Prim.Native.Nat.{ℕ}
-use mathlib.Core.Path.{sym, ap, _∙_}
+use mathlib.Core.Path.{sym}
 use borrow.Author.Needs.{needs}
 use Rattle.lists.proofs.PutLaws.{put-past}
 use Rattle.option.specs.Writing.{informationHead}

@@ -28,8 +28,8 @@ returns-2 c =
     let a = c .before .before .before .before .before .before .before .before .before .args in
     answer-long (suboptionsOf (a .list)) (a .buf .now) _ (sym (c .before .before .before .before .measure-items .ensures .0) ∙ c .before .before .measured .given .1) (c .if1 .taken)
 
-add-if2 : tie.Need-add-if2
-add-if2 c = search needs
+add-bytes : tie.Need-add-bytes
+add-bytes c = search needs
 
 returns-3 : tie.Need-returns-3
 returns-3 c =
@@ -53,9 +53,6 @@ put-items-requires c κs =
     let few = listed-few (l .items) (l .count) (l .entries) (l .octets) _ m in
     (few, subst ReadyList (listed-all (l .items) (l .count) (l .entries) (l .octets) few) (list-ready (suboptionsOf l) (a .buf .now) _ m (c .before .before .before .before .before .before .if1 .left)))
 
-add-t11 : tie.Need-add-t11
-add-t11 c = search needs
-
 same-length : tie.Need-same-length
 same-length c = search needs
 
@@ -77,12 +74,11 @@ write-option-spec =
     enum-told
     returns
     returns-2
-    add-if2
+    add-bytes
     returns-3
     add-put-option-head
     cast-put-option-head
     put-option-head-requires
     put-items-requires
-    add-t11
     same-length
     returns-4)

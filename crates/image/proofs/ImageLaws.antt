@@ -1,0 +1,442 @@
+-- Laws of the image: each record reads back, load and save undo each other on sound tables, one table has one image, and how long it is.
+-- Assumes nothing.
+use Prim.Native.Nat.{ℕ, zero, suc, _+_, _-_, _*_, _/_, _%_, _≤_, _<_}
+use mathlib.Core.Path.{_≡_, refl, sym, ap, ap₂, subst, _∙_}
+use mathlib.Core.Logic.{_⊎_, _↔_, inl, inr, ⊎-elim}
+use mathlib.Core.Bool.{Bool, true, false, not, cond, _&&_}
+use mathlib.Core.List.{List, [], _∷_, _++_, append-assoc, append-nil}
+use mathlib.Core.Option.{Option, none, some}
+use native.Mathlib.Nat.{mul-suc}
+use native.Mathlib.Omega.{arith}
+use lib.ListN.{length, take, drop, getD, replicate, length-append, length-drop}
+use lib.Dec.{leb, ltb, eqb}
+use borrow.Author.Tests.{leb-true, le-leb, lt-leb, eqb-true, eq-eqb, ne-eqb, not-true}
+use Rattle.lists.specs.Lists.{All, every, those, gather}
+use Rattle.lists.proofs.Tests.{bool-cases, and-to, and-of, not-of, cond-true, cond-false, every-to, every-of}
+use Rattle.lists.proofs.ListLaws.{all-map, all-right}
+use Rattle.lists.proofs.DropLaws.{all-drop}
+use Rattle.lists.proofs.ThoseLaws.{those-whole, those-append, those-replicate, those-fewer, those-pass}
+use Rattle.table.specs.declared.Pool.{Pool}
+use Rattle.table.specs.declared.Lease.{Lease}
+use Rattle.table.specs.declared.LeaseTable.{LeaseTable}
+use Rattle.table.specs.Table.{poolSlots, leaseSlots, noPool, noLease, unused?, empty?, sound, padded, paddedPools, poolsOf, prefixesOf, poolPrefix, present}
+use Rattle.table.proofs.TableLaws.{unused-of, empty-of, sound-slots, sound-pool-slots, sound-pools-whole, sound-used, sound-whole}
+use Rattle.image.specs.declared.Head.{Head}
+use Rattle.image.specs.declared.HeadRead.{HeadRead}
+use Rattle.image.specs.declared.PoolRead.{PoolRead}
+use Rattle.image.specs.declared.LeaseRead.{LeaseRead}
+use Rattle.image.specs.Fields.{le16, le32, number16, number32, Run, records}
+use Rattle.image.specs.Image.{headRecord, poolRecord, leaseRecord, stateByte, bit, flagsByte, usedPools, usedLeases, headOf, imageOf, headSize, poolSize, leaseSize, headIn, headTests, headAt, poolIn, poolTests, poolAt, leaseIn, leaseTests, leaseAt, headRead, poolRead, leaseRead, poolsAt, leasesAt, tableWith, whole, afterHead, loadImage}
+use Rattle.image.proofs.FieldLaws.{Bytes, bytes-of, bytes-drop, spell32, le16-number, le32-number, spelled, front-spelled, records-gather, Readings, readings}
+
+-- EACH RECORD READS BACK
+
+some-same : {A : Type 0} (b : Bool) (x y : A) → cond b (some x) none ≡ some y → (b ≡ true) × (x ≡ y)
+some-same true x y e = (refl, cc)
+some-same false x y e = let z : _≡_ {A = ℕ} 0 1 = cc in absurd (omega arith)
+
+abbrev head : ℕ → ℕ → ℕ → Head
+head term defaultLength last = record { term = term; «default_length» = defaultLength; last = last }
+
+module _ (x : Head) (q : List ℕ) where
+  pub head-reads : headAt (headRecord x ++ q) ≡ some x
+  unfolding headAt headRecord le16 le32 number16 number32
+  head-reads =
+      let s : List ℕ = headRecord x ++ q in
+      cond-true (every (headTests s)) (some (headIn s)) none (every-of (headTests s) (le-leb headSize (length s) (omega arith), (refl, (refl, tt))))
+      ∙ ap₂ (λ (t l : ℕ). some (head t (x .«default_length») l)) (spell32 (x .term)) (spell32 (x .last))
+
+  pub head-skips : drop headSize (headRecord x ++ q) ≡ q
+  unfolding headRecord le16 le32
+  head-skips = refl
+
+-- What is read stood there as it is written.
+pub head-written : (s : List ℕ) (x : Head) → Bytes s → headAt s ≡ some x → s ≡ headRecord x ++ drop headSize s
+unfolding headAt headRecord
+head-written s x b e =
+    let p = some-same (every (headTests s)) (headIn s) x e in
+    let t = every-to (headTests s) (p .0) in
+    let len : le16 11 ≡ getD s 0 0 ∷ getD s 1 0 ∷ [] = ap le16 (sym (eqb-true (number16 s 0) 11 (t .1 .0))) ∙ le16-number s b 0 in
+    let kind : le16 1 ≡ getD s 2 0 ∷ getD s 3 0 ∷ [] = ap le16 (sym (eqb-true (number16 s 2) 1 (t .1 .1 .0))) ∙ le16-number s b 2 in
+    let same : headRecord (headIn s) ≡ spelled 0 headSize s = rw (len, kind, le32-number s b 4, le32-number s b 9) in
+    front-spelled headSize s (leb-true headSize (length s) (t .0)) ∙ ap (λ (l : List ℕ). l ++ drop headSize s) (sym same ∙ ap headRecord (p .1))
+
+module _ (p : Pool) (q : List ℕ) where
+  pub pool-reads : unused? p ≡ false → poolAt (poolRecord p ++ q) ≡ some p
+  unfolding poolAt poolRecord le16 le32 number16 number32
+  pool-reads used =
+      let s : List ℕ = poolRecord p ++ q in
+      let same : poolIn s ≡ p = ap (λ (n : ℕ). record { network = n; length = p .length }) (spell32 (p .network)) in
+      cond-true (every (poolTests s)) (some (poolIn s)) none
+      (every-of (poolTests s) (le-leb poolSize (length s) (omega arith), (refl, (refl, (not-of (unused? (poolIn s)) (ap unused? same ∙ used), tt)))))
+      ∙ ap some same
+
+  pub pool-skips : drop poolSize (poolRecord p ++ q) ≡ q
+  unfolding poolRecord le16 le32
+  pool-skips = refl
+
+pub pool-written : (s : List ℕ) (p : Pool) → Bytes s → poolAt s ≡ some p → (s ≡ poolRecord p ++ drop poolSize s) × (unused? p ≡ false)
+unfolding poolAt poolRecord
+pool-written s p b e =
+    let q = some-same (every (poolTests s)) (poolIn s) p e in
+    let t = every-to (poolTests s) (q .0) in
+    let len : le16 7 ≡ getD s 0 0 ∷ getD s 1 0 ∷ [] = ap le16 (sym (eqb-true (number16 s 0) 7 (t .1 .0))) ∙ le16-number s b 0 in
+    let kind : le16 2 ≡ getD s 2 0 ∷ getD s 3 0 ∷ [] = ap le16 (sym (eqb-true (number16 s 2) 2 (t .1 .1 .0))) ∙ le16-number s b 2 in
+    let same : poolRecord (poolIn s) ≡ spelled 0 poolSize s = rw (len, kind, le32-number s b 4) in (
+      front-spelled poolSize s (leb-true poolSize (length s) (t .0)) ∙ ap (λ (l : List ℕ). l ++ drop poolSize s) (sym same ∙ ap poolRecord (q .1)),
+      ap unused? (sym (q .1)) ∙ not-true (unused? (poolIn s)) (t .1 .1 .1 .0),
+    )
+
+-- The byte of the state and that of the flags, read and written.
+state-reads : (b : Bool) → eqb (stateByte b) 2 ≡ b
+state-reads true = refl
+state-reads false = refl
+
+h-reads : (h d : Bool) → eqb (flagsByte h d % 2) 1 ≡ h
+h-reads true true = refl
+h-reads true false = refl
+h-reads false true = refl
+h-reads false false = refl
+
+d-reads : (h d : Bool) → eqb (flagsByte h d / 2 % 2) 1 ≡ d
+d-reads true true = refl
+d-reads true false = refl
+d-reads false true = refl
+d-reads false false = refl
+
+state-range : (b : Bool) → (1 ≤ stateByte b) × (stateByte b ≤ 2)
+state-range true = (omega arith, omega arith)
+state-range false = (omega arith, omega arith)
+
+flags-range : (h d : Bool) → flagsByte h d ≤ 3
+flags-range true true = omega arith
+flags-range true false = omega arith
+flags-range false true = omega arith
+flags-range false false = omega arith
+
+state-written : (n : ℕ) → 1 ≤ n → n ≤ 2 → stateByte (eqb n 2) ≡ n
+state-written zero a b = absurd (omega arith)
+state-written (suc zero) a b = refl
+state-written (suc (suc zero)) a b = refl
+state-written (suc (suc (suc n))) a b = absurd (omega arith)
+
+flags-written : (n : ℕ) → n ≤ 3 → flagsByte (eqb (n % 2) 1) (eqb (n / 2 % 2) 1) ≡ n
+flags-written zero a = refl
+flags-written (suc zero) a = refl
+flags-written (suc (suc zero)) a = refl
+flags-written (suc (suc (suc zero))) a = refl
+flags-written (suc (suc (suc (suc n)))) a = absurd (omega arith)
+
+abbrev lease : ℕ → ℕ → ℕ → Bool → Bool → Bool → ℕ → Lease
+lease n l c le h d e = record { network = n; length = l; client = c; leased = le; h = h; d = d; expires = e }
+
+module _ (x : Lease) (q : List ℕ) where
+  pub lease-reads : empty? x ≡ false → leaseAt (leaseRecord x ++ q) ≡ some x
+  unfolding leaseAt leaseRecord le16 le32 number16 number32
+  lease-reads used =
+      let s : List ℕ = leaseRecord x ++ q in
+      let same : leaseIn s ≡ x =
+      ap₂ (λ (n c : ℕ). lease n (x .length) c (eqb (stateByte (x .leased)) 2) (eqb (flagsByte (x .h) (x .d) % 2) 1) (eqb (flagsByte (x .h) (x .d) / 2 % 2) 1) (number32 s 15)) (spell32 (x .network)) (spell32 (x .client))
+      ∙ ap₂ (λ (le : Bool) (e : ℕ). lease (x .network) (x .length) (x .client) le (eqb (flagsByte (x .h) (x .d) % 2) 1) (eqb (flagsByte (x .h) (x .d) / 2 % 2) 1) e) (state-reads (x .leased)) (spell32 (x .expires))
+      ∙ ap₂ (λ (h d : Bool). lease (x .network) (x .length) (x .client) (x .leased) h d (x .expires)) (h-reads (x .h) (x .d)) (d-reads (x .h) (x .d)) in
+      let state = state-range (x .leased) in
+      cond-true (every (leaseTests s)) (some (leaseIn s)) none
+      (every-of (leaseTests s) (
+        le-leb leaseSize (length s) (omega arith),
+        (
+          refl,
+          (
+            refl,
+            (
+              le-leb 1 (stateByte (x .leased)) (state .0),
+              (
+                le-leb (stateByte (x .leased)) 2 (state .1),
+                (le-leb (flagsByte (x .h) (x .d)) 3 (flags-range (x .h) (x .d)), (not-of (empty? (leaseIn s)) (ap empty? same ∙ used), tt)),
+              ),
+            ),
+          ),
+        ),
+      ))
+      ∙ ap some same
+
+  pub lease-skips : drop leaseSize (leaseRecord x ++ q) ≡ q
+  unfolding leaseRecord le16 le32
+  lease-skips = refl
+
+pub lease-written : (s : List ℕ) (x : Lease) → Bytes s → leaseAt s ≡ some x → (s ≡ leaseRecord x ++ drop leaseSize s) × (empty? x ≡ false)
+unfolding leaseAt leaseRecord
+lease-written s x b e =
+    let p = some-same (every (leaseTests s)) (leaseIn s) x e in
+    let t = every-to (leaseTests s) (p .0) in
+    let len : le16 17 ≡ getD s 0 0 ∷ getD s 1 0 ∷ [] = ap le16 (sym (eqb-true (number16 s 0) 17 (t .1 .0))) ∙ le16-number s b 0 in
+    let kind : le16 3 ≡ getD s 2 0 ∷ getD s 3 0 ∷ [] = ap le16 (sym (eqb-true (number16 s 2) 3 (t .1 .1 .0))) ∙ le16-number s b 2 in
+    let state : stateByte (eqb (getD s 9 0) 2) ≡ getD s 9 0 = state-written (getD s 9 0) (leb-true 1 (getD s 9 0) (t .1 .1 .1 .0)) (leb-true (getD s 9 0) 2 (t .1 .1 .1 .1 .0)) in
+    let flags : flagsByte (eqb (getD s 10 0 % 2) 1) (eqb (getD s 10 0 / 2 % 2) 1) ≡ getD s 10 0 = flags-written (getD s 10 0) (leb-true (getD s 10 0) 3 (t .1 .1 .1 .1 .1 .0)) in
+    let same : leaseRecord (leaseIn s) ≡ spelled 0 leaseSize s = rw (len, kind, le32-number s b 4, le32-number s b 11, le32-number s b 15, state, flags) in (
+      front-spelled leaseSize s (leb-true leaseSize (length s) (t .0)) ∙ ap (λ (l : List ℕ). l ++ drop leaseSize s) (sym same ∙ ap leaseRecord (p .1)),
+      ap empty? (sym (p .1)) ∙ not-true (empty? (leaseIn s)) (t .1 .1 .1 .1 .1 .1 .0),
+    )
+
+-- No record of a lease is one of a pool.
+no-pool : (xs : List Lease) → poolAt (gather leaseRecord xs) ≡ none
+unfolding poolAt leaseRecord le16 le32 number16
+no-pool [] = refl
+no-pool (x ∷ xs) =
+    let s : List ℕ = gather leaseRecord (x ∷ xs) in
+    cond-false (every (poolTests s)) (some (poolIn s)) none (third (leb poolSize (length s)) (eqb (number16 s 0) 7) (not (unused? (poolIn s))))
+  where
+    third : (a b c : Bool) → (a && (b && (false && (c && true)))) ≡ false
+    third true true c = refl
+    third true false c = refl
+    third false b c = refl
+
+no-lease : leaseAt [] ≡ none
+unfolding leaseAt
+no-lease = refl
+
+-- LOAD AND SAVE UNDO EACH OTHER
+
+-- What is used of slots that are filled up.
+used-pools : (k : ℕ) (ps : List Pool) → All (λ p. unused? p ≡ false) ps → those (λ p. not (unused? p)) (ps ++ replicate k noPool) ≡ ps
+used-pools k ps a =
+    let f : Pool → Bool = λ p. not (unused? p) in
+    those-append f ps (replicate k noPool)
+    ∙ ap₂ (λ (x y : List Pool). x ++ y) (those-whole f ps (all-map (λ p (e : unused? p ≡ false). not-of (unused? p) e) ps a)) (those-replicate f k noPool (ap not unused-of))
+    ∙ append-nil ps
+
+used-leases : (k : ℕ) (xs : List Lease) → All (λ x. empty? x ≡ false) xs → those (λ x. not (empty? x)) (xs ++ replicate k noLease) ≡ xs
+used-leases k xs a =
+    let f : Lease → Bool = λ x. not (empty? x) in
+    those-append f xs (replicate k noLease)
+    ∙ ap₂ (λ (x y : List Lease). x ++ y) (those-whole f xs (all-map (λ x (e : empty? x ≡ false). not-of (empty? x) e) xs a)) (those-replicate f k noLease (ap not empty-of))
+    ∙ append-nil xs
+
+used-all : {A : Type 0} (none? : A → Bool) (xs : List A) → All (λ x. none? x ≡ false) (those (λ x. not (none? x)) xs)
+used-all none? xs = all-map (λ x (e : not (none? x) ≡ true). not-true (none? x) e) (those (λ x. not (none? x)) xs) (those-pass (λ x. not (none? x)) xs)
+
+-- A sound table is that of its head, its used pools and its used leases.
+pub table-whole : (t : LeaseTable) → sound t ≡ true → t ≡ tableWith (headOf t) (usedPools t) (usedLeases t)
+table-whole t e =
+    let ps = sound-pools-whole t e in
+    let xs : t .leases ≡ padded (usedLeases t) = subst (λ (l : List Lease). t .leases ≡ padded l) (sym (sound-used t e)) (sound-whole t e) in
+    ap₂ (λ (p : List Pool) (l : List Lease). record { pools = p; leases = l; term = t .term; «default_length» = t .«default_length»; last = t .last }) ps xs
+
+whole-some : (t : LeaseTable) → sound t ≡ true → whole t [] ≡ some t
+whole-some t e = rw e
+
+-- "Load and save undo each other on sound books": what is saved loads as the same table.
+pub load-image : (t : LeaseTable) → sound t ≡ true → loadImage (imageOf t) ≡ some t
+unfolding loadImage imageOf
+load-image t e =
+    let ps : List Pool = usedPools t in
+    let xs : List Lease = usedLeases t in
+    let tail : List ℕ = gather leaseRecord xs in
+    let body : List ℕ = gather poolRecord ps ++ tail in
+    let few : length ps ≤ poolSlots = omega (arith, those-fewer (λ p. not (unused? p)) (t .pools), sound-pool-slots t e) in
+    let fewer : length xs ≤ leaseSlots = omega (arith, those-fewer (λ x. not (empty? x)) (t .leases), sound-slots t e) in
+    let pools : poolsAt body ≡ record { items = ps; rest = tail } =
+    records-gather poolAt poolSize poolRecord (λ p. unused? p ≡ false) (λ p q u. pool-reads p q u) pool-skips poolSlots ps tail (used-all unused? (t .pools)) few (no-pool xs) in
+    let leases : leasesAt tail ≡ record { items = xs; rest = [] } =
+    ap leasesAt (sym (append-nil tail))
+    ∙ records-gather leaseAt leaseSize leaseRecord (λ x. empty? x ≡ false) (λ x q u. lease-reads x q u) lease-skips leaseSlots xs [] (used-all empty? (t .leases)) fewer no-lease in
+    ap₂ afterHead (head-reads (headOf t) body) (head-skips (headOf t) body)
+    ∙ ap (λ (r : Run Pool). whole (tableWith (headOf t) (r .items) (leasesAt (r .rest) .items)) (leasesAt (r .rest) .rest)) pools
+    ∙ ap (λ (r : Run Lease). whole (tableWith (headOf t) ps (r .items)) (r .rest)) leases
+    ∙ ap (λ (u : LeaseTable). whole u []) (sym (table-whole t e))
+    ∙ whole-some t e
+
+length-zero : {A : Type 0} (xs : List A) → length xs ≡ 0 → xs ≡ []
+length-zero [] e = refl
+length-zero (x ∷ xs) e = absurd (omega arith)
+
+-- What loads is sound, and is saved as the same bytes.
+pub image-loaded : (s : List ℕ) (t : LeaseTable) → All (λ b. b < 256) s → loadImage s ≡ some t → (sound t ≡ true) × (imageOf t ≡ s)
+unfolding loadImage imageOf
+image-loaded s t a e = cases (headAt s) refl e
+  where
+    cases : (o : Option Head) → headAt s ≡ o → afterHead o (drop headSize s) ≡ some t → (sound t ≡ true) × (imageOf t ≡ s)
+    cases none h f = let z : _≡_ {A = ℕ} 0 1 = cc in absurd (omega arith)
+    cases (some x) h f =
+        let body : List ℕ = drop headSize s in
+        let bodyBytes : All (λ b. b < 256) body = all-drop (λ b. b < 256) headSize s a in
+        let ps : Run Pool = poolsAt body in
+        let r = readings poolAt poolSize poolRecord (λ p. unused? p ≡ false) pool-written poolSlots body (bytes-of body bodyBytes) in
+        let restBytes : All (λ b. b < 256) (ps .rest) =
+        all-right (λ b. b < 256) (gather poolRecord (ps .items)) (ps .rest) (subst (All (λ b. b < 256)) (r .same) bodyBytes) in
+        let xs : Run Lease = leasesAt (ps .rest) in
+        let q = readings leaseAt leaseSize leaseRecord (λ y. empty? y ≡ false) lease-written leaseSlots (ps .rest) (bytes-of (ps .rest) restBytes) in
+        let u : LeaseTable = tableWith x (ps .items) (xs .items) in
+        let w = some-same (every (eqb (length (xs .rest)) 0 ∷ sound u ∷ [])) u t f in
+        let tests = every-to (eqb (length (xs .rest)) 0 ∷ sound u ∷ []) (w .0) in
+        let nothing : xs .rest ≡ [] = length-zero (xs .rest) (eqb-true (length (xs .rest)) 0 (tests .0)) in
+        let tail : ps .rest ≡ gather leaseRecord (xs .items) = q .same ∙ ap (λ (l : List ℕ). gather leaseRecord (xs .items) ++ l) nothing ∙ append-nil (gather leaseRecord (xs .items)) in
+        let bytes : s ≡ headRecord x ++ (gather poolRecord (ps .items) ++ gather leaseRecord (xs .items)) =
+        head-written s x (bytes-of s a) h ∙ ap (λ (l : List ℕ). headRecord x ++ l) (r .same ∙ ap (λ (l : List ℕ). gather poolRecord (ps .items) ++ l) tail) in
+        let image : imageOf u ≡ s =
+        ap₂ (λ (p : List Pool) (l : List Lease). headRecord x ++ (gather poolRecord p ++ gather leaseRecord l))
+        (used-pools (poolSlots - length (ps .items)) (ps .items) (r .each)) (used-leases (leaseSlots - length (xs .items)) (xs .items) (q .each))
+        ∙ sym bytes in
+        (ap sound (sym (w .1)) ∙ tests .1 .0, ap imageOf (sym (w .1)) ∙ image)
+
+-- Load accepts bytes exactly if they are the image of a sound table, and gives that table.
+pub loads⇔image : (s : List ℕ) (t : LeaseTable) → All (λ b. b < 256) s → (loadImage s ≡ some t) ↔ ((sound t ≡ true) × (imageOf t ≡ s))
+loads⇔image s t a = (image-loaded s t a, λ p. ap loadImage (sym (p .1)) ∙ load-image t (p .0))
+
+-- "one book, one image"
+some-injective : {A : Type 0} (x y : A) → some x ≡ some y → x ≡ y
+some-injective x y e = cc
+
+pub one-image : (t u : LeaseTable) → sound t ≡ true → sound u ≡ true → (imageOf t ≡ imageOf u) ↔ (t ≡ u)
+one-image t u a b = ((λ e. some-injective t u (sym (load-image t a) ∙ ap loadImage e ∙ load-image u b)), ap imageOf)
+
+-- HOW LONG AN IMAGE IS
+
+pub length-head : (x : Head) → length (headRecord x) ≡ 13
+unfolding headRecord le16 le32
+length-head x = refl
+
+pub length-pool : (p : Pool) → length (poolRecord p) ≡ 9
+unfolding poolRecord le16 le32
+length-pool p = refl
+
+pub length-lease : (x : Lease) → length (leaseRecord x) ≡ 19
+unfolding leaseRecord le16 le32
+length-lease x = refl
+
+pub length-gather : {A : Type 0} (rec : A → List ℕ) (n : ℕ) → ((x : A) → length (rec x) ≡ n) → (xs : List A) → length (gather rec xs) ≡ n * length xs
+length-gather rec n h [] = omega arith
+length-gather rec n h (x ∷ xs) =
+    let e : n * length (x ∷ xs) ≡ n + n * length xs = mul-suc n (length xs) ∙ omega arith in
+    length-append (rec x) (gather rec xs) ∙ omega (arith, h x, length-gather rec n h xs)
+
+pub length-image : (t : LeaseTable) → length (imageOf t) ≡ 13 + 9 * length (usedPools t) + 19 * length (usedLeases t)
+unfolding imageOf
+length-image t =
+    let pools = length-gather poolRecord 9 length-pool (usedPools t) in
+    let leases = length-gather leaseRecord 19 length-lease (usedLeases t) in
+    length-append (headRecord (headOf t)) (gather poolRecord (usedPools t) ++ gather leaseRecord (usedLeases t))
+    ∙ omega (arith, length-head (headOf t), length-append (gather poolRecord (usedPools t)) (gather leaseRecord (usedLeases t)))
+
+-- "A full book is 4,949 bytes." No image of a sound table is longer.
+pub full-image : (t : LeaseTable) → length (usedPools t) ≡ poolSlots → length (usedLeases t) ≡ leaseSlots → length (imageOf t) ≡ 4949
+full-image t p l = omega (arith, length-image t)
+
+pub longest-image : (t : LeaseTable) → sound t ≡ true → length (imageOf t) ≤ 4949
+longest-image t e =
+    omega (arith, length-image t, those-fewer (λ p. not (unused? p)) (t .pools), sound-pool-slots t e, those-fewer (λ x. not (empty? x)) (t .leases), sound-slots t e)
+
+-- THE ANSWERS OF THE READERS
+
+module _ (s : List ℕ) where
+  pub head-other : every (headTests s) ≡ false → HeadRead.Other ≡ headRead (headAt s)
+  unfolding headAt
+  head-other e = rw e
+
+  pub head-found : every (headTests s) ≡ true → HeadRead.Found (headIn s) ≡ headRead (headAt s)
+  unfolding headAt
+  head-found e = rw e
+
+  pub pool-other : every (poolTests s) ≡ false → PoolRead.Other ≡ poolRead (poolAt s)
+  unfolding poolAt
+  pool-other e = rw e
+
+  pub pool-found : every (poolTests s) ≡ true → PoolRead.Found (poolIn s) ≡ poolRead (poolAt s)
+  unfolding poolAt
+  pool-found e = rw e
+
+  pub lease-other : every (leaseTests s) ≡ false → LeaseRead.Other ≡ leaseRead (leaseAt s)
+  unfolding leaseAt
+  lease-other e = rw e
+
+  pub lease-found : every (leaseTests s) ≡ true → LeaseRead.Found (leaseIn s) ≡ leaseRead (leaseAt s)
+  unfolding leaseAt
+  lease-found e = rw e
+
+-- A pool and a lease of numbers that were read.
+abbrev pub poolRaw : ℕ → ℕ → Pool
+poolRaw network len = record { network = network; length = len }
+
+abbrev pub leaseRaw : List ℕ → ℕ → ℕ → ℕ → Lease
+leaseRaw s network client expires = record {
+  network = network;
+  length = getD s 8 0;
+  client = client;
+  leased = eqb (getD s 9 0) 2;
+  h = eqb (getD s 10 0 % 2) 1;
+  d = eqb (getD s 10 0 / 2 % 2) 1;
+  expires = expires;
+}
+
+-- What an answer tells of what was read.
+pub pool-of-found : (o : Option Pool) (p : Pool) → poolRead o ≡ PoolRead.Found p → o ≡ some p
+pool-of-found none p e = let z : _≡_ {A = ℕ} 0 1 = cc in absurd (omega arith)
+pool-of-found (some q) p e = cc
+
+pub pool-of-other : (o : Option Pool) → poolRead o ≡ PoolRead.Other → o ≡ none
+pool-of-other none e = refl
+pool-of-other (some q) e = let z : _≡_ {A = ℕ} 0 1 = cc in absurd (omega arith)
+
+pub lease-of-found : (o : Option Lease) (x : Lease) → leaseRead o ≡ LeaseRead.Found x → o ≡ some x
+lease-of-found none x e = let z : _≡_ {A = ℕ} 0 1 = cc in absurd (omega arith)
+lease-of-found (some y) x e = cc
+
+pub lease-of-other : (o : Option Lease) → leaseRead o ≡ LeaseRead.Other → o ≡ none
+lease-of-other none e = refl
+lease-of-other (some y) e = let z : _≡_ {A = ℕ} 0 1 = cc in absurd (omega arith)
+
+pub head-of-found : (o : Option Head) (x : Head) → headRead o ≡ HeadRead.Found x → o ≡ some x
+head-of-found none x e = let z : _≡_ {A = ℕ} 0 1 = cc in absurd (omega arith)
+head-of-found (some y) x e = cc
+
+pub head-of-other : (o : Option Head) → headRead o ≡ HeadRead.Other → o ≡ none
+head-of-other none e = refl
+head-of-other (some y) e = let z : _≡_ {A = ℕ} 0 1 = cc in absurd (omega arith)
+
+-- A record that is read is there whole.
+pub head-long : (s : List ℕ) (x : Head) → headAt s ≡ some x → headSize ≤ length s
+unfolding headAt
+head-long s x e = leb-true headSize (length s) (every-to (headTests s) (some-same (every (headTests s)) (headIn s) x e .0) .0)
+
+pub pool-long : (s : List ℕ) (p : Pool) → poolAt s ≡ some p → poolSize ≤ length s
+unfolding poolAt
+pool-long s p e = leb-true poolSize (length s) (every-to (poolTests s) (some-same (every (poolTests s)) (poolIn s) p e .0) .0)
+
+pub lease-long : (s : List ℕ) (x : Lease) → leaseAt s ≡ some x → leaseSize ≤ length s
+unfolding leaseAt
+lease-long s x e = leb-true leaseSize (length s) (every-to (leaseTests s) (some-same (every (leaseTests s)) (leaseIn s) x e .0) .0)
+
+-- WHAT LOAD ANSWERS, after the pools were read and `part` is left, of which the leases take `size` bytes.
+module _ (x : Head) (s part : List ℕ) (size : ℕ) (same : part ≡ poolsAt s .rest) (fits : size ≤ length part) (left : leasesAt part .rest ≡ drop size part) where
+  restLength : length (leasesAt (poolsAt s .rest) .rest) ≡ length part - size
+  restLength = ap (λ (l : List ℕ). length (leasesAt l .rest)) (sym same) ∙ ap length left ∙ length-drop size part
+
+  pub load-trailing : (size ≡ length part → ⊥) → afterHead (some x) s ≡ none
+  load-trailing h =
+      let more : length (leasesAt (poolsAt s .rest) .rest) ≡ 0 → ⊥ = λ e. h (omega (arith, restLength)) in
+      rw (ne-eqb (length (leasesAt (poolsAt s .rest) .rest)) 0 more)
+
+  module _ (all : size ≡ length part) (pools : List Pool) (leases : List Lease) (ps : pools ≡ paddedPools (poolsAt s .items)) (xs : leases ≡ padded (leasesAt part .items)) where
+    abbrev loaded : LeaseTable
+    loaded = record { pools = pools; leases = leases; term = x .term; «default_length» = x .«default_length»; last = x .last }
+
+    made : loaded ≡ tableWith x (poolsAt s .items) (leasesAt (poolsAt s .rest) .items)
+    made =
+        ap₂ (λ (p : List Pool) (l : List Lease). record { pools = p; leases = l; term = x .term; «default_length» = x .«default_length»; last = x .last })
+        ps (xs ∙ ap (λ (l : List ℕ). padded (leasesAt l .items)) same)
+
+    nothing : eqb (length (leasesAt (poolsAt s .rest) .rest)) 0 ≡ true
+    nothing = eq-eqb (length (leasesAt (poolsAt s .rest) .rest)) 0 (omega (arith, restLength))
+
+    pub load-unsound : sound loaded ≡ false → afterHead (some x) s ≡ none
+    load-unsound e = rw (nothing, ap sound (sym made) ∙ e)
+
+    pub load-sound : sound loaded ≡ true → afterHead (some x) s ≡ some loaded
+    load-sound e = rw (nothing, ap sound (sym made) ∙ e) (ap some (sym made))
+
+pub load-no-head : (s : List ℕ) → headAt s ≡ none → loadImage s ≡ none
+unfolding loadImage
+load-no-head s e = rw e
+
+pub load-head : (s : List ℕ) (x : Head) → headAt s ≡ some x → loadImage s ≡ afterHead (some x) (drop headSize s)
+unfolding loadImage
+load-head s x e = ap (λ (o : Option Head). afterHead o (drop headSize s)) e

@@ -1,0 +1,119 @@
+-- How many: what an ask grants, what the entries of a take find, what a page of a list has; and that each reply fits every buffer that row 1 lets pass.
+-- Assumes nothing.
+use Prim.Native.Nat.{ℕ, zero, suc, _+_, _*_, _≤_, _<_}
+use mathlib.Core.Path.{_≡_, refl, sym, ap, subst, _∙_}
+use mathlib.Core.Logic.{_⊎_, inl, inr, ⊎-elim}
+use mathlib.Core.Bool.{Bool, true, false, not}
+use mathlib.Core.List.{List, [], _∷_, _++_, map}
+use mathlib.Core.Option.{Option, none, some}
+use native.Mathlib.Omega.{arith}
+use lib.ListN.{length, getD, length-append}
+use lib.ListN.{take as upTo}
+use lib.Dec.{leb, eqb}
+use borrow.Author.Tests.{leb-true, eqb-true}
+use Rattle.lists.specs.Lists.{All, every, all?, those, gather, somes}
+use Rattle.lists.proofs.Tests.{bool-cases, every-to}
+use Rattle.lists.proofs.ListLaws.{all-map}
+use Rattle.lists.proofs.DropLaws.{all-at}
+use Rattle.lists.proofs.ThoseLaws.{those-yes, those-no, those-none}
+use Rattle.prefix.specs.Prefixes.{end}
+use Rattle.prefix.proofs.PrefixLaws.{size-positive}
+use Rattle.option.specs.Values.{Entry, information}
+use Rattle.option.specs.Writing.{optionBytes}
+use Rattle.table.specs.declared.Lease.{Lease}
+use Rattle.table.specs.declared.LeaseTable.{LeaseTable}
+use Rattle.table.specs.Table.{prefixOf, present, sound}
+use Rattle.table.proofs.Ascending.{Ascending, ascending-low}
+use Rattle.table.proofs.TableLaws.{sound-fine}
+use Rattle.ledger.specs.Ledger.{Request, entryOf, forAsk, informationFor, add, offer, offers, names?, found}
+use Rattle.ledger.proofs.ReplyLaws.{ask-bytes, information-bytes}
+
+pub upTo-few : {A : Type 0} (n : ℕ) (xs : List A) → length (upTo n xs) ≤ n
+upTo-few zero xs = omega arith
+upTo-few (suc n) [] = omega arith
+upTo-few (suc n) (x ∷ xs) = omega (arith, upTo-few n xs)
+
+pub upTo-all : {A : Type 0} (P : A → Type 0) (n : ℕ) (xs : List A) → All P xs → All P (upTo n xs)
+upTo-all P zero xs a = tt
+upTo-all P (suc n) [] a = tt
+upTo-all P (suc n) (x ∷ xs) a = (a .0, upTo-all P n xs (a .1))
+
+pub somes-few : {A : Type 0} (os : List (Option A)) → length (somes os) ≤ length os
+somes-few [] = omega arith
+somes-few (none ∷ os) = omega (arith, somes-few os)
+somes-few (some x ∷ os) = omega (arith, somes-few os)
+
+-- ASK: no more than it has requests, and these are at most 25.
+
+pub offers-length : (t : LeaseTable) (now client : ℕ) (rs : List Request) (xs : List Lease) → length (offers t now client xs rs) ≡ length rs
+unfolding offers
+offers-length t now client [] xs = refl
+offers-length t now client (r ∷ rs) xs = ap suc (offers-length t now client rs (add (offer t now client xs r) xs))
+
+pub asks-few : (rs : List Request) → forAsk rs ≡ true → length rs ≤ 25
+asks-few rs e = leb-true (length rs) 25 (every-to (leb 1 (length rs) ∷ leb (length rs) 25 ∷ all? (λ r. not (r .i)) rs ∷ []) e .1 .0)
+
+pub granted-few : (t : LeaseTable) (now client : ℕ) (xs : List Lease) (rs : List Request) → forAsk rs ≡ true → length (somes (offers t now client xs rs)) ≤ 25
+granted-few t now client xs rs e = omega (arith, somes-few (offers t now client xs rs), offers-length t now client rs xs, asks-few rs e)
+
+-- "25 make Len 251": with Code and Len 253 bytes.
+pub ask-fits : (gs : List Lease) → length gs ≤ 25 → length (optionBytes (map informationFor gs)) ≤ 253
+ask-fits gs l = omega (arith, ask-bytes gs)
+
+-- TAKE: an entry names at most one lease of a sound table.
+
+abbrev nameTests : ℕ → Lease → Entry → List Bool
+nameTests client x e = eqb (x .client) client ∷ eqb (x .network) (e .network) ∷ eqb (x .length) (e .length) ∷ []
+
+not-named : (client network : ℕ) (e : Entry) (xs : List Lease) → network ≡ e .network → All (λ y. network < y .network) xs → those (λ x. names? client x e) xs ≡ []
+not-named client network e xs q a = those-none (λ x. names? client x e) xs (all-map (λ y (l : network < y .network). no y l (bool-cases (names? client y e))) xs a)
+  where
+    no : (y : Lease) → network < y .network → (names? client y e ≡ true) ⊎ (names? client y e ≡ false) → names? client y e ≡ false
+    no y l (inl h) = absurd (omega (arith, q, l, eqb-true (y .network) (e .network) (every-to (nameTests client y e) h .1 .0)))
+    no y l (inr h) = h
+
+pub named-once : (client from : ℕ) (e : Entry) (xs : List Lease) → Ascending prefixOf from xs → length (those (λ x. names? client x e) xs) ≤ 1
+named-once client from e [] s = omega arith
+named-once client from e (x ∷ xs) s =
+    ⊎-elim
+    (λ (h : names? client x e ≡ true).
+    let up : All (λ y. x .network < y .network) xs =
+    all-map (λ y (l : end (prefixOf x) ≤ y .network). omega (arith, size-positive (x .length))) xs (ascending-low prefixOf (end (prefixOf x)) xs (s .1)) in
+    omega (
+      arith,
+      ap length (those-yes (λ x. names? client x e) x xs h),
+      ap length (not-named client (x .network) e xs (eqb-true (x .network) (e .network) (every-to (nameTests client x e) h .1 .0)) up),
+    ))
+    (λ (h : names? client x e ≡ false).
+    omega (arith, ap length (those-no (λ x. names? client x e) x xs h), named-once client (end (prefixOf x)) e xs (s .1)))
+    (bool-cases (names? client x e))
+
+-- The one that it names, at its place.
+pub named-one : (client from : ℕ) (e : Entry) (xs : List Lease) → Ascending prefixOf from xs → (i : ℕ) (d : Lease) → i < length xs → names? client (getD xs i d) e ≡ true
+    → those (λ x. names? client x e) xs ≡ getD xs i d ∷ []
+named-one client from e [] s i d l h = absurd (omega arith)
+named-one client from e (x ∷ xs) s zero d l h =
+    let up : All (λ y. x .network < y .network) xs =
+    all-map (λ y (k : end (prefixOf x) ≤ y .network). omega (arith, size-positive (x .length))) xs (ascending-low prefixOf (end (prefixOf x)) xs (s .1)) in
+    those-yes (λ x. names? client x e) x xs h
+    ∙ ap (λ (l : List Lease). x ∷ l) (not-named client (x .network) e xs (eqb-true (x .network) (e .network) (every-to (nameTests client x e) h .1 .0)) up)
+named-one client from e (x ∷ xs) s (suc i) d l h =
+    let low : end (prefixOf x) ≤ getD xs i d .network = all-at (λ y. end (prefixOf x) ≤ y .network) xs (ascending-low prefixOf (end (prefixOf x)) xs (s .1)) i d (omega arith) in
+    let there : getD xs i d .network ≡ e .network = eqb-true (getD xs i d .network) (e .network) (every-to (nameTests client (getD xs i d) e) h .1 .0) in
+    ⊎-elim
+    (λ (k : names? client x e ≡ true).
+    absurd (omega (arith, low, there, eqb-true (x .network) (e .network) (every-to (nameTests client x e) k .1 .0), size-positive (x .length))))
+    (λ (k : names? client x e ≡ false). those-no (λ x. names? client x e) x xs k ∙ named-one client (end (prefixOf x)) e xs (s .1) i d (omega arith) h)
+    (bool-cases (names? client x e))
+
+found-few-in : (client : ℕ) (xs : List Lease) → Ascending prefixOf 0 xs → (es : List Entry) → length (found client xs es) ≤ length es
+found-few-in client xs s [] = omega arith
+found-few-in client xs s (e ∷ es) =
+    omega (arith, length-append (those (λ x. names? client x e) xs) (found client xs es), named-once client 0 e xs s, found-few-in client xs s es)
+
+pub found-few : (t : LeaseTable) (now client : ℕ) (es : List Entry) → sound t ≡ true → length (found client (present now (t .leases)) es) ≤ length es
+found-few t now client es s = found-few-in client (present now (t .leases)) (sound-fine t s now .1) es
+
+-- TAKE AND LIST: 35 entries in one Information need 251 bytes.
+pub information-fits : (c s : Bool) (gs : List Lease) → length gs ≤ 35 → length (optionBytes (information c s (map entryOf gs) ∷ [])) ≤ 251
+information-fits c s gs l = omega (arith, information-bytes c s gs)
