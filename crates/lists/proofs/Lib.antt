@@ -5,3 +5,4 @@ pub mod TableRule
 pub mod WalkLaws
 pub mod PutLaws
 pub mod GatherLaws
+pub mod IndexLaws
