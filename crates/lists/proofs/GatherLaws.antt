@@ -1,10 +1,10 @@
 -- Laws of gathered lists.
 -- Assumes nothing.
-use Prim.Native.Nat.{ℕ, _+_, _*_}
+use Prim.Native.Nat.{ℕ, zero, suc, _+_, _*_, _≤_, _<_}
 use native.Mathlib.Omega.{arith}
 use mathlib.Core.Path.{_≡_, refl, sym, ap, _∙_}
 use mathlib.Core.List.{List, [], _∷_, _++_, map, append-assoc, append-nil}
-use lib.ListN.{length, length-append}
+use lib.ListN.{length, getD, length-append}
 use Rattle.lists.specs.Lists.{All, gather}
 
 module _ {A B : Type 0} (f : A → List B) where
@@ -23,3 +23,9 @@ module _ {A B : Type 0} (f : A → List B) where
 pub gather-map : {A B C : Type 0} (g : A → B) (f : B → List C) (xs : List A) → gather f (map g xs) ≡ gather (λ x. f (g x)) xs
 gather-map g f [] = refl
 gather-map g f (x ∷ xs) = ap (λ l. f (g x) ++ l) (gather-map g f xs)
+
+-- The list of one element is no longer than all.
+pub length-gather-at : {A B : Type 0} (f : A → List B) (l : List A) (i : ℕ) (d : A) → i < length l → length (f (getD l i d)) ≤ length (gather f l)
+length-gather-at f [] i d h = absurd (omega arith)
+length-gather-at f (x ∷ xs) zero d h = omega (arith, length-append (f x) (gather f xs))
+length-gather-at f (x ∷ xs) (suc i) d h = omega (arith, length-append (f x) (gather f xs), length-gather-at f xs i d (omega arith))

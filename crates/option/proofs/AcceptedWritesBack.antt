@@ -51,12 +51,12 @@ unfolding figuresAt
 few-figures s at n = simp length-take (omega arith)
 
 -- The pieces alone.
-abbrev pub placesOf : {A : Type 0} → List (Placed A) → List A
-placesOf ps = map (λ p. p .piece) ps
+abbrev pub piecesOf : {A : Type 0} → List (Placed A) → List A
+piecesOf ps = map (λ p. p .piece) ps
 
 -- The entries of an information, all framed.
 module _ (s : List ℕ) (end at : ℕ) (le : at ≤ end) (framed : readEntries s end at .1 ≡ true) where
-  pub placed-entries : placesOf (placedEntries s end at) ≡ readEntries s end at .0
+  pub placed-entries : piecesOf (placedEntries s end at) ≡ readEntries s end at .0
   unfolding placedEntries readEntries
   placed-entries = placed-pieces (readEntry s end) false (suc end) at
 
@@ -143,7 +143,7 @@ module _ (s : List ℕ) (bytes : Bytes s) where
   -- Entries that follow one another without a gap.
   entries-same : (end : ℕ) → end ≤ length s → (ps : List (Placed Entry)) (at : ℕ) → Tiles at ps end
       → All (λ (p : Placed Entry). readEntry s end (p .at) ≡ more (p .piece) (p .next)) ps → All (PlainEntry s) ps
-      → drop at s ≡ entriesBytes (placesOf ps) ++ drop end s
+      → drop at s ≡ entriesBytes (piecesOf ps) ++ drop end s
   unfolding entriesBytes
   entries-same end fits [] at t given plain = ap (λ (n : ℕ). drop n s) t
   entries-same end fits (p ∷ ps) at t given plain =
@@ -155,7 +155,7 @@ module _ (s : List ℕ) (bytes : Bytes s) where
       ∙ head
       ∙ ap₂ (λ (y : Entry) (n : ℕ). entryBytes y ++ drop n s) (r .1) (r .2)
       ∙ ap (λ (l : List ℕ). entryBytes (p .piece) ++ l) tail
-      ∙ sym (append-assoc (entryBytes (p .piece)) (entriesBytes (placesOf ps)) (drop end s))
+      ∙ sym (append-assoc (entryBytes (p .piece)) (entriesBytes (piecesOf ps)) (drop end s))
 
   -- The entries of an information, all framed.
   module _ (end at : ℕ) (le : at ≤ end) (framed : readEntries s end at .1 ≡ true) where
@@ -175,7 +175,7 @@ module _ (s : List ℕ) (bytes : Bytes s) where
     some-entries : at < end → 1 ≤ length (readEntries s end at .0)
     some-entries lt = go (placedEntries s end at) (tiled-entries s end at le framed) (placed-entries s end at le framed)
       where
-        go : (ps : List (Placed Entry)) → Tiles at ps end → placesOf ps ≡ readEntries s end at .0 → 1 ≤ length (readEntries s end at .0)
+        go : (ps : List (Placed Entry)) → Tiles at ps end → piecesOf ps ≡ readEntries s end at .0 → 1 ≤ length (readEntries s end at .0)
         go [] t e = absurd (omega arith)
         go (p ∷ ps) t e = omega (arith, ap length e)
 
@@ -274,7 +274,7 @@ module _ (s : List ℕ) (bytes : Bytes s) where
 
   suboptions-same : (ps : List (Placed SuboptionValue)) (at : ℕ) → Tiles at ps (length s)
       → All (λ (p : Placed SuboptionValue). readSuboption s (p .at) ≡ more (p .piece) (p .next)) ps → All (PlainSuboption s) ps
-      → (drop at s ≡ suboptionsBytes (placesOf ps)) × All (λ x. writable? x ≡ true) (placesOf ps)
+      → (drop at s ≡ suboptionsBytes (piecesOf ps)) × All (λ x. writable? x ≡ true) (piecesOf ps)
   unfolding suboptionsBytes
   suboptions-same [] at t given plain = (ap (λ (n : ℕ). drop n s) t ∙ drop-length s, tt)
   suboptions-same (p ∷ ps) at t given plain =

@@ -20,7 +20,7 @@ use Rattle.option.proofs.RuleLaws.{option-of}
 use Rattle.option.proofs.FigureLaws.{figures-none, figures-one, figures-two, figures-three}
 use Rattle.option.proofs.EntryLaws.{entry-read, entries-more, entries-stop}
 use Rattle.option.proofs.SuboptionLaws.{good-read, suboption-read, suboption-moves, suboptions-more, suboptions-stop}
-use Rattle.option.proofs.AcceptedWritesBack.{placesOf, placed-entries, tiled-entries, given-entries, accepted-read, never-joined}
+use Rattle.option.proofs.AcceptedWritesBack.{piecesOf, placed-entries, tiled-entries, given-entries, accepted-read, never-joined}
 
 -- The two bits go by the two low bits alone.
 bit1-same : (x y : ℕ) → x % 4 ≡ y % 4 → bit1 x ≡ bit1 y
@@ -104,7 +104,7 @@ module _ (s t : List ℕ) where
         simp (lt-leb _ _ before, le-leb _ _ inside, le-leb _ _ head, eq-eqb _ _ even, ends, le-leb _ _ fits, value)
 
     entries-same : (end : ℕ) → end ≤ length s → (ps : List (Placed Entry)) (at : ℕ) → at ≤ end → Tiles at ps end
-        → All (λ (p : Placed Entry). readEntry s end (p .at) ≡ more (p .piece) (p .next)) ps → All (SameEntry s t) ps → readEntries t end at ≡ (placesOf ps, true)
+        → All (λ (p : Placed Entry). readEntry s end (p .at) ≡ more (p .piece) (p .next)) ps → All (SameEntry s t) ps → readEntries t end at ≡ (piecesOf ps, true)
     unfolding readEntry
     entries-same end fits [] at le tiles given same =
         let here : end ≤ at = omega arith in
@@ -134,7 +134,7 @@ module _ (s t : List ℕ) where
           let es : List (Placed Entry) = placedEntries s end (at + 3) in
           let entries : All (SameEntry s t) es = subst (λ (n : ℕ). All (SameEntry s t) (placedEntries s n (at + 3))) (sym (g .3)) (b .1) in
           let there = entries-same end fits es (at + 3) le (tiled-entries s end (at + 3) le (f .1)) (given-entries s end (at + 3) le (f .1)) entries in
-          let here : (placesOf es, true) ≡ readEntries s end (at + 3) = ap₂ (λ (l : List Entry) (y : Bool). (l, y)) (placed-entries s end (at + 3) le (f .1)) (sym (f .1)) in
+          let here : (piecesOf es, true) ≡ readEntries s end (at + 3) = ap₂ (λ (l : List Entry) (y : Bool). (l, y)) (placed-entries s end (at + 3) le (f .1)) (sym (f .1)) in
           simp (there ∙ here, sym (bit1-same _ _ (b .0)), sym (bit2-same _ _ (b .0))) h
       body-same false false true end fits h same =
           let g = good-read _ _ at end x next h in
@@ -167,7 +167,7 @@ module _ (s t : List ℕ) where
 
     suboptions-same : (ps : List (Placed SuboptionValue)) (at : ℕ) → at ≤ length s → Tiles at ps (length s)
         → All (λ (p : Placed SuboptionValue). readSuboption s (p .at) ≡ more (p .piece) (p .next)) ps → All (SameSuboption s t) ps
-        → readSuboptions t at ≡ (placesOf ps, whole)
+        → readSuboptions t at ≡ (piecesOf ps, whole)
     unfolding readSuboption
     suboptions-same [] at le tiles given same =
         let here : length t ≤ at = omega arith in

@@ -3,15 +3,15 @@
 use Prim.Native.Nat.{ℕ, _+_, _≤_}
 use native.Mathlib.Omega.{arith}
 use native.Mathlib.Nat.{zero-add}
-use mathlib.Core.Path.{_≡_, refl, sym, ap, ap₂, subst, _∙_}
+use mathlib.Core.Path.{_≡_, refl, sym, ap, _∙_}
 use mathlib.Core.Bool.{Bool, true, false, cond}
-use mathlib.Core.List.{List, [], _∷_, _++_}
+use mathlib.Core.List.{List, _++_}
 use lib.ListN.{length, take, drop}
 use lib.Seq.{take-at, drop-at}
 use lib.Dec.{eqb}
 use Rattle.lists.specs.Put.{put}
 use Rattle.lists.proofs.PutLaws.{put-fits}
-use Rattle.option.specs.Values.{SuboptionValue, Outcome, accepted}
+use Rattle.option.specs.Values.{SuboptionValue, accepted}
 use Rattle.option.specs.Reading.{readOption}
 use Rattle.option.specs.Writing.{Writing, refusedWith, written, writeOption}
 use Rattle.option.proofs.WrittenReadsBack.{wrote, written-reads-back}

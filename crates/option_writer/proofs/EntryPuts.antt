@@ -18,7 +18,8 @@ use Rattle.option.specs.declared.EntryFields.{EntryFields}
 use Rattle.option.specs.declared.Figures.{Figures}
 use Rattle.option.proofs.WritingLaws.{entry-head-length, entry-length, entries-append, entries-one}
 use Rattle.option_writer.specs.Lists.{figuresIn, entryOf, part}
-use Rattle.option_writer.proofs.PartLaws.{part-more, map-append, map-part-at, length-map-part, all?-at}
+use Rattle.lists.proofs.IndexLaws.{map-append, all?-at}
+use Rattle.option_writer.proofs.PartLaws.{part-more, map-part-at, length-map-part}
 
 pub figures-count : (f : Figures) → length (figuresIn f) ≡ f .count
 unfolding figuresIn

@@ -1,6 +1,6 @@
 -- Items, put piece by piece, and the option around them.
 -- Assumes nothing.
-use Prim.Native.Nat.{ℕ, zero, suc, _+_, _-_, _*_, _≤_, _<_}
+use Prim.Native.Nat.{ℕ, suc, _+_, _-_, _*_, _≤_, _<_}
 use native.Mathlib.Omega.{arith}
 use native.Mathlib.Numerals.{add-one}
 use mathlib.Core.Path.{_≡_, refl, sym, ap, ap₂, subst, _∙_}
@@ -10,10 +10,11 @@ use lib.ListN.{length, getD, set, take, length-append, length-take, length-map, 
 use lib.Seq.{take-suc, getD-take}
 use lib.Dec.{leb}
 use borrow.Author.Tests.{leb-true, le-leb, lt-leb}
-use Rattle.lists.specs.Lists.{all?, gather}
+use Rattle.lists.specs.Lists.{all?}
 use Rattle.lists.specs.Put.{put}
 use Rattle.lists.proofs.Tests.{and-to}
 use Rattle.lists.proofs.PutLaws.{put-more, put-before}
+use Rattle.lists.proofs.GatherLaws.{length-gather-at}
 use Rattle.option.specs.Values.{Entry, SuboptionValue, information, name, unknown}
 use Rattle.option.specs.Writing.{fourBytes, entriesBytes, informationHead, suboptionBytes, suboptionsBytes, optionHead, optionBytes, entryWritable?, writable?, writeOption}
 use Rattle.option.specs.Selection.{selectionBytes, writeSelection}
@@ -28,7 +29,8 @@ use Rattle.option_writer.specs.declared.Slot.{Slot}
 use Rattle.option_writer.specs.declared.Written.{Written}
 use Rattle.option_writer.specs.declared.Written.the-variants as written-as
 use Rattle.option_writer.specs.declared.Measured.the-variants.{Bytes, Outside}
-use Rattle.option_writer.proofs.PartLaws.{length-part, map-append, all?-at}
+use Rattle.lists.proofs.IndexLaws.{map-append, all?-at}
+use Rattle.option_writer.proofs.PartLaws.{length-part}
 use Rattle.option_writer.proofs.StoreLaws.{two-stores}
 use Rattle.option_writer.proofs.MeasureLaws.{bytes-picked, outside-left}
 
@@ -116,12 +118,6 @@ module _ (octets : List ℕ) (n : NameItem) where
         place = omega arith;
       }
 
--- An element's bytes are no more than all.
-gather-short : {A : Type 0} (f : A → List ℕ) (l : List A) (i : ℕ) (d : A) → i < length l → length (f (getD l i d)) ≤ length (gather f l)
-gather-short f [] i d h = absurd (omega arith)
-gather-short f (x ∷ xs) zero d h = omega (arith, length-append (f x) (gather f xs))
-gather-short f (x ∷ xs) (suc i) d h = omega (arith, length-append (f x) (gather f xs), gather-short f xs i d (omega arith))
-
 -- A turn of the loop that puts items.
 module _ (items : List Slot) (entries : List EntryFields) (octets : List ℕ) where
   abbrev upTo : ℕ → List SuboptionValue
@@ -133,7 +129,7 @@ module _ (items : List Slot) (entries : List EntryFields) (octets : List ℕ) wh
       let v = valueAt entries octets in
       let there : getD (upTo count) i (v d) ≡ v (getD items i d) = List·getD-map v (take count items) i d ∙ ap v (getD-take count items i d h) in
       let within : i < length (upTo count) = simp (length-map, length-take) (omega arith) in
-      let one = gather-short suboptionBytes (upTo count) i (v d) within in
+      let one = length-gather-at suboptionBytes (upTo count) i (v d) within in
       record {
         good = sym (ap writable? there) ∙ all?-at writable? (upTo count) (r .good) i (v d) within;
         short = omega (arith, r .short, ap (λ (x : SuboptionValue). length (suboptionBytes x)) there);
