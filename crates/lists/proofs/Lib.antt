@@ -10,3 +10,4 @@ pub mod GatherLaws
 pub mod ShiftLaws
 pub mod FillLaws
 pub mod SortingLaws
+pub mod MapLaws

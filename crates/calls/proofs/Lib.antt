@@ -1,0 +1,2 @@
+-- Laws that tie the loops over lease slots to the ledger's lists of present leases.
+pub mod MarkLaws
