@@ -1,2 +1,4 @@
 -- Laws that tie the loops over lease slots to the ledger's lists of present leases.
 pub mod MarkLaws
+pub mod ReplyLaws
+pub mod PageLaws

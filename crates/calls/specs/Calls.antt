@@ -1,10 +1,44 @@
 -- What the inner functions of the calls give.
 -- Assumes nothing: these are definitions.
 use Prim.Native.Nat.{ℕ}
-use mathlib.Core.Bool.{Bool, cond}
+use mathlib.Core.Path.{_≡_}
+use mathlib.Core.Bool.{Bool, cond, _&&_}
+use mathlib.Core.List.{List, [], _∷_, map}
+use mathlib.Core.Option.{Option, none, some}
+use lib.ListN.{length, take}
+use lib.Dec.{ltb, eqb}
+use Rattle.lists.specs.Lists.{every}
+use Rattle.option.specs.Values.{information}
+use Rattle.option.specs.Writing.{optionBytes}
 use Rattle.table.specs.declared.Lease.{Lease}
 use Rattle.table.specs.Slots.{named?}
-use Rattle.ledger.specs.Ledger.{withD}
+use Rattle.ledger.specs.Ledger.{withD, entryOf, above?}
+use Rattle.calls.specs.declared.Page.{Page}
+
+-- No option has more entries, and no reply shows more.
+abbrev pub mostEntries : ℕ
+mostEntries = 35
+
+-- THE REPLY of take and list: an option with one information, whose entries are these leases.
+unfoldable pub replyBytes : Bool → Bool → List Lease → List ℕ
+replyBytes c s xs = optionBytes (information c s (map entryOf xs) ∷ [])
+
+-- LIST
+
+abbrev pub positionIf : Bool → ℕ → Option ℕ
+positionIf resumes position = cond resumes (some position) none
+
+-- A slot whose lease is present and is one that a list from this position on shows.
+abbrev pub listedAt? : ℕ → ℕ → Option ℕ → Lease → Bool
+listedAt? now client p x = ltb now (x .expires) && every (eqb (x .client) client ∷ x .leased ∷ above? p (x .network) ∷ [])
+
+-- The first 35 of these leases, and whether more remain.
+pub record PageOf (page : Page) (xs : List Lease) : Type 0 where
+  pub leases : take (page .count) (page .leases) ≡ take mostEntries xs
+  pub count : page .count ≡ length (take mostEntries xs)
+  pub more : page .more ≡ ltb mostEntries (length xs)
+
+-- MARK
 
 -- d set or cleared on a lease slot, if its lease is present and has this network and length.
 abbrev pub withDAt : ℕ → ℕ → ℕ → Bool → Lease → Lease

@@ -6,11 +6,108 @@ use table::Lease;
 use table::LeaseTable;
 ghost use mathlib.Core.Path.{_≡_};
 ghost use mathlib.Core.List.{map};
-ghost use Rattle.lists.specs.Lists.{any?};
+ghost use Prim.Native.Nat.{_≤_};
+ghost use lib.ListN.{length as count, take as upTo};
+ghost use Rattle.lists.specs.Lists.{any?, those};
+ghost use Rattle.lists.specs.Put.{put};
+ghost use Rattle.option.specs.Writing.{entriesBytes};
 ghost use Rattle.table.specs.Slots.{named? as namedAt?};
-ghost use Rattle.ledger.specs.Ledger.{mark as markOf};
+ghost use Rattle.ledger.specs.Ledger.{entryOf, mark as markOf};
 ghost use Rattle.answers.specs.Answers.{updateOf};
-ghost use Rattle.calls.specs.Calls.{withDAt};
+ghost use Rattle.calls.specs.Calls.{withDAt, mostEntries, replyBytes, PageOf, listedAt?, positionIf};
+
+// No option has more entries, and no reply shows more.
+pub const MOST_ENTRIES: usize = 35;
+
+// THE REPLY of take and list: one information
+
+// The entries of the first n leases, from place 6 on.
+fn put_leases(reply: &mut [u8], leases: [Lease; MOST_ENTRIES], n: usize)
+    requires { ⌜ n ≤ mostEntries ⌝ }
+    ensures { λ _. ⌜ now (reply .exit) ≡ put (now (reply .entry)) 6 (entriesBytes (map entryOf (upTo n leases))) ⌝ }
+{
+    let mut i: usize = 0;
+    while i < n {
+        let x = leases[i];
+        option_writer::put_entry(reply, 6 + 7 * i, x.network, x.length, x.h, x.d);
+        i = i + 1;
+    }
+}
+
+// An option with one information whose entries are the first n leases; the number of bytes written.
+fn put_reply(reply: &mut [u8], c: bool, s: bool, leases: [Lease; MOST_ENTRIES], n: usize) -> usize
+    requires { ⌜ n ≤ mostEntries ⌝ }
+    ensures { λ r. ⌜ (now (reply .exit) ≡ put (now (reply .entry)) 0 (replyBytes c s (upTo n leases))) × (r ≡ count (replyBytes c s (upTo n leases))) ⌝ }
+{
+    option_writer::put_option_head(reply, (7 * n + 4) as u8);
+    option_writer::put_information_head(reply, 3, (7 * n + 1) as u8, c, s);
+    put_leases(reply, leases, n);
+    7 * n + 6
+}
+
+// LIST
+
+// At most 35 leases, and whether more remain.
+struct Page {
+    leases: [Lease; MOST_ENTRIES],
+    count: usize,
+    more: bool,
+}
+
+// The lease is present at `time`, leased by this client, and its network is above the position, if there is one.
+fn is_listed(x: Lease, time: u32, client: u32, resumes: bool, position: u32) -> bool
+    ensures { λ r. ⌜ r ≡ listedAt? time client (positionIf resumes position) x ⌝ }
+{
+    if x.expires <= time {
+        return false;
+    }
+    if x.client != client {
+        return false;
+    }
+    if !x.leased {
+        return false;
+    }
+    if !resumes {
+        return true;
+    }
+    position < x.network
+}
+
+// The first 35 leases that a list shows.
+fn find_page(
+    leases: [Lease; table::LEASES],
+    time: u32,
+    client: u32,
+    resumes: bool,
+    position: u32,
+) -> Page
+    ensures { λ r. ⌜ PageOf r (those (listedAt? time client (positionIf resumes position)) leases) ⌝ }
+{
+    let zero = table::no_lease();
+    let mut out = [zero; MOST_ENTRIES];
+    let mut n: usize = 0;
+    let mut i: usize = 0;
+    while i < table::LEASES {
+        let x = leases[i];
+        if is_listed(x, time, client, resumes, position) {
+            if n == MOST_ENTRIES {
+                return Page {
+                    leases: out,
+                    count: n,
+                    more: true,
+                };
+            }
+            out[n] = x;
+            n = n + 1;
+        }
+        i = i + 1;
+    }
+    Page {
+        leases: out,
+        count: n,
+        more: false,
+    }
+}
 
 // MARK
 

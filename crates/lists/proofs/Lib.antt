@@ -11,3 +11,4 @@ pub mod ShiftLaws
 pub mod FillLaws
 pub mod SortingLaws
 pub mod MapLaws
+pub mod CopyLaws

@@ -18,7 +18,7 @@ use Rattle.lists.proofs.DropLaws.{drop-at, drop-end}
 abbrev pub mapped : {A : Type 0} → (A → A) → List A → ℕ → List A
 mapped f l i = map f (take i l) ++ drop i l
 
-map-append : {A B : Type 0} (f : A → B) (xs ys : List A) → map f (xs ++ ys) ≡ map f xs ++ map f ys
+pub map-append : {A B : Type 0} (f : A → B) (xs ys : List A) → map f (xs ++ ys) ≡ map f xs ++ map f ys
 map-append f [] ys = refl
 map-append {A} {B} f (x ∷ xs) ys = ap (λ (l : List B). f x ∷ l) (map-append f xs ys)
 
