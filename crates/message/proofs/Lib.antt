@@ -1,0 +1,3 @@
+pub mod CollectLaws
+pub mod EntryBytes
+pub mod MessageHolds
