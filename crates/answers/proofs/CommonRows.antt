@@ -1,22 +1,26 @@
 -- Laws of the common rows: what the reader's answer says of rows 6 and 7, and how a call goes on after the common rows.
 -- Assumes nothing.
-use Prim.Native.Nat.{ℕ}
+use Prim.Native.Nat.{ℕ, _≤_}
 use mathlib.Core.Path.{_≡_, refl, sym, ap, subst, _∙_}
 use mathlib.Core.Logic.{_⊎_, ⊎-elim}
 use mathlib.Core.Bool.{Bool, true, false, not, cond, true≢false, false≢true}
 use mathlib.Core.List.{List, [], _∷_, _++_}
 use mathlib.Core.Option.{Option, none, some, Option·some-ne-none}
-use lib.Dec.{eqb}
+use lib.Dec.{ltb, eqb}
+use borrow.Author.Tests.{ltb-false, not-false}
 use Rattle.lists.specs.Lists.{All}
 use Rattle.lists.proofs.Tests.{bool-cases, cond-true, cond-false}
 use Rattle.option.specs.Values.{SuboptionValue, Outcome, refused, accepted}
 use Rattle.option.specs.Reading.{End, whole, badAt, ended, option?, readSuboptions, readOption}
 use Rattle.option.specs.Answers.{checkedOf}
 use Rattle.table.specs.declared.LeaseTable.{LeaseTable}
+use Rattle.table.specs.Table.{latest}
+use Rattle.table.specs.Table.{sound as soundOf}
 use Rattle.ledger.specs.Ledger as ledger
 use Rattle.ledger.specs.Ledger.{Row, firstOf, orElse, refuses?, placeIn}
+use Rattle.ledger.proofs.RowLaws.{first-none}
 use Rattle.answers.specs.declared.Answer.{Answer}
-use Rattle.answers.specs.Answers.{answerOf, refused?, checkedAnswer, commonRows, answered}
+use Rattle.answers.specs.Answers.{shortest, answerOf, refused?, checkedAnswer, commonRows, answered}
 
 -- Rows 6 and 7 of what an option reads as.
 abbrev optionRows : Outcome → List Row
@@ -102,3 +106,64 @@ module _ (common : List Row) (numbered : All (λ (r : Row). eqb (r .0) 0 ≡ fal
 
   pub common-none : refused? a ≡ false → firstOf common ≡ none
   common-none r = passed-by (firstOf common) refl r
+
+-- WHERE NONE OF THEM APPLIES: the table is sound, the time is neither too early nor too late, and the option reads as suboptions.
+
+pub record Passed (t : LeaseTable) (now client : ℕ) (option : List ℕ) : Type 0 where
+  pub sound : soundOf t ≡ true
+  pub some-client : eqb client 0 ≡ false
+  pub early : ltb now (t .last) ≡ false
+  pub late : ltb latest now ≡ false
+  pub pieces : List SuboptionValue
+  pub read : readOption option ≡ accepted pieces
+
+readable : (ok : Bool) (subs : List SuboptionValue) (e : End) → refuses? 6 (cond ok (ended subs e) (refused 6 0)) ≡ false
+    → refuses? 7 (cond ok (ended subs e) (refused 6 0)) ≡ false → cond ok (ended subs e) (refused 6 0) ≡ accepted subs
+readable true subs whole six seven = refl
+readable true subs (badAt place) six seven = absurd (true≢false seven)
+readable false subs e six seven = absurd (true≢false six)
+
+read-accepted : (option : List ℕ) → refuses? 6 (readOption option) ≡ false → refuses? 7 (readOption option) ≡ false → readOption option ≡ accepted (readSuboptions option 3 .0)
+unfolding readOption
+read-accepted option six seven = readable (option? option) (readSuboptions option 3 .0) (readSuboptions option 3 .1) six seven
+
+pub passed-common : (t : LeaseTable) (now client : ℕ) (option : List ℕ) → firstOf (commonRows t now client option) ≡ none → Passed t now client option
+passed-common t now client option e =
+    let rows = first-none (commonRows t now client option) e in
+    record {
+      sound = not-false (soundOf t) (rows .0);
+      some-client = rows .1 .0;
+      early = rows .1 .1 .0;
+      late = rows .1 .1 .1 .0;
+      pieces = readSuboptions option 3 .0;
+      read = read-accepted option (rows .1 .1 .1 .1 .0) (rows .1 .1 .1 .1 .1 .0);
+    }
+
+-- The same after row 1.
+pub passed-with-reply : (t : LeaseTable) (now client : ℕ) (option : List ℕ) (room : ℕ) → firstOf ((1, ltb room shortest) ∷ commonRows t now client option) ≡ none
+    → (shortest ≤ room) × Passed t now client option
+passed-with-reply t now client option room e =
+    let rows = first-none ((1, ltb room shortest) ∷ commonRows t now client option) e in
+    let one : firstOf (commonRows t now client option) ≡ none = sym (cond-false (ltb room shortest) (some 1) (firstOf (commonRows t now client option)) (rows .0)) ∙ e in
+    (ltb-false room shortest (rows .0), passed-common t now client option one)
+
+-- No common row has number 0.
+pub common-numbered : (t : LeaseTable) (now client : ℕ) (option : List ℕ) → All (λ (r : Row). eqb (r .0) 0 ≡ false) (commonRows t now client option)
+common-numbered t now client option = (refl, (refl, (refl, (refl, (refl, (refl, tt))))))
+
+pub with-reply-numbered : (t : LeaseTable) (now client : ℕ) (option : List ℕ) (room : ℕ)
+    → All (λ (r : Row). eqb (r .0) 0 ≡ false) ((1, ltb room shortest) ∷ commonRows t now client option)
+with-reply-numbered t now client option room = (refl, common-numbered t now client option)
+
+-- A call that is not refused by them.
+pub passed-call : (t : LeaseTable) (now client : ℕ) (option : List ℕ) (a : Answer) → answerOf a ≡ answered (firstOf (commonRows t now client option)) option
+    → refused? a ≡ false → Passed t now client option
+passed-call t now client option a e r =
+    passed-common t now client option (common-none (commonRows t now client option) (common-numbered t now client option) option a e r)
+
+pub passed-call-with-reply : (t : LeaseTable) (now client : ℕ) (option : List ℕ) (room : ℕ) (a : Answer)
+    → answerOf a ≡ answered (firstOf ((1, ltb room shortest) ∷ commonRows t now client option)) option → refused? a ≡ false
+    → (shortest ≤ room) × Passed t now client option
+passed-call-with-reply t now client option room a e r =
+    passed-with-reply t now client option room
+    (common-none ((1, ltb room shortest) ∷ commonRows t now client option) (with-reply-numbered t now client option room) option a e r)

@@ -2,3 +2,5 @@
 pub mod MarkLaws
 pub mod ReplyLaws
 pub mod PageLaws
+pub mod PieceLaws
+pub mod ListLaws

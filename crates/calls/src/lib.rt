@@ -12,8 +12,8 @@ ghost use Rattle.lists.specs.Lists.{any?, those};
 ghost use Rattle.lists.specs.Put.{put};
 ghost use Rattle.option.specs.Writing.{entriesBytes};
 ghost use Rattle.table.specs.Slots.{named? as namedAt?};
-ghost use Rattle.ledger.specs.Ledger.{entryOf, mark as markOf};
-ghost use Rattle.answers.specs.Answers.{updateOf};
+ghost use Rattle.ledger.specs.Ledger.{entryOf, list as listOf, mark as markOf};
+ghost use Rattle.answers.specs.Answers.{resultOf, updateOf};
 ghost use Rattle.calls.specs.Calls.{withDAt, mostEntries, replyBytes, PageOf, listedAt?, positionIf};
 
 // No option has more entries, and no reply shows more.
@@ -106,6 +106,49 @@ fn find_page(
         leases: out,
         count: n,
         more: false,
+    }
+}
+
+pub fn list(t: LeaseTable, time: u32, client: u32, option: &[u8], reply: &mut [u8]) -> Called
+    ensures { λ r. ⌜ resultOf r (now (reply .exit)) ≡ listOf t time client (now (option .entry)) (now (reply .entry)) ⌝ }
+{
+    let checked = answers::check_call_with_reply(t, time, client, option, reply.len());
+    if answers::is_refusal(checked) {
+        return Called {
+            answer: checked,
+            table: t,
+        };
+    }
+    let m = message::read(option);
+    if m.requests == 0 {
+        return Called {
+            answer: Answer::WrongPieces,
+            table: t,
+        };
+    }
+    if m.listing != m.requests {
+        return Called {
+            answer: Answer::WrongPieces,
+            table: t,
+        };
+    }
+    let leases = t.leases;
+    let page = find_page(leases, time, client, m.resumes, m.position);
+    let shown = page.count;
+    if shown == 0 {
+        return Called {
+            answer: Answer::NothingFound,
+            table: t,
+        };
+    }
+    let first = page.leases;
+    let bytes = put_reply(reply, true, page.more, first, shown);
+    Called {
+        answer: Answer::Accepted(Counts {
+            bytes,
+            count: shown,
+        }),
+        table: t,
     }
 }
 

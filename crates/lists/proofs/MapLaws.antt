@@ -9,9 +9,11 @@ use native.Mathlib.Numerals.{add-one}
 use native.Mathlib.Omega.{arith}
 use lib.ListN.{length, take, drop, getD, set, length-map, length-append}
 use lib.Seq.{take-all, take-suc, drop-cons, set-at, length-take-le, append-snoc}
-use Rattle.lists.specs.Lists.{All, any?, those}
-use Rattle.lists.proofs.Tests.{bool-cases, cond-true, cond-false}
-use Rattle.lists.proofs.ThoseLaws.{those-yes, those-no}
+use lib.Dec.{eqb}
+use borrow.Author.Tests.{eqb-true, eq-eqb, ne-eqb}
+use Rattle.lists.specs.Lists.{All, all?, any?, those}
+use Rattle.lists.proofs.Tests.{bool-cases, bool-ext, and-to, and-of, cond-true, cond-false}
+use Rattle.lists.proofs.ThoseLaws.{those-yes, those-no, those-fewer}
 use Rattle.lists.proofs.DropLaws.{drop-at, drop-end}
 
 -- The first i elements changed, and the others not.
@@ -110,3 +112,23 @@ module _ {A : Type 0} (f : A → Bool) (l : List A) (i : ℕ) where
 
   pub any?-end : (b : Bool) → length l ≤ i → (b || any? f (drop i l)) ≡ b
   any?-end b past = ap (λ (k : List A). b || any? f k) (drop-end l i past) ∙ or-false b
+
+-- All pass exactly if as many pass as there are.
+pub all?-count : {A : Type 0} (f : A → Bool) (xs : List A) → all? f xs ≡ eqb (length (those f xs)) (length xs)
+all?-count f [] = refl
+all?-count f (x ∷ xs) =
+    ⊎-elim
+    (λ (e : f x ≡ true).
+    bool-ext (all? f (x ∷ xs)) (eqb (length (those f (x ∷ xs))) (length (x ∷ xs)))
+    (λ (a : all? f (x ∷ xs) ≡ true).
+    let rest : length (those f xs) ≡ length xs = eqb-true (length (those f xs)) (length xs) (sym (all?-count f xs) ∙ and-to (f x) (all? f xs) a .1) in
+    eq-eqb (length (those f (x ∷ xs))) (length (x ∷ xs)) (omega (arith, ap length (those-yes f x xs e))))
+    (λ (a : eqb (length (those f (x ∷ xs))) (length (x ∷ xs)) ≡ true).
+    let same = eqb-true (length (those f (x ∷ xs))) (length (x ∷ xs)) a in
+    let rest : length (those f xs) ≡ length xs = omega (arith, same, ap length (those-yes f x xs e)) in
+    and-of (f x) (all? f xs) e (all?-count f xs ∙ eq-eqb (length (those f xs)) (length xs) rest)))
+    (λ (e : f x ≡ false).
+    let fewer : length (those f (x ∷ xs)) ≡ length (x ∷ xs) → ⊥ =
+    λ (k : length (those f (x ∷ xs)) ≡ length (x ∷ xs)). omega (arith, k, ap length (those-no f x xs e), those-fewer f xs) in
+    ap (λ (b : Bool). b && all? f xs) e ∙ sym (ne-eqb (length (those f (x ∷ xs))) (length (x ∷ xs)) fewer))
+    (bool-cases (f x))
