@@ -4,3 +4,5 @@ pub mod ReplyLaws
 pub mod PageLaws
 pub mod PieceLaws
 pub mod ListLaws
+pub mod NamedLaws
+pub mod ReleaseLaws

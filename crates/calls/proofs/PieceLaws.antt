@@ -2,12 +2,15 @@
 -- Assumes nothing.
 use Prim.Native.Nat.{ℕ, zero, suc, _≤_, _<_}
 use mathlib.Core.Path.{_≡_, refl, sym, ap, _∙_}
+use mathlib.Core.Logic.{⊎-elim}
 use mathlib.Core.Bool.{Bool, true, false, not}
 use mathlib.Core.List.{List, [], _∷_}
 use native.Mathlib.Omega.{arith}
-use lib.ListN.{length}
-use lib.Dec.{eqb}
-use borrow.Author.Tests.{eq-eqb, ne-eqb}
+use lib.ListN.{length, take, length-map}
+use lib.Seq.{take-all}
+use lib.Dec.{leb, eqb}
+use borrow.Author.Tests.{eq-eqb, ne-eqb, leb-true, leb-false}
+use Rattle.lists.proofs.Tests.{bool-cases}
 use Rattle.lists.specs.Lists.{all?, those}
 use Rattle.lists.proofs.MapLaws.{all?-count}
 use Rattle.option.specs.Values.{SuboptionValue}
@@ -52,3 +55,26 @@ module _ (m : Message) (subs : List SuboptionValue) (h : Holds m subs) where
   pub take-good : m .requests ≡ 0 → (m .entries ≡ 0 → ⊥) → forTake subs ≡ true
   take-good e k =
       rw (nothing-none (requests subs) (sym (h .requests) ∙ e), nothing-some (entries subs) (λ q. k (h .entries ∙ q))) refl
+
+-- THE COLUMNS of the entries are as long as there are entries.
+
+long-enough : (n : ℕ) (xs : List ℕ) → length (take n xs) ≡ n → n ≤ length xs
+long-enough n xs e =
+    ⊎-elim (λ (b : leb n (length xs) ≡ true). leb-true n (length xs) b)
+    (λ (b : leb n (length xs) ≡ false).
+    let lt = leb-false n (length xs) b in
+    absurd (omega (arith, ap length (take-all n xs (omega arith)))))
+    (bool-cases (leb n (length xs)))
+
+module _ (m : Message) (subs : List SuboptionValue) (h : Holds m subs) where
+  pub networks-count : length (take (m .entries) (m .networks)) ≡ m .entries
+  networks-count = ap length (h .networks) ∙ length-map (entries subs) (λ e. e .network) ∙ sym (h .entries)
+
+  pub lengths-count : length (take (m .entries) (m .lengths)) ≡ m .entries
+  lengths-count = ap length (h .lengths) ∙ length-map (entries subs) (λ e. e .length) ∙ sym (h .entries)
+
+  pub networks-long : m .entries ≤ length (m .networks)
+  networks-long = long-enough (m .entries) (m .networks) networks-count
+
+  pub lengths-long : m .entries ≤ length (m .lengths)
+  lengths-long = long-enough (m .entries) (m .lengths) lengths-count

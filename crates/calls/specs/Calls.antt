@@ -2,7 +2,7 @@
 -- Assumes nothing: these are definitions.
 use Prim.Native.Nat.{ℕ}
 use mathlib.Core.Path.{_≡_}
-use mathlib.Core.Bool.{Bool, cond, _&&_}
+use mathlib.Core.Bool.{Bool, false, not, cond, _&&_, _||_}
 use mathlib.Core.List.{List, [], _∷_, map}
 use mathlib.Core.Option.{Option, none, some}
 use lib.ListN.{length, take}
@@ -37,6 +37,29 @@ pub record PageOf (page : Page) (xs : List Lease) : Type 0 where
   pub leases : take (page .count) (page .leases) ≡ take mostEntries xs
   pub count : page .count ≡ length (take mostEntries xs)
   pub more : page .more ≡ ltb mostEntries (length xs)
+
+-- RELEASE AND TAKE
+
+-- A test passes at some place of two columns of numbers.
+unfoldable pub anyOf? : (ℕ → ℕ → Bool) → List ℕ → List ℕ → Bool
+anyOf? f [] ls = false
+anyOf? f (n ∷ ns) [] = false
+anyOf? f (n ∷ ns) (l ∷ ls) = f n l || anyOf? f ns ls
+
+-- The lease is this client's, with this network and length.
+abbrev pub is? : ℕ → Lease → ℕ → ℕ → Bool
+is? client x network len = every (eqb (x .client) client ∷ eqb (x .network) network ∷ eqb (x .length) len ∷ [])
+
+-- `named?` of the ledger, of entries whose networks and lengths stand in two columns.
+abbrev pub namedIn? : ℕ → List ℕ → List ℕ → Lease → Bool
+namedIn? client networks lengths x = anyOf? (is? client x) networks lengths
+
+-- A slot whose lease is present and is named; and one whose lease is present and is not.
+abbrev pub takenAt? : ℕ → ℕ → List ℕ → List ℕ → Lease → Bool
+takenAt? now client networks lengths x = ltb now (x .expires) && namedIn? client networks lengths x
+
+abbrev pub keptAt? : ℕ → ℕ → List ℕ → List ℕ → Lease → Bool
+keptAt? now client networks lengths x = ltb now (x .expires) && not (namedIn? client networks lengths x)
 
 -- MARK
 

@@ -11,10 +11,11 @@ ghost use lib.ListN.{length as count, take as upTo};
 ghost use Rattle.lists.specs.Lists.{any?, those};
 ghost use Rattle.lists.specs.Put.{put};
 ghost use Rattle.option.specs.Writing.{entriesBytes};
+ghost use Rattle.table.specs.Table.{padded};
 ghost use Rattle.table.specs.Slots.{named? as namedAt?};
-ghost use Rattle.ledger.specs.Ledger.{entryOf, list as listOf, mark as markOf};
+ghost use Rattle.ledger.specs.Ledger.{entryOf, list as listOf, release as releaseOf, mark as markOf};
 ghost use Rattle.answers.specs.Answers.{resultOf, updateOf};
-ghost use Rattle.calls.specs.Calls.{withDAt, mostEntries, replyBytes, PageOf, listedAt?, positionIf};
+ghost use Rattle.calls.specs.Calls.{withDAt, mostEntries, replyBytes, PageOf, listedAt?, positionIf, namedIn?, keptAt?, takenAt?};
 
 // No option has more entries, and no reply shows more.
 pub const MOST_ENTRIES: usize = 35;
@@ -149,6 +150,114 @@ pub fn list(t: LeaseTable, time: u32, client: u32, option: &[u8], reply: &mut [u
             count: shown,
         }),
         table: t,
+    }
+}
+
+// RELEASE AND TAKE: the leases that an option's entries name
+
+// Whether an entry, of which the two columns have network and length, names this lease.
+fn is_named<'a>(x: Lease, client: u32, networks: &'a [u32], lengths: &'a [u8]) -> bool
+    requires { ⌜ count (now networks) ≡ count (now lengths) ⌝ }
+    ensures { λ r. ⌜ r ≡ namedIn? client (now (networks .entry)) (now (lengths .entry)) x ⌝ }
+{
+    if x.client != client {
+        return false;
+    }
+    let mut i: usize = 0;
+    while i < networks.len() {
+        if networks[i] == x.network {
+            if lengths[i] == x.length {
+                return true;
+            }
+        }
+        i = i + 1;
+    }
+    false
+}
+
+// Lease slots without the leases that were removed, and how many those are; an expired lease is not counted.
+struct Kept {
+    leases: [Lease; table::LEASES],
+    removed: usize,
+}
+
+// The leases present at `time` that no entry names, moved together; every freed slot is all zero.
+fn remove_named<'a>(
+    leases: [Lease; table::LEASES],
+    time: u32,
+    client: u32,
+    networks: &'a [u32],
+    lengths: &'a [u8],
+) -> Kept
+    requires { ⌜ count (now networks) ≡ count (now lengths) ⌝ }
+    ensures { λ r. ⌜ (r .leases ≡ padded (those (keptAt? time client (now (networks .entry)) (now (lengths .entry))) leases)) × (r .removed ≡ count (those (takenAt? time client (now (networks .entry)) (now (lengths .entry))) leases)) ⌝ }
+{
+    let zero = table::no_lease();
+    let mut out = [zero; table::LEASES];
+    let mut w: usize = 0;
+    let mut removed: usize = 0;
+    let mut i: usize = 0;
+    while i < table::LEASES {
+        let x = leases[i];
+        if time < x.expires {
+            if is_named(x, client, networks, lengths) {
+                removed = removed + 1;
+            } else {
+                out[w] = x;
+                w = w + 1;
+            }
+        }
+        i = i + 1;
+    }
+    Kept {
+        leases: out,
+        removed,
+    }
+}
+
+// document 01: return
+pub fn release(t: LeaseTable, time: u32, client: u32, option: &[u8]) -> Called
+    ensures { λ r. ⌜ updateOf r ≡ releaseOf t time client (now (option .entry)) ⌝ }
+{
+    let checked = answers::check_call(t, time, client, option);
+    if answers::is_refusal(checked) {
+        return Called {
+            answer: checked,
+            table: t,
+        };
+    }
+    let m = message::read(option);
+    if m.requests != 0 {
+        return Called {
+            answer: Answer::WrongPieces,
+            table: t,
+        };
+    }
+    let n = m.entries;
+    if n == 0 {
+        return Called {
+            answer: Answer::WrongPieces,
+            table: t,
+        };
+    }
+    let leases = t.leases;
+    let networks = m.networks;
+    let lengths = m.lengths;
+    let kept = remove_named(leases, time, client, &networks[..n], &lengths[..n]);
+    let removed = kept.removed;
+    if removed == 0 {
+        return Called {
+            answer: Answer::NothingFound,
+            table: t,
+        };
+    }
+    let left = kept.leases;
+    Called {
+        answer: Answer::Accepted(Counts {
+            bytes: 0,
+            count: removed,
+        }),
+        table: answers::replace(t, time, left),
     }
 }
 
