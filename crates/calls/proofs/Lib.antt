@@ -6,3 +6,5 @@ pub mod PieceLaws
 pub mod ListLaws
 pub mod NamedLaws
 pub mod ReleaseLaws
+pub mod TakeLaws
+pub mod TakeCall

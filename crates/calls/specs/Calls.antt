@@ -2,18 +2,20 @@
 -- Assumes nothing: these are definitions.
 use Prim.Native.Nat.{ℕ}
 use mathlib.Core.Path.{_≡_}
-use mathlib.Core.Bool.{Bool, false, not, cond, _&&_, _||_}
-use mathlib.Core.List.{List, [], _∷_, map}
+use mathlib.Core.Bool.{Bool, true, false, not, cond, _&&_, _||_}
+use mathlib.Core.List.{List, [], _∷_, _++_, map}
 use mathlib.Core.Option.{Option, none, some}
 use lib.ListN.{length, take}
 use lib.Dec.{ltb, eqb}
-use Rattle.lists.specs.Lists.{every}
+use Rattle.lists.specs.Lists.{every, those}
 use Rattle.option.specs.Values.{information}
 use Rattle.option.specs.Writing.{optionBytes}
 use Rattle.table.specs.declared.Lease.{Lease}
 use Rattle.table.specs.Slots.{named?}
 use Rattle.ledger.specs.Ledger.{withD, entryOf, above?}
 use Rattle.calls.specs.declared.Page.{Page}
+use Rattle.calls.specs.declared.Held.{Held}
+use Rattle.calls.specs.declared.Held.the-variants as held
 
 -- No option has more entries, and no reply shows more.
 abbrev pub mostEntries : ℕ
@@ -60,6 +62,33 @@ takenAt? now client networks lengths x = ltb now (x .expires) && namedIn? client
 
 abbrev pub keptAt? : ℕ → ℕ → List ℕ → List ℕ → Lease → Bool
 keptAt? now client networks lengths x = ltb now (x .expires) && not (namedIn? client networks lengths x)
+
+-- TAKE
+
+-- A slot whose lease is present, is this client's and has this network and length.
+abbrev pub heldAt? : ℕ → ℕ → ℕ → ℕ → Lease → Bool
+heldAt? now client network len x = ltb now (x .expires) && is? client x network len
+
+abbrev pub heldIn : Held → List Lease
+heldIn (held.Lease x) = x ∷ []
+heldIn held.Nothing = []
+
+-- The first of them.
+abbrev pub heldBy : ℕ → ℕ → List Lease → ℕ → ℕ → List Lease
+heldBy now client xs network len = take 1 (those (heldAt? now client network len) xs)
+
+-- What f makes of the numbers at each place of two columns, one after the other.
+unfoldable pub gatherOf : {A : Type 0} → (ℕ → ℕ → List A) → List ℕ → List ℕ → List A
+gatherOf f [] ls = []
+gatherOf f (n ∷ ns) [] = []
+gatherOf f (n ∷ ns) (l ∷ ls) = f n l ++ gatherOf f ns ls
+
+-- A lease leased until a time, and what becomes of each slot.
+abbrev pub leasedUntil : ℕ → Lease → Lease
+leasedUntil expires x = record { network = x .network; length = x .length; client = x .client; leased = true; h = x .h; d = x .d; expires = expires }
+
+abbrev pub renewedAt : ℕ → ℕ → ℕ → List ℕ → List ℕ → Lease → Lease
+renewedAt now client expires networks lengths x = cond (takenAt? now client networks lengths x) (leasedUntil expires x) x
 
 -- MARK
 
