@@ -83,13 +83,13 @@ pub fn release(t: LeaseTable, time: u32, client: u32, option: &[u8]) -> Called
     let lengths = m.lengths;
     let kept = remove_named(leases, time, client, &networks[..n], &lengths[..n]);
     let removed = kept.removed;
+    let left = kept.leases;
     if removed == 0 {
         return Called {
             answer: Answer::NothingFound,
             table: t,
         };
     }
-    let left = kept.leases;
     Called {
         answer: Answer::Accepted(Counts {
             bytes: 0,

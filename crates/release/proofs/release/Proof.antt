@@ -77,13 +77,13 @@ remove-named-requires c κs = networks-count _ _ (holds (c .before .before .befo
 
 returns-4 : tie.Need-returns-4
 returns-4 c =
-    let e = c .before .before .before .before .before .before .before .before .before .before .before in
+    let e = c .before .before .before .before .before .before .before .before .before .before .before .before in
     let start = e .before .before .before .before .args in
     let p = passed e in
-    let h = holds (c .before .before .before .before .before .before .before .before .before .before) in
+    let h = holds (c .before .before .before .before .before .before .before .before .before .before .before) in
     let r = sym (e .before .is-refusal .ensures) ∙ e .if1 .left in
-    let right = take-good _ _ h (c .before .before .before .before .before .before .before .before .if2 .left) (c .before .before .before .before .before .before .before .if3 .left) in
-    release-nothing (start .t) (start .time) (start .client) (start .option .now) (e .before .before .check-call .result) (e .before .before .check-call .ensures) r p right _ h (sym (c .before .remove-named .ensures .1) ∙ c .if4 .taken)
+    let right = take-good _ _ h (c .before .before .before .before .before .before .before .before .before .if2 .left) (c .before .before .before .before .before .before .before .before .if3 .left) in
+    release-nothing (start .t) (start .time) (start .client) (start .option .now) (e .before .before .check-call .result) (e .before .before .check-call .ensures) r p right _ h (sym (c .before .before .remove-named .ensures .1) ∙ c .if4 .taken)
 
 replace-requires : tie.Need-replace-requires
 replace-requires c κs = search needs
@@ -97,7 +97,7 @@ returns-5 c =
     let r = sym (e .before .is-refusal .ensures) ∙ e .if1 .left in
     let right = take-good _ _ h (c .before .before .before .before .before .before .before .before .before .before .if2 .left) (c .before .before .before .before .before .before .before .before .before .if3 .left) in
     let kept = c .before .before .before .remove-named in
-    release-found (start .t) (start .time) (start .client) (start .option .now) (e .before .before .check-call .result) (e .before .before .check-call .ensures) r p right _ h _ (kept .ensures .1) (c .before .before .if4 .left) _ (c .replace .ensures ∙ ap (replaced (start .t) (start .time)) (kept .ensures .0))
+    release-found (start .t) (start .time) (start .client) (start .option .now) (e .before .before .check-call .result) (e .before .before .check-call .ensures) r p right _ h _ (kept .ensures .1) (c .before .if4 .left) _ (c .replace .ensures ∙ ap (replaced (start .t) (start .time)) (kept .ensures .0))
 
 pub release-spec : {M : Type 1} → statement M
 release-spec =
