@@ -2,16 +2,14 @@
 -- Assumes nothing.
 use Prim.Native.Nat.{ℕ, zero, suc, _≤_, _<_}
 use mathlib.Core.Path.{_≡_, refl, sym, ap, _∙_}
-use mathlib.Core.Logic.{⊎-elim}
 use mathlib.Core.Bool.{Bool, true, false, not}
 use mathlib.Core.List.{List, [], _∷_}
 use native.Mathlib.Omega.{arith}
 use lib.ListN.{length, take, length-map}
-use lib.Seq.{take-all}
-use lib.Dec.{leb, eqb}
-use borrow.Author.Tests.{eq-eqb, ne-eqb, leb-true, leb-false}
-use Rattle.lists.proofs.Tests.{bool-cases}
+use lib.Dec.{eqb}
+use borrow.Author.Tests.{eq-eqb, ne-eqb}
 use Rattle.lists.specs.Lists.{all?, those}
+use Rattle.lists.proofs.TakeLaws.{long-enough}
 use Rattle.lists.proofs.MapLaws.{all?-count}
 use Rattle.option.specs.Values.{SuboptionValue}
 use Rattle.ledger.specs.Ledger.{Request, nothing?, requests, entries, forTake, forList}
@@ -57,14 +55,6 @@ module _ (m : Message) (subs : List SuboptionValue) (h : Holds m subs) where
       rw (nothing-none (requests subs) (sym (h .requests) ∙ e), nothing-some (entries subs) (λ q. k (h .entries ∙ q))) refl
 
 -- THE COLUMNS of the entries are as long as there are entries.
-
-long-enough : (n : ℕ) (xs : List ℕ) → length (take n xs) ≡ n → n ≤ length xs
-long-enough n xs e =
-    ⊎-elim (λ (b : leb n (length xs) ≡ true). leb-true n (length xs) b)
-    (λ (b : leb n (length xs) ≡ false).
-    let lt = leb-false n (length xs) b in
-    absurd (omega (arith, ap length (take-all n xs (omega arith)))))
-    (bool-cases (leb n (length xs)))
 
 module _ (m : Message) (subs : List SuboptionValue) (h : Holds m subs) where
   pub networks-count : length (take (m .entries) (m .networks)) ≡ m .entries

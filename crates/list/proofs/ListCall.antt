@@ -10,6 +10,7 @@ use lib.ListN.{length, take, drop}
 use lib.Dec.{ltb}
 use Rattle.lists.specs.Lists.{those}
 use Rattle.lists.specs.Put.{put}
+use Rattle.lists.proofs.TakeLaws.{take-short, short-none, short-of}
 use Rattle.option.specs.Values.{SuboptionValue, Outcome, accepted, information}
 use Rattle.option.specs.Reading.{readOption}
 use Rattle.option.specs.Writing.{optionBytes}
@@ -26,7 +27,7 @@ use Rattle.list.specs.declared.Page.{Page}
 use Rattle.reply.specs.Reply.{mostEntries, replyBytes}
 use Rattle.list.specs.Pages.{positionIf, listedAt?, PageOf}
 use Rattle.reply.proofs.ReplyLaws.{reply-length, reply-fits}
-use Rattle.list.proofs.PageLaws.{listed-present, take-short, short-none, short-of}
+use Rattle.list.proofs.PageLaws.{listed-present}
 use Rattle.answers.proofs.PieceLaws.{nothing-none, nothing-some}
 
 module _ (t : LeaseTable) (now client : ℕ) (option reply : List ℕ) where

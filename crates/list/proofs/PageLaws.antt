@@ -2,17 +2,16 @@
 -- Assumes nothing.
 use Prim.Native.Nat.{ℕ, _+_, _≤_, _<_}
 use mathlib.Core.Path.{_≡_, refl, sym, ap, _∙_}
-use mathlib.Core.Logic.{⊎-elim}
 use mathlib.Core.Bool.{Bool, true, false, cond, _&&_, and-true}
 use mathlib.Core.List.{List, [], _∷_, _++_}
 use mathlib.Core.Option.{Option}
 use native.Mathlib.Omega.{arith}
 use lib.ListN.{length, take, drop, getD, length-append}
 use lib.Seq.{take-all, take-append-add, length-take-le}
-use lib.Dec.{leb, ltb, eqb}
-use borrow.Author.Tests.{leb-true, leb-false, lt-ltb, le-ltb}
-use Rattle.lists.proofs.Tests.{bool-cases}
+use lib.Dec.{ltb, eqb}
+use borrow.Author.Tests.{lt-ltb, le-ltb}
 use Rattle.lists.specs.Lists.{every, those}
+use Rattle.lists.proofs.TakeLaws.{take-short}
 use Rattle.lists.proofs.MapLaws.{those-those}
 use Rattle.lists.proofs.CopyLaws.{Copied, copied-over, copied-all}
 use Rattle.table.specs.declared.Lease.{Lease}
@@ -22,21 +21,6 @@ use Rattle.ledger.specs.Ledger.{above?, listed}
 use Rattle.list.specs.declared.Page.{Page}
 use Rattle.reply.specs.Reply.{mostEntries}
 use Rattle.list.specs.Pages.{listedAt?, PageOf}
-
-pub take-short : {A : Type 0} (n : ℕ) (xs : List A) → length (take n xs) ≤ n
-take-short n xs =
-    ⊎-elim (λ (b : leb n (length xs) ≡ true). omega (arith, length-take-le n xs (leb-true n (length xs) b)))
-    (λ (b : leb n (length xs) ≡ false). let lt = leb-false n (length xs) b in omega (arith, ap length (take-all n xs (omega arith))))
-    (bool-cases (leb n (length xs)))
-
-pub short-none : {A : Type 0} (n : ℕ) (xs : List A) → 0 < n → length (take n xs) ≡ 0 → length xs ≡ 0
-short-none n xs p e =
-    ⊎-elim (λ (b : leb n (length xs) ≡ true). absurd (omega (arith, length-take-le n xs (leb-true n (length xs) b))))
-    (λ (b : leb n (length xs) ≡ false). let lt = leb-false n (length xs) b in omega (arith, ap length (take-all n xs (omega arith))))
-    (bool-cases (leb n (length xs)))
-
-pub short-of : {A : Type 0} (n : ℕ) (xs : List A) → length xs ≡ 0 → length (take n xs) ≡ 0
-short-of n xs e = omega (arith, ap length (take-all n xs (omega arith)))
 
 -- The slots that are listed hold the present leases that are.
 pub listed-present : (now client : ℕ) (p : Option ℕ) (xs : List Lease) → those (listedAt? now client p) xs ≡ listed client p (present now xs)

@@ -12,3 +12,4 @@ pub mod FillLaws
 pub mod SortingLaws
 pub mod MapLaws
 pub mod CopyLaws
+pub mod TakeLaws
