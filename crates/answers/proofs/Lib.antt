@@ -1,2 +1,3 @@
 -- Laws of the rows that calls have in common.
 pub mod CommonRows
+pub mod PieceLaws

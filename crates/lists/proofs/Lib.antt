@@ -12,3 +12,6 @@ pub mod FillLaws
 pub mod SortingLaws
 pub mod ImageLaws
 pub mod IndexLaws
+pub mod MapLaws
+pub mod CopyLaws
+pub mod TakeLaws

@@ -52,7 +52,7 @@ pub fn remove_expired(leases: [Lease; LEASES], time: u32) -> [Lease; LEASES]
 // FINDING, INSERTING, REMOVING
 
 // The lease is present at `time` and has this network and length.
-fn lease_named(time: u32, network: u32, length: u8, x: Lease) -> bool
+pub fn lease_named(time: u32, network: u32, length: u8, x: Lease) -> bool
     ensures { λ r. ⌜ r ≡ named? time network length x ⌝ }
 {
     if x.expires <= time {

@@ -1,0 +1,3 @@
+-- Laws of list.
+pub mod PageLaws
+pub mod ListCall

@@ -1,0 +1,2 @@
+-- Laws of mark.
+pub mod MarkLaws

@@ -1,0 +1,2 @@
+-- Laws of the leases that entries name.
+pub mod NamedLaws

@@ -1,0 +1,2 @@
+-- Laws of release.
+pub mod ReleaseLaws

@@ -1,0 +1,120 @@
+-- The bytes of a reply: an option with one information, head by head and entry by entry.
+-- Assumes nothing.
+use Prim.Native.Nat.{ℕ, _+_, _*_, _≤_, _<_}
+use mathlib.Core.Path.{_≡_, refl, sym, ap, ap₂, _∙_}
+use mathlib.Core.Bool.{Bool}
+use mathlib.Core.List.{List, [], _∷_, _++_, map, append-nil, append-assoc}
+use native.Mathlib.Numerals.{add-one}
+use native.Mathlib.Omega.{arith}
+use lib.ListN.{length, take, drop, getD, length-append, length-map}
+use lib.Seq.{take-suc, length-take-le}
+use Rattle.lists.specs.Lists.{All, gather}
+use Rattle.lists.specs.Put.{put}
+use Rattle.lists.proofs.ListLaws.{all-every, all-image}
+use Rattle.lists.proofs.GatherLaws.{gather-append, gather-one, length-gather}
+use Rattle.lists.proofs.MapLaws.{map-append}
+use Rattle.lists.proofs.PutLaws.{put-nothing, put-more, put-fits}
+use Rattle.option.specs.Values.{Entry, SuboptionValue, information}
+use Rattle.option.specs.Writing.{fourBytes, entryHead, entryBytes, entriesBytes, informationHead, suboptionBytes, suboptionsBytes, optionHead, optionBytes}
+use Rattle.table.specs.declared.Lease.{Lease}
+use Rattle.ledger.specs.Ledger.{entryOf}
+use Rattle.reply.specs.Reply.{replyBytes}
+
+-- ENTRIES
+
+abbrev pub leaseBytes : Lease → List ℕ
+leaseBytes x = entryHead (x .network) (x .length) (x .h) (x .d) 0
+
+entry-bytes : (x : Lease) → entryBytes (entryOf x) ≡ leaseBytes x
+unfolding entryBytes
+entry-bytes x = append-nil (entryHead (x .network) (x .length) (x .h) (x .d) 0)
+
+entry-length : (x : Lease) → length (entryBytes (entryOf x)) ≡ 7
+unfolding entryHead fourBytes
+entry-length x = ap length (entry-bytes x)
+
+pub entries-length : (xs : List Lease) → length (entriesBytes (map entryOf xs)) ≡ 7 * length xs
+unfolding entriesBytes
+entries-length xs =
+    length-gather entryBytes 7 (map entryOf xs) (all-image entryOf (λ (e : Entry). length (entryBytes e) ≡ 7) xs (all-every entry-length xs))
+    ∙ ap (λ (n : ℕ). 7 * n) (length-map xs entryOf)
+
+-- One entry more.
+pub entries-more : (xs : List Lease) (i : ℕ) (d : Lease) → i < length xs
+    → entriesBytes (map entryOf (take (i + 1) xs)) ≡ entriesBytes (map entryOf (take i xs)) ++ leaseBytes (getD xs i d)
+unfolding entriesBytes
+entries-more xs i d lt =
+    let x = getD xs i d in
+    let one : take (i + 1) xs ≡ take i xs ++ (x ∷ []) = rw (add-one i) (take-suc xs i d lt) in
+    ap (λ (l : List Lease). gather entryBytes (map entryOf l)) one
+    ∙ ap (gather entryBytes) (map-append entryOf (take i xs) (x ∷ []))
+    ∙ gather-append entryBytes (map entryOf (take i xs)) (entryOf x ∷ [])
+    ∙ ap (λ (l : List ℕ). gather entryBytes (map entryOf (take i xs)) ++ l) (gather-one entryBytes (entryOf x) ∙ entry-bytes x)
+
+-- THE LOOP that puts the entries: those before i stand in the buffer.
+pub record Putting (xs : List Lease) (before after : List ℕ) (i : ℕ) : Type 0 where
+  pub stored : after ≡ put before 6 (entriesBytes (map entryOf (take i xs)))
+
+pub putting-none : (xs : List Lease) (before : List ℕ) → Putting xs before before 0
+unfolding entriesBytes
+putting-none xs before = record { stored = sym (put-nothing before 6) }
+
+pub putting-more : (xs : List Lease) (before after next : List ℕ) (i : ℕ) → Putting xs before after i → i < length xs → (d : Lease)
+    → next ≡ put after (6 + 7 * i) (leaseBytes (getD xs i d)) → Putting xs before next (i + 1)
+putting-more xs before after next i p lt d e =
+    let at : 6 + 7 * i ≡ 6 + length (entriesBytes (map entryOf (take i xs))) = omega (arith, entries-length (take i xs), length-take-le i xs (omega arith)) in
+    record {
+      stored =
+          put-more before after next 6 (entriesBytes (map entryOf (take i xs))) (6 + 7 * i) (leaseBytes (getD xs i d)) (p .stored) at e
+          ∙ ap (put before 6) (sym (entries-more xs i d lt));
+    }
+
+-- THE WHOLE REPLY
+
+information-length : (n : ℕ) (c s : Bool) → length (informationHead n c s) ≡ 3
+unfolding informationHead
+information-length n c s = refl
+
+pub reply-parts : (c s : Bool) (xs : List Lease)
+    → replyBytes c s xs ≡ (optionHead (7 * length xs + 4) ++ informationHead (7 * length xs + 1) c s) ++ entriesBytes (map entryOf xs)
+unfolding replyBytes optionBytes suboptionsBytes suboptionBytes
+reply-parts c s xs =
+    let es : List ℕ = entriesBytes (map entryOf xs) in
+    let inner : 1 + length es ≡ 7 * length xs + 1 = omega (arith, entries-length xs) in
+    let head : List ℕ = informationHead (7 * length xs + 1) c s in
+    let sub : gather suboptionBytes (information c s (map entryOf xs) ∷ []) ≡ head ++ es =
+    gather-one suboptionBytes (information c s (map entryOf xs)) ∙ ap (λ (n : ℕ). informationHead n c s ++ es) inner in
+    let outer : 1 + length (gather suboptionBytes (information c s (map entryOf xs) ∷ [])) ≡ 7 * length xs + 4 =
+    omega (arith, ap length sub, length-append head es, information-length (7 * length xs + 1) c s, entries-length xs) in
+    ap₂ (λ (n : ℕ) (l : List ℕ). optionHead n ++ l) outer sub ∙ sym (append-assoc (optionHead (7 * length xs + 4)) head es)
+
+pub heads-length : (n m : ℕ) (c s : Bool) → length (optionHead n ++ informationHead m c s) ≡ 6
+unfolding optionHead informationHead
+heads-length n m c s = refl
+
+head-length : (n : ℕ) → length (optionHead n) ≡ 3
+unfolding optionHead
+head-length n = refl
+
+pub reply-length : (c s : Bool) (xs : List Lease) → length (replyBytes c s xs) ≡ 7 * length xs + 6
+reply-length c s xs =
+    ap length (reply-parts c s xs)
+    ∙ length-append (optionHead (7 * length xs + 4) ++ informationHead (7 * length xs + 1) c s) (entriesBytes (map entryOf xs))
+    ∙ omega (arith, heads-length (7 * length xs + 4) (7 * length xs + 1) c s, entries-length xs)
+
+-- Put part by part.
+pub reply-put : (c s : Bool) (xs : List Lease) (n : ℕ) → length xs ≡ n → (l l₁ l₂ l₃ : List ℕ) → l₁ ≡ put l 0 (optionHead (7 * n + 4)) → l₂ ≡ put l₁ 3 (informationHead (7 * n + 1) c s)
+    → l₃ ≡ put l₂ 6 (entriesBytes (map entryOf xs)) → l₃ ≡ put l 0 (replyBytes c s xs)
+reply-put c s xs n k l l₁ l₂ l₃ e₁ e₂ e₃ =
+    let heads : List ℕ = optionHead (7 * n + 4) ++ informationHead (7 * n + 1) c s in
+    let three : 3 ≡ 0 + length (optionHead (7 * n + 4)) = omega (arith, head-length (7 * n + 4)) in
+    let six : 6 ≡ 0 + length heads = omega (arith, heads-length (7 * n + 4) (7 * n + 1) c s) in
+    put-more l l₂ l₃ 0 heads 6 (entriesBytes (map entryOf xs)) (put-more l l₁ l₂ 0 (optionHead (7 * n + 4)) 3 (informationHead (7 * n + 1) c s) e₁ three e₂) six e₃
+    ∙ ap (put l 0)
+    (ap (λ (m : ℕ). (optionHead (7 * m + 4) ++ informationHead (7 * m + 1) c s) ++ entriesBytes (map entryOf xs)) (sym k) ∙ sym (reply-parts c s xs))
+
+-- "Bytes of the reply buffer after those written keep their content."
+pub reply-fits : (bytes l : List ℕ) → length bytes ≤ length l → put l 0 bytes ≡ bytes ++ drop (length bytes) l
+reply-fits bytes l h =
+    let z : 0 + length bytes ≡ length bytes = omega arith in
+    put-fits bytes l 0 (omega arith) ∙ ap (λ (n : ℕ). bytes ++ drop n l) z

@@ -1,0 +1,43 @@
+// The reply of take and list: an option with one information.
+use table::Lease;
+ghost use mathlib.Core.Path.{_≡_};
+ghost use mathlib.Core.List.{map};
+ghost use Prim.Native.Nat.{_≤_};
+ghost use lib.ListN.{length as count, take as upTo};
+ghost use Rattle.lists.specs.Put.{put};
+ghost use Rattle.option.specs.Writing.{entriesBytes};
+ghost use Rattle.ledger.specs.Ledger.{entryOf};
+ghost use Rattle.reply.specs.Reply.{mostEntries, replyBytes};
+
+// No option has more entries, and no reply shows more.
+pub const MOST_ENTRIES: usize = 35;
+
+// The entries of the first n leases, from place 6 on.
+fn put_leases(reply: &mut [u8], leases: [Lease; MOST_ENTRIES], n: usize)
+    requires { ⌜ n ≤ mostEntries ⌝ }
+    ensures { λ _. ⌜ now (reply .exit) ≡ put (now (reply .entry)) 6 (entriesBytes (map entryOf (upTo n leases))) ⌝ }
+{
+    let mut i: usize = 0;
+    while i < n {
+        let x = leases[i];
+        option_writer::put_entry(reply, 6 + 7 * i, x.network, x.length, x.h, x.d);
+        i = i + 1;
+    }
+}
+
+// An option with one information whose entries are the first n leases; the number of bytes written.
+pub fn put_reply(
+    reply: &mut [u8],
+    c: bool,
+    s: bool,
+    leases: [Lease; MOST_ENTRIES],
+    n: usize,
+) -> usize
+    requires { ⌜ n ≤ mostEntries ⌝ }
+    ensures { λ r. ⌜ (now (reply .exit) ≡ put (now (reply .entry)) 0 (replyBytes c s (upTo n leases))) × (r ≡ count (replyBytes c s (upTo n leases))) ⌝ }
+{
+    option_writer::put_option_head(reply, (7 * n + 4) as u8);
+    option_writer::put_information_head(reply, 3, (7 * n + 1) as u8, c, s);
+    put_leases(reply, leases, n);
+    7 * n + 6
+}

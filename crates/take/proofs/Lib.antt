@@ -1,0 +1,3 @@
+-- Laws of take.
+pub mod TakeLaws
+pub mod TakeCall
