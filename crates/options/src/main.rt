@@ -10,63 +10,55 @@ use option::NameFields;
 use option::Step;
 use option::Suboption;
 
-fn text(s: &[u8]) {
-    io::write_all(1, s);
-}
-
-fn number(n: u64) {
-    io::print_decimal(1, n);
-}
-
 // A flag, after its name.
 fn flag(name: &[u8], on: bool) {
-    text(name);
+    show::text(name);
     if on {
-        text(b"1");
+        show::text(b"1");
     } else {
-        text(b"0");
+        show::text(b"0");
     }
 }
 
 fn show_network(n: u32) {
-    number((n / 16777216) as u64);
-    text(b".");
-    number((n / 65536 % 256) as u64);
-    text(b".");
-    number((n / 256 % 256) as u64);
-    text(b".");
-    number((n % 256) as u64);
+    show::number((n / 16777216) as u64);
+    show::text(b".");
+    show::number((n / 65536 % 256) as u64);
+    show::text(b".");
+    show::number((n / 256 % 256) as u64);
+    show::text(b".");
+    show::number((n % 256) as u64);
 }
 
 fn show_figures(f: Figures) {
-    text(b" figures=");
+    show::text(b" figures=");
     if f.count == 0 {
-        text(b"-");
+        show::text(b"-");
         return;
     }
-    number(f.high_water as u64);
+    show::number(f.high_water as u64);
     if f.count == 1 {
         return;
     }
-    text(b",");
-    number(f.in_use as u64);
+    show::text(b",");
+    show::number(f.in_use as u64);
     if f.count == 2 {
         return;
     }
-    text(b",");
-    number(f.unusable as u64);
+    show::text(b",");
+    show::number(f.unusable as u64);
 }
 
 fn show_entry(e: EntryFields) {
-    text(b"entry ");
+    show::text(b"entry ");
     show_network(e.network);
-    text(b"/");
-    number(e.length as u64);
+    show::text(b"/");
+    show::number(e.length as u64);
     flag(b" h=", e.h);
     flag(b" d=", e.d);
     let f = e.figures;
     show_figures(f);
-    text(b"\n");
+    show::text(b"\n");
 }
 
 // The entries of an information: an option holds fewer than 64.
@@ -90,25 +82,12 @@ fn show_entries(s: &[u8], entries: EntryCursor) {
     }
 }
 
-fn wide(x: u8) -> u64 {
-    x as u64
-}
-
-// The octets of a name, in hexadecimal.
-fn show_octets(s: &[u8], start: usize, end: usize) {
-    for i in start..end {
-        if i < s.len() {
-            io::print_hex(1, wide(s[i]), 2);
-        }
-    }
-}
-
 fn show_name(s: &[u8], n: NameFields) {
-    text(b"name ");
+    show::text(b"name ");
     let start = n.start;
     let end = n.end;
-    show_octets(s, start, end);
-    text(b"\n");
+    show::octets(s, start, end);
+    show::text(b"\n");
 }
 
 fn show_suboption(s: &[u8], x: Suboption) {
@@ -116,24 +95,24 @@ fn show_suboption(s: &[u8], x: Suboption) {
         Suboption::Request(r) => {
             flag(b"request h=", r.h);
             flag(b" i=", r.i);
-            text(b" prefix=");
-            number(r.length as u64);
-            text(b"\n");
+            show::text(b" prefix=");
+            show::number(r.length as u64);
+            show::text(b"\n");
         }
         Suboption::Information(f) => {
             flag(b"information c=", f.c);
             flag(b" s=", f.s);
-            text(b"\n");
+            show::text(b"\n");
             let entries = f.entries;
             show_entries(s, entries);
         }
         Suboption::Name(n) => show_name(s, n),
-        Suboption::Unknown(_) => text(b"unknown\n"),
+        Suboption::Unknown(_) => show::text(b"unknown\n"),
     }
 }
 
 fn show_ok() {
-    text(b"ok\n");
+    show::text(b"ok\n");
 }
 
 // The suboptions of an option: there are fewer than 128.
@@ -161,11 +140,11 @@ fn show_suboptions(s: &[u8]) {
 fn show(s: &[u8]) {
     match option::check_option(s) {
         Checked::Good => show_suboptions(s),
-        Checked::NotTheOption => text(b"refused 6\n"),
+        Checked::NotTheOption => show::text(b"refused 6\n"),
         Checked::BadSuboption(place) => {
-            text(b"refused 7 place=");
-            number(place as u64);
-            text(b"\n");
+            show::text(b"refused 7 place=");
+            show::number(place as u64);
+            show::text(b"\n");
         }
     }
 }

@@ -1,9 +1,9 @@
--- `show_octets` is safe and ends. The number of octets left falls.
+-- `octets` is safe and ends. The number of octets left falls.
 -- Assumes nothing.
 use Prim.Native.Nat.{_-_}
 use borrow.Author.Needs.{needs}
-use Rattle.options.proofs.show_octets.Statement.{statement}
-use Rattle.options.proofs.show_octets.Tie as tie
+use Rattle.show.proofs.octets.Statement.{statement}
+use Rattle.show.proofs.octets.Tie as tie
 
 abbrev Inv-loop : tie.InvT-loop
 Inv-loop s start end i₀ i = Unit {0}
@@ -35,8 +35,8 @@ loop-again c = search needs
 returns : tie.Need-returns Inv-loop μ-loop
 returns c = search needs
 
-pub show-octets-spec : {M : Type 1} → statement M
-show-octets-spec =
+pub octets-spec : {M : Type 1} → statement M
+octets-spec =
     tie.close
     (tie.spec
     Inv-loop
