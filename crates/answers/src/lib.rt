@@ -85,7 +85,7 @@ fn of_option(c: Checked) -> Answer
 pub fn check_call(t: LeaseTable, time: u32, client: u32, option: &[u8]) -> Answer
     ensures { λ r. ⌜ answerOf r ≡ answered (firstOf (commonRows t time client (now (option .entry)))) (now (option .entry)) ⌝ }
 {
-    if !table::sound(t) {
+    if !soundness::sound(t) {
         return Answer::Unsound;
     }
     if client == 0 {

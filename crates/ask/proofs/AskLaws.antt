@@ -10,29 +10,23 @@ use native.Mathlib.Nat.{zero-add}
 use native.Mathlib.Decide.{decLe}
 use native.Mathlib.Omega.{arith}
 use lib.ListN.{length, take, drop, replicate, length-map, length-append, length-replicate}
-use lib.Seq.{take-append-seam}
 use lib.Dec.{leb, ltb, eqb}
 use borrow.Author.Tests.{le-leb, lt-leb, eqb-false, not-true}
 use Rattle.lists.specs.Lists.{All, every, all?, those, somes}
 use Rattle.lists.specs.Put.{put}
 use Rattle.lists.proofs.Tests.{bool-cases, cond-true, cond-false}
 use Rattle.lists.proofs.ListLaws.{all-map, all-image}
-use Rattle.lists.proofs.ImageLaws.{take-map}
 use Rattle.lists.proofs.PutLaws.{put-fits}
 use Rattle.lists.proofs.SortingLaws.{insertBy-longer, insertBy-all}
-use Rattle.prefix.specs.declared.Prefix.{Prefix}
 use Rattle.prefix.specs.Prefixes.{longest}
-use Rattle.space.specs.Scan.{prefixes}
 use Rattle.option.specs.Values.{SuboptionValue, Outcome, accepted}
 use Rattle.option.specs.Reading.{readOption}
 use Rattle.option.specs.Writing.{optionBytes}
 use Rattle.table.specs.declared.Lease.{Lease}
-use Rattle.table.specs.declared.Pool.{Pool}
 use Rattle.table.specs.declared.LeaseTable.{LeaseTable}
-use Rattle.table.specs.Table.{leaseSlots, poolSlots, noLease, noPool, networkOf, poolPrefix, prefixOf, prefixesOf, poolsOf, unused?, padded, present, sound, store, insert}
+use Rattle.table.specs.Table.{leaseSlots, networkOf, poolsOf, padded, present, store, insert}
 use Rattle.slots.specs.Slots.{insertLease}
-use Rattle.table.proofs.Ascending.{used}
-use Rattle.table.proofs.TableLaws.{Good, length-padded, sound-fewer, sound-fine, sound-pools-whole, sound-pool-slots, fine-long}
+use Rattle.table.proofs.TableLaws.{sound-fewer, sound-fine, fine-long}
 use Rattle.slots.proofs.SlotLaws.{insert-padded}
 use Rattle.ledger.specs.Ledger as ledger
 use Rattle.ledger.specs.Ledger.{Request, Result, Row, firstOf, orElse, acceptance, refuse, accept, refusalPlace, nothing?, suboptions, requests, forAsk, full, offers, add, addAll, informationFor, askRows, ask}
@@ -45,9 +39,9 @@ use Rattle.message.specs.Collect as collect
 use Rattle.answers.specs.declared.Answer.{Answer}
 use Rattle.answers.specs.Answers.{shortest, answerOf, refused?, commonRows, answered, replaced}
 use Rattle.answers.proofs.CommonRows.{Passed, common-refuses, common-passes, with-reply-numbered}
-use Rattle.ask.specs.declared.Serving.{Serving}
-use Rattle.ask.specs.declared.PoolColumns.{PoolColumns}
-use Rattle.ask.specs.Serving.{insertSlots, requestOf, grantsOf, leasesAfter, startOf, noneGranted, Holds, Ready}
+use Rattle.serving.specs.declared.Serving.{Serving}
+use Rattle.serving.specs.Serving.{requestOf, grantsOf, leasesAfter, Holds, Given}
+use Rattle.ask.specs.Granting.{insertSlots, noneGranted}
 
 -- the pieces of an ask
 
@@ -123,60 +117,22 @@ module _ (m : Message) (subs : List SuboptionValue) (h : collect.Holds m subs) w
       ap (map requestOf) (h .asks (omega (arith, h .requests)))
       ∙ plain (requests subs) (none-listing (requests subs) (sym (h .listing) ∙ g))
 
--- the table as the search sees it
+-- what the requests are served on
 
-pub pool-prefixes : (t : LeaseTable) → sound t ≡ true → (c : PoolColumns) (n : ℕ) → c .networks ≡ map (λ p. p .network) (t .pools) → c .lengths ≡ map (λ p. p .length) (t .pools)
-    → n ≡ length (prefixesOf (t .pools)) → prefixes (take n (c .networks)) (take n (c .lengths)) ≡ poolsOf t
-unfolding prefixesOf
-pool-prefixes t s c n e f k =
-    let us : List Pool = used unused? (t .pools) in
-    let count : n ≡ length us = k ∙ length-map us poolPrefix in
-    let part : (g : Pool → ℕ) → take n (map g (t .pools)) ≡ map g us = λ g.
-    take-map g n (t .pools) ∙ ap₂ (λ (i : ℕ) (ps : List Pool). map g (take i ps)) count (sound-pools-whole t s) ∙ ap (map g) (take-append-seam us _) in
-    ap₂ prefixes (ap (take n) e ∙ part (λ p. p .network)) (ap (take n) f ∙ part (λ p. p .length)) ∙ both us
-  where
-    both : (ps : List Pool) → prefixes (map (λ p. p .network) ps) (map (λ p. p .length) ps) ≡ map poolPrefix ps
-    both [] = refl
-    both (p ∷ ps) = ap (λ (qs : List Prefix). poolPrefix p ∷ qs) (both ps)
-
-pub pools-few : (t : LeaseTable) → sound t ≡ true → length (prefixesOf (t .pools)) ≤ 8
-unfolding prefixesOf
-pools-few t s =
-    let us : List Pool = used unused? (t .pools) in
-    omega (arith, length-map us poolPrefix, ap length (sound-pools-whole t s), length-append us (replicate (poolSlots - length us) noPool), sound-pool-slots t s)
-
-start-holds : (xs : List Lease) → length xs ≤ leaseSlots → Holds (startOf (padded xs) (length xs)) xs []
-start-holds xs few = record {
-  columns = both (padded xs);
-  networks = length-map (padded xs) (λ x. x .network) ∙ length-padded xs few;
-  lengths = length-map (padded xs) (λ x. x .length) ∙ length-padded xs few;
-  count = refl;
-  granted = refl;
-  slots = refl;
-  grants = refl;
-}
-  where
-    both : (ys : List Lease) → prefixes (map (λ x. x .network) ys) (map (λ x. x .length) ys) ≡ map prefixOf ys
-    both [] = refl
-    both (y ∷ ys) = ap (λ (qs : List Prefix). prefixOf y ∷ qs) (both ys)
-
-pub ask-ready : (t : LeaseTable) (time client : ℕ) (option : List ℕ) (p : Passed t time client option) (m : Message) → collect.Holds m (p .pieces) → m .requests ≤ 25 → m .listing ≡ 0
-    → (c : PoolColumns) (n : ℕ) → c .networks ≡ map (λ q. q .network) (t .pools) → c .lengths ≡ map (λ q. q .length) (t .pools) → n ≡ length (prefixesOf (t .pools))
+pub ask-given : (t : LeaseTable) (time client : ℕ) (option : List ℕ) (p : Passed t time client option) (m : Message) → collect.Holds m (p .pieces) → m .requests ≤ 25 → m .listing ≡ 0
     → (slots : List Lease) (count : ℕ) → slots ≡ padded (present time (t .leases)) → count ≡ length (present time (t .leases))
-    → Ready t time (present time (t .leases)) client (time + ledger.holdTime) c n (t .«default_length») (take (m .requests) (m .asks)) (startOf slots count)
-ask-ready t time client option p m h few plainly c n e f k slots count l j = record {
+    → Given t time client (time + ledger.holdTime) (t .pools) slots count (t .«default_length») (m .asks) (m .requests)
+ask-given t time client option p m h few plainly slots count l j = record {
   soundTable = p .sound;
-  presentLeases = refl;
   named = eqb-false client 0 (p .some-client);
   until = refl;
-  poolPrefixes = pool-prefixes t (p .sound) c n e f k;
-  poolColumns = ap length (ap (take n) e ∙ take-map (λ q. q .network) n (t .pools)) ∙ length-map (take n (t .pools)) (λ q. q .network)
-      ∙ sym (ap length (ap (take n) f ∙ take-map (λ q. q .length) n (t .pools)) ∙ length-map (take n (t .pools)) (λ q. q .length));
+  itsPools = refl;
+  itsLeases = l;
+  counted = j;
   byDefault = refl;
+  few = few;
   askedLengths = asked (take (m .requests) (m .asks))
       (subst (All (λ r. r .length ≤ longest)) (ap (λ (o : Outcome). requests (suboptions o)) (p .read) ∙ sym (same-requests m (p .pieces) h few plainly)) (requests-short option));
-  atStart = subst (λ (ys : List Lease). Holds (startOf ys count) (present time (t .leases)) []) (sym l)
-      (subst (λ (i : ℕ). Holds (startOf (padded (present time (t .leases))) i) (present time (t .leases)) []) (sym j) (start-holds (present time (t .leases)) (sound-fewer t (p .sound) time)));
 }
   where
     asked : (qs : List Ask) → All (λ r. r .length ≤ longest) (map requestOf qs) → All (λ a. a .length ≤ longest) qs

@@ -1,4 +1,2 @@
-pub mod ColumnLaws
-pub mod ServeLaws
 pub mod ReplyPuts
 pub mod AskLaws

@@ -7,8 +7,8 @@ use mathlib.Core.Bool.{Bool, true, false, cond}
 use mathlib.Core.List.{List, [], _∷_, _++_, append-assoc, append-nil}
 use mathlib.Core.Option.{Option, none, some}
 use native.Mathlib.Omega.{arith}
-use lib.ListN.{length, take, drop, getD, replicate, set, length-append, length-set, take-append-drop}
-use lib.Seq.{drop-drop, drop-set-lt, take-suc-set, append-snoc, length-take-le, getD-drop}
+use lib.ListN.{length, take, drop, getD, replicate, set, length-append, length-set, length-drop, take-append-drop}
+use lib.Seq.{drop-drop, drop-set-lt, take-suc-set, append-snoc, length-take-le, getD-drop, take-all}
 use native.Mathlib.Numerals.{add-one}
 use Rattle.lists.specs.Lists.{All, gather}
 use Rattle.lists.proofs.DropLaws.{drop-at}
@@ -189,3 +189,19 @@ module _ {A : Type 0} (read : List ℕ → Option A) (size : ℕ) (blank : A) (l
   reading-full past =
       let z : limit - n ≡ 0 = omega arith in
       ends (ap (λ (k : ℕ). records read size k (drop at s)) z)
+
+-- A turn of the loop, which reads at what is left of the bytes: a record more, or the end.
+module _ {A : Type 0} (read : List ℕ → Option A) (size : ℕ) (long : (b : List ℕ) (x : A) → read b ≡ some x → size ≤ length b) (blank : A) (limit : ℕ) (s : List ℕ) (out : List A)
+    (n at : ℕ) (r : Reading read size blank limit s out n at) where
+  left : take (length s - at) (drop at s) ≡ drop at s
+  left = take-all (length s - at) (drop at s) (omega (arith, length-drop at s))
+
+  pub reading-over : read (take (length s - at) (drop at s)) ≡ none → (at ≤ length s) × Ended read size blank limit s out at
+  reading-over e = (r .inside, reading-stop read size blank limit s out n at r (ap read (sym left) ∙ e))
+
+  module _ (x : A) (e : read (take (length s - at) (drop at s)) ≡ some x) where
+    pub reading-room : at + size ≤ length s
+    reading-room = omega (arith, r .inside, long (drop at s) x (ap read (sym left) ∙ e), length-drop at s)
+
+    pub reading-more : n < limit → Reading read size blank limit s (set out n x) (n + 1) (at + size)
+    reading-more lt = reading-put read size blank limit s out n at r x lt reading-room (ap read (sym left) ∙ e)

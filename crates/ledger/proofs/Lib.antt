@@ -16,9 +16,6 @@ pub mod ConservationHolds
 pub mod ListDependsHolds
 pub mod Resuming
 pub mod NothingBehind
-pub mod ExamplesHold
-pub mod Premises
-pub mod WrongServersRefuted
 pub mod Counts
 pub mod InRange
 pub mod StepLaws

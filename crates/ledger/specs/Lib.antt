@@ -4,8 +4,4 @@ pub mod Choice
 pub mod Histories
 pub mod Conservation
 pub mod ListDepends
-pub mod Examples
-pub mod WrongServers
-pub mod SampleLists
-pub mod FurtherExamples
 pub mod Sizes

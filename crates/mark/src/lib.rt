@@ -43,7 +43,7 @@ fn set_d(leases: [Lease; table::LEASES], time: u32, network: u32, length: u8, d:
 pub fn mark(t: LeaseTable, time: u32, network: u32, length: u8, d: bool) -> Called
     ensures { λ r. ⌜ updateOf r ≡ markOf t time network length d ⌝ }
 {
-    if !table::sound(t) {
+    if !soundness::sound(t) {
         return Called {
             answer: Answer::Unsound,
             table: t,

@@ -26,10 +26,10 @@ module _ (f : ℕ → ℕ → Bool) where
   any-of-none none (n ∷ ns) [] = refl
   any-of-none none (n ∷ ns) (l ∷ ls) = rw (none n l) (any-of-none none ns ls)
 
-  module _ (ns ls : List ℕ) (i : ℕ) (lt : i < length ns) (same : length ns ≡ length ls) where
+  module _ (ns ls : List ℕ) (i : ℕ) (lt : i < length ns) (lt₂ : i < length ls) where
     any-of-at : anyOf? f (drop i ns) (drop i ls) ≡ f (getD ns i 0) (getD ls i 0) || anyOf? f (drop (i + 1) ns) (drop (i + 1) ls)
     unfolding anyOf?
-    any-of-at = ap₂ (anyOf? f) (drop-at ns i 0 lt) (drop-at ls i 0 (omega arith))
+    any-of-at = ap₂ (anyOf? f) (drop-at ns i 0 lt) (drop-at ls i 0 lt₂)
 
     pub any-of-yes : f (getD ns i 0) (getD ls i 0) ≡ true → anyOf? f (drop i ns) (drop i ls) ≡ true
     any-of-yes e = any-of-at ∙ rw e refl
@@ -40,6 +40,14 @@ module _ (f : ℕ → ℕ → Bool) where
   pub any-of-end : (ns ls : List ℕ) (i : ℕ) → length ns ≤ i → anyOf? f (drop i ns) (drop i ls) ≡ false
   unfolding anyOf?
   any-of-end ns ls i past = ap (λ (k : List ℕ). anyOf? f k (drop i ls)) (drop-end ns i past)
+
+  pub any-of-short : (ns ls : List ℕ) (i : ℕ) → length ls ≤ i → anyOf? f (drop i ns) (drop i ls) ≡ false
+  unfolding anyOf?
+  any-of-short ns ls i past = ap (anyOf? f (drop i ns)) (drop-end ls i past) ∙ short (drop i ns)
+    where
+      short : (ms : List ℕ) → anyOf? f ms [] ≡ false
+      short [] = refl
+      short (m ∷ ms) = refl
 
 -- ONE ENTRY
 module _ (client : ℕ) (x : Lease) (network len : ℕ) where

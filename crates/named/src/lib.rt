@@ -1,12 +1,10 @@
 // The leases that an option's entries name, as take and release look for them.
 use table::Lease;
 ghost use mathlib.Core.Path.{_≡_};
-ghost use lib.ListN.{length as count};
 ghost use Rattle.named.specs.Named.{namedIn?};
 
-// Whether an entry, of which the two columns have network and length, names this lease.
+// Whether an entry, of which the two columns have network and length, names this lease. An entry that one of them does not have is none.
 pub fn is_named<'a>(x: Lease, client: u32, networks: &'a [u32], lengths: &'a [u8]) -> bool
-    requires { ⌜ count (now networks) ≡ count (now lengths) ⌝ }
     ensures { λ r. ⌜ r ≡ namedIn? client (now (networks .entry)) (now (lengths .entry)) x ⌝ }
 {
     if x.client != client {
@@ -14,6 +12,9 @@ pub fn is_named<'a>(x: Lease, client: u32, networks: &'a [u32], lengths: &'a [u8
     }
     let mut i: usize = 0;
     while i < networks.len() {
+        if lengths.len() <= i {
+            return false;
+        }
         if networks[i] == x.network {
             if lengths[i] == x.length {
                 return true;

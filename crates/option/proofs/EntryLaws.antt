@@ -17,10 +17,10 @@ use Rattle.prefix.specs.Prefixes.{checked}
 use Rattle.option.specs.Rules.{block?, entryFields?}
 use Rattle.option.specs.Reading.{entryFramed?, entryAt, entryEnd, readEntry, readEntries}
 use Rattle.option.specs.Answers.{fieldsOf, entryStepOf}
-use Rattle.option.specs.declared.EntryFields.{EntryFields}
-use Rattle.option.specs.declared.EntryCursor.{EntryCursor}
+use Rattle.entries.specs.declared.EntryFields.{EntryFields}
+use Rattle.entries.specs.declared.EntryCursor.{EntryCursor}
 use Rattle.option.specs.declared.Scan.{Scan}
-use Rattle.option.specs.declared.EntryStep.the-variants as entry-step
+use Rattle.entries.specs.declared.EntryStep.the-variants as entry-step
 
 -- What the framing test of an entry decides.
 pub record EntryFramed (s : List ℕ) (end at : ℕ) : Type 0 where

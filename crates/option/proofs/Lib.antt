@@ -1,6 +1,5 @@
 -- Laws of the definitions.
 pub mod RuleLaws
-pub mod FigureLaws
 pub mod EntryLaws
 pub mod SuboptionLaws
 pub mod PieceLaws

@@ -6,16 +6,12 @@ use mathlib.Core.Bool.{Bool, true, false, cond}
 use lib.ListN.{length, getD}
 use lib.Dec.{eqb}
 use Rattle.lists.specs.Walk.{Turn, more, stop}
+pub use Rattle.entries.specs.Entries.{figuresOf, fieldsOf, entriesFrom, entryStepOf}
 use Rattle.option.specs.Values.{Entry, SuboptionValue, request, information, name, unknown, Outcome, refused, accepted}
 use Rattle.option.specs.Reading.{End, whole, badAt}
 use Rattle.option.specs.Selection as selection
 use Rattle.option.specs.declared.Selection.{Selection}
 use Rattle.option.specs.declared.Selection.the-variants as selected
-use Rattle.option.specs.declared.Figures.{Figures}
-use Rattle.option.specs.declared.EntryFields.{EntryFields}
-use Rattle.option.specs.declared.EntryCursor.{EntryCursor}
-use Rattle.option.specs.declared.EntryStep.{EntryStep}
-use Rattle.option.specs.declared.EntryStep.the-variants as entry-step
 use Rattle.option.specs.declared.Suboption.{Suboption}
 use Rattle.option.specs.declared.Suboption.the-variants.{Request, Information, Name, Unknown}
 use Rattle.option.specs.declared.Cursor.{Cursor}
@@ -23,22 +19,6 @@ use Rattle.option.specs.declared.Step.{Step}
 use Rattle.option.specs.declared.Step.the-variants as step
 use Rattle.option.specs.declared.Checked.{Checked}
 use Rattle.option.specs.declared.Checked.the-variants.{Good, NotTheOption, BadSuboption}
-
--- At most three figures as the code holds them: how many there are, and 0 for those that are not there.
-abbrev pub figuresOf : List ℕ → Figures
-figuresOf l = record { count = length l; «high_water» = getD l 0 0; «in_use» = getD l 1 0; unusable = getD l 2 0 }
-
-abbrev pub fieldsOf : Entry → EntryFields
-fieldsOf e = record { network = e .network; length = e .length; h = e .h; d = e .d; figures = figuresOf (e .figures) }
-
--- The places of the entries from `at` to `end`.
-abbrev pub entriesFrom : ℕ → ℕ → EntryCursor
-entriesFrom at end = record { at = at; end = end }
-
-abbrev pub entryStepOf : ℕ → Turn Entry Bool → EntryStep
-entryStepOf end (more e next) = entry-step.Entry (fieldsOf e) (entriesFrom next end)
-entryStepOf end (stop true) = entry-step.End
-entryStepOf end (stop false) = entry-step.Cut
 
 -- A suboption whose number byte is at `at` and that ends before `end`.
 abbrev pub suboptionOf : SuboptionValue → ℕ → ℕ → Suboption

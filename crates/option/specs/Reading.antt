@@ -1,29 +1,16 @@
 -- Option 220 (RFC 6656) as bytes: what a list of bytes reads as. The rules are those of document 01, "Option 220 as bytes".
 -- Each suboption has a framing test, of its Len and what that must hold, and the field test of Rules.
 -- Assumes nothing: these are definitions.
-use Prim.Native.Nat.{ℕ, suc, _+_, _-_, _*_, _/_, _%_}
+use Prim.Native.Nat.{ℕ, suc, _+_, _-_}
 use mathlib.Core.List.{List, _∷_, []}
 use mathlib.Core.Bool.{Bool, true, false, cond, _&&_}
 use lib.ListN.{length, getD, take, drop}
 use lib.Dec.{eqb, leb, ltb}
 use Rattle.lists.specs.Walk.{Turn, more, stop, walk}
+pub use Rattle.entries.specs.Entries.{two, four, bit1, bit2, entryEnd}
+unfoldable pub use Rattle.entries.specs.Entries.{figuresAt, entryAt, entryFramed?, readEntry}
 use Rattle.option.specs.Values.{Entry, SuboptionValue, request, information, name, unknown, Outcome, refused, accepted}
 use Rattle.option.specs.Rules.{fields?}
-
--- "high byte first": numbers of two and of four bytes.
-abbrev pub two : List ℕ → ℕ → ℕ
-two s at = getD s at 0 * 256 + getD s (at + 1) 0
-
-abbrev pub four : List ℕ → ℕ → ℕ
-four s at = ((getD s at 0 * 256 + getD s (at + 1) 0) * 256 + getD s (at + 2) 0) * 256 + getD s (at + 3) 0
-
--- The bits of value 1 and 2 of a flags byte. Rule 6: "Undefined flag bits are ignored on reading": no other bit is looked at,
--- and nothing of the option's own flags.
-abbrev pub bit1 : ℕ → Bool
-bit1 flags = eqb (flags % 2) 1
-
-abbrev pub bit2 : ℕ → Bool
-bit2 flags = eqb (flags / 2 % 2) 1
 
 -- Rule 1 (RFC 6656, section 3): "Code 220, Len, option flags, then suboptions. .. The input must be the option exactly: its length is Len + 2."
 -- Row 6: "under 2 bytes, other code, Len wrong, or (220) Len 0 or 1".
@@ -57,35 +44,6 @@ readRequest s at end =
     whenGood (eqb end (at + 4))
     (request (bit1 (getD s (at + 2) 0)) (bit2 (getD s (at + 2) 0)) (getD s (at + 3) 0))
     at end
-
--- Rule 4 (section 3.2.1): "network (4 bytes, high byte first), prefix, flags with h and d in the two low bits, stat-len, that many bytes of
--- figures." "Figures are 16-bit, high byte first: high water, in use, unusable; those past the third are stepped over."
--- The figures in n bytes from `at` on.
-unfoldable pub figuresAt : List ℕ → ℕ → ℕ → List ℕ
-figuresAt s at n = take (n / 2) (two s at ∷ two s (at + 2) ∷ two s (at + 4) ∷ [])
-
-unfoldable pub entryAt : List ℕ → ℕ → Entry
-entryAt s at = record {
-  network = four s at;
-  length = getD s (at + 4) 0;
-  h = bit2 (getD s (at + 5) 0);
-  d = bit1 (getD s (at + 5) 0);
-  figures = figuresAt s (at + 7) (getD s (at + 6) 0);
-}
-
-abbrev pub entryEnd : List ℕ → ℕ → ℕ
-entryEnd s at = at + 7 + getD s (at + 6) 0
-
--- "Stat-len is even and within the suboption": the framing of an entry in an information that ends at `end`, which lies in the option.
-unfoldable pub entryFramed? : List ℕ → ℕ → ℕ → Bool
-entryFramed? s end at =
-    leb end (length s)
-    && (leb (at + 7) end
-    && (eqb (getD s (at + 6) 0 % 2) 0
-    && leb (entryEnd s at) end))
-
-unfoldable pub readEntry : List ℕ → ℕ → ℕ → Turn Entry Bool
-readEntry s end at = cond (leb end at) (stop true) (cond (entryFramed? s end at) (more (entryAt s at) (entryEnd s at)) (stop false))
 
 -- The entries from `at` to the information's end, and whether they are all framed.
 unfoldable pub readEntries : List ℕ → ℕ → ℕ → List Entry × Bool

@@ -7,16 +7,10 @@ use lib.ListN.{length, getD}
 use lib.Dec.{eqb, leb}
 use Rattle.lists.specs.Lists.{all?}
 use Rattle.prefix.specs.Prefixes.{checked, longest}
-use Rattle.prefix.specs.declared.Checked.{Checked}
-use Rattle.prefix.specs.declared.Checked.the-variants.{Good, BadLength, Misaligned}
+pub use Rattle.prefix.specs.Prefixes.{block?}
 use Rattle.option.specs.Values.{Entry, SuboptionValue, request, information, name, unknown}
 
 -- Rule 4: "An entry's prefix is 1 to 30, and network bits past the prefix are 0": it is a block, as Prefix::new decides.
-abbrev pub block? : Checked → Bool
-block? (Good p) = true
-block? BadLength = false
-block? Misaligned = false
-
 unfoldable pub entryFields? : Entry → Bool
 entryFields? e = block? (checked (e .network) (e .length))
 

@@ -3,15 +3,7 @@
 use Prim.Native.Nat.{ℕ}
 use mathlib.Core.Bool.{Bool}
 use mathlib.Core.List.{List}
-
--- An entry of an information (RFC 6656, section 3.2.1: a Subnet Prefix Information block). Its figures are, in this order,
--- high water, in use, unusable; the list ends where the figures that are given end.
-pub record Entry : Type 0 where
-  pub network : ℕ
-  pub length : ℕ
-  pub h : Bool
-  pub d : Bool
-  pub figures : List ℕ
+pub use Rattle.entries.specs.Entries.{Entry}
 
 -- "Each suboption read is a request, an information, a name or an unknown one"
 pub data SuboptionValue : Type 0 where

@@ -1,13 +1,12 @@
 // Options 220 (RFC 6656) and 118 (RFC 3011), read from bytes.
+pub use entries::EntryCursor;
+pub use entries::EntryFields;
+pub use entries::EntryStep;
+pub use entries::Figures;
 ghost use mathlib.Core.Path.{_≡_};
 ghost use Prim.Native.Nat.{_+_, _≤_, _<_};
 ghost use lib.ListN.{length};
-ghost use Rattle.option.specs.Rules.{block?};
 ghost use Rattle.option.specs.Reading.{
-  two,
-  four,
-  figuresAt,
-  readEntry,
   readEntries,
   readRequest,
   readInformation,
@@ -19,8 +18,6 @@ ghost use Rattle.option.specs.Reading.{
   readOption,
 };
 ghost use Rattle.option.specs.Answers.{
-  figuresOf,
-  entryStepOf,
   cursorAt,
   stepOf,
   checkedOf,
@@ -28,37 +25,6 @@ ghost use Rattle.option.specs.Answers.{
 };
 ghost use Rattle.option.specs.Inner.{scanOf};
 ghost use Rattle.option.specs.Selection.{readSelection};
-ghost use Rattle.prefix.specs.Prefixes.{checked};
-
-// The figures of an entry: `count` of them, at most three.
-pub struct Figures {
-    pub count: usize,
-    pub high_water: u16,
-    pub in_use: u16,
-    pub unusable: u16,
-}
-
-pub struct EntryFields {
-    pub network: u32,
-    pub length: u8,
-    pub h: bool,
-    pub d: bool,
-    pub figures: Figures,
-}
-
-// The entries of an information that are still to be read: from `at` to `end`.
-pub struct EntryCursor {
-    pub at: usize,
-    pub end: usize,
-}
-
-// What stands at an entry cursor.
-pub enum EntryStep {
-    Entry(EntryFields, EntryCursor),
-    // An entry that runs past the information, or has an odd stat-len.
-    Cut,
-    End,
-}
 
 // In each of these `at` is the place of the suboption's number byte.
 pub struct RequestFields {
@@ -132,123 +98,6 @@ fn wide(x: u8) -> usize
     x as usize
 }
 
-fn wide16(x: u8) -> u16
-    ensures { λ r. ⌜ (r ≡ x) × (r < 256) ⌝ }
-{
-    x as u16
-}
-
-fn wide32(x: u8) -> u32
-    ensures { λ r. ⌜ (r ≡ x) × (r < 256) ⌝ }
-{
-    x as u32
-}
-
-// The number of two bytes at a position, the high byte first.
-fn two_at(s: &[u8], at: usize) -> u16
-    requires { ⌜ at + 2 ≤ length (now s) ⌝ }
-    ensures { λ r. ⌜ r ≡ two (now (s .entry)) at ⌝ }
-{
-    wide16(s[at]) * 256 + wide16(s[at + 1])
-}
-
-// The number of four bytes at a position, the high byte first.
-fn four_at(s: &[u8], at: usize) -> u32
-    requires { ⌜ at + 4 ≤ length (now s) ⌝ }
-    ensures { λ r. ⌜ r ≡ four (now (s .entry)) at ⌝ }
-{
-    ((wide32(s[at]) * 256 + wide32(s[at + 1])) * 256 + wide32(s[at + 2])) * 256 + wide32(s[at + 3])
-}
-
-// The figures in n bytes from a position on, of which the first three count.
-fn figures_at(s: &[u8], at: usize, n: usize) -> Figures
-    requires { ⌜ at + n ≤ length (now s) ⌝ }
-    ensures { λ r. ⌜ r ≡ figuresOf (figuresAt (now (s .entry)) at n) ⌝ }
-{
-    if n < 2 {
-        return Figures {
-            count: 0,
-            high_water: 0,
-            in_use: 0,
-            unusable: 0,
-        };
-    }
-    if n < 4 {
-        return Figures {
-            count: 1,
-            high_water: two_at(s, at),
-            in_use: 0,
-            unusable: 0,
-        };
-    }
-    if n < 6 {
-        return Figures {
-            count: 2,
-            high_water: two_at(s, at),
-            in_use: two_at(s, at + 2),
-            unusable: 0,
-        };
-    }
-    Figures {
-        count: 3,
-        high_water: two_at(s, at),
-        in_use: two_at(s, at + 2),
-        unusable: two_at(s, at + 4),
-    }
-}
-
-impl EntryCursor {
-    // What stands at the cursor. The walk goes by the framing alone: the fields are as they stand.
-    pub fn step(self, s: &[u8]) -> EntryStep
-        ensures { λ r. ⌜ r ≡ entryStepOf (self .end) (readEntry (now (s .entry)) (self .end) (self .at)) ⌝ }
-    {
-        let at = self.at;
-        let end = self.end;
-        if end <= at {
-            return EntryStep::End;
-        }
-        if s.len() < end {
-            return EntryStep::Cut;
-        }
-        if end < at + 7 {
-            return EntryStep::Cut;
-        }
-        let stat = s[at + 6];
-        if stat % 2 != 0 {
-            return EntryStep::Cut;
-        }
-        let next = at + 7 + wide(stat);
-        if end < next {
-            return EntryStep::Cut;
-        }
-        let network = four_at(s, at);
-        let length = s[at + 4];
-        let flags = s[at + 5];
-        let figures = figures_at(s, at + 7, wide(stat));
-        EntryStep::Entry(
-            EntryFields {
-                network,
-                length,
-                h: flags / 2 % 2 == 1,
-                d: flags % 2 == 1,
-                figures,
-            },
-            EntryCursor { at: next, end },
-        )
-    }
-}
-
-// Whether a network and a length make a block: the field rule of an entry.
-pub fn is_block(network: u32, length: u8) -> bool
-    ensures { λ r. ⌜ r ≡ block? (checked network length) ⌝ }
-{
-    match prefix::Prefix::new(network, length) {
-        prefix::Checked::Good(_) => true,
-        prefix::Checked::BadLength => false,
-        prefix::Checked::Misaligned => false,
-    }
-}
-
 // One pass over the entries of an information.
 fn scan_entries(s: &[u8], at: usize, end: usize) -> Scan
     requires { ⌜ at ≤ end ⌝ }
@@ -259,7 +108,7 @@ fn scan_entries(s: &[u8], at: usize, end: usize) -> Scan
     loop {
         match cursor.step(s) {
             EntryStep::Entry(e, next) => {
-                if !is_block(e.network, e.length) {
+                if !prefix::is_block(e.network, e.length) {
                     fields = false;
                 }
                 cursor = next;
@@ -453,5 +302,5 @@ pub fn read_selection(s: &[u8]) -> Selection
     if counted != 4 {
         return Selection::NotTheOption;
     }
-    Selection::Address(four_at(s, 2))
+    Selection::Address(entries::four_at(s, 2))
 }

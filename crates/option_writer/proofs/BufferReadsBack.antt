@@ -15,9 +15,9 @@ use Rattle.option.specs.Values.{SuboptionValue, accepted}
 use Rattle.option.specs.Reading.{readOption}
 use Rattle.option.specs.Writing.{Writing, refusedWith, written, writeOption}
 use Rattle.option.proofs.WrittenReadsBack.{wrote, written-reads-back}
-use Rattle.option_writer.specs.Answers.{into}
-use Rattle.option_writer.specs.declared.Written.{Written}
-use Rattle.option_writer.specs.declared.Written.the-variants.{Bytes, OutsideRules, TooLong}
+use Rattle.option_pieces.specs.Answers.{into}
+use Rattle.option_pieces.specs.declared.Written.{Written}
+use Rattle.option_pieces.specs.declared.Written.the-variants.{Bytes, OutsideRules, TooLong}
 
 refused-not-bytes : (b : Bool) (n : ℕ) → cond b OutsideRules TooLong ≡ Bytes n → ⊥
 refused-not-bytes true n h = let z : _≡_ {A = ℕ} 0 1 = cc in omega arith

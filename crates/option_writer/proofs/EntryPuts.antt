@@ -5,7 +5,7 @@ use native.Mathlib.Omega.{arith}
 use mathlib.Core.Path.{_≡_, refl, sym, ap, _∙_}
 use mathlib.Core.Bool.{true}
 use mathlib.Core.List.{List, [], _∷_, _++_, map}
-use lib.ListN.{length, getD, length-take, length-append, length-replicate, replicate}
+use lib.ListN.{length, getD, length-append}
 use lib.Dec.{leb}
 use borrow.Author.Tests.{leb-true}
 use Rattle.lists.specs.Lists.{all?, gather}
@@ -14,18 +14,13 @@ use Rattle.lists.proofs.Tests.{and-to}
 use Rattle.lists.proofs.PutLaws.{put-nothing, put-more}
 use Rattle.option.specs.Rules.{entryFields?}
 use Rattle.option.specs.Writing.{twoBytes, entryHead, entryBytes, entriesBytes, entryWritable?}
-use Rattle.option.specs.declared.EntryFields.{EntryFields}
-use Rattle.option.specs.declared.Figures.{Figures}
-use Rattle.option.proofs.WritingLaws.{entry-head-length, entry-length, entries-append, entries-one}
-use Rattle.option_writer.specs.Lists.{figuresIn, entryOf, part}
+use Rattle.entries.specs.declared.EntryFields.{EntryFields}
+use Rattle.entries.specs.declared.Figures.{Figures}
+use Rattle.option.proofs.WritingLaws.{entry-head-length, entries-append, entries-one}
+use Rattle.suboption_list.specs.Lists.{figuresIn, entryOf, part}
 use Rattle.lists.proofs.IndexLaws.{map-append, all?-at}
-use Rattle.option_writer.proofs.PartLaws.{part-more, map-part-at, length-map-part}
-
-pub figures-count : (f : Figures) → length (figuresIn f) ≡ f .count
-unfolding figuresIn
-figures-count f =
-    length-take (f .count) (f .«high_water» ∷ f .«in_use» ∷ f .unusable ∷ replicate (f .count - 3) 0)
-    ∙ omega (arith, length-replicate {A = ℕ} (f .count - 3) 0)
+use Rattle.suboption_list.proofs.PartLaws.{part-more, map-part-at, length-map-part}
+use Rattle.suboption_list.proofs.EntryLengths.{figures-count, entry-next}
 
 module _ (l : List ℕ) (at : ℕ) (f : Figures) where
   pub figures-none : f .count ≡ 0 → l ≡ put l at (gather twoBytes (figuresIn f))
@@ -59,10 +54,6 @@ entry-put l l₁ l₂ at e e₁ e₂ =
     let n = entry-head-length (e .network) (e .length) (e .h) (e .d) (2 * e .figures .count) in
     put-more l l₁ l₂ at head (at + 7) (gather twoBytes (figuresIn (e .figures))) e₁ (omega arith) e₂
     ∙ ap (λ (k : ℕ). put l at (entryHead (e .network) (e .length) (e .h) (e .d) (2 * k) ++ gather twoBytes (figuresIn (e .figures)))) (sym (figures-count (e .figures)))
-
-pub entry-next : (at : ℕ) (e : EntryFields) → at + 7 + 2 * e .figures .count ≡ at + length (entryBytes (entryOf e))
-unfolding entryOf
-entry-next at e = omega (arith, entry-length (entryOf e), figures-count (e .figures))
 
 -- An entry that can be written has at most three figures.
 pub writable-few : (e : EntryFields) → entryWritable? (entryOf e) ≡ true → e .figures .count ≤ 3

@@ -16,23 +16,23 @@ use Rattle.lists.proofs.Tests.{and-to}
 use Rattle.lists.proofs.PutLaws.{put-more, put-before}
 use Rattle.lists.proofs.GatherLaws.{length-gather-at}
 use Rattle.option.specs.Values.{Entry, SuboptionValue, information, name, unknown}
-use Rattle.option.specs.Writing.{fourBytes, entriesBytes, informationHead, suboptionBytes, suboptionsBytes, optionHead, optionBytes, entryWritable?, writable?, writeOption}
-use Rattle.option.specs.Selection.{selectionBytes, writeSelection}
-use Rattle.option.specs.declared.EntryFields.{EntryFields}
+use Rattle.option.specs.Writing.{entriesBytes, informationHead, suboptionBytes, suboptionsBytes, optionHead, optionBytes, entryWritable?, writable?, writeOption}
+use Rattle.entries.specs.declared.EntryFields.{EntryFields}
 use Rattle.option.proofs.WritingLaws.{information-length, option-length, suboptions-append, suboptions-one}
-use Rattle.option_writer.specs.Lists.{entryOf, part, informationIn, nameIn, valueAt}
-use Rattle.option_writer.specs.Answers.{into}
-use Rattle.option_writer.specs.Inner.{measureList, Ready, ReadyList, PutAt}
-use Rattle.option_writer.specs.declared.InformationItem.{InformationItem}
-use Rattle.option_writer.specs.declared.NameItem.{NameItem}
-use Rattle.option_writer.specs.declared.Slot.{Slot}
-use Rattle.option_writer.specs.declared.Written.{Written}
-use Rattle.option_writer.specs.declared.Written.the-variants as written-as
-use Rattle.option_writer.specs.declared.Measured.the-variants.{Bytes, Outside}
+use Rattle.suboption_list.specs.Lists.{entryOf, part, informationIn, nameIn, valueAt}
+use Rattle.option_pieces.specs.Answers.{into}
+use Rattle.suboption_list.specs.Measuring.{measureList}
+use Rattle.option_writer.specs.Inner.{Ready, ReadyList, PutAt}
+use Rattle.suboption_list.specs.declared.InformationItem.{InformationItem}
+use Rattle.suboption_list.specs.declared.NameItem.{NameItem}
+use Rattle.suboption_list.specs.declared.Slot.{Slot}
+use Rattle.option_pieces.specs.declared.Written.{Written}
+use Rattle.option_pieces.specs.declared.Written.the-variants as written-as
+use Rattle.suboption_list.specs.declared.Measured.the-variants.{Bytes, Outside}
 use Rattle.lists.proofs.IndexLaws.{map-append, all?-at}
-use Rattle.option_writer.proofs.PartLaws.{length-part}
-use Rattle.option_writer.proofs.StoreLaws.{two-stores}
-use Rattle.option_writer.proofs.MeasureLaws.{bytes-picked, outside-left}
+use Rattle.option_pieces.proofs.StoreLaws.{two-stores}
+use Rattle.suboption_list.proofs.PartLaws.{length-part}
+use Rattle.suboption_list.proofs.MeasureLaws.{bytes-picked, outside-left}
 
 -- An information that can be written points into the array, and its entries can be written.
 module _ (entries : List EntryFields) (f : InformationItem) where
@@ -206,19 +206,6 @@ module _ (subs : List SuboptionValue) (buffer : List ℕ) where
         ∙ ap (λ (l : List SuboptionValue). put buffer 0 (optionHead (n + 1) ++ suboptionsBytes l)) (sym same)
         ∙ ap (λ (k : ℕ). put buffer 0 (optionHead k ++ suboptionsBytes subs)) head in
         ap₂ (λ (k : ℕ) (l : List ℕ). (written-as.Bytes k, l)) count stored ∙ simp (t .0, le-leb _ _ fits, le-leb _ _ len)
-
--- Option 118.
-module _ (a : ℕ) (buffer : List ℕ) where
-  pub selection-full : length buffer < 6 → _≡_ {A = Written × List ℕ} (written-as.TooLong, buffer) (into (writeSelection (length buffer) a) buffer)
-  unfolding writeSelection selectionBytes fourBytes into
-  selection-full h = simp (lt-leb _ _ h)
-
-  pub selection-written : (l₁ l₂ l₃ : List ℕ) → 6 ≤ length buffer → l₁ ≡ set buffer 0 118 → l₂ ≡ set l₁ 1 4 → l₃ ≡ put l₂ 2 (fourBytes a)
-      → _≡_ {A = Written × List ℕ} (written-as.Bytes 6, l₃) (into (writeSelection (length buffer) a) buffer)
-  unfolding writeSelection selectionBytes fourBytes into
-  selection-written l₁ l₂ l₃ room e₁ e₂ e₃ =
-      let stored : l₃ ≡ put buffer 0 (selectionBytes a) = put-more buffer l₂ l₃ 0 (118 ∷ 4 ∷ []) 2 (fourBytes a) (two-stores buffer l₁ l₂ 0 118 4 e₁ e₂) refl e₃ in
-      ap (λ (l : List ℕ). (written-as.Bytes 6, l)) stored ∙ simp (le-leb _ _ room)
 
 pub put-as : (l l₂ : List ℕ) (at next : ℕ) (x y : SuboptionValue) → x ≡ y → PutAt l l₂ at next (suboptionBytes y) → PutAt l l₂ at next (suboptionBytes x)
 put-as l l₂ at next x y e p = subst (λ (z : SuboptionValue). PutAt l l₂ at next (suboptionBytes z)) (sym e) p

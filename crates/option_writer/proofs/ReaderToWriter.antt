@@ -7,7 +7,7 @@ use mathlib.Core.List.{List, [], _∷_}
 use lib.ListN.{length}
 use Rattle.option.specs.Values.{Entry}
 use Rattle.option.specs.Answers.{figuresOf, fieldsOf}
-use Rattle.option_writer.specs.Lists.{figuresIn, entryOf}
+use Rattle.suboption_list.specs.Lists.{figuresIn, entryOf}
 
 figures-back : (fs : List ℕ) → length fs ≤ 3 → figuresIn (figuresOf fs) ≡ fs
 unfolding figuresIn

@@ -1,32 +1,33 @@
-// Options 220 (RFC 6656) and 118 (RFC 3011), written into a buffer.
+// Option 220 (RFC 6656): a whole list of suboptions, written into a buffer; nothing is written before all of it has been measured.
 use option::EntryFields;
 use option::Figures;
+pub use option_pieces::Written;
+pub use option_pieces::write_selection;
+pub use suboption_list::InformationItem;
+pub use suboption_list::Item;
+use suboption_list::Measured;
+pub use suboption_list::NameItem;
+pub use suboption_list::RequestItem;
+pub use suboption_list::Slot;
+pub use suboption_list::SuboptionList;
 ghost use mathlib.Core.Path.{_≡_};
 ghost use mathlib.Core.Bool.{true};
 ghost use mathlib.Core.List.{map};
 ghost use Prim.Native.Nat.{_+_, _*_, _≤_, _<_};
-ghost use lib.ListN.{length, set, take};
+ghost use lib.ListN.{length, take};
 ghost use Rattle.lists.specs.Lists.{all?, gather};
 ghost use Rattle.lists.specs.Put.{put};
-ghost use Rattle.option.specs.Values.{request};
 ghost use Rattle.option.specs.Writing.{
   twoBytes,
-  fourBytes,
-  flags,
   requestBytes,
-  entryHead,
   entryBytes,
   entriesBytes,
-  informationHead,
   suboptionBytes,
   suboptionsBytes,
-  optionHead,
   entryWritable?,
-  writable?,
   writeOption,
 };
-ghost use Rattle.option.specs.Selection.{selectionBytes, writeSelection};
-ghost use Rattle.option_writer.specs.Lists.{
+ghost use Rattle.suboption_list.specs.Lists.{
   figuresIn,
   entryOf,
   part,
@@ -34,149 +35,21 @@ ghost use Rattle.option_writer.specs.Lists.{
   nameIn,
   valueOf,
   valueAt,
-  listed,
   suboptionsOf,
 };
-ghost use Rattle.option_writer.specs.Answers.{into};
-ghost use Rattle.option_writer.specs.Inner.{measureOf, measureOne, measureList, Short, Ready, ReadyList, PutAt};
+ghost use Rattle.option_pieces.specs.Answers.{into};
+ghost use Rattle.option_writer.specs.Inner.{Ready, ReadyList, PutAt};
 
-// What the writer is given: `count` items, whose entries and octets stand in the arrays beside them.
-pub struct SuboptionList {
-    pub count: usize,
-    pub items: [Slot; 96],
-    pub entries: [EntryFields; 64],
-    pub octets: [u8; 256],
-}
+// The pieces of a list of suboptions, which has been measured.
 
-pub struct Slot {
-    pub item: Item,
-}
-
-pub enum Item {
-    Request(RequestItem),
-    Information(InformationItem),
-    Name(NameItem),
-    Unknown,
-}
-
-pub struct RequestItem {
-    pub h: bool,
-    pub i: bool,
-    pub length: u8,
-}
-
-// `count` entries, from index `first` of the list's entries on.
-pub struct InformationItem {
-    pub c: bool,
-    pub s: bool,
-    pub first: usize,
-    pub count: usize,
-}
-
-// `count` octets, from index `first` of the list's octets on.
-pub struct NameItem {
-    pub first: usize,
-    pub count: usize,
-}
-
-// The number of bytes written, refusal 13, or refusal 14.
-pub enum Written {
-    Bytes(usize),
-    OutsideRules,
-    TooLong,
-}
-
-// The length of what is to be written, or that it cannot be.
-enum Measured {
-    Bytes(usize),
-    Outside,
-}
-
-// One byte, where the buffer has that place.
-fn store(buf: &mut [u8], at: usize, x: u8)
-    ensures { λ _. ⌜ now (buf .exit) ≡ set (now (buf .entry)) at x ⌝ }
-{
-    if at < buf.len() {
-        buf[at] = x;
-    }
-}
-
-// A flags byte, from the bit of value 2 and the bit of value 1.
-fn flags_byte(b: bool, a: bool) -> u8
-    ensures { λ r. ⌜ r ≡ flags b a ⌝ }
-{
-    if b {
-        if a { 3 } else { 2 }
-    } else {
-        if a { 1 } else { 0 }
-    }
-}
-
-// A number of 16 bits, high byte first. Here and below the bound on `at` keeps sums within range.
+// A number of 16 bits, high byte first.
 fn put_two(buf: &mut [u8], at: usize, n: u16)
     requires { ⌜ at < 9223372036854775808 ⌝ }
     ensures { λ _. ⌜ now (buf .exit) ≡ put (now (buf .entry)) at (twoBytes n) ⌝ }
 {
-    store(buf, at, (n / 256) as u8);
-    store(buf, at + 1, (n % 256) as u8);
+    option_pieces::store(buf, at, (n / 256) as u8);
+    option_pieces::store(buf, at + 1, (n % 256) as u8);
 }
-
-// A number of 32 bits, high byte first.
-fn put_four(buf: &mut [u8], at: usize, n: u32)
-    requires { ⌜ at < 9223372036854775808 ⌝ }
-    ensures { λ _. ⌜ now (buf .exit) ≡ put (now (buf .entry)) at (fourBytes n) ⌝ }
-{
-    store(buf, at, (n / 16777216) as u8);
-    store(buf, at + 1, (n / 65536 % 256) as u8);
-    store(buf, at + 2, (n / 256 % 256) as u8);
-    store(buf, at + 3, (n % 256) as u8);
-}
-
-// The seven bytes of an entry before its figures.
-fn put_entry_head(buf: &mut [u8], at: usize, network: u32, length: u8, h: bool, d: bool, stat: u8)
-    requires { ⌜ at < 9223372036854775808 ⌝ }
-    ensures { λ _. ⌜ now (buf .exit) ≡ put (now (buf .entry)) at (entryHead network length h d stat) ⌝ }
-{
-    put_four(buf, at, network);
-    store(buf, at + 4, length);
-    store(buf, at + 5, flags_byte(h, d));
-    store(buf, at + 6, stat);
-}
-
-// The pieces of a reply. Each is put at a place of the buffer; bytes past the end of the buffer are dropped.
-
-// Code, Len and the option's flags, at the start.
-pub fn put_option_head(buf: &mut [u8], len: u8)
-    ensures { λ _. ⌜ now (buf .exit) ≡ put (now (buf .entry)) 0 (optionHead len) ⌝ }
-{
-    store(buf, 0, 220);
-    store(buf, 1, len);
-    store(buf, 2, 0);
-}
-
-// Number, Len and flags of an information.
-pub fn put_information_head(buf: &mut [u8], at: usize, len: u8, c: bool, s: bool)
-    ensures { λ _. ⌜ now (buf .exit) ≡ put (now (buf .entry)) at (informationHead len c s) ⌝ }
-{
-    if buf.len() <= at {
-        return;
-    }
-    store(buf, at, 2);
-    store(buf, at + 1, len);
-    store(buf, at + 2, flags_byte(c, s));
-}
-
-// An entry without figures.
-pub fn put_entry(buf: &mut [u8], at: usize, network: u32, length: u8, h: bool, d: bool)
-    ensures { λ _. ⌜ now (buf .exit) ≡ put (now (buf .entry)) at (entryHead network length h d 0) ⌝ }
-{
-    if buf.len() <= at {
-        return;
-    }
-    put_entry_head(buf, at, network, length, h, d, 0);
-}
-
-// The pieces of a list of suboptions, which has been measured.
 
 fn put_figures(buf: &mut [u8], at: usize, f: Figures)
     requires { ⌜ (at < 4611686018427387904) × (f .count ≤ 3) ⌝ }
@@ -204,7 +77,7 @@ fn put_full_entry(buf: &mut [u8], at: usize, e: EntryFields) -> usize
 {
     let f = e.figures;
     let n = f.count;
-    put_entry_head(buf, at, e.network, e.length, e.h, e.d, (2 * n) as u8);
+    option_pieces::put_entry(buf, at, e.network, e.length, e.h, e.d, (2 * n) as u8);
     put_figures(buf, at + 7, f);
     at + 7 + 2 * n
 }
@@ -237,136 +110,19 @@ fn put_octets(buf: &mut [u8], at: usize, octets: [u8; 256], first: usize, count:
 {
     let mut i: usize = 0;
     while i < count {
-        store(buf, at + i, octets[first + i]);
+        option_pieces::store(buf, at + i, octets[first + i]);
         i += 1;
     }
-}
-
-// The length of entries of the list, if all of them can be written.
-fn measure_entries(entries: [EntryFields; 64], first: usize, count: usize) -> Measured
-    requires { ⌜ first + count ≤ 64 ⌝ }
-    ensures { λ r. ⌜ (r ≡ measureOf entryWritable? entryBytes (map entryOf (part first count entries))) × Short 832 r ⌝ }
-{
-    let mut n: usize = 0;
-    let mut i: usize = 0;
-    while i < count {
-        let e = entries[first + i];
-        let f = e.figures;
-        let figures = f.count;
-        if 3 < figures {
-            return Measured::Outside;
-        }
-        if !option::is_block(e.network, e.length) {
-            return Measured::Outside;
-        }
-        n += 7 + 2 * figures;
-        i += 1;
-    }
-    Measured::Bytes(n)
-}
-
-fn measure_request(r: RequestItem) -> Measured
-    ensures { λ m. ⌜ (m ≡ measureOne (request (r .h) (r .i) (r .length))) × Short 900 m ⌝ }
-{
-    if prefix::Prefix::LONGEST < r.length {
-        return Measured::Outside;
-    }
-    Measured::Bytes(4)
-}
-
-fn measure_information(f: InformationItem, entries: [EntryFields; 64]) -> Measured
-    ensures { λ m. ⌜ (m ≡ measureOne (informationIn entries f)) × Short 900 m ⌝ }
-{
-    let first = f.first;
-    let count = f.count;
-    if 64 < first {
-        return Measured::Outside;
-    }
-    if 64 - first < count {
-        return Measured::Outside;
-    }
-    if count == 0 {
-        return Measured::Outside;
-    }
-    match measure_entries(entries, first, count) {
-        Measured::Bytes(n) => Measured::Bytes(3 + n),
-        Measured::Outside => Measured::Outside,
-    }
-}
-
-fn measure_name(n: NameItem, octets: [u8; 256]) -> Measured
-    ensures { λ m. ⌜ (m ≡ measureOne (nameIn octets n)) × Short 900 m ⌝ }
-{
-    let first = n.first;
-    let count = n.count;
-    if 256 < first {
-        return Measured::Outside;
-    }
-    if 256 - first < count {
-        return Measured::Outside;
-    }
-    if count == 0 {
-        return Measured::Outside;
-    }
-    if octets[first + count - 1] == 0 {
-        return Measured::Outside;
-    }
-    Measured::Bytes(2 + count)
-}
-
-// The length of what is written of an item, if it can be written.
-fn measure_item(item: Item, entries: [EntryFields; 64], octets: [u8; 256]) -> Measured
-    ensures { λ m. ⌜ (m ≡ measureOne (valueOf entries octets item)) × Short 900 m ⌝ }
-{
-    match item {
-        Item::Request(r) => measure_request(r),
-        Item::Information(f) => measure_information(f, entries),
-        Item::Name(n) => measure_name(n, octets),
-        Item::Unknown => Measured::Outside,
-    }
-}
-
-// The length of what is written of all items, if there are any and all can be written.
-fn measure_items(
-    items: [Slot; 96],
-    count: usize,
-    entries: [EntryFields; 64],
-    octets: [u8; 256],
-) -> Measured
-    ensures { λ m. ⌜ (m ≡ measureList (listed items count entries octets)) × Short 86400 m ⌝ }
-{
-    if 96 < count {
-        return Measured::Outside;
-    }
-    if count == 0 {
-        return Measured::Outside;
-    }
-    let mut n: usize = 0;
-    let mut i: usize = 0;
-    while i < count {
-        let slot = items[i];
-        let item = slot.item;
-        match measure_item(item, entries, octets) {
-            Measured::Bytes(k) => {
-                n += k;
-            }
-            Measured::Outside => {
-                return Measured::Outside;
-            }
-        }
-        i += 1;
-    }
-    Measured::Bytes(n)
 }
 
 fn put_request(buf: &mut [u8], at: usize, r: RequestItem)
     requires { ⌜ at ≤ 1000000 ⌝ }
     ensures { λ _. ⌜ now (buf .exit) ≡ put (now (buf .entry)) at (requestBytes (r .h) (r .i) (r .length)) ⌝ }
 {
-    store(buf, at, 1);
-    store(buf, at + 1, 2);
-    store(buf, at + 2, flags_byte(r.i, r.h));
-    store(buf, at + 3, r.length);
+    option_pieces::store(buf, at, 1);
+    option_pieces::store(buf, at + 1, 2);
+    option_pieces::store(buf, at + 2, option_pieces::flags_byte(r.i, r.h));
+    option_pieces::store(buf, at + 3, r.length);
 }
 
 // An information; the place after it. Its head is put last, once its Len is known.
@@ -382,7 +138,7 @@ fn put_information(
     let first = f.first;
     let count = f.count;
     let end = put_entries(buf, at + 3, entries, first, count);
-    put_information_head(buf, at, (end - at - 2) as u8, f.c, f.s);
+    option_pieces::put_information_head(buf, at, (end - at - 2) as u8, f.c, f.s);
     end
 }
 
@@ -393,8 +149,8 @@ fn put_name(buf: &mut [u8], at: usize, n: NameItem, octets: [u8; 256]) -> usize
 {
     let first = n.first;
     let count = n.count;
-    store(buf, at, 3);
-    store(buf, at + 1, count as u8);
+    option_pieces::store(buf, at, 3);
+    option_pieces::store(buf, at + 1, count as u8);
     put_octets(buf, at + 2, octets, first, count);
     at + 2 + count
 }
@@ -450,7 +206,7 @@ pub fn write_option(list: SuboptionList, buf: &mut [u8]) -> Written
     let items = list.items;
     let entries = list.entries;
     let octets = list.octets;
-    let measured = measure_items(items, count, entries, octets);
+    let measured = suboption_list::measure_items(items, count, entries, octets);
     let Measured::Bytes(n) = measured else {
         return Written::OutsideRules;
     };
@@ -461,20 +217,7 @@ pub fn write_option(list: SuboptionList, buf: &mut [u8]) -> Written
     if buf.len() < bytes {
         return Written::TooLong;
     }
-    put_option_head(buf, (n + 1) as u8);
+    option_pieces::put_option_head(buf, (n + 1) as u8);
     put_items(buf, items, count, entries, octets);
     Written::Bytes(bytes)
-}
-
-// Option 118: an address, at the start of the buffer.
-pub fn write_selection(address: u32, buf: &mut [u8]) -> Written
-    ensures { λ r. ⌜ (r, now (buf .exit)) ≡ into (writeSelection (length (now (buf .entry))) address) (now (buf .entry)) ⌝ }
-{
-    if buf.len() < 6 {
-        return Written::TooLong;
-    }
-    store(buf, 0, 118);
-    store(buf, 1, 4);
-    put_four(buf, 2, address);
-    Written::Bytes(6)
 }

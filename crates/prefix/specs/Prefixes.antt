@@ -3,7 +3,7 @@
 use Prim.Native.Nat.{ℕ, _+_, _-_, _^_, _%_, _≤_, _<_}
 use mathlib.Core.Path.{_≡_}
 use mathlib.Core.Logic.{_⊎_}
-use mathlib.Core.Bool.{Bool, cond, not, _&&_, _||_}
+use mathlib.Core.Bool.{Bool, true, false, cond, not, _&&_, _||_}
 use lib.Dec.{leb, eqb}
 use Rattle.prefix.specs.declared.Prefix.{Prefix}
 use Rattle.prefix.specs.declared.Checked.{Checked}
@@ -64,3 +64,9 @@ abbrev pub checked : ℕ → ℕ → Checked
 checked network length =
     cond (not (leb shortest length && leb length longest)) BadLength
     (cond (aligned? (prefix network length)) (Good (prefix network length)) Misaligned)
+
+-- Whether it is one.
+abbrev pub block? : Checked → Bool
+block? (Good p) = true
+block? BadLength = false
+block? Misaligned = false

@@ -9,6 +9,7 @@ ghost use Rattle.prefix.specs.Prefixes.{
   upper as upperOf,
   checked,
   inside?,
+  block?,
   apart?,
   longest,
 };
@@ -157,5 +158,16 @@ impl Prefix {
             return false;
         }
         true
+    }
+}
+
+// Whether a network and a length make a block.
+pub fn is_block(network: u32, length: u8) -> bool
+    ensures { λ r. ⌜ r ≡ block? (checked network length) ⌝ }
+{
+    match Prefix::new(network, length) {
+        Checked::Good(_) => true,
+        Checked::BadLength => false,
+        Checked::Misaligned => false,
     }
 }

@@ -20,12 +20,23 @@ fn put_leases(reply: &mut [u8], leases: [Lease; MOST_ENTRIES], n: usize)
     let mut i: usize = 0;
     while i < n {
         let x = leases[i];
-        option_writer::put_entry(reply, 6 + 7 * i, x.network, x.length, x.h, x.d);
+        option_pieces::put_entry(reply, 6 + 7 * i, x.network, x.length, x.h, x.d, 0);
         i = i + 1;
     }
 }
 
-// An option with one information whose entries are the first n leases; the number of bytes written.
+// An option with one information whose entries are the first n leases, where there are so many; the number of bytes written.
+fn put_shown(reply: &mut [u8], c: bool, s: bool, leases: [Lease; MOST_ENTRIES], n: usize) -> usize
+    requires { ⌜ n ≤ mostEntries ⌝ }
+    ensures { λ r. ⌜ (now (reply .exit) ≡ put (now (reply .entry)) 0 (replyBytes c s (upTo n leases))) × (r ≡ count (replyBytes c s (upTo n leases))) ⌝ }
+{
+    option_pieces::put_option_head(reply, (7 * n + 4) as u8);
+    option_pieces::put_information_head(reply, 3, (7 * n + 1) as u8, c, s);
+    put_leases(reply, leases, n);
+    7 * n + 6
+}
+
+// An option with one information whose entries are the first n leases, all of them where n is more; the number of bytes written.
 pub fn put_reply(
     reply: &mut [u8],
     c: bool,
@@ -33,11 +44,10 @@ pub fn put_reply(
     leases: [Lease; MOST_ENTRIES],
     n: usize,
 ) -> usize
-    requires { ⌜ n ≤ mostEntries ⌝ }
     ensures { λ r. ⌜ (now (reply .exit) ≡ put (now (reply .entry)) 0 (replyBytes c s (upTo n leases))) × (r ≡ count (replyBytes c s (upTo n leases))) ⌝ }
 {
-    option_writer::put_option_head(reply, (7 * n + 4) as u8);
-    option_writer::put_information_head(reply, 3, (7 * n + 1) as u8, c, s);
-    put_leases(reply, leases, n);
-    7 * n + 6
+    if MOST_ENTRIES < n {
+        return put_shown(reply, c, s, leases, MOST_ENTRIES);
+    }
+    put_shown(reply, c, s, leases, n)
 }

@@ -47,15 +47,15 @@ sum-append f (x ∷ xs) ys = omega (arith, sum-append f xs ys)
 
 -- the clauses of the walk
 
-walk-unused : (leases : List Prefix) (h : ℕ) (p : Prefix) → All (Apart p) leases → walk leases h p ≡ p ∷ []
+pub walk-unused : (leases : List Prefix) (h : ℕ) (p : Prefix) → All (Apart p) leases → walk leases h p ≡ p ∷ []
 walk-unused leases zero p a = rw (unused-of leases p a)
 walk-unused leases (suc h) p a = rw (unused-of leases p a)
 
-walk-covered : (leases : List Prefix) (h : ℕ) (p : Prefix) → unused? leases p ≡ false → covered? leases p ≡ true → walk leases h p ≡ []
+pub walk-covered : (leases : List Prefix) (h : ℕ) (p : Prefix) → unused? leases p ≡ false → covered? leases p ≡ true → walk leases h p ≡ []
 walk-covered leases zero p e c = rw (e, c)
 walk-covered leases (suc h) p e c = rw (e, c)
 
-walk-halves : (leases : List Prefix) (h : ℕ) (p : Prefix) → unused? leases p ≡ false → covered? leases p ≡ false
+pub walk-halves : (leases : List Prefix) (h : ℕ) (p : Prefix) → unused? leases p ≡ false → covered? leases p ≡ false
     → walk leases (suc h) p ≡ walk leases h (lower p) ++ walk leases h (upper p)
 walk-halves leases h p e c = rw (e, c)
 

@@ -1,4 +1,4 @@
 -- Laws that several proofs cite.
 pub mod Ascending
 pub mod TableLaws
-pub mod Scan
+pub mod PoolLaws

@@ -9,7 +9,6 @@ use borrow.Author.Needs.{needs}
 use borrow.Author.Tests.{ltb-false}
 use Rattle.table.specs.declared.LeaseTable.{LeaseTable}
 use Rattle.table.specs.Table.{latest, present}
-use Rattle.table.proofs.TableLaws.{sound-fewer}
 use Rattle.ledger.specs.Ledger as ledger
 use Rattle.message.specs.declared.Message.{Message}
 use Rattle.message.specs.Collect as collect
@@ -17,9 +16,9 @@ use Rattle.message.proofs.MessageHolds.{message-holds}
 use Rattle.answers.specs.Answers.{shortest, answerOf}
 use Rattle.answers.specs.declared.Answer.{Answer}
 use Rattle.answers.proofs.CommonRows.{Passed, passed-call-with-reply}
-use Rattle.ask.specs.declared.Serving.{Serving}
-use Rattle.ask.specs.Serving.{insertSlots, leasesAfter, grantsOf, startOf, Holds, Ready}
-use Rattle.ask.proofs.AskLaws.{ask-without, ask-many, ask-listing, ask-good, ask-ready, pools-few, ask-refused, ask-pieces, ask-few, ask-nothing, ask-granted}
+use Rattle.serving.specs.Serving.{leasesAfter, grantsOf, Holds}
+use Rattle.ask.specs.Granting.{insertSlots}
+use Rattle.ask.proofs.AskLaws.{ask-without, ask-many, ask-listing, ask-good, ask-given, ask-refused, ask-pieces, ask-few, ask-nothing, ask-granted}
 use Rattle.ask.proofs.ask.Statement.{statement}
 use Rattle.ask.proofs.ask.Tie as tie
 
@@ -39,23 +38,18 @@ message c =
     subst (λ (m : Message). collect.Holds m (passed (c .before) .1 .pieces)) (sym (c .read .ensures)) (message-holds (a .option .now) (passed (c .before) .1 .pieces) byte (passed (c .before) .1 .read))
 
 -- What is kept after the last request.
-kept : (c : tie.After-serve) → let r = c .before .before .before .before .before .before .before .before .before .before .before .before .before in
+kept : (c : tie.After-serve-requests) → let r = c .before .before .before .before .before .before .before .before .before .before in
     let a = r .before .before .before .before .before .before .args in
-    Holds (c .serve .result) (leasesAfter (a .t) (a .time) (a .client) (present (a .time) (a .t .leases)) (take (r .read .result .requests) (r .read .result .asks)))
+    Holds (c .serve-requests .result) (leasesAfter (a .t) (a .time) (a .client) (present (a .time) (a .t .leases)) (take (r .read .result .requests) (r .read .result .asks)))
     (grantsOf (a .t) (a .time) (a .client) (present (a .time) (a .t .leases)) (take (r .read .result .requests) (r .read .result .asks)))
 kept c =
-    let r = c .before .before .before .before .before .before .before .before .before .before .before .before .before in
+    let r = c .before .before .before .before .before .before .before .before .before .before in
     let a = r .before .before .before .before .before .before .args in
-    let pass = passed (r .before) .1 in
-    let start = c .before in
-    let pools = c .before .before .before .before in
-    c .serve .ensures (a .t) (a .time) (present (a .time) (a .t .leases))
-    (subst
-    (λ (s : Serving). Ready (a .t) (a .time) (present (a .time) (a .t .leases)) (a .client) (a .time + ledger.holdTime) (pools .pool-columns .result) (c .before .before .before .pools-used .result) (a .t .«default_length») (take (r .read .result .requests) (r .read .result .asks)) s)
-    (sym (start .starting .ensures))
-    (ask-ready (a .t) (a .time) (a .client) (a .option .now) pass (r .read .result) (message r) (c .before .before .before .before .before .before .before .before .before .before .before .if3 .left) (c .before .before .before .before .before .before .before .before .before .if4 .left)
-    (pools .pool-columns .result) (c .before .before .before .pools-used .result) (pools .pool-columns .ensures .0) (pools .pool-columns .ensures .1) (c .before .before .before .pools-used .ensures)
-    (c .before .before .before .before .before .before .before .remove-expired .result) (c .before .before .before .before .before .before .count-present .result) (c .before .before .before .before .before .before .before .remove-expired .ensures) (c .before .before .before .before .before .before .count-present .ensures)))
+    let counted = c .before .before .before in
+    let removed = counted .before in
+    c .serve-requests .ensures (a .t) (a .time)
+    (ask-given (a .t) (a .time) (a .client) (a .option .now) (passed (r .before) .1) (r .read .result) (message r) (c .before .before .before .before .before .before .before .before .if3 .left) (c .before .before .before .before .before .before .if4 .left)
+    (removed .remove-expired .result) (counted .count-present .result) (removed .remove-expired .ensures) (counted .count-present .ensures))
 
 check-call-with-reply-requires : tie.Need-check-call-with-reply-requires
 check-call-with-reply-requires c κs = search needs
@@ -99,44 +93,27 @@ remove-expired-requires c κs = search needs
 count-present-requires : tie.Need-count-present-requires
 count-present-requires c κs = search needs
 
-pool-columns-requires : tie.Need-pool-columns-requires
-pool-columns-requires c κs = search needs
-
-pools-used-requires : tie.Need-pools-used-requires
-pools-used-requires c κs = search needs
-
-starting-requires : tie.Need-starting-requires
-starting-requires c κs = search needs
-
-add-serve : tie.Need-add-serve
-add-serve c =
-    let r = c .before .before .before .before .before .before .before .before .before .before .before .before in
+add-serve-requests : tie.Need-add-serve-requests
+add-serve-requests c =
+    let r = c .before .before .before .before .before .before .before .before .before in
     let a = r .before .before .before .before .before .before .args in
     omega (arith, ltb-false latest (a .time) (passed (r .before) .1 .late))
 
-serve-requires : tie.Need-serve-requires
-serve-requires c κs =
-    let r = c .before .before .before .before .before .before .before .before .before .before .before .before in
-    let a = r .before .before .before .before .before .before .args in
-    let pass = passed (r .before) .1 in (
-      omega (arith, c .before .before .pools-used .ensures, pools-few (a .t) (pass .sound)),
-      c .before .before .before .before .before .before .before .before .before .before .if3 .left,
-      omega (arith, ap (λ (s : Serving). s .count) (c .starting .ensures), c .before .before .before .before .before .count-present .ensures, sound-fewer (a .t) (pass .sound) (a .time)),
-      ap (λ (s : Serving). s .grants) (c .starting .ensures),
-    )
+serve-requests-requires : tie.Need-serve-requests-requires
+serve-requests-requires c κs = search needs
 
 -- The pieces are those of an ask.
-good : (c : tie.After-serve) → ledger.forAsk (ledger.requests (passed (c .before .before .before .before .before .before .before .before .before .before .before .before .before .before) .1 .pieces)) ≡ true
-good c = let r = c .before .before .before .before .before .before .before .before .before .before .before .before .before in ask-good _ _ (message r) (c .before .before .before .before .before .before .before .before .before .before .before .before .if2 .left) (c .before .before .before .before .before .before .before .before .before .before .before .if3 .left) (c .before .before .before .before .before .before .before .before .before .if4 .left)
+good : (c : tie.After-serve-requests) → ledger.forAsk (ledger.requests (passed (c .before .before .before .before .before .before .before .before .before .before .before) .1 .pieces)) ≡ true
+good c = let r = c .before .before .before .before .before .before .before .before .before .before in ask-good _ _ (message r) (c .before .before .before .before .before .before .before .before .before .if2 .left) (c .before .before .before .before .before .before .before .before .if3 .left) (c .before .before .before .before .before .before .if4 .left)
 
 -- The laws of what is granted, at the point after the last request.
-few : (c : tie.After-serve) → c .serve .result .grants ≤ 25
+few : (c : tie.After-serve-requests) → c .serve-requests .result .grants ≤ 25
 few c =
-    let r = c .before .before .before .before .before .before .before .before .before .before .before .before .before in
+    let r = c .before .before .before .before .before .before .before .before .before .before in
     let e = r .before in
     let a = e .before .before .before .before .before .args in
     ask-few (a .t) (a .time) (a .client) (a .option .now) (a .reply .now) (e .before .before .check-call-with-reply .result) (e .before .before .check-call-with-reply .ensures)
-    (sym (e .before .is-refusal .ensures) ∙ e .if1 .left) (passed e .1) (good c) (r .read .result) (message r) (c .before .before .before .before .before .before .before .before .before .before .before .if3 .left) (c .before .before .before .before .before .before .before .before .before .if4 .left) (c .serve .result) (kept c)
+    (sym (e .before .is-refusal .ensures) ∙ e .if1 .left) (passed e .1) (good c) (r .read .result) (message r) (c .before .before .before .before .before .before .before .before .if3 .left) (c .before .before .before .before .before .before .if4 .left) (c .serve-requests .result) (kept c)
 
 none-granted-requires : tie.Need-none-granted-requires
 none-granted-requires c κs = search needs
@@ -144,16 +121,16 @@ none-granted-requires c κs = search needs
 returns-5 : tie.Need-returns-5
 returns-5 c =
     let v = c .before .before in
-    let r = v .before .before .before .before .before .before .before .before .before .before .before .before .before in
+    let r = v .before .before .before .before .before .before .before .before .before .before in
     let e = r .before in
     let a = e .before .before .before .before .before .args in
     ap (λ (x : Answer). record { answer = answerOf x; table = a .t; buffer = a .reply .now }) (c .none-granted .ensures)
     ∙ ask-nothing (a .t) (a .time) (a .client) (a .option .now) (a .reply .now) (e .before .before .check-call-with-reply .result) (e .before .before .check-call-with-reply .ensures)
-    (sym (e .before .is-refusal .ensures) ∙ e .if1 .left) (passed e .1) (good v) (r .read .result) (message r) (v .before .before .before .before .before .before .before .before .before .before .before .if3 .left) (v .before .before .before .before .before .before .before .before .before .if4 .left) (v .serve .result) (kept v)
-    (c .before .if5 .taken) (v .before .before .before .before .before .before .count-present .result) (v .before .before .before .before .before .before .count-present .ensures)
+    (sym (e .before .is-refusal .ensures) ∙ e .if1 .left) (passed e .1) (good v) (r .read .result) (message r) (v .before .before .before .before .before .before .before .before .if3 .left) (v .before .before .before .before .before .before .if4 .left) (v .serve-requests .result) (kept v)
+    (c .before .if5 .taken) (v .before .before .before .count-present .result) (v .before .before .before .count-present .ensures)
 
 insert-all-requires : tie.Need-insert-all-requires
-insert-all-requires c κs = few (c .before .before)
+insert-all-requires c κs = omega (arith, few (c .before .before))
 
 write-offers-requires : tie.Need-write-offers-requires
 write-offers-requires c κs = few (c .before .before .before .before)
@@ -169,14 +146,14 @@ returns-6 c =
     let w = c .before .before .before in
     let i = w .before .before in
     let v = i .before .before .before in
-    let r = v .before .before .before .before .before .before .before .before .before .before .before .before .before in
+    let r = v .before .before .before .before .before .before .before .before .before .before in
     let e = r .before in
     let a = e .before .before .before .before .before .args in
-    ap (λ (t : LeaseTable). record { answer = ledger.acceptance (w .write-offers .result) (v .serve .result .grants); table = t; buffer = w .write-offers .last .0 }) (c .replace .ensures)
+    ap (λ (t : LeaseTable). record { answer = ledger.acceptance (w .write-offers .result) (v .serve-requests .result .grants); table = t; buffer = w .write-offers .last .0 }) (c .replace .ensures)
     ∙ ask-granted (a .t) (a .time) (a .client) (a .option .now) (a .reply .now) (e .before .before .check-call-with-reply .result) (e .before .before .check-call-with-reply .ensures)
-    (sym (e .before .is-refusal .ensures) ∙ e .if1 .left) (passed e .1) (good v) (r .read .result) (message r) (v .before .before .before .before .before .before .before .before .before .before .before .if3 .left) (v .before .before .before .before .before .before .before .before .before .if4 .left) (v .serve .result) (kept v)
+    (sym (e .before .is-refusal .ensures) ∙ e .if1 .left) (passed e .1) (good v) (r .read .result) (message r) (v .before .before .before .before .before .before .before .before .if3 .left) (v .before .before .before .before .before .before .if4 .left) (v .serve-requests .result) (kept v)
     (i .before .before .if5 .left) (passed e .0) (i .insert-all .result) (w .write-offers .result) (w .write-offers .last .0)
-    (i .insert-all .ensures ∙ ap (insertSlots (take (v .serve .result .grants) (v .serve .result .granted))) (v .before .before .before .before .before .before .before .remove-expired .ensures)) (w .write-offers .ensures .0) (w .write-offers .ensures .1)
+    (i .insert-all .ensures ∙ ap (insertSlots (take (v .serve-requests .result .grants) (v .serve-requests .result .granted))) (v .before .before .before .before .remove-expired .ensures)) (w .write-offers .ensures .0) (w .write-offers .ensures .1)
 
 pub ask-spec : {M : Type 1} → statement M
 ask-spec =
@@ -191,11 +168,8 @@ ask-spec =
     returns-4
     remove-expired-requires
     count-present-requires
-    pool-columns-requires
-    pools-used-requires
-    starting-requires
-    add-serve
-    serve-requires
+    add-serve-requests
+    serve-requests-requires
     none-granted-requires
     returns-5
     insert-all-requires

@@ -11,7 +11,7 @@ use borrow.Author.Needs.{needs}
 use Rattle.table.specs.declared.Lease.{Lease}
 use Rattle.table.specs.Table.{noLease}
 use Rattle.slots.specs.Slots.{insertLease}
-use Rattle.ask.specs.Serving.{insertSlots}
+use Rattle.ask.specs.Granting.{insertSlots}
 use Rattle.ask.proofs.insert_all.Statement.{statement}
 use Rattle.ask.proofs.insert_all.Tie as tie
 

@@ -1,13 +1,11 @@
 -- `image::read_pools` meets its contract: the records read so far stand first, and the rest is blank.
 -- Assumes nothing.
-use Prim.Native.Nat.{_+_, _-_, _≤_}
-use mathlib.Core.Path.{_≡_, refl, sym, ap, _∙_}
-use mathlib.Core.Option.{none, some}
-use lib.ListN.{length, take, drop, replicate, length-drop}
-use lib.Seq.{take-all}
+use Prim.Native.Nat.{_-_}
+use mathlib.Core.Path.{refl, sym, ap, _∙_}
+use lib.ListN.{replicate}
 use Rattle.table.specs.Table.{poolSlots, noPool}
 use Rattle.image.specs.Image.{poolAt, poolSize}
-use Rattle.image.proofs.FieldLaws.{Reading, reading-none, reading-put, reading-stop, reading-full}
+use Rattle.image.proofs.FieldLaws.{Reading, reading-none, reading-over, reading-room, reading-more, reading-full}
 use Rattle.image.proofs.ImageLaws.{pool-of-found, pool-of-other, pool-long}
 use borrow.Author.Needs.{needs}
 use native.Mathlib.Omega.{arith}
@@ -46,13 +44,8 @@ enum-told c = search needs
 
 returns : tie.Need-returns Inv-loop μ-loop
 returns c =
-    let s = c .before .before .before .before .before .before .before .before .args .s .now in
-    let at = c .before .before .before .before .before .loop .at in
-    let inv = c .before .before .before .before .before .loop .inv in
-    let part : take (length s - at) (drop at s) ≡ drop at s = take-all (length s - at) (drop at s) (omega (arith, length-drop at s)) in
-    let here : poolAt (drop at s) ≡ none = ap poolAt (sym part) ∙ pool-of-other (poolAt (take (length s - at) (drop at s))) (sym (c .before .before .pool-at .ensures) ∙ c .enum-told .given .1) in
-    let e = reading-stop poolAt poolSize noPool poolSlots s (c .before .before .before .before .before .loop .pools) (c .before .before .before .before .before .loop .n) at inv here in
-    (inv .inside, (e .stored, e .after))
+    let e = reading-over poolAt poolSize pool-long noPool poolSlots _ _ _ _ (c .before .before .before .before .before .loop .inv) (pool-of-other _ (sym (c .before .before .pool-at .ensures) ∙ c .enum-told .given .1)) in
+    (e .0, (e .1 .stored, e .1 .after))
 
 mul-pools : tie.Need-mul-pools Inv-loop μ-loop
 mul-pools c = search needs
@@ -62,13 +55,7 @@ array-set-from-pools c = search needs
 
 add-at : tie.Need-add-at Inv-loop μ-loop
 add-at c =
-    let s = c .before .before .before .before .before .before .before .before .before .args .s .now in
-    let at = c .before .before .before .before .before .before .loop .at in
-    let inv = c .before .before .before .before .before .before .loop .inv in
-    let part : take (length s - at) (drop at s) ≡ drop at s = take-all (length s - at) (drop at s) (omega (arith, length-drop at s)) in
-    let x = c .before .p .given .0 .0 in
-    let here : poolAt (drop at s) ≡ some x = ap poolAt (sym part) ∙ pool-of-found (poolAt (take (length s - at) (drop at s))) x (sym (c .before .before .before .pool-at .ensures) ∙ c .before .p .given .1) in
-    omega (arith, inv .inside, pool-long (drop at s) x here, length-drop at s)
+    omega (arith, reading-room poolAt poolSize pool-long noPool poolSlots _ _ _ _ (c .before .before .before .before .before .before .loop .inv) _ (pool-of-found _ _ (sym (c .before .before .before .pool-at .ensures) ∙ c .before .p .given .1)))
 
 add-n : tie.Need-add-n Inv-loop μ-loop
 add-n c = search needs
@@ -78,14 +65,7 @@ loop-less c = search needs
 
 loop-again : tie.Need-loop-again Inv-loop μ-loop
 loop-again c =
-    let s = c .before .before .before .before .before .before .before .before .before .args .s .now in
-    let at = c .before .before .before .before .before .before .loop .at in
-    let inv = c .before .before .before .before .before .before .loop .inv in
-    let part : take (length s - at) (drop at s) ≡ drop at s = take-all (length s - at) (drop at s) (omega (arith, length-drop at s)) in
-    let x = c .before .p .given .0 .0 in
-    let here : poolAt (drop at s) ≡ some x = ap poolAt (sym part) ∙ pool-of-found (poolAt (take (length s - at) (drop at s))) x (sym (c .before .before .before .pool-at .ensures) ∙ c .before .p .given .1) in
-    let room : at + poolSize ≤ length s = omega (arith, inv .inside, pool-long (drop at s) x here, length-drop at s) in
-    reading-put poolAt poolSize noPool poolSlots s (c .before .before .before .before .before .before .loop .pools) (c .before .before .before .before .before .before .loop .n) at inv x (omega arith) room here
+    reading-more poolAt poolSize pool-long noPool poolSlots _ _ _ _ (c .before .before .before .before .before .before .loop .inv) _ (pool-of-found _ _ (sym (c .before .before .before .pool-at .ensures) ∙ c .before .p .given .1)) (omega arith)
 
 returns-2 : tie.Need-returns-2 Inv-loop μ-loop
 returns-2 c =

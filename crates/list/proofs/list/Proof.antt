@@ -9,7 +9,6 @@ use Rattle.message.specs.Collect.{Holds}
 use Rattle.message.proofs.MessageHolds.{message-holds}
 use Rattle.answers.specs.Answers.{shortest}
 use Rattle.answers.proofs.CommonRows.{Passed, passed-call-with-reply}
-use Rattle.list.proofs.PageLaws.{page-short}
 use Rattle.answers.proofs.PieceLaws.{list-without, list-mixed, list-good}
 use Rattle.list.proofs.ListCall.{list-refused, list-pieces, list-nothing, list-found}
 use borrow.Author.Needs.{needs}
@@ -77,7 +76,7 @@ returns-4 c =
     list-nothing (start .t) (start .time) (start .client) (start .option .now) (start .reply .now) (e .before .before .check-call-with-reply .result) (e .before .before .check-call-with-reply .ensures) r p right _ h _ (c .before .find-page .ensures) (c .if4 .taken)
 
 put-reply-requires : tie.Need-put-reply-requires
-put-reply-requires c κs = page-short (c .before .before .before .find-page .ensures)
+put-reply-requires c κs = search needs
 
 same-length : tie.Need-same-length
 same-length c = search needs

@@ -9,7 +9,7 @@ use Rattle.lists.specs.Walk.{more}
 use Rattle.option.specs.Values.{Entry}
 use Rattle.option.specs.Reading.{readEntry, readEntries}
 use Rattle.option.specs.Answers.{fieldsOf}
-use Rattle.option.specs.declared.EntryFields.{EntryFields}
+use Rattle.entries.specs.declared.EntryFields.{EntryFields}
 use Rattle.option.proofs.EntryLaws.{entry-read, entry-moves, told-entry, told-cut, told-entries-end}
 use Rattle.message.specs.Collect.{withEntry, withEntries}
 use Rattle.message.proofs.CollectLaws.{entries-turn, entries-done}

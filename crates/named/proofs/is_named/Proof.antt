@@ -7,7 +7,7 @@ use native.Mathlib.Omega.{arith}
 use lib.ListN.{length, drop, getD}
 use borrow.Author.Tests.{eq-eqb, ne-eqb}
 use Rattle.named.specs.Named.{anyOf?, is?, namedIn?}
-use Rattle.named.proofs.NamedLaws.{is-other-client, is-other-network, is-other-length, is-this, any-of-none, any-of-yes, any-of-no, any-of-end}
+use Rattle.named.proofs.NamedLaws.{is-other-client, is-other-network, is-other-length, is-this, any-of-none, any-of-yes, any-of-no, any-of-end, any-of-short}
 use borrow.Author.Needs.{needs}
 use Rattle.named.proofs.is_named.Statement.{statement}
 use Rattle.named.proofs.is_named.Tie as tie
@@ -26,24 +26,30 @@ returns c =
 loop-holds : tie.Need-loop-holds Inv-loop μ-loop
 loop-holds c = (omega arith, refl)
 
-mul-if2 : tie.Need-mul-if2 Inv-loop μ-loop
-mul-if2 c = search needs
+returns-2 : tie.Need-returns-2 Inv-loop μ-loop
+returns-2 c =
+    let start = c .before .before .before .before .before .args in
+    let here = c .before .before .loop in
+    sym (here .inv .1 ∙ any-of-short (is? (start .client) (start .x)) (start .networks .now) (start .lengths .now) (here .i) (omega arith))
 
-shared-slice-read-if2 : tie.Need-shared-slice-read-if2 Inv-loop μ-loop
-shared-slice-read-if2 c = search needs
+mul-if3 : tie.Need-mul-if3 Inv-loop μ-loop
+mul-if3 c = search needs
 
 shared-slice-read-if3 : tie.Need-shared-slice-read-if3 Inv-loop μ-loop
 shared-slice-read-if3 c = search needs
 
-returns-2 : tie.Need-returns-2 Inv-loop μ-loop
-returns-2 c =
-    let begin = c .before .before .before .before .before .before .before .before .before .before in
+shared-slice-read-if4 : tie.Need-shared-slice-read-if4 Inv-loop μ-loop
+shared-slice-read-if4 c = search needs
+
+returns-3 : tie.Need-returns-3 Inv-loop μ-loop
+returns-3 c =
+    let begin = c .before .before .before .before .before .before .before .before .before .before .before in
     let start = begin .args in
-    let here = c .before .before .before .before .before .before .before .loop in
-    let mine = c .before .before .before .before .before .before .before .before .if1 .left in
+    let here = c .before .before .before .before .before .before .before .before .loop in
+    let mine = c .before .before .before .before .before .before .before .before .before .if1 .left in
     sym (here .inv .1
-    ∙ any-of-yes (is? (start .client) (start .x)) (start .networks .now) (start .lengths .now) (here .i) (omega arith) (begin .pre)
-    (is-this (start .client) (start .x) _ _ mine (c .before .before .before .if2 .taken) (c .if3 .taken)))
+    ∙ any-of-yes (is? (start .client) (start .x)) (start .networks .now) (start .lengths .now) (here .i) (omega arith) (omega arith)
+    (is-this (start .client) (start .x) _ _ mine (c .before .before .before .if3 .taken) (c .if4 .taken)))
 
 add-i : tie.Need-add-i Inv-loop μ-loop
 add-i c = search needs
@@ -53,19 +59,19 @@ loop-less c = search needs
 
 loop-again : tie.Need-loop-again Inv-loop μ-loop
 loop-again c =
-    let begin = c .before .before .before .before .before .before .before in
+    let begin = c .before .before .before .before .before .before .before .before in
     let start = begin .args in
-    let here = c .before .before .before .before .loop in
-    let on = any-of-no (is? (start .client) (start .x)) (start .networks .now) (start .lengths .now) (here .i) (omega arith) (begin .pre) in (
+    let here = c .before .before .before .before .before .loop in
+    let on = any-of-no (is? (start .client) (start .x)) (start .networks .now) (start .lengths .now) (here .i) (omega arith) (omega arith) in (
       omega arith,
       ⊎-elim
           (λ w. here .inv .1 ∙ on (is-other-length (start .client) (start .x) _ _ (w .3 .left)))
           (λ w. here .inv .1 ∙ on (is-other-network (start .client) (start .x) _ _ (w .left)))
-          (c .if2 .came),
+          (c .if3 .came),
     )
 
-returns-3 : tie.Need-returns-3 Inv-loop μ-loop
-returns-3 c =
+returns-4 : tie.Need-returns-4 Inv-loop μ-loop
+returns-4 c =
     let start = c .before .before .before .before .args in
     let here = c .before .loop in
     sym (here .inv .1 ∙ any-of-end (is? (start .client) (start .x)) (start .networks .now) (start .lengths .now) (here .i) (omega arith))
@@ -78,11 +84,12 @@ is-named-spec =
     μ-loop
     returns
     loop-holds
-    mul-if2
-    shared-slice-read-if2
-    shared-slice-read-if3
     returns-2
+    mul-if3
+    shared-slice-read-if3
+    shared-slice-read-if4
+    returns-3
     add-i
     loop-less
     loop-again
-    returns-3)
+    returns-4)

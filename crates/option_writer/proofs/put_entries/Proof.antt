@@ -9,7 +9,7 @@ use lib.ListN.{length}
 use Rattle.lists.specs.Put.{put}
 use Rattle.lists.proofs.PutLaws.{put-nothing}
 use Rattle.option.specs.Writing.{entriesBytes}
-use Rattle.option_writer.specs.Lists.{entryOf, part}
+use Rattle.suboption_list.specs.Lists.{entryOf, part}
 use Rattle.option_writer.proofs.EntryPuts.{few-at, turned}
 use Rattle.option_writer.proofs.put_entries.Statement.{statement}
 use Rattle.option_writer.proofs.put_entries.Tie as tie

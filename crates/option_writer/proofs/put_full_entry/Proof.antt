@@ -1,18 +1,19 @@
 -- `put_full_entry` meets its contract: the seven bytes, then the figures.
 -- Assumes nothing.
 use borrow.Author.Needs.{needs}
-use Rattle.option_writer.proofs.EntryPuts.{entry-put, entry-next}
+use Rattle.suboption_list.proofs.EntryLengths.{entry-next}
+use Rattle.option_writer.proofs.EntryPuts.{entry-put}
 use Rattle.option_writer.proofs.put_full_entry.Statement.{statement}
 use Rattle.option_writer.proofs.put_full_entry.Tie as tie
 
-mul-put-entry-head : tie.Need-mul-put-entry-head
-mul-put-entry-head c = search needs
+mul-put-entry : tie.Need-mul-put-entry
+mul-put-entry c = search needs
 
-cast-put-entry-head : tie.Need-cast-put-entry-head
-cast-put-entry-head c = search needs
+cast-put-entry : tie.Need-cast-put-entry
+cast-put-entry c = search needs
 
-put-entry-head-requires : tie.Need-put-entry-head-requires
-put-entry-head-requires c κs = search needs
+put-entry-requires : tie.Need-put-entry-requires
+put-entry-requires c κs = search needs
 
 add-put-figures : tie.Need-add-put-figures
 add-put-figures c = search needs
@@ -35,15 +36,15 @@ same-length c = search needs
 returns : tie.Need-returns
 returns c =
     let a = c .before .before .before .before .before .before .before .before .before .before .args in
-    (entry-put _ _ _ _ (a .e) (c .before .before .before .before .before .before .put-entry-head .ensures) (c .before .before .put-figures .ensures), entry-next (a .at) (a .e))
+    (entry-put _ _ _ _ (a .e) (c .before .before .before .before .before .before .put-entry .ensures) (c .before .before .put-figures .ensures), entry-next (a .at) (a .e))
 
 pub put-full-entry-spec : {M : Type 1} → statement M
 put-full-entry-spec =
     tie.close
     (tie.spec
-    mul-put-entry-head
-    cast-put-entry-head
-    put-entry-head-requires
+    mul-put-entry
+    cast-put-entry
+    put-entry-requires
     add-put-figures
     put-figures-requires
     add-result

@@ -6,9 +6,9 @@ use mathlib.Core.Path.{_≡_, refl, sym, ap, subst, _∙_}
 use mathlib.Core.Bool.{true, false}
 use borrow.Author.Needs.{needs}
 use Rattle.option.specs.Writing.{requestBytes, suboptionBytes, writable?}
-use Rattle.option_writer.specs.Lists.{valueOf}
+use Rattle.suboption_list.specs.Lists.{valueOf}
 use Rattle.option_writer.specs.Inner.{Ready}
-use Rattle.option_writer.specs.declared.Item.{Item}
+use Rattle.suboption_list.specs.declared.Item.{Item}
 use Rattle.option_writer.proofs.ItemPuts.{put-as}
 use Rattle.option_writer.proofs.put_item.Statement.{statement}
 use Rattle.option_writer.proofs.put_item.Tie as tie

@@ -10,7 +10,7 @@ use Rattle.lists.specs.Put.{put}
 use Rattle.lists.proofs.PutLaws.{put-nothing}
 use Rattle.option.specs.Writing.{suboptionsBytes}
 use Rattle.option.proofs.WritingLaws.{suboptions-none}
-use Rattle.option_writer.specs.Lists.{valueAt}
+use Rattle.suboption_list.specs.Lists.{valueAt}
 use Rattle.option_writer.proofs.ItemPuts.{item-ready, turned}
 use Rattle.option_writer.proofs.put_items.Statement.{statement}
 use Rattle.option_writer.proofs.put_items.Tie as tie

@@ -4,7 +4,7 @@ use native.Mathlib.Omega.{arith}
 use mathlib.Core.Path.{_≡_}
 use lib.ListN.{length}
 use borrow.Author.Needs.{needs}
-use Rattle.option_writer.proofs.PartLaws.{length-part}
+use Rattle.suboption_list.proofs.PartLaws.{length-part}
 use Rattle.option_writer.proofs.ItemPuts.{name-ready, name-put}
 use Rattle.option_writer.proofs.put_name.Statement.{statement}
 use Rattle.option_writer.proofs.put_name.Tie as tie

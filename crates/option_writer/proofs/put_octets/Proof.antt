@@ -7,8 +7,8 @@ use lib.ListN.{length}
 use borrow.Author.Needs.{needs}
 use Rattle.lists.specs.Put.{put}
 use Rattle.lists.proofs.PutLaws.{put-nothing, set-more}
-use Rattle.option_writer.specs.Lists.{part}
-use Rattle.option_writer.proofs.PartLaws.{length-part, part-more}
+use Rattle.suboption_list.specs.Lists.{part}
+use Rattle.suboption_list.proofs.PartLaws.{length-part, part-more}
 use Rattle.option_writer.proofs.put_octets.Statement.{statement}
 use Rattle.option_writer.proofs.put_octets.Tie as tie
 

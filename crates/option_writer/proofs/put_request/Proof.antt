@@ -2,7 +2,7 @@
 -- Assumes nothing.
 use borrow.Author.Needs.{needs}
 use Rattle.option.specs.Writing.{requestBytes}
-use Rattle.option_writer.proofs.StoreLaws.{four-stores-as}
+use Rattle.option_pieces.proofs.StoreLaws.{four-stores-as}
 use Rattle.option_writer.proofs.put_request.Statement.{statement}
 use Rattle.option_writer.proofs.put_request.Tie as tie
 

@@ -1,7 +1,7 @@
 -- `put_two` meets its contract.
 -- Assumes nothing.
 use Rattle.option.specs.Writing.{twoBytes}
-use Rattle.option_writer.proofs.StoreLaws.{two-stores}
+use Rattle.option_pieces.proofs.StoreLaws.{two-stores}
 use borrow.Author.Needs.{needs}
 use Rattle.option_writer.proofs.put_two.Statement.{statement}
 use Rattle.option_writer.proofs.put_two.Tie as tie

@@ -2,9 +2,9 @@
 -- Assumes nothing.
 use mathlib.Core.Path.{sym, subst, _∙_}
 use borrow.Author.Needs.{needs}
-use Rattle.option_writer.specs.Lists.{suboptionsOf}
+use Rattle.suboption_list.specs.Lists.{suboptionsOf}
 use Rattle.option_writer.specs.Inner.{ReadyList}
-use Rattle.option_writer.proofs.MeasureLaws.{listed-all, listed-few}
+use Rattle.suboption_list.proofs.MeasureLaws.{listed-all, listed-few}
 use Rattle.option_writer.proofs.ItemPuts.{answer-outside, answer-long, answer-full, list-ready, answer-written}
 use Rattle.option_writer.proofs.write_option.Statement.{statement}
 use Rattle.option_writer.proofs.write_option.Tie as tie

@@ -35,7 +35,7 @@ array-copy-out-x : tie.Need-array-copy-out-x Inv-loop μ-loop
 array-copy-out-x c = search needs
 
 is-named-requires : tie.Need-is-named-requires Inv-loop μ-loop
-is-named-requires c κs = c .before .before .before .before .before .before .before .before .pre
+is-named-requires c κs = search needs
 
 add-removed : tie.Need-add-removed Inv-loop μ-loop
 add-removed c = search needs

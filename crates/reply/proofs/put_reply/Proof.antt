@@ -1,76 +1,44 @@
--- `put_reply` meets its contract: the two heads, then the entries.
+-- `put_reply` meets its contract: more leases than there are places are all of them.
 -- Assumes nothing.
-use Prim.Native.Nat.{ℕ, _+_, _*_}
+use Prim.Native.Nat.{ℕ}
 use mathlib.Core.Path.{_≡_, sym, ap, _∙_}
+use mathlib.Core.List.{List}
 use native.Mathlib.Omega.{arith}
 use lib.ListN.{length, take}
-use lib.Seq.{length-take-le}
-use Rattle.reply.specs.Reply.{mostEntries}
-use Rattle.reply.proofs.ReplyLaws.{reply-put, reply-length}
+use lib.Seq.{take-all}
+use Rattle.lists.specs.Put.{put}
+use Rattle.table.specs.declared.Lease.{Lease}
+use Rattle.reply.specs.Reply.{mostEntries, replyBytes}
 use borrow.Author.Needs.{needs}
 use Rattle.reply.proofs.put_reply.Statement.{statement}
 use Rattle.reply.proofs.put_reply.Tie as tie
 
-mul-put-option-head : tie.Need-mul-put-option-head
-mul-put-option-head c = search needs
-
-add-put-option-head : tie.Need-add-put-option-head
-add-put-option-head c = search needs
-
-cast-put-option-head : tie.Need-cast-put-option-head
-cast-put-option-head c = search needs
-
-put-option-head-requires : tie.Need-put-option-head-requires
-put-option-head-requires c κs = search needs
-
-mul-put-information-head : tie.Need-mul-put-information-head
-mul-put-information-head c = search needs
-
-add-put-information-head : tie.Need-add-put-information-head
-add-put-information-head c = search needs
-
-cast-put-information-head : tie.Need-cast-put-information-head
-cast-put-information-head c = search needs
-
-put-information-head-requires : tie.Need-put-information-head-requires
-put-information-head-requires c κs = search needs
-
-put-leases-requires : tie.Need-put-leases-requires
-put-leases-requires c κs = search needs
-
-mul-result : tie.Need-mul-result
-mul-result c = search needs
-
-add-result : tie.Need-add-result
-add-result c = search needs
+put-shown-requires : tie.Need-put-shown-requires
+put-shown-requires c κs = search needs
 
 same-length : tie.Need-same-length
 same-length c = search needs
 
 returns : tie.Need-returns
 returns c =
-    let start = c .before .before .before .before .before .before .before .before .before .before .before .before .before .args in
-    let xs = take (start .n) (start .leases) in
+    let start = c .before .before .before .before .before .before .args in
     let full : length (start .leases) ≡ mostEntries = search needs in
-    let size : length xs ≡ start .n = length-take-le (start .n) (start .leases) (omega arith) in (
-      reply-put (start .c) (start .s) xs (start .n) size (start .reply .now) _ _ _ (c .before .before .before .before .before .before .before .before .before .before .put-option-head .ensures) (c .before .before .before .before .before .before .put-information-head .ensures) (c .before .before .put-leases .ensures),
-      sym (reply-length (start .c) (start .s) xs ∙ ap (λ (k : ℕ). 7 * k + 6) size),
+    let all : take mostEntries (start .leases) ≡ take (start .n) (start .leases) =
+    take-all mostEntries (start .leases) (omega arith) ∙ sym (take-all (start .n) (start .leases) (omega arith)) in (
+      c .before .before .put-shown .ensures .0 ∙ ap (λ (xs : List Lease). put (start .reply .now) 0 (replyBytes (start .c) (start .s) xs)) all,
+      c .before .before .put-shown .ensures .1 ∙ ap (λ (xs : List Lease). length (replyBytes (start .c) (start .s) xs)) all,
     )
+
+put-shown-requires-2 : tie.Need-put-shown-requires-2
+put-shown-requires-2 c κs = search needs
+
+same-length-2 : tie.Need-same-length-2
+same-length-2 c = search needs
+
+returns-2 : tie.Need-returns-2
+returns-2 c = search needs
 
 pub put-reply-spec : {M : Type 1} → statement M
 put-reply-spec =
     tie.close
-    (tie.spec
-    mul-put-option-head
-    add-put-option-head
-    cast-put-option-head
-    put-option-head-requires
-    mul-put-information-head
-    add-put-information-head
-    cast-put-information-head
-    put-information-head-requires
-    put-leases-requires
-    mul-result
-    add-result
-    same-length
-    returns)
+    (tie.spec put-shown-requires same-length returns put-shown-requires-2 same-length-2 returns-2)

@@ -36,7 +36,7 @@ array-copy-out-x : tie.Need-array-copy-out-x Inv-loop μ-loop
 array-copy-out-x c = search needs
 
 is-named-requires : tie.Need-is-named-requires Inv-loop μ-loop
-is-named-requires c κs = c .before .before .before .before .before .before .before .pre
+is-named-requires c κs = search needs
 
 mul-next : tie.Need-mul-next Inv-loop μ-loop
 mul-next c = search needs

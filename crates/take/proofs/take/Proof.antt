@@ -120,7 +120,7 @@ remove-expired-requires : tie.Need-remove-expired-requires
 remove-expired-requires c κs = search needs
 
 put-reply-requires : tie.Need-put-reply-requires
-put-reply-requires c κs = c .before .before .before .before .before .before .before .before .find-named .ensures .2
+put-reply-requires c κs = search needs
 
 replace-requires : tie.Need-replace-requires
 replace-requires c κs = search needs

@@ -1,0 +1,114 @@
+-- `EntryCursor::step` meets its contract: each answer is that of the first framing test that fails.
+-- Assumes nothing.
+use mathlib.Core.Bool.{and-false}
+use borrow.Author.Tests.{eq-eqb, ne-eqb, le-leb, lt-leb}
+use Rattle.entries.specs.Entries.{readEntry, entryFramed?, entryAt}
+use borrow.Author.Needs.{needs}
+use Rattle.entries.proofs.EntryCursor.step.Statement.{statement}
+use Rattle.entries.proofs.EntryCursor.step.Tie as tie
+
+returns : tie.Need-returns
+unfolding readEntry
+returns c = simp (le-leb _ _ (c .if1 .taken))
+
+returns-2 : tie.Need-returns-2
+unfolding readEntry entryFramed?
+returns-2 c = simp (lt-leb _ _ (c .before .if1 .left), lt-leb _ _ (c .if2 .taken))
+
+add-if3 : tie.Need-add-if3
+add-if3 c = search needs
+
+returns-3 : tie.Need-returns-3
+unfolding readEntry entryFramed?
+returns-3 c = simp (lt-leb _ _ (c .before .before .if1 .left), lt-leb _ _ (c .if3 .taken), and-false)
+
+add-stat : tie.Need-add-stat
+add-stat c = search needs
+
+shared-slice-read-stat : tie.Need-shared-slice-read-stat
+shared-slice-read-stat c = search needs
+
+returns-4 : tie.Need-returns-4
+unfolding readEntry entryFramed?
+returns-4 c = simp (lt-leb _ _ (c .before .before .before .before .if1 .left), ne-eqb _ _ (c .if4 .taken), and-false)
+
+add-next : tie.Need-add-next
+add-next c = search needs
+
+wide-requires : tie.Need-wide-requires
+wide-requires c κs = search needs
+
+add-next-2 : tie.Need-add-next-2
+add-next-2 c = search needs
+
+returns-5 : tie.Need-returns-5
+unfolding readEntry entryFramed?
+returns-5 c =
+    let short = simp (c .before .wide .ensures .0) at (c .if5 .taken) in
+    simp (lt-leb _ _ (c .before .before .before .before .before .before .if1 .left), lt-leb _ _ short, and-false)
+
+four-at-requires : tie.Need-four-at-requires
+four-at-requires c κs = search needs
+
+add-length : tie.Need-add-length
+add-length c = search needs
+
+shared-slice-read-length : tie.Need-shared-slice-read-length
+shared-slice-read-length c = search needs
+
+add-flags : tie.Need-add-flags
+add-flags c = search needs
+
+shared-slice-read-flags : tie.Need-shared-slice-read-flags
+shared-slice-read-flags c = search needs
+
+add-figures-at : tie.Need-add-figures-at
+add-figures-at c = search needs
+
+wide-requires-2 : tie.Need-wide-requires-2
+wide-requires-2 c κs = search needs
+
+figures-at-requires : tie.Need-figures-at-requires
+figures-at-requires c κs = search needs
+
+returns-6 : tie.Need-returns-6
+unfolding readEntry entryFramed? entryAt
+returns-6 c =
+    let w = c .before .before .before .before .before in
+    let within = simp (w .before .wide .ensures .0) at (w .if5 .left) in
+    simp (
+      lt-leb _ _ (w .before .before .before .before .before .before .if1 .left),
+      le-leb _ _ (w .before .before .before .before .before .if2 .left),
+      le-leb _ _ (w .before .before .before .before .if3 .left),
+      eq-eqb _ _ (w .before .before .if4 .left),
+      le-leb _ _ within,
+      w .before .wide .ensures .0,
+      c .before .before .before .before .four-at .ensures,
+      c .figures-at .ensures,
+      c .before .wide2 .ensures .0,
+    )
+
+pub step-spec : {M : Type 1} → statement M
+step-spec =
+    tie.close
+    (tie.spec
+    returns
+    returns-2
+    add-if3
+    returns-3
+    add-stat
+    shared-slice-read-stat
+    returns-4
+    add-next
+    wide-requires
+    add-next-2
+    returns-5
+    four-at-requires
+    add-length
+    shared-slice-read-length
+    add-flags
+    shared-slice-read-flags
+    add-figures-at
+    wide-requires-2
+    figures-at-requires
+    returns-6)

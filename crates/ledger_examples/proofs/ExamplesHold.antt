@@ -1,0 +1,48 @@
+-- P1 to P12 hold: one claim over one list, by computation; and so do the further examples.
+-- Assumes nothing.
+use mathlib.Core.Path.{_≡_, refl}
+use mathlib.Core.List.{map}
+use Rattle.lists.specs.Walk.{walk}
+use Rattle.lists.specs.Sorting.{insertBy, sortBy}
+use Rattle.option.specs.Rules.{entryFields?, fields?}
+use Rattle.option.specs.Reading.{option?, subInside?, whenGood, readRequest, figuresAt, entryAt, entryFramed?, readEntry, readEntries, readInformation, readName, readBody, readSuboption, readSuboptions, readOption}
+use Rattle.option.specs.Writing.{twoBytes, fourBytes, requestBytes, entryHead, entryBytes, entriesBytes, informationHead, suboptionBytes, suboptionsBytes, optionHead, optionBytes}
+use Rattle.option.specs.Selection.{selection?}
+use Rattle.table.specs.Table.{unused?, empty?, prefixesOf, present, headOk, poolOk, leaseOk, ascends?, sound, store}
+use Rattle.opening.specs.Open.{given, poolsApart?, openOk}
+use Rattle.ledger.specs.Ledger.{read118, openTable, offer, offers, addAll, askRows, ask, takeRows, take, listRows, list, releaseRows, release, markRows, mark}
+use Rattle.ledger_examples.specs.Examples.{newTable, buffer, shown, shownUpdate, does, doesAll, Example, examples}
+use Rattle.ledger_examples.specs.SampleLists.{tableWith, lease, leasesFrom}
+use Rattle.ledger_examples.specs.FurtherExamples.{numbers, withBytes, asking, entriesFrom, namingFrom, start, leased, offer5, mixed, held, listing, resuming, flagged, many, manyExpected, pages, pagesExpected, secondPages, secondPagesExpected, returns, returnsExpected, takes, takesExpected, marks, marksExpected, rowOrder, rowOrderExpected}
+
+pub examples-hold : map (λ (e : Example). e .got) examples ≡ map (λ (e : Example). e .expected) examples
+unfolding walk insertBy sortBy entryFields? fields? option? subInside? whenGood readRequest figuresAt entryAt entryFramed? readEntry readEntries readInformation readName readBody readSuboption readSuboptions readOption twoBytes fourBytes requestBytes entryHead entryBytes entriesBytes informationHead suboptionBytes suboptionsBytes optionHead optionBytes selection? read118 unused? empty? prefixesOf present headOk poolOk leaseOk ascends? sound store given poolsApart? openOk openTable offer offers addAll askRows ask takeRows take newTable buffer shown shownUpdate does doesAll examples
+examples-hold = refl
+
+pub many-hold : many ≡ manyExpected
+unfolding walk insertBy sortBy entryFields? fields? option? subInside? whenGood readRequest figuresAt entryAt entryFramed? readEntry readEntries readInformation readName readBody readSuboption readSuboptions readOption twoBytes fourBytes requestBytes entryHead entryBytes entriesBytes informationHead suboptionBytes suboptionsBytes optionHead optionBytes unused? empty? prefixesOf present headOk poolOk leaseOk ascends? sound store given poolsApart? openOk openTable offer offers addAll askRows ask takeRows take listRows list releaseRows release markRows mark newTable buffer numbers withBytes asking entriesFrom namingFrom start tableWith lease leasesFrom leased offer5 mixed held listing resuming flagged many
+many-hold = refl
+
+pub pages-hold : pages ≡ pagesExpected
+unfolding walk insertBy sortBy entryFields? fields? option? subInside? whenGood readRequest figuresAt entryAt entryFramed? readEntry readEntries readInformation readName readBody readSuboption readSuboptions readOption twoBytes fourBytes requestBytes entryHead entryBytes entriesBytes informationHead suboptionBytes suboptionsBytes optionHead optionBytes unused? empty? prefixesOf present headOk poolOk leaseOk ascends? sound store given poolsApart? openOk openTable offer offers addAll askRows ask takeRows take listRows list releaseRows release markRows mark newTable buffer numbers withBytes asking entriesFrom namingFrom start tableWith lease leasesFrom leased offer5 mixed held listing resuming flagged pages
+pages-hold = refl
+
+pub second-pages-hold : secondPages ≡ secondPagesExpected
+unfolding walk insertBy sortBy entryFields? fields? option? subInside? whenGood readRequest figuresAt entryAt entryFramed? readEntry readEntries readInformation readName readBody readSuboption readSuboptions readOption twoBytes fourBytes requestBytes entryHead entryBytes entriesBytes informationHead suboptionBytes suboptionsBytes optionHead optionBytes unused? empty? prefixesOf present headOk poolOk leaseOk ascends? sound store given poolsApart? openOk openTable offer offers addAll askRows ask takeRows take listRows list releaseRows release markRows mark newTable buffer numbers withBytes asking entriesFrom namingFrom start tableWith lease leasesFrom leased offer5 mixed held listing resuming flagged secondPages
+second-pages-hold = refl
+
+pub returns-hold : returns ≡ returnsExpected
+unfolding walk insertBy sortBy entryFields? fields? option? subInside? whenGood readRequest figuresAt entryAt entryFramed? readEntry readEntries readInformation readName readBody readSuboption readSuboptions readOption twoBytes fourBytes requestBytes entryHead entryBytes entriesBytes informationHead suboptionBytes suboptionsBytes optionHead optionBytes unused? empty? prefixesOf present headOk poolOk leaseOk ascends? sound store given poolsApart? openOk openTable offer offers addAll askRows ask takeRows take listRows list releaseRows release markRows mark newTable buffer numbers withBytes asking entriesFrom namingFrom start tableWith lease leasesFrom leased offer5 mixed held listing resuming flagged returns
+returns-hold = refl
+
+pub takes-hold : takes ≡ takesExpected
+unfolding walk insertBy sortBy entryFields? fields? option? subInside? whenGood readRequest figuresAt entryAt entryFramed? readEntry readEntries readInformation readName readBody readSuboption readSuboptions readOption twoBytes fourBytes requestBytes entryHead entryBytes entriesBytes informationHead suboptionBytes suboptionsBytes optionHead optionBytes unused? empty? prefixesOf present headOk poolOk leaseOk ascends? sound store given poolsApart? openOk openTable offer offers addAll askRows ask takeRows take listRows list releaseRows release markRows mark newTable buffer numbers withBytes asking entriesFrom namingFrom start tableWith lease leasesFrom leased offer5 mixed held listing resuming flagged takes
+takes-hold = refl
+
+pub marks-hold : marks ≡ marksExpected
+unfolding walk insertBy sortBy entryFields? fields? option? subInside? whenGood readRequest figuresAt entryAt entryFramed? readEntry readEntries readInformation readName readBody readSuboption readSuboptions readOption twoBytes fourBytes requestBytes entryHead entryBytes entriesBytes informationHead suboptionBytes suboptionsBytes optionHead optionBytes unused? empty? prefixesOf present headOk poolOk leaseOk ascends? sound store given poolsApart? openOk openTable offer offers addAll askRows ask takeRows take listRows list releaseRows release markRows mark newTable buffer numbers withBytes asking entriesFrom namingFrom start tableWith lease leasesFrom leased offer5 mixed held listing resuming flagged marks
+marks-hold = refl
+
+pub row-order-hold : rowOrder ≡ rowOrderExpected
+unfolding walk insertBy sortBy entryFields? fields? option? subInside? whenGood readRequest figuresAt entryAt entryFramed? readEntry readEntries readInformation readName readBody readSuboption readSuboptions readOption twoBytes fourBytes requestBytes entryHead entryBytes entriesBytes informationHead suboptionBytes suboptionsBytes optionHead optionBytes unused? empty? prefixesOf present headOk poolOk leaseOk ascends? sound store given poolsApart? openOk openTable offer offers addAll askRows ask takeRows take listRows list releaseRows release markRows mark newTable buffer numbers withBytes asking entriesFrom namingFrom start tableWith lease leasesFrom leased offer5 mixed held listing resuming flagged rowOrder
+row-order-hold = refl

@@ -1,0 +1,4 @@
+-- What the examples come to.
+pub mod ExamplesHold
+pub mod Premises
+pub mod WrongServersRefuted

@@ -1,0 +1,4 @@
+pub mod Examples
+pub mod SampleLists
+pub mod FurtherExamples
+pub mod WrongServers

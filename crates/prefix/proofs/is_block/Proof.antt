@@ -1,0 +1,31 @@
+-- `is_block` meets its contract, by what `Prefix::new` answers.
+-- Assumes nothing.
+use mathlib.Core.Path.{sym, _∙_}
+use borrow.Author.Needs.{needs}
+use Rattle.prefix.proofs.is_block.Statement.{statement}
+use Rattle.prefix.proofs.is_block.Tie as tie
+
+new-requires : tie.Need-new-requires
+new-requires c κs = search needs
+
+enum-told : tie.Need-enum-told
+enum-told c = search needs
+
+enum-told-2 : tie.Need-enum-told-2
+enum-told-2 c = search needs
+
+enum-told-3 : tie.Need-enum-told-3
+enum-told-3 c = search needs
+
+returns : tie.Need-returns
+returns c = rw (sym (c .before .before .new .ensures) ∙ c .enum-told .given .1)
+
+returns-2 : tie.Need-returns-2
+returns-2 c = rw (sym (c .before .before .new .ensures) ∙ c .enum-told2 .given .1)
+
+returns-3 : tie.Need-returns-3
+returns-3 c = rw (sym (c .before .before .new .ensures) ∙ c .enum-told3 .given .1)
+
+pub is-block-spec : {M : Type 1} → statement M
+is-block-spec =
+    tie.close (tie.spec new-requires enum-told enum-told-2 enum-told-3 returns returns-2 returns-3)
