@@ -1,0 +1,119 @@
+-- The sheet of a lease table (document 01: of a saved book): which rows, in which order, every character.
+-- Assumes nothing: these are definitions.
+use Prim.Native.Nat.{ℕ, zero, suc, _-_}
+use mathlib.Core.Bool.{Bool, true, false, not, cond, _&&_}
+use mathlib.Core.List.{List, [], _∷_, _++_, map}
+use mathlib.Core.Option.{Option, none, some}
+use lib.ListN.{length, drop}
+use lib.Dec.{ltb, eqb}
+use Rattle.lists.specs.Lists.{gather}
+use Rattle.prefix.specs.declared.Prefix.{Prefix}
+use Rattle.prefix.specs.Prefixes.{longest, prefix, lower, upper}
+use Rattle.space.specs.Space.{unused?}
+use Rattle.table.specs.declared.Lease.{Lease}
+use Rattle.table.specs.declared.LeaseTable.{LeaseTable}
+use Rattle.table.specs.Table.{poolsOf, sound}
+use Rattle.image.specs.Image.{usedLeases, loadImage}
+use Rattle.sheet_text.specs.declared.Used.{Used}
+use Rattle.sheet_text.specs.declared.SheetAnswer.{SheetAnswer}
+use Rattle.sheet_text.specs.declared.SheetAnswer.the-variants.{Written, NotSound, TooSmall}
+use Rattle.sheet_text.specs.Ascii.{ascii}
+use Rattle.sheet_text.specs.Text.{decimal, prefixText}
+
+-- What a row shows of a lease.
+abbrev pub usedBy : Lease → Used
+usedBy x = record { network = x .network; length = x .length; client = x .client; expires = x .expires }
+
+abbrev pub prefixUsed : Used → Prefix
+prefixUsed x = prefix (x .network) (x .length)
+
+-- A row: "a line prints `used`, held or leased", a free prefix `free`.
+pub data Row : Type 0 where
+  usedRow : Used → Row
+  freeRow : Prefix → Row
+
+-- The lease that is this prefix.
+abbrev pub usedAt : Prefix → List Used → Option Used
+usedAt p [] = none
+usedAt p (x ∷ xs) =
+    let later = usedAt p xs in
+    cond (eqb (x .network) (p .network) && eqb (x .length) (p .length)) (some x) later
+
+-- `unused`: no lease shares an address with p. `found`: the lease that is p.
+abbrev pub choose : Bool → Option Used → Prefix → List Row → List Row
+choose true found p halves = freeRow p ∷ []
+choose false (some x) p halves = usedRow x ∷ []
+choose false none p halves = halves
+
+-- The rows of p; `left` is 30 less its length. "a block that is partly taken is shown as its two halves, the lower first"
+unfoldable pub rowsIn : List Used → ℕ → Prefix → List Row
+rowsIn leases zero p = choose (unused? (map prefixUsed leases) p) (usedAt p leases) p []
+rowsIn leases (suc left) p =
+    let halves = rowsIn leases left (lower p) ++ rowsIn leases left (upper p) in
+    choose (unused? (map prefixUsed leases) p) (usedAt p leases) p halves
+
+abbrev pub leasesShown : LeaseTable → List Used
+leasesShown t = map usedBy (usedLeases t)
+
+-- "Walking each root in ascending order"
+unfoldable pub rows : LeaseTable → List Row
+rows t = gather (λ p. rowsIn (leasesShown t) (longest - p .length) p) (poolsOf t)
+
+-- The leases of the used rows, and the prefixes of the free rows.
+abbrev pub usedIn : List Row → List Used
+usedIn [] = []
+usedIn (usedRow x ∷ rs) = x ∷ usedIn rs
+usedIn (freeRow p ∷ rs) = usedIn rs
+
+abbrev pub freeIn : List Row → List Prefix
+freeIn [] = []
+freeIn (usedRow x ∷ rs) = freeIn rs
+freeIn (freeRow p ∷ rs) = p ∷ freeIn rs
+
+-- A row as text; every row ends with one newline.
+unfoldable pub rowText : Row → List ℕ
+rowText (usedRow x) =
+    ascii "used " ++ prefixText (prefixUsed x) ++ ascii " station " ++ decimal (x .client) ++ ascii " until " ++ decimal (x .expires) ++ ascii "\n"
+rowText (freeRow p) = ascii "free " ++ prefixText p ++ ascii "\n"
+
+-- The first row: "`free=` counts the free rows".
+unfoldable pub headText : ℕ → ℕ → List ℕ
+headText leases freeRows = ascii "sheet lines=" ++ decimal leases ++ ascii " free=" ++ decimal freeRows ++ ascii "\n"
+
+unfoldable pub sheetText : LeaseTable → List ℕ
+sheetText t = headText (length (usedLeases t)) (length (freeIn (rows t))) ++ gather rowText (rows t)
+
+-- A buffer of this many bytes holds the sheet of every sound table, as SHEET in the code: a first row of at most 26 bytes, 256 used rows of at most 60,
+-- and 22 free rows for each lease and one for each pool, of at most 24.
+abbrev pub sheetSize : ℕ
+sheetSize = 150746
+
+-- ANSWERS
+
+-- Rows 5 and 14; 0 is accepted, with the bytes written.
+abbrev pub sheetNumber : SheetAnswer → ℕ
+sheetNumber (Written bytes) = 0
+sheetNumber NotSound = 5
+sheetNumber TooSmall = 14
+
+abbrev pub sheetBytes : SheetAnswer → ℕ
+sheetBytes (Written bytes) = bytes
+sheetBytes NotSound = 0
+sheetBytes TooSmall = 0
+
+-- The sheet into a buffer; a refusal leaves "the old bytes everywhere", and bytes after those written keep their content.
+abbrev pub into : List ℕ → List ℕ → SheetAnswer × List ℕ
+into text buffer =
+    cond (ltb (length buffer) (length text)) (TooSmall, buffer)
+    (Written (length text), text ++ drop (length text) buffer)
+
+unfoldable pub sheetOf : LeaseTable → List ℕ → SheetAnswer × List ℕ
+sheetOf t buffer = cond (not (sound t)) (NotSound, buffer) (into (sheetText t) buffer)
+
+-- Of an image: "for load and the sheet, the saved bytes only".
+abbrev pub sheetOfLoaded : Option LeaseTable → List ℕ → SheetAnswer × List ℕ
+sheetOfLoaded none buffer = (NotSound, buffer)
+sheetOfLoaded (some t) buffer = sheetOf t buffer
+
+unfoldable pub sheetOfImage : List ℕ → List ℕ → SheetAnswer × List ℕ
+sheetOfImage bytes buffer = sheetOfLoaded (loadImage bytes) buffer
