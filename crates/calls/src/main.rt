@@ -1,46 +1,13 @@
 // Runs the calls at their limits and prints their answers as the console does: an ask of 26 requests and one of 25, then a
 // list of 35 leases and one of 36. tests/vectors/program-calls.script has the same calls for the independent program.
 use answers::Answer;
-use answers::Counts;
 use table::LeaseTable;
 
-fn show_refusal(number: u64) {
-    show::text(b"refused ");
-    show::number(number);
-    show::text(b"\n");
-}
-
-fn show_counts(n: Counts, reply: &[u8]) {
-    show::text(b"ok bytes=");
-    show::number(n.bytes as u64);
-    show::text(b" count=");
-    show::number(n.count as u64);
-    show::text(b" ");
-    let bytes = n.bytes;
-    show::octets(reply, 0, bytes);
-    show::text(b"\n");
-}
-
-// The answer, with document 01's number for a refusal.
-fn show_answer(a: Answer, reply: &[u8]) {
-    match a {
-        Answer::Accepted(n) => show_counts(n, reply),
-        Answer::ShortReply => show_refusal(1),
-        Answer::NoClient => show_refusal(2),
-        Answer::TooEarly => show_refusal(3),
-        Answer::TooLate => show_refusal(4),
-        Answer::Unsound => show_refusal(5),
-        Answer::NotTheOption => show_refusal(6),
-        Answer::BadSuboption(place) => {
-            show::text(b"refused 7 place=");
-            show::number(place as u64);
-            show::text(b"\n");
-        }
-        Answer::WrongPieces => show_refusal(8),
-        Answer::NoSlot => show_refusal(9),
-        Answer::NoSpace => show_refusal(10),
-        Answer::NothingFound => show_refusal(11),
-    }
+// The answer, with the bytes that it wrote to the reply buffer.
+fn show_answer(a: Answer, reply: &[u8; 257]) {
+    let mut out = [0u8; 1024];
+    let n = lines::reply(&mut out, 0, a, reply);
+    io::write_all(1, &out[0..n]);
 }
 
 // Client 7 takes what the first `n` bytes of an offer hold: prints the answer and gives the table after it.
@@ -49,7 +16,7 @@ fn take_first(t: LeaseTable, offer: [u8; 257], n: usize) -> LeaseTable {
         return t;
     }
     let mut reply = [0u8; 257];
-    let taken = take::take(t, 1000, 7, &offer[..n], &mut reply);
+    let taken = take::take(t, 1000, 7, &offer[0..n], &mut reply);
     let answer = taken.answer;
     show_answer(answer, &reply);
     taken.table
@@ -84,7 +51,7 @@ fn show_list(t: LeaseTable) {
 
 fn main() {
     let opened = opening::open(&[167772160], &[16], 3600, 28, 1000);
-    show::text(b"ok\n");
+    io::write_all(1, b"ok\n");
     let start = opened.table;
     let same = ask_too_much(
         start,

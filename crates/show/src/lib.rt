@@ -1,21 +1,56 @@
-// What the programs print: text, numbers, octets.
-pub fn text(s: &[u8]) {
-    io::write_all(1, s);
-}
+// Text into a lent buffer, from a place on: each function answers the place after what it wrote, and leaves all other bytes.
+ghost use mathlib.Core.Path.{_≡_};
+ghost use Prim.Native.Nat.{_+_, _-_, _*_, _≤_, _<_};
+ghost use lib.ListN.{length};
+ghost use Rattle.lists.specs.Lists.{gather};
+ghost use Rattle.lists.specs.Put.{put};
+ghost use Rattle.io.specs.Digits.{glyph as glyphOf, digits};
+ghost use Rattle.show.specs.Text.{hexOf, Decimal};
 
-pub fn number(n: u64) {
-    io::print_decimal(1, n);
-}
-
-fn wide(x: u8) -> u64 {
-    x as u64
-}
-
-// The octets from `start` to before `end`, in hexadecimal.
-pub fn octets(s: &[u8], start: usize, end: usize) {
-    for i in start..end {
-        if i < s.len() {
-            io::print_hex(1, wide(s[i]), 2);
-        }
+pub fn text(out: &mut [u8], at: usize, s: &[u8]) -> usize
+    requires { ⌜ at + length (now s) ≤ length (now out) ⌝ }
+    ensures { λ r. ⌜ r ≡ at + length (now (s .entry)) ⌝ }
+    ensures { λ _. ⌜ now (out .exit) ≡ put (now (out .entry)) at (now (s .entry)) ⌝ }
+{
+    let mut i: usize = 0;
+    while i < s.len() {
+        out[at + i] = s[i];
+        i = i + 1;
     }
+    at + i
+}
+
+// A number in decimal.
+pub fn number(out: &mut [u8], at: usize, n: u64) -> usize
+    requires { ⌜ at + 20 ≤ length (now out) ⌝ }
+    ensures { λ r. ⌜ (at ≤ r) × (r ≤ at + 20) ⌝ }
+    ensures { λ r. ⌜ Decimal n (now (out .entry)) at (now (out .exit)) (r - at) ⌝ }
+{
+    let mut digits = [0u8; 20];
+    let k = io::decimal(n, &mut digits);
+    text(out, at, &digits[..k])
+}
+
+// A hexadecimal digit, in lower case.
+fn glyph(d: u8) -> u8
+    requires { ⌜ d < 16 ⌝ }
+    ensures { λ r. ⌜ r ≡ glyphOf d ⌝ }
+{
+    if d < 10 { b'0' + d } else { 87 + d }
+}
+
+// Octets in hexadecimal, two digits each.
+pub fn octets(out: &mut [u8], at: usize, s: &[u8]) -> usize
+    requires { ⌜ at + 2 * length (now s) ≤ length (now out) ⌝ }
+    ensures { λ r. ⌜ r ≡ at + 2 * length (now (s .entry)) ⌝ }
+    ensures { λ _. ⌜ now (out .exit) ≡ put (now (out .entry)) at (gather hexOf (now (s .entry))) ⌝ }
+{
+    let mut i: usize = 0;
+    while i < s.len() {
+        let x = s[i];
+        out[at + 2 * i] = glyph(x / 16);
+        out[at + 2 * i + 1] = glyph(x % 16);
+        i = i + 1;
+    }
+    at + 2 * i
 }

@@ -1,0 +1,269 @@
+//! Damage to good options, images and lines.
+
+use reference::numbers::Numbers;
+use reference::table::{LATEST, LONGEST_TERM, SHORTEST_TERM};
+
+use crate::bytes::{fit_len, record_places, suboption_places};
+
+/// Bytes at which some rule turns.
+const EDGES: [u8; 17] = [0, 1, 2, 3, 4, 6, 7, 8, 9, 29, 30, 31, 32, 33, 127, 254, 255];
+
+/// One change of any kind.
+pub fn damage(numbers: &mut Numbers, bytes: &mut Vec<u8>) {
+    if bytes.is_empty() {
+        bytes.push(numbers.draw() as u8);
+        return;
+    }
+    let at = numbers.below(bytes.len());
+    match numbers.below(10) {
+        0 | 1 => bytes[at] ^= 1 << numbers.below(8),
+        2 | 3 => bytes[at] = EDGES[numbers.below(EDGES.len())],
+        4 => bytes[at] = bytes[at].wrapping_add(if numbers.once_in(2) { 1 } else { 255 }),
+        5 => bytes.truncate(at),
+        6 => bytes.extend((0..numbers.between(1, 8)).map(|_| numbers.draw() as u8)),
+        7 => {
+            bytes.remove(at);
+        }
+        8 => bytes.insert(at, EDGES[numbers.below(EDGES.len())]),
+        _ => {
+            let other = numbers.below(bytes.len());
+            bytes.swap(at, other);
+        }
+    }
+}
+
+/// An option: half the time Len is made to fit afterwards, so that the damage is
+/// inside.
+pub fn damage_option(numbers: &mut Numbers, option: &mut Vec<u8>) {
+    let fit = match numbers.below(16) {
+        0 => return damage_head(numbers, option),
+        1 => return lengthen(numbers, option),
+        2 | 3 => {
+            damage_suboption_len(numbers, option);
+            false
+        }
+        4 => {
+            repeat_suboption(numbers, option);
+            true
+        }
+        _ => {
+            damage(numbers, option);
+            numbers.once_in(2)
+        }
+    };
+    if fit {
+        fit_len(option);
+    }
+}
+
+/// Code, Len, or everything but the first bytes.
+fn damage_head(numbers: &mut Numbers, option: &mut Vec<u8>) {
+    match numbers.below(4) {
+        0 => option.truncate(numbers.below(5)),
+        1 => {
+            option.truncate(numbers.between(2, 5));
+            fit_len(option);
+        }
+        2 if !option.is_empty() => option[0] = [118, 219, 221, 0, 82][numbers.below(5)],
+        _ if option.len() > 1 => {
+            option[1] = option[1].wrapping_add([1, 2, 3, 253, 254, 255][numbers.below(6)]);
+        }
+        _ => option.clear(),
+    }
+}
+
+/// Up to 600 bytes, now and then just at the longest that Len can tell.
+fn lengthen(numbers: &mut Numbers, option: &mut Vec<u8>) {
+    let length = [255, 256, 257, 258, 259, 513, numbers.between(200, 600)][numbers.below(7)];
+    let filler = numbers.below(3) as u8;
+    while option.len() < length {
+        option.push(if filler == 0 {
+            numbers.draw() as u8
+        } else {
+            filler - 1
+        });
+    }
+    fit_len(option);
+}
+
+fn damage_suboption_len(numbers: &mut Numbers, option: &mut [u8]) {
+    let places = suboption_places(option);
+    if !places.is_empty() {
+        let len = places[numbers.below(places.len())] + 1;
+        option[len] = match numbers.below(3) {
+            0 => option[len].wrapping_add(1),
+            1 => option[len].wrapping_sub(1),
+            _ => EDGES[numbers.below(EDGES.len())],
+        };
+    }
+}
+
+/// A suboption once more, at the end.
+fn repeat_suboption(numbers: &mut Numbers, option: &mut Vec<u8>) {
+    let mut places = suboption_places(option);
+    places.push(option.len());
+    let index = numbers.below(places.len());
+    if index + 1 < places.len() && places[index + 1] <= option.len() {
+        option.extend_from_within(places[index]..places[index + 1]);
+    }
+}
+
+/// An image: anywhere, in a field, or whole records.
+pub fn damage_image(numbers: &mut Numbers, image: &mut Vec<u8>) {
+    match numbers.below(10) {
+        0..=2 => damage(numbers, image),
+        3..=6 => damage_field(numbers, image),
+        _ => damage_records(numbers, image),
+    }
+}
+
+/// A field of some record becomes a value at which a rule turns, or another record's.
+fn damage_field(numbers: &mut Numbers, image: &mut [u8]) {
+    let places = record_places(image);
+    let record = places[numbers.below(places.len())];
+    if record + 4 > image.len() {
+        return;
+    }
+    let (at, width) = field(numbers, image[record + 2]);
+    let at = record + at;
+    if at + width > image.len() {
+        return;
+    }
+    if width < 4 {
+        image[at] = match numbers.below(3) {
+            0 => image[at].wrapping_add(1),
+            1 => image[at].wrapping_sub(1),
+            _ => EDGES[numbers.below(EDGES.len())],
+        };
+        return;
+    }
+    let number = |at: usize| {
+        let bytes = image.get(at..at + 4);
+        bytes.map_or(0, |b| u32::from_le_bytes([b[0], b[1], b[2], b[3]]))
+    };
+    let other = number(places[numbers.below(places.len())] + 4);
+    let last_time = number(9);
+    let values = [
+        0,
+        1,
+        number(at).wrapping_add(1),
+        number(at).wrapping_sub(1),
+        number(at) ^ (1 << numbers.below(32)),
+        other,
+        last_time,
+        last_time.wrapping_add(1),
+        SHORTEST_TERM,
+        LONGEST_TERM,
+        LATEST,
+        LATEST + 1,
+        u32::MAX,
+    ];
+    let value = values[numbers.below(values.len())];
+    image[at..at + 4].copy_from_slice(&value.to_le_bytes());
+}
+
+/// Place and width of a field of a record of this kind.
+fn field(numbers: &mut Numbers, kind: u8) -> (usize, usize) {
+    let fields: &[(usize, usize)] = match kind {
+        1 => &[(4, 4), (8, 1), (9, 4)],
+        2 => &[(4, 4), (8, 1)],
+        _ => &[(4, 4), (8, 1), (9, 1), (10, 1), (11, 4), (15, 4)],
+    };
+    match numbers.below(10) {
+        0 => (numbers.below(2), 1),
+        1 => (2 + numbers.below(2), 1),
+        _ => fields[numbers.below(fields.len())],
+    }
+}
+
+/// Records exchanged, moved, left out, said twice, resized, cut off.
+fn damage_records(numbers: &mut Numbers, image: &mut Vec<u8>) {
+    let places = record_places(image);
+    let mut records: Vec<Vec<u8>> = places
+        .windows(2)
+        .map(|ends| image[ends[0].min(image.len())..ends[1].min(image.len())].to_vec())
+        .collect();
+    if records.is_empty() {
+        return;
+    }
+    let (one, other) = (numbers.below(records.len()), numbers.below(records.len()));
+    match numbers.below(9) {
+        0 => records.swap(one, other),
+        1 | 2 => {
+            let moved = records.remove(one);
+            records.insert(other.min(records.len()), moved);
+        }
+        3 => {
+            records.remove(one);
+        }
+        4 => records.insert(other, records[one].clone()),
+        5 => records.push(records[one].clone()),
+        6 | 7 => resize_record(numbers, &mut records[one]),
+        _ => records.truncate(one),
+    }
+    *image = records.concat();
+}
+
+/// A body longer or shorter by a few bytes, with the record's length to fit.
+fn resize_record(numbers: &mut Numbers, record: &mut Vec<u8>) {
+    if record.len() < 4 {
+        return;
+    }
+    let length = numbers.between(record.len() - 4, record.len() + 2).max(4);
+    record.resize(length, 0);
+    record[..2].copy_from_slice(&(length as u16 - 2).to_le_bytes());
+}
+
+/// A line of a script: words, spaces, or any byte, but never a newline.
+pub fn damage_line(numbers: &mut Numbers, line: &mut Vec<u8>) {
+    let at = numbers.below(line.len() + 1);
+    match numbers.below(8) {
+        0 => line.insert(at, b' '),
+        1 => line.push(b'\r'),
+        2 => line.insert(at, b'0'),
+        3 => line.truncate(at),
+        4 => line.extend([b" 0", b" -", b" #", b" 1"][numbers.below(4)]),
+        5 if at < line.len() => line[at] = line[at].to_ascii_uppercase(),
+        6 => line.insert(at, b"\t\r.-/#xg9"[numbers.below(9)]),
+        _ => damage(numbers, line),
+    }
+    for byte in line {
+        if *byte == b'\n' {
+            *byte = b'\x0b';
+        }
+    }
+}
+
+#[cfg(test)]
+mod tests {
+    use super::*;
+    use crate::bytes::{option, request};
+
+    #[test]
+    fn options_are_damaged_in_many_ways() {
+        let mut numbers = Numbers::new(1);
+        let good = option(0, &[request(0, 24), request(1, 25)]);
+        let mut seen = std::collections::BTreeSet::new();
+        for _ in 0..2_000 {
+            let mut bytes = good.clone();
+            damage_option(&mut numbers, &mut bytes);
+            assert!(bytes.len() <= 610);
+            seen.insert(bytes);
+        }
+        assert!(seen.len() > 500, "{}", seen.len());
+    }
+
+    #[test]
+    fn damage_to_anything_ends() {
+        let mut numbers = Numbers::new(2);
+        for length in 0..60 {
+            for _ in 0..200 {
+                let mut bytes: Vec<u8> = (0..length).map(|_| numbers.below(6) as u8).collect();
+                damage_image(&mut numbers, &mut bytes);
+                damage_option(&mut numbers, &mut bytes);
+                damage_line(&mut numbers, &mut bytes);
+                assert!(!bytes.contains(&b'\n'));
+            }
+        }
+    }
+}

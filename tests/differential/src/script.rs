@@ -1,0 +1,91 @@
+//! A script, and the reference's answer to each of its lines.
+
+use reference::console::Console;
+use reference::table::Table;
+
+pub struct Step {
+    /// With its newline, which only the last line of a script may lack.
+    pub line: Vec<u8>,
+    /// What the reference answers: no line, one, or several, each with its newline.
+    pub answer: String,
+}
+
+/// The reference answers each line as it is added, so that the next one can be chosen
+/// by what the table then is.
+pub struct Script {
+    pub steps: Vec<Step>,
+    console: Console,
+}
+
+impl Script {
+    pub fn new() -> Script {
+        Script {
+            steps: Vec::new(),
+            console: Console::new(),
+        }
+    }
+
+    pub fn of_lines(lines: &[Vec<u8>]) -> Script {
+        let mut script = Script::new();
+        for line in lines {
+            script.add(line.clone());
+        }
+        script
+    }
+
+    /// Adds a line as it is and returns its answer.
+    pub fn add(&mut self, line: Vec<u8>) -> &str {
+        let answer = self.console.line(&line);
+        self.steps.push(Step { line, answer });
+        &self.steps[self.steps.len() - 1].answer
+    }
+
+    /// Adds a line and its newline.
+    pub fn say(&mut self, line: impl Into<Vec<u8>>) -> &str {
+        let mut line = line.into();
+        line.push(b'\n');
+        self.add(line)
+    }
+
+    /// The reference's table as it now is.
+    pub fn table(&self) -> &Table {
+        &self.console.table
+    }
+
+    /// The length of the reply buffer as it now is.
+    pub fn buffer(&self) -> usize {
+        self.console.buffer.len()
+    }
+
+    pub fn lines(&self) -> Vec<Vec<u8>> {
+        self.steps.iter().map(|step| step.line.clone()).collect()
+    }
+
+    pub fn text(&self) -> Vec<u8> {
+        self.lines().concat()
+    }
+}
+
+/// The lines of a text, each with its newline.
+pub fn lines_of(text: &[u8]) -> Vec<Vec<u8>> {
+    text.split_inclusive(|byte| *byte == b'\n')
+        .map(<[u8]>::to_vec)
+        .collect()
+}
+
+#[cfg(test)]
+mod tests {
+    use super::*;
+
+    #[test]
+    fn a_script_has_the_answers_of_the_console() {
+        let text = b"open 3600 28 1000 10.0.1.0/24\n# remark\nask 7 1000 dc05000102001a\nsave";
+        let script = Script::of_lines(&lines_of(text));
+        let mut answers = Vec::new();
+        reference::console::run(&text[..], &mut answers).unwrap();
+        let joined: String = script.steps.iter().map(|step| &step.answer[..]).collect();
+        assert_eq!(joined.as_bytes(), answers);
+        assert_eq!(script.text(), text);
+        assert_eq!(script.steps[1].answer, "");
+    }
+}
