@@ -1,0 +1,5 @@
+pub mod StoreLaws
+pub mod TableLaws
+pub mod CallLaws
+pub mod Images
+pub mod SheetLaws

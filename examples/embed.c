@@ -1,0 +1,341 @@
+/*
+ * The loop of a DHCP server in small, with Flockdrift embedded: build it with
+ *
+ *     cc -std=c99 -Iinclude examples/embed.c target/staticlib/libcapi.a -o embed
+ *     ./embed DIRECTORY [STOP-AFTER] < messages
+ *
+ * The lease table is the file `leases` in DIRECTORY, an image as the library makes it. Each line of standard input stands
+ * for a message or for a word from the operator, and its answer goes to standard output, both in the console's words:
+ *
+ *     open TERM DEFAULT START PREFIX..       a new table
+ *     ask|take|list|return CLIENT NOW OPTION the option in hexadecimal
+ *     mark NOW PREFIX 0|1
+ *     sheet                                  the table as text
+ *
+ * A client gets its answer only after the new image is on the disk: it is written to another file, which is synced and
+ * then renamed over the old one, and the directory is synced. So a server that is killed between any two steps finds at
+ * its next start the image from before the message or the one from after it, whole, and it has promised no lease that is
+ * not in it. A client whose answer was lost asks again: a take then gets the same answer, and the prefix of an ask that
+ * nobody takes is free again after 120 seconds. STOP-AFTER shows this: the server kills itself after so many steps.
+ */
+#define _POSIX_C_SOURCE 200809L
+
+#include "flockdrift.h"
+
+#include <ctype.h>
+#include <errno.h>
+#include <fcntl.h>
+#include <signal.h>
+#include <stdio.h>
+#include <stdlib.h>
+#include <string.h>
+#include <sys/types.h>
+#include <unistd.h>
+
+enum {
+    OPTION_CAPACITY = 257, /* the longest option */
+    POOLS = 16,            /* more than a table takes, so that it is the library that refuses */
+    PIECE = 32             /* bytes for one write: few, so that a kill can leave half an image in the new file */
+};
+
+struct server {
+    int directory; /* where the image is kept */
+    unsigned long stop_after;
+    size_t bytes; /* the length of the image; 0 where there is none yet, which no call takes for an image */
+    uint8_t image[FLOCKDRIFT_IMAGE_CAPACITY + 1]; /* one byte more shows a file that is longer than any image */
+    char text[FLOCKDRIFT_TEXT_CAPACITY];
+};
+
+/* Stands between any two steps after which the world may look different. */
+static void step(struct server *s)
+{
+    if (s->stop_after != 0 && --s->stop_after == 0)
+        raise(SIGKILL);
+}
+
+/* THE IMAGE FILE */
+
+/* Closes a file after a failure, whose errno is the one to report. */
+static int failed(int fd)
+{
+    int error = errno;
+
+    close(fd);
+    errno = error;
+    return -1;
+}
+
+/* Reads the image, or finds that there is none yet. A file that is no image is an error, and stays for the operator to see. */
+static int read_image(struct server *s)
+{
+    ssize_t n;
+    int fd = openat(s->directory, "leases", O_RDONLY | O_CLOEXEC);
+
+    s->bytes = 0;
+    if (fd < 0)
+        return errno == ENOENT ? 0 : -1;
+    while ((n = read(fd, s->image + s->bytes, sizeof s->image - s->bytes)) != 0)
+        if (n > 0)
+            s->bytes += (size_t)n;
+        else if (errno != EINTR)
+            return failed(fd);
+    if (flockdrift_sheet(s->image, s->bytes, s->text, sizeof s->text).number != 0) {
+        errno = EBADMSG;
+        return failed(fd);
+    }
+    return close(fd);
+}
+
+static int write_all(struct server *s, int fd, const uint8_t *from, size_t bytes)
+{
+    while (bytes > 0) {
+        ssize_t n = write(fd, from, bytes < PIECE ? bytes : PIECE);
+
+        if (n < 0 && errno == EINTR)
+            continue;
+        if (n < 0)
+            return -1;
+        from += n;
+        bytes -= (size_t)n;
+        step(s);
+    }
+    return 0;
+}
+
+/* Puts the image in the place of the old one: after this returns 0 it is there, and after a crash it is one of the two. */
+static int write_image(struct server *s)
+{
+    int fd = openat(s->directory, "leases.new", O_WRONLY | O_CREAT | O_TRUNC | O_CLOEXEC, 0600);
+
+    if (fd < 0)
+        return -1;
+    step(s);
+    if (write_all(s, fd, s->image, s->bytes) != 0 || fsync(fd) != 0)
+        return failed(fd);
+    step(s);
+    if (close(fd) != 0)
+        return -1;
+    step(s);
+    if (renameat(s->directory, "leases.new", s->directory, "leases") != 0)
+        return -1;
+    step(s);
+    if (fsync(s->directory) != 0)
+        return -1;
+    step(s);
+    return 0;
+}
+
+/* MESSAGES AS LINES */
+
+static char *word(char **rest)
+{
+    return strtok_r(NULL, " \r\n", rest);
+}
+
+static int number(const char *text, uint32_t *value)
+{
+    unsigned long long n;
+    char *end;
+
+    if (text == NULL || !isdigit((unsigned char)text[0]))
+        return -1;
+    errno = 0;
+    n = strtoull(text, &end, 10);
+    if (errno != 0 || *end != '\0' || n > UINT32_MAX)
+        return -1;
+    *value = (uint32_t)n;
+    return 0;
+}
+
+/* A.B.C.D/L */
+static int prefix(const char *text, uint32_t *network, uint8_t *length)
+{
+    uint8_t part[5];
+    int i;
+
+    if (text == NULL)
+        return -1;
+    for (i = 0; i < 5; i++) {
+        unsigned long n;
+        char *end;
+
+        if (!isdigit((unsigned char)text[0]))
+            return -1;
+        errno = 0;
+        n = strtoul(text, &end, 10);
+        if (errno != 0 || n > UINT8_MAX || *end != ".../"[i]) /* after the fifth stands the end of the text */
+            return -1;
+        part[i] = (uint8_t)n;
+        text = end + 1;
+    }
+    *network = (uint32_t)part[0] << 24 | (uint32_t)part[1] << 16 | (uint32_t)part[2] << 8 | part[3];
+    *length = part[4];
+    return 0;
+}
+
+static int digit(char c)
+{
+    const char digits[] = "0123456789abcdef";
+    const char *at = c == '\0' ? NULL : strchr(digits, tolower((unsigned char)c));
+
+    return at == NULL ? -1 : (int)(at - digits);
+}
+
+/* An option in hexadecimal; `-` stands for no bytes. */
+static int octets(const char *text, uint8_t *option, size_t *bytes)
+{
+    size_t n;
+
+    if (text == NULL)
+        return -1;
+    if (strcmp(text, "-") == 0)
+        text = "";
+    for (n = 0; text[2 * n] != '\0'; n++) {
+        int high = digit(text[2 * n]);
+        int low = high < 0 ? -1 : digit(text[2 * n + 1]);
+
+        if (low < 0 || n == OPTION_CAPACITY)
+            return -1;
+        option[n] = (uint8_t)(high * 16 + low);
+    }
+    *bytes = n;
+    return 0;
+}
+
+static void show(const struct server *s, struct flockdrift_answer a, const char *verb, const uint8_t *reply)
+{
+    uint32_t i;
+
+    if (a.number == FLOCKDRIFT_BAD_SUBOPTION) {
+        printf("refused 7 place=%lu\n", (unsigned long)a.place);
+    } else if (a.number != 0) {
+        printf("refused %lu\n", (unsigned long)a.number);
+    } else if (strcmp(verb, "sheet") == 0) {
+        printf("%.*s", (int)a.bytes, s->text);
+    } else if (a.bytes != 0) {
+        printf("ok bytes=%lu count=%lu ", (unsigned long)a.bytes, (unsigned long)a.count);
+        for (i = 0; i < a.bytes; i++)
+            printf("%02x", reply[i]);
+        printf("\n");
+    } else if (strcmp(verb, "return") == 0) {
+        printf("ok count=%lu\n", (unsigned long)a.count);
+    } else {
+        printf("ok\n");
+    }
+}
+
+/* THE LOOP */
+
+/* The call that a message asks for; -1 where the line is none. */
+static int call(struct server *s, const char *verb, char *rest, struct flockdrift_answer *a, uint8_t *reply)
+{
+    uint32_t client, now, network, term, length, flag;
+    uint8_t option[OPTION_CAPACITY];
+    uint32_t networks[POOLS];
+    uint8_t lengths[POOLS];
+    size_t bytes, n = 0;
+    char *text;
+
+    if (strcmp(verb, "open") == 0) {
+        if (number(word(&rest), &term) != 0 || number(word(&rest), &length) != 0 || number(word(&rest), &now) != 0)
+            return -1;
+        while ((text = word(&rest)) != NULL) {
+            if (n == POOLS || prefix(text, &networks[n], &lengths[n]) != 0)
+                return -1;
+            n++;
+        }
+        *a = flockdrift_open(s->image, sizeof s->image, networks, n, lengths, n, term, length, now);
+        return 0;
+    }
+    if (strcmp(verb, "mark") == 0) {
+        if (number(word(&rest), &now) != 0 || prefix(word(&rest), &network, &lengths[0]) != 0 ||
+            number(word(&rest), &flag) != 0 || flag > 1 || word(&rest) != NULL)
+            return -1;
+        *a = flockdrift_mark(s->image, sizeof s->image, s->bytes, network, lengths[0], flag, now);
+        return 0;
+    }
+    if (strcmp(verb, "sheet") == 0) {
+        if (word(&rest) != NULL)
+            return -1;
+        *a = flockdrift_sheet(s->image, s->bytes, s->text, sizeof s->text);
+        return 0;
+    }
+    if (number(word(&rest), &client) != 0 || number(word(&rest), &now) != 0 ||
+        octets(word(&rest), option, &bytes) != 0 || word(&rest) != NULL)
+        return -1;
+    if (strcmp(verb, "ask") == 0)
+        *a = flockdrift_ask(s->image, sizeof s->image, s->bytes, client, now, option, bytes, reply,
+                            FLOCKDRIFT_REPLY_CAPACITY);
+    else if (strcmp(verb, "take") == 0)
+        *a = flockdrift_take(s->image, sizeof s->image, s->bytes, client, now, option, bytes, reply,
+                             FLOCKDRIFT_REPLY_CAPACITY);
+    else if (strcmp(verb, "list") == 0)
+        *a = flockdrift_list(s->image, sizeof s->image, s->bytes, client, now, option, bytes, reply,
+                             FLOCKDRIFT_REPLY_CAPACITY);
+    else if (strcmp(verb, "return") == 0)
+        *a = flockdrift_release(s->image, sizeof s->image, s->bytes, client, now, option, bytes);
+    else
+        return -1;
+    return 0;
+}
+
+/* Answers one message; -1 where the image or the answer could not be written. */
+static int serve(struct server *s, char *line, unsigned long count)
+{
+    uint8_t reply[FLOCKDRIFT_REPLY_CAPACITY];
+    struct flockdrift_answer a;
+    char *rest;
+    const char *verb = strtok_r(line, " \r\n", &rest);
+
+    if (verb == NULL || verb[0] == '#')
+        return 0;
+    if (call(s, verb, rest, &a, reply) != 0) {
+        printf("error line %lu\n", count);
+        return fflush(stdout);
+    }
+    step(s);
+    if (a.number == 0 && strcmp(verb, "list") != 0 && strcmp(verb, "sheet") != 0) {
+        s->bytes = a.image_bytes;
+        if (write_image(s) != 0)
+            return -1;
+    }
+    show(s, a, verb, reply);
+    if (fflush(stdout) != 0)
+        return -1;
+    step(s);
+    return 0;
+}
+
+int main(int argc, char **argv)
+{
+    static struct server s;
+    unsigned long count = 0;
+    uint32_t stop_after = 0;
+    char *line = NULL;
+    size_t room = 0;
+    int status = EXIT_FAILURE;
+
+    if (argc < 2 || argc > 3 || (argc == 3 && number(argv[2], &stop_after) != 0)) {
+        fprintf(stderr, "usage: %s DIRECTORY [STOP-AFTER] < messages\n", argv[0]);
+        return EXIT_FAILURE;
+    }
+    s.stop_after = stop_after;
+    s.directory = open(argv[1], O_RDONLY | O_DIRECTORY | O_CLOEXEC);
+    if (s.directory < 0 || read_image(&s) != 0) {
+        perror(argv[1]);
+        return EXIT_FAILURE;
+    }
+    while (getline(&line, &room, stdin) >= 0)
+        if (serve(&s, line, ++count) != 0) {
+            perror(argv[0]);
+            goto done;
+        }
+    if (feof(stdin))
+        status = EXIT_SUCCESS;
+    else
+        perror("standard input");
+done:
+    free(line);
+    close(s.directory);
+    return status;
+}
