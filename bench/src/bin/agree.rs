@@ -1,0 +1,658 @@
+//! Runs the same random and damaged calls through the peer, the reference and, if it was linked, the proved library, and
+//! compares every field of every answer, every byte of the image's buffer and every byte of the reply buffer.
+//!
+//!     agree [CALLS [SEED]]
+//!
+//! Prints the seed; the same seed makes the same calls.
+
+use std::collections::BTreeMap;
+use std::process::exit;
+
+use bench::desk::{Answer, Desk, FULL, REPLY, SHEET};
+use bench::images::{Lease, Table};
+use bench::options::{information, option, request};
+use bench::peer::PEER;
+use bench::random::Random;
+use bench::reference::REFERENCE;
+
+const CALLS: u64 = 200_000;
+const SEED: u64 = 6656;
+/// Calls from one table to the next.
+const SESSION: u64 = 60;
+const LATEST: u32 = 4_292_375_295;
+
+#[derive(Clone, Debug)]
+enum Call {
+    Open { networks: Vec<u32>, lengths: Vec<u8>, term: u32, default_length: u32, start: u32 },
+    Ask { client: u32, now: u32, option: Vec<u8> },
+    Take { client: u32, now: u32, option: Vec<u8> },
+    List { client: u32, now: u32, option: Vec<u8> },
+    Release { client: u32, now: u32, option: Vec<u8> },
+    Mark { network: u32, length: u32, deprecated: u32, now: u32 },
+    Sheet,
+}
+
+impl Call {
+    fn name(&self) -> &'static str {
+        match self {
+            Call::Open { .. } => "open",
+            Call::Ask { .. } => "ask",
+            Call::Take { .. } => "take",
+            Call::List { .. } => "list",
+            Call::Release { .. } => "return",
+            Call::Mark { .. } => "mark",
+            Call::Sheet => "sheet",
+        }
+    }
+
+    fn run(&self, desk: &Desk, image: &mut [u8], bytes: usize, reply: &mut [u8]) -> Answer {
+        match self {
+            Call::Open { networks, lengths, term, default_length, start } => {
+                (desk.open)(image, networks, lengths, *term, *default_length, *start)
+            }
+            Call::Ask { client, now, option } => (desk.ask)(image, bytes, *client, *now, option, reply),
+            Call::Take { client, now, option } => (desk.take)(image, bytes, *client, *now, option, reply),
+            Call::List { client, now, option } => (desk.list)(image, bytes, *client, *now, option, reply),
+            Call::Release { client, now, option } => (desk.release)(image, bytes, *client, *now, option),
+            Call::Mark { network, length, deprecated, now } => {
+                (desk.mark)(image, bytes, *network, *length, *deprecated, *now)
+            }
+            // The sheet has no capacity of the image: what is lent is the image.
+            Call::Sheet => (desk.sheet)(image.get(..bytes).unwrap_or(image), reply),
+        }
+    }
+}
+
+/// Everything that a call is given.
+#[derive(Clone)]
+struct Given {
+    image: Vec<u8>,
+    bytes: usize,
+    reply: Vec<u8>,
+    call: Call,
+}
+
+fn hex(bytes: &[u8]) -> String {
+    bytes.iter().map(|byte| format!("{byte:02x}")).collect()
+}
+
+/// Runs a call through every desk; answers what all of them left, or says where they differ.
+fn agreed(desks: &[Desk], given: &Given) -> Result<(Answer, Vec<u8>), String> {
+    let mut first: Option<(Answer, Given)> = None;
+    for desk in desks {
+        let mut left = given.clone();
+        let answer = given.call.run(desk, &mut left.image, given.bytes, &mut left.reply);
+        let Some((first_answer, first_left)) = &first else {
+            first = Some((answer, left));
+            continue;
+        };
+        let names = format!("{} and {}", desks[0].name, desk.name);
+        if *first_answer != answer {
+            return Err(format!("{names}: answers {first_answer:?} and {answer:?}"));
+        }
+        for (what, one, other) in [("image", &first_left.image, &left.image), ("reply", &first_left.reply, &left.reply)]
+        {
+            if let Some(at) = (0..one.len()).find(|&at| one[at] != other[at]) {
+                return Err(format!("{names}: {what} byte {at} is {} and {}", one[at], other[at]));
+            }
+        }
+    }
+    let (answer, left) = first.expect("there is a desk");
+    Ok((answer, left.image))
+}
+
+/// What every answer has to be, whoever gave it.
+fn plausible(given: &Given, answer: &Answer, image: &[u8]) -> Result<(), String> {
+    if answer.number != 0 {
+        if image != given.image {
+            return Err("a refusal changed the image".into());
+        }
+        if (answer.bytes, answer.count, answer.image_bytes) != (0, 0, 0) || (answer.number != 7 && answer.place != 0) {
+            return Err(format!("a refusal has counts: {answer:?}"));
+        }
+    }
+    Ok(())
+}
+
+/// A length of at least `shortest`, mostly not much longer.
+fn length_from(random: &mut Random, shortest: u8) -> u8 {
+    let shortest = shortest.min(30);
+    let room = u64::from(30 - shortest) + 1;
+    let some = if random.once_in(3) { room } else { room.min(6) };
+    shortest + random.below(some) as u8
+}
+
+/// 1 to 8 pools, ascending and apart: small ones that fill up, large ones, the first and the last addresses.
+fn random_pools(random: &mut Random) -> Vec<(u32, u8)> {
+    let count = if random.once_in(2) { 1 } else { 1 + random.below(8) };
+    let shortest = random.pick(&[8, 8, 16, 18, 20, 22, 24, 26]);
+    let mut pools: Vec<(u32, u8)> = Vec::new();
+    let mut free_from: u64 = random.pick(&[0, 0x0a00_0000, 0x0a00_0000, 0xc0a8_0000, 0xfe00_0000]);
+    for _ in 0..count {
+        let length = length_from(random, shortest);
+        let size = 1u64 << (32 - length);
+        let mut from = free_from.div_ceil(size) * size;
+        if random.once_in(3) {
+            from += size * random.below(4);
+        }
+        if from + size > 1 << 32 {
+            break;
+        }
+        pools.push((from as u32, length));
+        free_from = from + size;
+    }
+    if random.once_in(10) && free_from < 0xff00_0000 && pools.len() < 8 {
+        pools.push(random.pick(&[(0xff00_0000, 8), (0xffff_ff00, 24), (0xffff_fffc, 30)]));
+    }
+    if pools.is_empty() {
+        pools.push((0xffff_fffc, 30));
+    }
+    pools
+}
+
+/// After the last time: mostly soon, or for a table that `stays` mostly late.
+fn random_expires(random: &mut Random, last: u32, stays: bool) -> u32 {
+    let after = match random.below(if stays { 200 } else { 8 }) {
+        0 => 1,
+        1 => u64::from(u32::MAX),
+        2 => random.below(1 << 32),
+        _ if stays => 10_000,
+        _ => 1 + random.below(300),
+    };
+    (u64::from(last) + after).clamp(u64::from(last) + 1, u64::from(u32::MAX)) as u32
+}
+
+fn random_client(random: &mut Random) -> u32 {
+    if random.once_in(40) { random.pick(&[0, u32::MAX]) } else { 1 + random.below(4) as u32 }
+}
+
+/// A sound table: none, few, many or 256 leases, with and without holes between them.
+fn random_table(random: &mut Random) -> Table {
+    let last = match random.below(8) {
+        0 => 0,
+        1 if random.once_in(3) => LATEST - random.below(3) as u32,
+        _ => random.below(1 << 31) as u32,
+    };
+    let mut table = Table {
+        term: random.pick(&[60, 61, 3600, 2_592_000]),
+        default_length: 1 + random.below(30) as u8,
+        last,
+        pools: random_pools(random),
+        leases: Vec::new(),
+    };
+    let most = random.pick(&[0, 3, 20, 64, 200, 240, 255, 256, 256]);
+    let holes = random.pick(&[0, 0, 1, 3, 8]);
+    let one_client = random.once_in(3);
+    let stays = random.once_in(2);
+    let pools = table.pools.clone();
+    for (index, (network, length)) in pools.iter().enumerate() {
+        // Leases of this many sizes, such that the last pools have some too.
+        let share = most * (index + 1) / pools.len();
+        let long = random.once_in(2);
+        let to = u64::from(*network) + (1 << (32 - length));
+        let mut at = u64::from(*network);
+        while table.leases.len() < share {
+            let length = if long { 28 + random.below(3) as u8 } else { length_from(random, *length) };
+            let length = length.max(pools[index].1);
+            let size = 1u64 << (32 - length);
+            at = at.div_ceil(size) * size;
+            if holes != 0 && random.once_in(2) {
+                at += size * random.below(holes);
+            }
+            if at + size > to {
+                break;
+            }
+            table.leases.push(Lease {
+                network: at as u32,
+                length,
+                state: 1 + random.below(2) as u8,
+                flags: random.below(4) as u8,
+                client: if one_client { 1 } else { 1 + random.below(4) as u32 },
+                expires: random_expires(random, last, stays),
+            });
+            at += size;
+        }
+    }
+    table
+}
+
+fn random_time(random: &mut Random, last: u32) -> u32 {
+    match random.below(40) {
+        0 => last.wrapping_sub(1),
+        1 if random.once_in(10) => LATEST,
+        2 => random.pick(&[LATEST + 1, u32::MAX]),
+        3 => last.saturating_add(119),
+        4 => last.saturating_add(120),
+        5..=8 => last.saturating_add(random.below(400) as u32),
+        9..=20 => last.saturating_add(random.below(20) as u32),
+        _ => last,
+    }
+}
+
+/// The prefix of a lease of the table, or one near it, or any.
+fn random_prefix(random: &mut Random, table: &Table) -> (u32, u8) {
+    let any = (random.word() as u32, 1 + random.below(30) as u8);
+    let (network, length) = match random.below(10) {
+        0 => any,
+        1 => random.pick(&table.pools),
+        _ if table.leases.is_empty() => any,
+        2 => {
+            let lease = random.pick(&table.leases);
+            (lease.network, 1 + random.below(30) as u8)
+        }
+        _ => {
+            let lease = random.pick(&table.leases);
+            (lease.network, lease.length)
+        }
+    };
+    if random.once_in(60) { (network, length) } else { (network & (u32::MAX << (32 - length)), length) }
+}
+
+/// An information of some entries, some of them with figures.
+fn random_information(random: &mut Random, table: &Table, flags: u8, most: u64) -> Vec<u8> {
+    let mut body = vec![flags];
+    for _ in 0..1 + random.below(most) {
+        let (network, length) = random_prefix(random, table);
+        let figures = if random.once_in(6) { 2 * random.below(6) as usize } else { 0 };
+        if body.len() + 7 + figures > 249 {
+            break;
+        }
+        body.extend(network.to_be_bytes());
+        let entry_flags = if random.once_in(4) { random.word() as u8 } else { random.below(4) as u8 };
+        body.extend([length, entry_flags, figures as u8]);
+        for _ in 0..figures {
+            body.push(random.word() as u8);
+        }
+    }
+    let mut bytes = vec![2, body.len() as u8];
+    bytes.extend(body);
+    bytes
+}
+
+/// Pieces that a call does not name.
+fn random_other(random: &mut Random) -> Vec<u8> {
+    let number = if random.once_in(3) { 3 } else { random.pick(&[0, 4, 5, 118, 220, 255]) };
+    let len = random.below(6) as u8 + u8::from(number == 3);
+    let mut bytes = vec![number, len];
+    for _ in 0..len {
+        bytes.push(random.word() as u8);
+    }
+    if number == 3 && !random.once_in(20) {
+        *bytes.last_mut().unwrap() |= 1;
+    }
+    bytes
+}
+
+fn random_request(random: &mut Random, table: &Table, listing: bool) -> [u8; 4] {
+    let pool = random.pick(&table.pools).1;
+    let length = match random.below(12) {
+        0 => 0,
+        1 => random.below(31) as u8,
+        _ => length_from(random, pool),
+    };
+    let mut flags = random.below(2) as u8 | if listing { 2 } else { 0 };
+    if random.once_in(10) {
+        flags |= random.word() as u8 & 0xfc;
+    }
+    request(flags, length)
+}
+
+/// Suboptions as a call of this kind wants them, with others between them.
+fn random_pieces(random: &mut Random, table: &Table, kind: u64) -> Vec<u8> {
+    let mut pieces: Vec<Vec<u8>> = Vec::new();
+    match kind {
+        // Ask.
+        0 => {
+            let count = random.pick(&[1, 1, 1, 2, 3, 8, 24, 25, 25, 26]);
+            let same = random.once_in(3).then(|| random_request(random, table, false));
+            for _ in 0..count {
+                pieces.push(same.unwrap_or_else(|| random_request(random, table, false)).to_vec());
+            }
+            if random.once_in(8) {
+                let flags = random.below(4) as u8;
+                pieces.push(random_information(random, table, flags, 2));
+            }
+        }
+        // Take and return.
+        1 => {
+            for _ in 0..random.pick(&[1, 1, 1, 2, 3]) {
+                let flags = if random.once_in(4) { random.word() as u8 } else { 0 };
+                let most = random.pick(&[1, 3, 35]);
+                pieces.push(random_information(random, table, flags, most));
+            }
+            if random.once_in(25) {
+                let listing = random.once_in(2);
+                pieces.push(random_request(random, table, listing).to_vec());
+            }
+        }
+        // List.
+        _ => {
+            for _ in 0..random.pick(&[1, 1, 1, 2, 5]) {
+                let listing = !random.once_in(20);
+                pieces.push(random_request(random, table, listing).to_vec());
+            }
+            for _ in 0..random.pick(&[0, 0, 1, 1, 2]) {
+                let flags = random.pick(&[3, 3, 3, 0, 1, 2, 255]);
+                pieces.push(random_information(random, table, flags, 3));
+            }
+            if random.once_in(40) {
+                pieces.push(information(3, &[(0, 1 + random.below(30) as u8, 0)]));
+            }
+        }
+    }
+    while random.once_in(4) {
+        let at = random.below(pieces.len() as u64 + 1) as usize;
+        pieces.insert(at, random_other(random));
+    }
+    if random.once_in(4) {
+        let at = random.below(pieces.len() as u64) as usize;
+        pieces.swap(0, at);
+    }
+    let mut bytes = Vec::new();
+    for piece in pieces {
+        if bytes.len() + piece.len() <= 254 {
+            bytes.extend(piece);
+        }
+    }
+    bytes
+}
+
+fn random_option(random: &mut Random, table: &Table, kind: u64) -> Vec<u8> {
+    // Now and then the pieces of another call.
+    let kind = if random.once_in(20) { random.below(3) } else { kind };
+    let pieces = random_pieces(random, table, kind);
+    let mut option = option(&pieces);
+    if random.once_in(10) {
+        option[2] = random.word() as u8;
+    }
+    if random.once_in(8) {
+        damage_option(random, &mut option);
+    }
+    option
+}
+
+fn damage_option(random: &mut Random, option: &mut Vec<u8>) {
+    let at = random.below(option.len() as u64) as usize;
+    match random.below(7) {
+        0 => option[at] ^= 1 << random.below(8),
+        1 => option[at] = random.word() as u8,
+        // Cut, with and without a Len that fits.
+        2 => option.truncate(at),
+        3 => {
+            option.truncate(at.max(2));
+            option[1] = (option.len() - 2) as u8;
+        }
+        4 => option.push(random.word() as u8),
+        5 => {
+            if option.len() < 257 {
+                option.push(random.word() as u8);
+                option[1] = (option.len() - 2) as u8;
+            }
+        }
+        _ => {
+            let len = random.below(12) as usize;
+            *option = vec![0; len];
+            random.fill(option);
+            if len > 1 {
+                (option[0], option[1]) = (220, (len - 2) as u8);
+            }
+        }
+    }
+}
+
+/// One change to the bytes of an image.
+fn damage_image(random: &mut Random, image: &mut Vec<u8>) {
+    let at = random.below(image.len() as u64) as usize;
+    let table = Table::of_image(image);
+    match random.below(11) {
+        0..=2 => image[at] ^= 1 << random.below(8),
+        3 => image[at] = random.word() as u8,
+        4 => image.truncate(at),
+        5 => image.extend([random.word() as u8]),
+        6 => {
+            // A field of a lease at its limits.
+            let mut table = table;
+            if let Some(last) = (table.leases.len() as u64).checked_sub(1) {
+                let at = random.below(last + 1) as usize;
+                let other = random.pick(&table.leases);
+                let lease = &mut table.leases[at];
+                match random.below(7) {
+                    0 => lease.length = random.pick(&[0, 1, 7, 30, 31, 32, 33, 255]),
+                    1 => lease.state = random.pick(&[0, 3, 255]),
+                    2 => lease.flags = random.pick(&[4, 128]),
+                    3 => lease.client = 0,
+                    4 => lease.expires = table.last,
+                    5 => lease.network = other.network,
+                    _ => lease.network = random.word() as u32 & !3,
+                }
+            }
+            *image = table.image();
+        }
+        7 => {
+            let mut table = table;
+            match random.below(6) {
+                0 => table.term = random.pick(&[0, 59, 2_592_001]),
+                1 => table.default_length = random.pick(&[0, 31, 255]),
+                2 => table.last = random.pick(&[0, LATEST + 1, u32::MAX]),
+                3 => table.pools.clear(),
+                4 => {
+                    let pool = random.pick(&table.pools);
+                    let at = random.below(table.pools.len() as u64 + 1) as usize;
+                    table.pools.insert(at, (pool.0, random.pick(&[0, 7, 8, pool.1, 30, 31])));
+                }
+                _ => {
+                    let at = random.below(table.pools.len() as u64) as usize;
+                    table.pools.remove(at);
+                }
+            }
+            *image = table.image();
+        }
+        8 => {
+            // Leases in another order, or twice.
+            let mut table = table;
+            if !table.leases.is_empty() {
+                let at = random.below(table.leases.len() as u64) as usize;
+                let lease = random.pick(&table.leases);
+                match random.below(3) {
+                    0 => table.leases[at] = lease,
+                    1 => table.leases.insert(at, lease),
+                    _ => table.leases.reverse(),
+                }
+            }
+            *image = table.image();
+        }
+        9 => {
+            // Pools after the last one: sound but for their number, where that is above 8.
+            let mut table = table;
+            while table.pools.len() < 9 {
+                let (network, length) = table.pools[table.pools.len() - 1];
+                let Some(next) = network.checked_add(1 << (32 - length)) else { break };
+                table.pools.push((next, 30));
+            }
+            *image = table.image();
+        }
+        _ => {
+            // Leases after the last one: sound but for their number, where that is above 256.
+            let mut table = table;
+            while table.leases.len() < 257 {
+                let (pool, size) = table.pools[table.pools.len() - 1];
+                let to = u64::from(pool) + (1 << (32 - size));
+                let last = table.leases.last().map_or(0, |lease| u64::from(lease.network) + (1 << (32 - lease.length)));
+                let from = last.max(pool.into());
+                if from == to {
+                    break;
+                }
+                table.leases.push(Lease {
+                    network: from as u32,
+                    length: 30,
+                    state: 2,
+                    flags: 0,
+                    client: 1,
+                    expires: u32::MAX,
+                });
+            }
+            *image = table.image();
+        }
+    }
+}
+
+fn random_open(random: &mut Random) -> Call {
+    let mut pools = random_pools(random);
+    for _ in 0..random.below(4) {
+        let (one, other) = (random.below(pools.len() as u64), random.below(pools.len() as u64));
+        pools.swap(one as usize, other as usize);
+    }
+    if random.once_in(4) {
+        let at = random.below(pools.len() as u64) as usize;
+        match random.below(5) {
+            0 => pools[at].1 = random.pick(&[0, 7, 8, 31, 32, 255]),
+            1 => pools[at].0 = random.word() as u32,
+            2 => pools.push(pools[at]),
+            3 => pools.clear(),
+            _ => pools.extend([(0x1400_0000, 24); 8].iter().enumerate().map(|(i, p)| (p.0 + 256 * i as u32, p.1))),
+        }
+    }
+    let mut networks: Vec<u32> = pools.iter().map(|pool| pool.0).collect();
+    let mut lengths: Vec<u8> = pools.iter().map(|pool| pool.1).collect();
+    match random.below(20) {
+        0 => networks.push(0x2000_0000),
+        1 => lengths.push(24),
+        _ => {}
+    }
+    let rarely = |random: &mut Random, values: &[u32], usual: u32| {
+        if random.once_in(8) { random.pick(values) } else { usual }
+    };
+    Call::Open {
+        networks,
+        lengths,
+        term: rarely(random, &[0, 59, 60, 2_592_000, 2_592_001, u32::MAX], 3600),
+        default_length: rarely(random, &[0, 1, 30, 31, 255, 256, 257, 284, u32::MAX], 28),
+        start: rarely(random, &[0, LATEST, LATEST + 1, u32::MAX], 1000),
+    }
+}
+
+fn random_call(random: &mut Random, table: &Table) -> Call {
+    let client = random_client(random);
+    let now = random_time(random, table.last);
+    match random.below(100) {
+        0..=34 => Call::Ask { client, now, option: random_option(random, table, 0) },
+        35..=54 => Call::Take { client, now, option: random_option(random, table, 1) },
+        55..=69 => Call::List { client, now, option: random_option(random, table, 2) },
+        70..=82 => Call::Release { client, now, option: random_option(random, table, 1) },
+        83..=93 => {
+            let (network, length) = random_prefix(random, table);
+            let length = u32::from(length) + if random.once_in(20) { 256 } else { 0 };
+            Call::Mark { network, length, deprecated: random.pick(&[0, 1, 1, 2, 256, u32::MAX]), now }
+        }
+        94..=97 => Call::Sheet,
+        _ => random_open(random),
+    }
+}
+
+fn random_given(random: &mut Random, image: &[u8]) -> Given {
+    let call = random_call(random, &Table::of_image(image));
+    let mut image = image.to_vec();
+    if random.once_in(8) {
+        damage_image(random, &mut image);
+    }
+    let mut bytes = image.len();
+    let mut capacity = match random.below(30) {
+        0 => random.pick(&[0, 13, bytes, FULL - 1]),
+        1..=4 => FULL + random.below(30) as usize,
+        _ => FULL.max(bytes),
+    };
+    if random.once_in(40) {
+        bytes =
+            random.pick(&[0, bytes.saturating_sub(1), bytes + 1, bytes.saturating_sub(19), FULL, FULL + 1, usize::MAX]);
+    }
+    let mut buffer = vec![0; FULL + 64];
+    random.fill(&mut buffer);
+    let end = image.len().min(buffer.len());
+    buffer[..end].copy_from_slice(&image[..end]);
+    let room = match &call {
+        Call::Sheet => {
+            // The sheet is of these bytes, whatever holds them.
+            bytes = bytes.min(end);
+            capacity = capacity.max(bytes);
+            let mut text = vec![0; SHEET];
+            let size = (REFERENCE.sheet)(&buffer[..bytes], &mut text).bytes as usize;
+            random.pick(&[size, size, size + 1, size + 40, size.saturating_sub(1), 0])
+        }
+        _ => match random.below(30) {
+            0 => random.below(REPLY as u64) as usize,
+            1..=3 => REPLY + random.below(60) as usize,
+            _ => REPLY,
+        },
+    };
+    buffer.truncate(capacity);
+    let mut reply = vec![0; room];
+    random.fill(&mut reply);
+    Given { image: buffer, bytes, reply, call }
+}
+
+fn desks() -> Vec<Desk> {
+    [REFERENCE, PEER].into_iter().chain(bench::proved_desk()).collect()
+}
+
+fn number(argument: Option<String>, default: u64) -> u64 {
+    match argument {
+        None => default,
+        Some(text) => text.parse().unwrap_or_else(|_| {
+            eprintln!("agree [CALLS [SEED]]");
+            exit(2)
+        }),
+    }
+}
+
+fn main() {
+    let mut arguments = std::env::args().skip(1);
+    let calls = number(arguments.next(), CALLS);
+    let seed = number(arguments.next(), SEED);
+    let desks = desks();
+    let names: Vec<&str> = desks.iter().map(|desk| desk.name).collect();
+    println!("agree: {}; {calls} calls, seed {seed}", names.join(", "));
+    if names.len() < 3 {
+        println!("agree: the proved library is not linked: target/staticlib/libcapi.a was not there");
+    }
+    let mut random = Random(seed);
+    let mut answers: BTreeMap<(&str, u32), u64> = BTreeMap::new();
+    let (mut most, mut full) = (0, 0);
+    let mut image = Vec::new();
+    for index in 0..calls {
+        if index % SESSION == 0 {
+            image = random_table(&mut random).image();
+        }
+        let given = random_given(&mut random, &image);
+        let result = agreed(&desks, &given).and_then(|(answer, left)| {
+            plausible(&given, &answer, &left)?;
+            Ok((answer, left))
+        });
+        match result {
+            Ok((answer, left)) => {
+                *answers.entry((given.call.name(), answer.number)).or_default() += 1;
+                most = most.max(answer.count);
+                full += u64::from(answer.image_bytes as usize == FULL);
+                if answer.number == 0 && answer.image_bytes != 0 {
+                    image = left[..answer.image_bytes as usize].to_vec();
+                }
+            }
+            Err(difference) => {
+                println!("call {index} of seed {seed}: {difference}");
+                println!("{:?}", given.call);
+                println!("image of {} bytes in {}: {}", given.bytes, given.image.len(), hex(&given.image));
+                println!("reply buffer of {}", given.reply.len());
+                exit(1);
+            }
+        }
+    }
+    let mut call = "";
+    for ((name, number), count) in &answers {
+        if *name != call {
+            print!("{}{name}:", if call.is_empty() { "" } else { "\n" });
+            call = name;
+        }
+        print!(" {number} x{count}");
+    }
+    println!("\nmost entries in an answer: {most}; full images: {full}");
+    println!("agree: {calls} calls, the same answer, image and reply by all {}", names.len());
+}

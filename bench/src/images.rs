@@ -1,0 +1,71 @@
+//! Images made by hand, sound or not.
+
+#[derive(Clone, Copy, Debug, PartialEq, Eq)]
+pub struct Lease {
+    pub network: u32,
+    pub length: u8,
+    /// 1 offered, 2 leased.
+    pub state: u8,
+    /// h 1 + d 2.
+    pub flags: u8,
+    pub client: u32,
+    pub expires: u32,
+}
+
+#[derive(Clone, Debug)]
+pub struct Table {
+    pub term: u32,
+    pub default_length: u8,
+    pub last: u32,
+    pub pools: Vec<(u32, u8)>,
+    pub leases: Vec<Lease>,
+}
+
+impl Table {
+    /// The image; nothing is checked or sorted.
+    pub fn image(&self) -> Vec<u8> {
+        let mut image = Vec::new();
+        image.extend([11, 0, 1, 0]);
+        image.extend(self.term.to_le_bytes());
+        image.push(self.default_length);
+        image.extend(self.last.to_le_bytes());
+        for (network, length) in &self.pools {
+            image.extend([7, 0, 2, 0]);
+            image.extend(network.to_le_bytes());
+            image.push(*length);
+        }
+        for lease in &self.leases {
+            image.extend([17, 0, 3, 0]);
+            image.extend(lease.network.to_le_bytes());
+            image.extend([lease.length, lease.state, lease.flags]);
+            image.extend(lease.client.to_le_bytes());
+            image.extend(lease.expires.to_le_bytes());
+        }
+        image
+    }
+
+    /// Reads a sound image back; what is not sound makes no sense here.
+    pub fn of_image(image: &[u8]) -> Table {
+        let word = |at: usize| u32::from_le_bytes(image[at..at + 4].try_into().unwrap());
+        let mut table =
+            Table { term: word(4), default_length: image[8], last: word(9), pools: Vec::new(), leases: Vec::new() };
+        let mut at = 13;
+        while at < image.len() {
+            if image[at] == 7 {
+                table.pools.push((word(at + 4), image[at + 8]));
+                at += 9;
+            } else {
+                table.leases.push(Lease {
+                    network: word(at + 4),
+                    length: image[at + 8],
+                    state: image[at + 9],
+                    flags: image[at + 10],
+                    client: word(at + 11),
+                    expires: word(at + 15),
+                });
+                at += 19;
+            }
+        }
+        table
+    }
+}

@@ -1,0 +1,120 @@
+//! The sheet: every pool as used and free rows. One walk counts, a second one writes, so that text that does not fit
+//! leaves the buffer as it was.
+
+use super::image::{self, Book, Record};
+use crate::desk::Answer;
+
+/// Where the rows go: counted, or written.
+trait Rows {
+    fn text(&mut self, text: &[u8]);
+
+    fn number(&mut self, number: u32) {
+        let mut digits = [0; 10];
+        let (mut from, mut left) = (digits.len(), number);
+        loop {
+            from -= 1;
+            digits[from] = b'0' + (left % 10) as u8;
+            left /= 10;
+            if left == 0 {
+                break;
+            }
+        }
+        self.text(&digits[from..]);
+    }
+
+    fn prefix(&mut self, network: u32, length: u32) {
+        for (index, byte) in network.to_be_bytes().into_iter().enumerate() {
+            if index != 0 {
+                self.text(b".");
+            }
+            self.number(byte.into());
+        }
+        self.text(b"/");
+        self.number(length);
+    }
+}
+
+struct Count {
+    bytes: usize,
+}
+
+impl Rows for Count {
+    fn text(&mut self, text: &[u8]) {
+        self.bytes += text.len();
+    }
+}
+
+struct Write<'a> {
+    out: &'a mut [u8],
+    at: usize,
+}
+
+impl Rows for Write<'_> {
+    fn text(&mut self, text: &[u8]) {
+        self.out[self.at..self.at + text.len()].copy_from_slice(text);
+        self.at += text.len();
+    }
+}
+
+/// The free rows of a range, lowest first; how many there are.
+fn free(rows: &mut impl Rows, mut from: u64, to: u64) -> u32 {
+    let mut count = 0;
+    while from < to {
+        // The largest prefix that begins here and does not end past the range.
+        let order = from.trailing_zeros().min((to - from).ilog2());
+        rows.text(b"free ");
+        rows.prefix(from as u32, 32 - order);
+        rows.text(b"\n");
+        from += 1 << order;
+        count += 1;
+    }
+    count
+}
+
+/// The rows of all pools; how many of them are free.
+fn walk(rows: &mut impl Rows, book: &Book, leases: &[Record]) -> u32 {
+    let mut count = 0;
+    let mut leases = leases.iter().peekable();
+    for (&from, &to) in book.pools.from.iter().zip(&book.pools.to).take(book.pools.count) {
+        let mut at = from;
+        while let Some(lease) = leases.next_if(|lease| u64::from(image::network(lease)) < to) {
+            let (network, length) = (image::network(lease), u32::from(image::length(lease)));
+            count += free(rows, at, network.into());
+            rows.text(b"used ");
+            rows.prefix(network, length);
+            rows.text(b" station ");
+            rows.number(image::client(lease));
+            rows.text(b" until ");
+            rows.number(image::expires(lease));
+            rows.text(b"\n");
+            at = u64::from(network) + (1 << (32 - length));
+        }
+        count += free(rows, at, to);
+    }
+    count
+}
+
+fn head(rows: &mut impl Rows, leases: usize, free: u32) {
+    rows.text(b"sheet lines=");
+    rows.number(leases as u32);
+    rows.text(b" free=");
+    rows.number(free);
+    rows.text(b"\n");
+}
+
+pub fn sheet(image: &[u8], text: &mut [u8]) -> Answer {
+    let Some(book) = image::load(image, &mut ()) else {
+        return Answer::refusal(5);
+    };
+    let leases = image::leases(image, &book);
+    let mut size = Count { bytes: 0 };
+    let free = walk(&mut size, &book, leases);
+    head(&mut size, book.leases, free);
+    if size.bytes > text.len() {
+        return Answer::refusal(14);
+    }
+    let mut rows = Write { out: text, at: 0 };
+    head(&mut rows, book.leases, free);
+    walk(&mut rows, &book, leases);
+    Answer { bytes: size.bytes as u32, image_bytes: image.len() as u32, ..Answer::default() }
+}

@@ -1,0 +1,382 @@
+//! The calls that are measured, each on eight different tables, so that no branch is learnt by heart.
+
+use crate::desk::{Answer, Desk, FULL, REPLY, SHEET};
+use crate::images::{Lease, Table};
+use crate::options;
+use crate::random::Random;
+
+pub const CASES: u64 = 8;
+const LAST: u32 = 1_000_000;
+/// Leases that expire by then are still in the image.
+const NOW: u32 = LAST + 500;
+const CLIENT: u32 = 1;
+
+/// How the leases lie.
+#[derive(Clone, Copy, Debug, PartialEq, Eq)]
+pub enum Shape {
+    /// No lease.
+    Empty,
+    /// One pool of length 8, leases of length 28 one after another.
+    Packed,
+    /// Eight pools, leases of lengths 27 to 30 with holes between them; only the last pool has room for a length of 20.
+    Fragmented,
+    /// One pool, all of it leased.
+    Full,
+}
+
+impl Shape {
+    pub fn name(self) -> &'static str {
+        match self {
+            Shape::Empty => "empty",
+            Shape::Packed => "packed",
+            Shape::Fragmented => "fragmented",
+            Shape::Full => "full",
+        }
+    }
+}
+
+pub type Run = fn(&Desk, &Case, &mut Buffers) -> Answer;
+
+/// What one call is given.
+pub struct Case {
+    /// A buffer that holds a full image, zeros after the image.
+    pub image: Vec<u8>,
+    pub bytes: usize,
+    pub client: u32,
+    pub option: Vec<u8>,
+    pub prefix: (u32, u8),
+}
+
+/// What a call changes.
+pub struct Buffers {
+    pub image: Vec<u8>,
+    pub reply: Vec<u8>,
+    pub text: Vec<u8>,
+}
+
+impl Buffers {
+    pub fn new() -> Buffers {
+        Buffers { image: vec![0; FULL], reply: vec![0; REPLY], text: vec![0; SHEET] }
+    }
+
+    /// The case's image, and the bytes after it that a call of the row can have changed.
+    pub fn restore(&mut self, row: &Row, case: &Case) {
+        self.image[..row.restored].copy_from_slice(&case.image[..row.restored]);
+    }
+}
+
+impl Default for Buffers {
+    fn default() -> Buffers {
+        Buffers::new()
+    }
+}
+
+pub struct Row {
+    pub call: &'static str,
+    /// The command whose stack this row is counted to.
+    pub command: &'static str,
+    /// As the table shows it: leases before the call.
+    pub leases: usize,
+    /// 0, 64 or 256: rows of the same call and shape are compared by this.
+    pub scale: usize,
+    pub shape: Shape,
+    /// The number that every case answers with.
+    pub number: u32,
+    /// The bytes of the largest image before or after the call.
+    pub restored: usize,
+    pub cases: Vec<Case>,
+    pub run: Run,
+}
+
+fn ask(desk: &Desk, case: &Case, buffers: &mut Buffers) -> Answer {
+    (desk.ask)(&mut buffers.image, case.bytes, case.client, NOW, &case.option, &mut buffers.reply)
+}
+
+fn take(desk: &Desk, case: &Case, buffers: &mut Buffers) -> Answer {
+    (desk.take)(&mut buffers.image, case.bytes, case.client, NOW, &case.option, &mut buffers.reply)
+}
+
+fn list(desk: &Desk, case: &Case, buffers: &mut Buffers) -> Answer {
+    (desk.list)(&mut buffers.image, case.bytes, case.client, NOW, &case.option, &mut buffers.reply)
+}
+
+fn release(desk: &Desk, case: &Case, buffers: &mut Buffers) -> Answer {
+    (desk.release)(&mut buffers.image, case.bytes, case.client, NOW, &case.option)
+}
+
+fn mark(desk: &Desk, case: &Case, buffers: &mut Buffers) -> Answer {
+    let (network, length) = case.prefix;
+    (desk.mark)(&mut buffers.image, case.bytes, network, length.into(), 1, NOW)
+}
+
+fn sheet(desk: &Desk, case: &Case, buffers: &mut Buffers) -> Answer {
+    (desk.sheet)(&buffers.image[..case.bytes], &mut buffers.text)
+}
+
+fn open(desk: &Desk, _: &Case, buffers: &mut Buffers) -> Answer {
+    let networks = [70, 60, 50, 40, 30, 20, 10, 80].map(|octet: u32| octet << 24);
+    (desk.open)(&mut buffers.image, &networks, &[8, 9, 10, 11, 12, 13, 14, 15], 3600, 28, LAST)
+}
+
+fn lease(random: &mut Random, network: u32, length: u8) -> Lease {
+    Lease {
+        network,
+        length,
+        // Most are leased; an offer lasts no longer than 120 s, a table may say otherwise.
+        state: if random.once_in(8) { 1 } else { 2 },
+        flags: random.below(4) as u8,
+        client: CLIENT + random.below(2) as u32,
+        expires: NOW + 1 + random.below(3000) as u32,
+    }
+}
+
+fn table(pools: Vec<(u32, u8)>, leases: Vec<Lease>) -> Table {
+    Table { term: 3600, default_length: 28, last: LAST, pools, leases }
+}
+
+fn fragmented_pools() -> Vec<(u32, u8)> {
+    let mut pools: Vec<(u32, u8)> = (0..7).map(|k| (0x0a00_0000 + 2048 * k, 21)).collect();
+    pools.push((0x0a01_0000, 16));
+    pools
+}
+
+/// As many leases in each pool as in the others; nothing if one of them got too full.
+fn fragmented(random: &mut Random, leases: usize) -> Option<Table> {
+    let pools = fragmented_pools();
+    let mut found = Vec::new();
+    for (k, &(network, length)) in pools.iter().enumerate() {
+        let to = network + (1 << (32 - length));
+        let mut at = network;
+        while found.len() < leases * (k + 1) / pools.len() {
+            let length = 27 + random.below(4) as u8;
+            let size = 1 << (32 - length);
+            at = at.next_multiple_of(size) + size * random.below(3) as u32;
+            if at + size > to {
+                return None;
+            }
+            found.push(lease(random, at, length));
+            at += size;
+        }
+    }
+    Some(table(pools, found))
+}
+
+fn packed(random: &mut Random, leases: usize) -> Table {
+    let leases = (0..leases as u32).map(|k| lease(random, 0x0a00_0000 + 16 * k, 28)).collect();
+    table(vec![(0x0a00_0000, 8)], leases)
+}
+
+/// A pool with nothing free: 64 leases, or 255 of which one is twice as large.
+fn full(random: &mut Random, leases: usize) -> Table {
+    let large = leases % 2;
+    let pool = if large == 0 { 24 } else { 22 };
+    let mut found: Vec<Lease> = (0..(leases - large) as u32).map(|k| lease(random, 0x0a00_0000 + 4 * k, 30)).collect();
+    if large == 1 {
+        let at = 0x0a00_0000 + 4 * (leases - large) as u32;
+        found.push(lease(random, at, 29));
+    }
+    table(vec![(0x0a00_0000, pool)], found)
+}
+
+fn table_of(random: &mut Random, shape: Shape, leases: usize) -> Table {
+    match shape {
+        Shape::Empty => table(fragmented_pools(), Vec::new()),
+        Shape::Packed => packed(random, leases),
+        Shape::Full => full(random, leases),
+        Shape::Fragmented => loop {
+            if let Some(table) = fragmented(random, leases) {
+                break table;
+            }
+        },
+    }
+}
+
+/// Some places below `count`, each at most once.
+fn places(random: &mut Random, count: usize, some: usize) -> Vec<usize> {
+    let mut all: Vec<usize> = (0..count).collect();
+    for k in 0..some.min(count) {
+        let other = k + random.below((count - k) as u64) as usize;
+        all.swap(k, other);
+    }
+    all.truncate(some);
+    all
+}
+
+/// Prefixes of leases of the client, in any order; where there are none, one that is nobody's.
+fn named(random: &mut Random, table: &Table, count: usize) -> Vec<(u32, u8)> {
+    let own: Vec<(u32, u8)> = table
+        .leases
+        .iter()
+        .filter(|lease| lease.client == CLIENT && lease.expires > NOW)
+        .map(|lease| (lease.network, lease.length))
+        .collect();
+    if own.is_empty() {
+        return vec![(0x0a00_0100, 28); count];
+    }
+    let places = places(random, own.len(), count);
+    places.into_iter().map(|place| own[place]).collect()
+}
+
+/// A row to be: what the call is, and how the table and the option of each case are made.
+struct Plan {
+    call: &'static str,
+    command: &'static str,
+    run: Run,
+    number: u32,
+    client: u32,
+    expired: usize,
+    option: fn(&mut Random, &Table) -> Vec<u8>,
+    /// Mark looks for a lease that there is.
+    found: bool,
+}
+
+fn row(plan: &Plan, shape: Shape, scale: usize, leases: usize) -> Row {
+    let mut random = Random(leases as u64);
+    let mut cases = Vec::new();
+    for _ in 0..CASES {
+        let mut table = table_of(&mut random, shape, leases);
+        for place in places(&mut random, leases, plan.expired) {
+            table.leases[place].expires = LAST + 1;
+        }
+        let option = (plan.option)(&mut random, &table);
+        let mut prefix = named(&mut random, &table, 1)[0];
+        if !plan.found {
+            prefix.1 = 26;
+        }
+        let mut image = table.image();
+        let bytes = image.len();
+        image.resize(FULL, 0);
+        cases.push(Case { image, bytes, client: plan.client, option, prefix });
+    }
+    Row {
+        call: plan.call,
+        command: plan.command,
+        leases,
+        scale,
+        shape,
+        number: plan.number,
+        restored: 0,
+        cases,
+        run: plan.run,
+    }
+}
+
+fn ask_20(_: &mut Random, _: &Table) -> Vec<u8> {
+    options::ask(&[20])
+}
+
+fn ask_9(_: &mut Random, _: &Table) -> Vec<u8> {
+    options::ask(&[9])
+}
+
+fn ask_9_25(_: &mut Random, _: &Table) -> Vec<u8> {
+    options::ask(&[9; 25])
+}
+
+fn ask_28(_: &mut Random, _: &Table) -> Vec<u8> {
+    options::ask(&[28])
+}
+
+fn ask_25(random: &mut Random, _: &Table) -> Vec<u8> {
+    let lengths: Vec<u8> = (0..25).map(|_| 22 + random.below(9) as u8).collect();
+    options::ask(&lengths)
+}
+
+fn entries_1(random: &mut Random, table: &Table) -> Vec<u8> {
+    options::entries(&named(random, table, 1))
+}
+
+fn entries_25(random: &mut Random, table: &Table) -> Vec<u8> {
+    options::entries(&named(random, table, 25))
+}
+
+fn listing(_: &mut Random, _: &Table) -> Vec<u8> {
+    options::list()
+}
+
+/// All rows, checked: every case answers with the row's number, on each desk with the same answer and bytes.
+pub fn rows(desks: &[&Desk]) -> Vec<Row> {
+    use Shape::{Empty, Fragmented, Full, Packed};
+    let plain =
+        Plan { call: "", command: "", run: list, number: 0, client: CLIENT, expired: 0, option: listing, found: true };
+    let plan = |call, command, run, option| Plan { call, command, run, option, ..plain };
+    let mut rows = vec![row(&plan("open", "open", open, listing), Empty, 0, 0)];
+    let mut add = |plan: &Plan, sizes: &[(Shape, usize, usize)]| {
+        for &(shape, scale, leases) in sizes {
+            rows.push(row(plan, shape, scale, leases));
+        }
+    };
+    let zero = [(Empty, 0, 0)];
+    let some = [(Packed, 64, 64), (Packed, 256, 256), (Fragmented, 64, 64), (Fragmented, 256, 256)];
+    let refused = |plan, number| Plan { number, ..plan };
+
+    // Refused with 2, right after row 5: the image was loaded and nothing else was done.
+    let load = Plan { client: 0, number: 2, ..plan("load", "list", list, listing) };
+    add(&load, &zero);
+    add(&load, &some);
+
+    // One more and 25 more, up to a table of 256.
+    let one = plan("ask 1", "ask", ask, ask_20);
+    add(&one, &zero);
+    add(&one, &[(Packed, 64, 64), (Packed, 256, 255), (Fragmented, 64, 64), (Fragmented, 256, 255)]);
+    let many = plan("ask 25", "ask", ask, ask_25);
+    add(&many, &zero);
+    add(&many, &[(Packed, 64, 64), (Packed, 256, 231), (Fragmented, 64, 64), (Fragmented, 256, 231)]);
+    add(&Plan { expired: 25, ..plan("ask 25, 25 expired", "ask", ask, ask_25) }, &some);
+    add(&refused(plan("ask 1", "ask", ask, ask_28), 9), &[(Packed, 256, 256), (Fragmented, 256, 256)]);
+    add(
+        &refused(plan("ask 1", "ask", ask, ask_9), 10),
+        &[(Full, 64, 64), (Full, 256, 255), (Fragmented, 64, 64), (Fragmented, 256, 255)],
+    );
+    add(&refused(plan("ask 25", "ask", ask, ask_9_25), 10), &[(Fragmented, 64, 64), (Fragmented, 256, 255)]);
+
+    for (call, command, run, option) in [
+        ("take 1", "take", take as Run, entries_1 as fn(&mut Random, &Table) -> Vec<u8>),
+        ("take 25", "take", take, entries_25),
+        ("return 1", "return", release, entries_1),
+        ("return 25", "return", release, entries_25),
+        ("list", "list", list, listing),
+        ("mark", "mark", mark, listing),
+    ] {
+        add(&refused(plan(call, command, run, option), 11), &zero);
+        add(&plan(call, command, run, option), &some);
+    }
+    add(&Plan { expired: 32, ..plan("mark, 32 expired", "mark", mark, listing) }, &some);
+    add(&Plan { number: 11, found: false, ..plan("mark", "mark", mark, listing) }, &some);
+
+    let text = plan("sheet", "sheet", sheet, listing);
+    add(&text, &zero);
+    add(&text, &some);
+
+    for row in &mut rows {
+        check(row, desks);
+    }
+    rows
+}
+
+/// Runs each case on each desk, and notes how many bytes a call can change.
+fn check(row: &mut Row, desks: &[&Desk]) {
+    for case in &row.cases {
+        let mut first: Option<(Answer, Buffers)> = None;
+        for desk in desks {
+            let mut buffers = Buffers { image: case.image.clone(), ..Buffers::new() };
+            let answer = (row.run)(desk, case, &mut buffers);
+            let what = format!("{} on {} leases, {}", row.call, row.leases, row.shape.name());
+            assert_eq!(answer.number, row.number, "{what}: {}", desk.name);
+            if let Some((other, left)) = &first {
+                assert!(
+                    *other == answer
+                        && left.image == buffers.image
+                        && left.reply == buffers.reply
+                        && left.text == buffers.text,
+                    "{what}: {} and {} differ",
+                    desks[0].name,
+                    desk.name
+                );
+            } else {
+                row.restored = row.restored.max(case.bytes).max(answer.image_bytes as usize);
+                first = Some((answer, buffers));
+            }
+        }
+    }
+}
