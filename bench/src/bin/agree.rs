@@ -18,7 +18,7 @@ use bench::reference::REFERENCE;
 const CALLS: u64 = 200_000;
 const SEED: u64 = 6656;
 /// Calls from one table to the next.
-const SESSION: u64 = 60;
+const HISTORY: u64 = 60;
 const LATEST: u32 = 4_292_375_295;
 
 #[derive(Clone, Debug)]
@@ -619,7 +619,7 @@ fn main() {
     let (mut most, mut full) = (0, 0);
     let mut image = Vec::new();
     for index in 0..calls {
-        if index % SESSION == 0 {
+        if index % HISTORY == 0 {
             image = random_table(&mut random).image();
         }
         let given = random_given(&mut random, &image);

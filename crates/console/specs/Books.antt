@@ -1,4 +1,4 @@
--- Which table and reply buffer a session goes on with.
+-- Which table and reply buffer a state goes on with.
 -- Assumes nothing: these are definitions.
 use mathlib.Core.Path.{_≡_}
 use Rattle.table.specs.declared.LeaseTable.{LeaseTable}
@@ -8,14 +8,14 @@ use Rattle.opening.specs.declared.OpenAnswer.the-variants as open-answer
 use Rattle.image.specs.declared.Loaded.{Loaded}
 use Rattle.image.specs.declared.LoadAnswer.{LoadAnswer}
 use Rattle.image.specs.declared.LoadAnswer.the-variants as load-answer
-use Rattle.console.specs.declared.Session.{Session}
+use Rattle.console.specs.declared.State.{State}
 
 -- With this table, and the reply buffer's length as before.
-abbrev pub With : LeaseTable → Session → Session → Type 0
+abbrev pub With : LeaseTable → State → State → Type 0
 With t s r = (r .table ≡ t) × (r .room ≡ s .room)
 
 -- Nothing has changed.
-abbrev pub Same : Session → Session → Type 0
+abbrev pub Same : State → State → Type 0
 Same s r = With (s .table) s r
 
 -- "on acceptance this is the book": otherwise the old one stays.

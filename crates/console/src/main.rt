@@ -36,7 +36,7 @@ const IMAGE: usize = 4949;
 const FULL: usize = 65536;
 
 // What goes from line to line.
-struct Session {
+struct State {
     table: LeaseTable,
     // The reply buffer's length.
     room: usize,
@@ -65,11 +65,11 @@ fn blank() -> LeaseTable
     }
 }
 
-fn first_session() -> Session
+fn first_state() -> State
     ensures { λ r. ⌜ (r .table ≡ blankOf) × (r .at ≡ 0) × (r .pending ≡ 0) ⌝ }
 {
     let table = blank();
-    Session {
+    State {
         table,
         room: REPLY_AT_FIRST,
         lines: 0,
@@ -85,8 +85,8 @@ fn least(a: usize, b: usize) -> usize
     if a < b { a } else { b }
 }
 
-// The session with more output.
-fn wrote(s: Session, at: usize) -> Session
+// The state with more output.
+fn wrote(s: State, at: usize) -> State
     ensures { λ r. ⌜ r .at ≡ at ⌝ }
     ensures { λ r. ⌜ Same s r ⌝ }
 {
@@ -95,8 +95,8 @@ fn wrote(s: Session, at: usize) -> Session
     next
 }
 
-// The session with another table and more output.
-fn became(s: Session, table: LeaseTable, at: usize) -> Session
+// The state with another table and more output.
+fn became(s: State, table: LeaseTable, at: usize) -> State
     ensures { λ r. ⌜ r .at ≡ at ⌝ }
     ensures { λ r. ⌜ With table s r ⌝ }
 {
@@ -109,7 +109,7 @@ fn became(s: Session, table: LeaseTable, at: usize) -> Session
 // COMMANDS. Each takes the words after its own, and checks all of them before the call.
 
 // "a line that is no command: it changes nothing"
-fn bad_line(s: Session, out: &mut [u8]) -> Session
+fn bad_line(s: State, out: &mut [u8]) -> State
     requires { ⌜ Room (s .at) (now out) ⌝ }
     ensures { λ r. ⌜ r .at ≤ length (now (out .entry)) ⌝ }
     ensures { λ r. ⌜ Same s r ⌝ }
@@ -117,7 +117,7 @@ fn bad_line(s: Session, out: &mut [u8]) -> Session
     wrote(s, lines::error(out, s.at, s.lines))
 }
 
-fn opened(s: Session, made: Opened, out: &mut [u8]) -> Session
+fn opened(s: State, made: Opened, out: &mut [u8]) -> State
     requires { ⌜ Room (s .at) (now out) ⌝ }
     ensures { λ r. ⌜ r .at ≤ length (now (out .entry)) ⌝ }
     ensures { λ r. ⌜ With (openedTable made (s .table)) s r ⌝ }
@@ -132,14 +132,14 @@ fn opened(s: Session, made: Opened, out: &mut [u8]) -> Session
 
 // Opens with the prefixes from a place on.
 fn open_pools(
-    s: Session,
+    s: State,
     term: u32,
     default_length: u8,
     start: u32,
     words: &[u8],
     from: usize,
     out: &mut [u8],
-) -> Session
+) -> State
     requires { ⌜ from ≤ length (now words) ⌝ }
     requires { ⌜ Room (s .at) (now out) ⌝ }
     ensures { λ r. ⌜ r .at ≤ length (now (out .entry)) ⌝ }
@@ -155,7 +155,7 @@ fn open_pools(
     opened(s, made, out)
 }
 
-fn open(s: Session, words: &[u8], out: &mut [u8]) -> Session
+fn open(s: State, words: &[u8], out: &mut [u8]) -> State
     requires { ⌜ Room (s .at) (now out) ⌝ }
     ensures { λ r. ⌜ r .at ≤ length (now (out .entry)) ⌝ }
 {
@@ -181,7 +181,7 @@ fn open(s: Session, words: &[u8], out: &mut [u8]) -> Session
 }
 
 // The answer of an ask, a take or a list.
-fn replied(s: Session, called: Called, reply: &[u8], out: &mut [u8]) -> Session
+fn replied(s: State, called: Called, reply: &[u8], out: &mut [u8]) -> State
     requires { ⌜ Room (s .at) (now out) ⌝ }
     requires { ⌜ length (now reply) ≤ 1024 ⌝ }
     ensures { λ r. ⌜ r .at ≤ length (now (out .entry)) ⌝ }
@@ -192,7 +192,7 @@ fn replied(s: Session, called: Called, reply: &[u8], out: &mut [u8]) -> Session
     became(s, t, lines::reply(out, s.at, answer, reply))
 }
 
-fn ask(s: Session, words: &[u8], bytes: &mut [u8], reply: &mut [u8], out: &mut [u8]) -> Session
+fn ask(s: State, words: &[u8], bytes: &mut [u8], reply: &mut [u8], out: &mut [u8]) -> State
     requires { ⌜ Room (s .at) (now out) ⌝ }
     requires { ⌜ length (now reply) ≤ 1024 ⌝ }
     ensures { λ r. ⌜ r .at ≤ length (now (out .entry)) ⌝ }
@@ -208,7 +208,7 @@ fn ask(s: Session, words: &[u8], bytes: &mut [u8], reply: &mut [u8], out: &mut [
     replied(s, called, reply, out)
 }
 
-fn take(s: Session, words: &[u8], bytes: &mut [u8], reply: &mut [u8], out: &mut [u8]) -> Session
+fn take(s: State, words: &[u8], bytes: &mut [u8], reply: &mut [u8], out: &mut [u8]) -> State
     requires { ⌜ Room (s .at) (now out) ⌝ }
     requires { ⌜ length (now reply) ≤ 1024 ⌝ }
     ensures { λ r. ⌜ r .at ≤ length (now (out .entry)) ⌝ }
@@ -224,7 +224,7 @@ fn take(s: Session, words: &[u8], bytes: &mut [u8], reply: &mut [u8], out: &mut 
     replied(s, called, reply, out)
 }
 
-fn list(s: Session, words: &[u8], bytes: &mut [u8], reply: &mut [u8], out: &mut [u8]) -> Session
+fn list(s: State, words: &[u8], bytes: &mut [u8], reply: &mut [u8], out: &mut [u8]) -> State
     requires { ⌜ Room (s .at) (now out) ⌝ }
     requires { ⌜ length (now reply) ≤ 1024 ⌝ }
     ensures { λ r. ⌜ r .at ≤ length (now (out .entry)) ⌝ }
@@ -240,7 +240,7 @@ fn list(s: Session, words: &[u8], bytes: &mut [u8], reply: &mut [u8], out: &mut 
     replied(s, called, reply, out)
 }
 
-fn released(s: Session, called: Called, out: &mut [u8]) -> Session
+fn released(s: State, called: Called, out: &mut [u8]) -> State
     requires { ⌜ Room (s .at) (now out) ⌝ }
     ensures { λ r. ⌜ r .at ≤ length (now (out .entry)) ⌝ }
     ensures { λ r. ⌜ With (called .table) s r ⌝ }
@@ -250,7 +250,7 @@ fn released(s: Session, called: Called, out: &mut [u8]) -> Session
     became(s, t, lines::release(out, s.at, answer))
 }
 
-fn release(s: Session, words: &[u8], bytes: &mut [u8], out: &mut [u8]) -> Session
+fn release(s: State, words: &[u8], bytes: &mut [u8], out: &mut [u8]) -> State
     requires { ⌜ Room (s .at) (now out) ⌝ }
     ensures { λ r. ⌜ r .at ≤ length (now (out .entry)) ⌝ }
 {
@@ -264,7 +264,7 @@ fn release(s: Session, words: &[u8], bytes: &mut [u8], out: &mut [u8]) -> Sessio
     released(s, called, out)
 }
 
-fn marked(s: Session, called: Called, out: &mut [u8]) -> Session
+fn marked(s: State, called: Called, out: &mut [u8]) -> State
     requires { ⌜ Room (s .at) (now out) ⌝ }
     ensures { λ r. ⌜ r .at ≤ length (now (out .entry)) ⌝ }
     ensures { λ r. ⌜ With (called .table) s r ⌝ }
@@ -274,7 +274,7 @@ fn marked(s: Session, called: Called, out: &mut [u8]) -> Session
     became(s, t, lines::mark(out, s.at, answer))
 }
 
-fn mark(s: Session, words: &[u8], out: &mut [u8]) -> Session
+fn mark(s: State, words: &[u8], out: &mut [u8]) -> State
     requires { ⌜ Room (s .at) (now out) ⌝ }
     ensures { λ r. ⌜ r .at ≤ length (now (out .entry)) ⌝ }
 {
@@ -287,7 +287,7 @@ fn mark(s: Session, words: &[u8], out: &mut [u8]) -> Session
     marked(s, called, out)
 }
 
-fn save(s: Session, words: &[u8], out: &mut [u8]) -> Session
+fn save(s: State, words: &[u8], out: &mut [u8]) -> State
     requires { ⌜ Room (s .at) (now out) ⌝ }
     ensures { λ r. ⌜ r .at ≤ length (now (out .entry)) ⌝ }
     ensures { λ r. ⌜ Same s r ⌝ }
@@ -304,7 +304,7 @@ fn save(s: Session, words: &[u8], out: &mut [u8]) -> Session
     }
 }
 
-fn loaded(s: Session, made: Loaded, out: &mut [u8]) -> Session
+fn loaded(s: State, made: Loaded, out: &mut [u8]) -> State
     requires { ⌜ Room (s .at) (now out) ⌝ }
     ensures { λ r. ⌜ r .at ≤ length (now (out .entry)) ⌝ }
     ensures { λ r. ⌜ With (loadedTable made (s .table)) s r ⌝ }
@@ -317,7 +317,7 @@ fn loaded(s: Session, made: Loaded, out: &mut [u8]) -> Session
     }
 }
 
-fn load(s: Session, words: &[u8], bytes: &mut [u8], out: &mut [u8]) -> Session
+fn load(s: State, words: &[u8], bytes: &mut [u8], out: &mut [u8]) -> State
     requires { ⌜ Room (s .at) (now out) ⌝ }
     ensures { λ r. ⌜ r .at ≤ length (now (out .entry)) ⌝ }
 {
@@ -331,7 +331,7 @@ fn load(s: Session, words: &[u8], bytes: &mut [u8], out: &mut [u8]) -> Session
 }
 
 // The sheet's rows stand in the output as they are.
-fn sheet(s: Session, words: &[u8], out: &mut [u8]) -> Session
+fn sheet(s: State, words: &[u8], out: &mut [u8]) -> State
     requires { ⌜ Room (s .at) (now out) ⌝ }
     ensures { λ r. ⌜ r .at ≤ length (now (out .entry)) ⌝ }
     ensures { λ r. ⌜ Same s r ⌝ }
@@ -350,7 +350,7 @@ fn sheet(s: Session, words: &[u8], out: &mut [u8]) -> Session
 }
 
 // Option 118 if the first byte is 118, otherwise option 220.
-fn read(s: Session, words: &[u8], bytes: &mut [u8], out: &mut [u8]) -> Session
+fn read(s: State, words: &[u8], bytes: &mut [u8], out: &mut [u8]) -> State
     requires { ⌜ Room (s .at) (now out) ⌝ }
     ensures { λ r. ⌜ r .at ≤ length (now (out .entry)) ⌝ }
     ensures { λ r. ⌜ Same s r ⌝ }
@@ -368,7 +368,7 @@ fn read(s: Session, words: &[u8], bytes: &mut [u8], out: &mut [u8]) -> Session
     wrote(s, lines::option(out, s.at, &bytes[0..n]))
 }
 
-fn buffer(s: Session, words: &[u8], out: &mut [u8]) -> Session
+fn buffer(s: State, words: &[u8], out: &mut [u8]) -> State
     requires { ⌜ Room (s .at) (now out) ⌝ }
     ensures { λ r. ⌜ r .at ≤ length (now (out .entry)) ⌝ }
 {
@@ -389,13 +389,13 @@ fn buffer(s: Session, words: &[u8], out: &mut [u8]) -> Session
 }
 
 fn run(
-    s: Session,
+    s: State,
     command: Command,
     words: &[u8],
     bytes: &mut [u8],
     reply: &mut [u8],
     out: &mut [u8],
-) -> Session
+) -> State
     requires { ⌜ Room (s .at) (now out) ⌝ }
     requires { ⌜ length (now reply) ≤ 1024 ⌝ }
     ensures { λ r. ⌜ r .at ≤ length (now (out .entry)) ⌝ }
@@ -419,7 +419,7 @@ fn run(
 // LINES
 
 // A line without its newline.
-fn run_line(s: Session, line: &[u8], bytes: &mut [u8], reply: &mut [u8], out: &mut [u8]) -> Session
+fn run_line(s: State, line: &[u8], bytes: &mut [u8], reply: &mut [u8], out: &mut [u8]) -> State
     requires { ⌜ Room (s .at) (now out) ⌝ }
     requires { ⌜ length (now reply) ≤ 1024 ⌝ }
     ensures { λ r. ⌜ r .at ≤ length (now (out .entry)) ⌝ }
@@ -454,7 +454,7 @@ fn without_return(line: &[u8], n: usize) -> usize
 }
 
 // Writes the output out.
-fn flush(s: Session, out: &mut [u8]) -> Session
+fn flush(s: State, out: &mut [u8]) -> State
     requires { ⌜ s .at ≤ length (now out) ⌝ }
     ensures { λ r. ⌜ (r .at ≡ 0) × (r .pending ≤ s .pending) ⌝ }
 {
@@ -469,8 +469,8 @@ fn flush(s: Session, out: &mut [u8]) -> Session
     next
 }
 
-// The session at the next line.
-fn next_line(s: Session) -> Session
+// The state at the next line.
+fn next_line(s: State) -> State
     ensures { λ r. ⌜ r .at ≡ s .at ⌝ }
 {
     let mut next = s;
@@ -480,8 +480,8 @@ fn next_line(s: Session) -> Session
     next
 }
 
-// The session after a line.
-fn after_line(s: Session, out: &mut [u8]) -> Session
+// The state after a line.
+fn after_line(s: State, out: &mut [u8]) -> State
     requires { ⌜ (s .at ≤ length (now out)) × Whole (now out) ⌝ }
     ensures { λ r. ⌜ Room (r .at) (now (out .entry)) × (r .pending ≡ 0) ⌝ }
 {
@@ -495,13 +495,13 @@ fn after_line(s: Session, out: &mut [u8]) -> Session
 
 // One line more has ended: the first `n` bytes of `line`.
 fn end_line(
-    s: Session,
+    s: State,
     line: &[u8],
     n: usize,
     bytes: &mut [u8],
     reply: &mut [u8],
     out: &mut [u8],
-) -> Session
+) -> State
     requires { ⌜ n ≤ length (now line) ⌝ }
     requires { ⌜ length (now reply) ≤ 1024 ⌝ }
     requires { ⌜ Room (s .at) (now out) × Whole (now out) ⌝ }
@@ -554,36 +554,36 @@ fn take_piece(input: &[u8], from: usize, to: usize, line: &mut [u8], pending: us
 
 // Runs the lines that end in the first `n` bytes of the input.
 fn run_chunk(
-    s: Session,
+    s: State,
     input: &[u8],
     n: usize,
     line: &mut [u8],
     bytes: &mut [u8],
     reply: &mut [u8],
     out: &mut [u8],
-) -> Session
+) -> State
     requires { ⌜ n ≤ length (now input) ⌝ }
     requires { ⌜ s .pending ≤ length (now line) ⌝ }
     requires { ⌜ length (now reply) ≤ 1024 ⌝ }
     requires { ⌜ Room (s .at) (now out) × Whole (now out) ⌝ }
     ensures { λ r. ⌜ Room (r .at) (now (out .entry)) × (r .pending ≤ length (now (line .entry))) ⌝ }
 {
-    let mut session = s;
+    let mut state = s;
     let mut from: usize = 0;
     while from < n {
-        let piece = take_piece(input, from, n, line, session.pending);
+        let piece = take_piece(input, from, n, line, state.pending);
         from = piece.next;
         if piece.ended {
-            session = end_line(session, line, piece.pending, bytes, reply, out);
+            state = end_line(state, line, piece.pending, bytes, reply, out);
         } else {
-            session.pending = piece.pending;
+            state.pending = piece.pending;
         }
     }
-    session
+    state
 }
 
 // The input has ended, with `pending` bytes of a line.
-fn at_end(s: Session, pending: usize) -> Session
+fn at_end(s: State, pending: usize) -> State
     ensures { λ r. ⌜ (r .at ≡ s .at) × (r .pending ≡ pending) ⌝ }
 {
     let mut next = s;
@@ -594,13 +594,13 @@ fn at_end(s: Session, pending: usize) -> Session
 
 // Reads once, runs the lines that ended, and writes their answers out, so that whoever types sees them at once.
 fn run_some(
-    s: Session,
+    s: State,
     input: &mut [u8],
     line: &mut [u8],
     bytes: &mut [u8],
     reply: &mut [u8],
     out: &mut [u8],
-) -> Session
+) -> State
     requires { ⌜ s .pending ≤ length (now line) ⌝ }
     requires { ⌜ length (now reply) ≤ 1024 ⌝ }
     requires { ⌜ Room (s .at) (now out) × Whole (now out) ⌝ }
@@ -619,7 +619,7 @@ fn run_some(
 }
 
 // The last line may lack its newline.
-fn run_last(s: Session, line: &[u8], bytes: &mut [u8], reply: &mut [u8], out: &mut [u8])
+fn run_last(s: State, line: &[u8], bytes: &mut [u8], reply: &mut [u8], out: &mut [u8])
     requires { ⌜ s .pending ≤ length (now line) ⌝ }
     requires { ⌜ length (now reply) ≤ 1024 ⌝ }
     requires { ⌜ Room (s .at) (now out) × Whole (now out) ⌝ }
@@ -634,16 +634,16 @@ fn run_script(input: &mut [u8], line: &mut [u8], bytes: &mut [u8], reply: &mut [
     requires { ⌜ length (now reply) ≤ 1024 ⌝ }
     requires { ⌜ Whole (now out) ⌝ }
 {
-    let mut session = first_session();
+    let mut state = first_state();
     let mut turns = u64::MAX;
     while 0 < turns {
         turns = turns - 1;
-        session = run_some(session, input, line, bytes, reply, out);
-        if session.ended {
+        state = run_some(state, input, line, bytes, reply, out);
+        if state.ended {
             turns = 0;
         }
     }
-    run_last(session, line, bytes, reply, out);
+    run_last(state, line, bytes, reply, out);
 }
 
 fn main() {

@@ -10,10 +10,10 @@ use Rattle.console.proofs.run_chunk.Statement.{statement}
 use Rattle.console.proofs.run_chunk.Tie as tie
 
 abbrev Inv-loop : tie.InvT-loop
-Inv-loop input n line₀ bytes₀ reply₀ out₀ session₀ from₀ line bytes reply out session from = (from ≤ n) × (session .pending ≤ length line₀) × Room (session .at) out₀ × (length line ≡ length line₀) × (length bytes ≡ length bytes₀) × (length reply ≡ length reply₀) × (length out ≡ length out₀)
+Inv-loop input n line₀ bytes₀ reply₀ out₀ state₀ from₀ line bytes reply out state from = (from ≤ n) × (state .pending ≤ length line₀) × Room (state .at) out₀ × (length line ≡ length line₀) × (length bytes ≡ length bytes₀) × (length reply ≡ length reply₀) × (length out ≡ length out₀)
 
 abbrev μ-loop : tie.MeasureT-loop
-μ-loop input n line₀ bytes₀ reply₀ out₀ session₀ from₀ line bytes reply out session from = n - from
+μ-loop input n line₀ bytes₀ reply₀ out₀ state₀ from₀ line bytes reply out state from = n - from
 
 loop-holds : tie.Need-loop-holds Inv-loop μ-loop
 loop-holds c = search needs

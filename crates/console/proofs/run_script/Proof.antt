@@ -10,15 +10,15 @@ use Rattle.console.proofs.run_script.Statement.{statement}
 use Rattle.console.proofs.run_script.Tie as tie
 
 abbrev Inv-loop : tie.InvT-loop
-Inv-loop input₀ line₀ bytes₀ reply₀ out₀ session₀ turns₀ input line bytes reply out session turns =
-    (session .pending ≤ length line₀) × Room (session .at) out₀
+Inv-loop input₀ line₀ bytes₀ reply₀ out₀ state₀ turns₀ input line bytes reply out state turns =
+    (state .pending ≤ length line₀) × Room (state .at) out₀
     × (length input ≡ length input₀) × (length line ≡ length line₀) × (length bytes ≡ length bytes₀) × (length reply ≡ length reply₀) × (length out ≡ length out₀)
 
 abbrev μ-loop : tie.MeasureT-loop
-μ-loop input₀ line₀ bytes₀ reply₀ out₀ session₀ turns₀ input line bytes reply out session turns = turns
+μ-loop input₀ line₀ bytes₀ reply₀ out₀ state₀ turns₀ input line bytes reply out state turns = turns
 
-first-session-requires : tie.Need-first-session-requires Inv-loop μ-loop
-first-session-requires c κs = search needs
+first-state-requires : tie.Need-first-state-requires Inv-loop μ-loop
+first-state-requires c κs = search needs
 
 loop-holds : tie.Need-loop-holds Inv-loop μ-loop
 loop-holds c = search needs
@@ -68,7 +68,7 @@ run-script-spec =
     (tie.spec
     Inv-loop
     μ-loop
-    first-session-requires
+    first-state-requires
     loop-holds
     sub-turns
     run-some-requires
