@@ -1,7 +1,6 @@
 // The calls as functions for C and Rust: include/flockdrift.h documents them. Each is one equation with load, the
 // ledger and save. A slice is a pointer and a length; nothing is allocated and nothing is kept between two calls.
 use image_calls::ImageAnswer;
-use opening::OpenAnswer;
 use sheet_text::SheetAnswer;
 ghost use mathlib.Core.Path.{_≡_};
 ghost use Rattle.image_calls.specs.ImageCalls.{
@@ -25,17 +24,7 @@ pub extern "C" fn flockdrift_open(
 ) -> ImageAnswer
     ensures { λ r. ⌜ (r, now (image .exit)) ≡ openImage (now (image .entry)) (now (networks .entry)) (now (lengths .entry)) term «default_length» start ⌝ }
 {
-    if image_calls::too_small(image.len()) {
-        return image_calls::refused(14, 0);
-    }
-    let length = image_calls::length_of(default_length);
-    let opened = opening::open(networks, lengths, term, length, start);
-    let answer = opened.answer;
-    let OpenAnswer::Accepted = answer else {
-        return image_calls::refused(12, 0);
-    };
-    let t = opened.table;
-    image_calls::accepted(0, 0, image_calls::store(t, image, 0))
+    open_image::open(image, networks, lengths, term, default_length, start)
 }
 
 #[no_mangle]
@@ -49,12 +38,7 @@ pub extern "C" fn flockdrift_ask(
 ) -> ImageAnswer
     ensures { λ r. ⌜ (r, now (image .exit), now (reply .exit)) ≡ askImage (now (image .entry)) «image_bytes» client time (now (option .entry)) (now (reply .entry)) ⌝ }
 {
-    if image_calls::too_small(image.len()) {
-        return image_calls::refused(14, 0);
-    }
-    let t = image_calls::table_in(image, image_bytes);
-    let asked = ask::ask(t, time, client, option, reply);
-    image_calls::settle(asked, image, image_bytes)
+    ask_image::ask(image, image_bytes, client, time, option, reply)
 }
 
 #[no_mangle]
@@ -68,12 +52,7 @@ pub extern "C" fn flockdrift_take(
 ) -> ImageAnswer
     ensures { λ r. ⌜ (r, now (image .exit), now (reply .exit)) ≡ takeImage (now (image .entry)) «image_bytes» client time (now (option .entry)) (now (reply .entry)) ⌝ }
 {
-    if image_calls::too_small(image.len()) {
-        return image_calls::refused(14, 0);
-    }
-    let t = image_calls::table_in(image, image_bytes);
-    let taken = take::take(t, time, client, option, reply);
-    image_calls::settle(taken, image, image_bytes)
+    take_image::take(image, image_bytes, client, time, option, reply)
 }
 
 // List changes nothing, so the image is only read.
@@ -88,17 +67,7 @@ pub extern "C" fn flockdrift_list(
 ) -> ImageAnswer
     ensures { λ r. ⌜ (r, now (image .entry), now (reply .exit)) ≡ listImage (now (image .entry)) «image_bytes» client time (now (option .entry)) (now (reply .entry)) ⌝ }
 {
-    if image_calls::too_small(image.len()) {
-        return image_calls::refused(14, 0);
-    }
-    let t = image_calls::table_in(image, image_bytes);
-    let listed = list::list(t, time, client, option, reply);
-    let answer = listed.answer;
-    let a = image_calls::in_numbers(answer);
-    if a.number != 0 {
-        return a;
-    }
-    image_calls::accepted(a.bytes, a.count, image_bytes)
+    list_image::list(image, image_bytes, client, time, option, reply)
 }
 
 #[no_mangle]
@@ -111,12 +80,7 @@ pub extern "C" fn flockdrift_release(
 ) -> ImageAnswer
     ensures { λ r. ⌜ (r, now (image .exit)) ≡ releaseImage (now (image .entry)) «image_bytes» client time (now (option .entry)) ⌝ }
 {
-    if image_calls::too_small(image.len()) {
-        return image_calls::refused(14, 0);
-    }
-    let t = image_calls::table_in(image, image_bytes);
-    let released = release::release(t, time, client, option);
-    image_calls::settle(released, image, image_bytes)
+    release_image::release(image, image_bytes, client, time, option)
 }
 
 #[no_mangle]
@@ -130,18 +94,7 @@ pub extern "C" fn flockdrift_mark(
 ) -> ImageAnswer
     ensures { λ r. ⌜ (r, now (image .exit)) ≡ markImage (now (image .entry)) «image_bytes» network length deprecated time ⌝ }
 {
-    if image_calls::too_small(image.len()) {
-        return image_calls::refused(14, 0);
-    }
-    let t = image_calls::table_in(image, image_bytes);
-    let marked = mark::mark(
-        t,
-        time,
-        network,
-        image_calls::length_of(length),
-        deprecated != 0,
-    );
-    image_calls::settle(marked, image, image_bytes)
+    mark_image::mark(image, image_bytes, network, length, deprecated, time)
 }
 
 #[no_mangle]

@@ -31,7 +31,7 @@ use Rattle.image.proofs.FieldLaws.{Bytes, bytes-of, bytes-drop, spell32
 
 -- EACH RECORD READS BACK
 
-some-same : {A : Type 0} (b : Bool) (x y : A) → cond b (some x) none ≡ some y → (b ≡ true) × (x ≡ y)
+pub some-same : {A : Type 0} (b : Bool) (x y : A) → cond b (some x) none ≡ some y → (b ≡ true) × (x ≡ y)
 some-same true x y e = (refl, cc)
 some-same false x y e = let z : _≡_ {A = ℕ} 0 1 = cc in absurd (omega arith)
 
@@ -197,14 +197,14 @@ no-lease = refl
 -- LOAD AND SAVE UNDO EACH OTHER
 
 -- What is used of slots that are filled up.
-used-pools : (k : ℕ) (ps : List Pool) → All (λ p. unused? p ≡ false) ps → those (λ p. not (unused? p)) (ps ++ replicate k noPool) ≡ ps
+pub used-pools : (k : ℕ) (ps : List Pool) → All (λ p. unused? p ≡ false) ps → those (λ p. not (unused? p)) (ps ++ replicate k noPool) ≡ ps
 used-pools k ps a =
     let f : Pool → Bool = λ p. not (unused? p) in
     those-append f ps (replicate k noPool)
     ∙ ap₂ (λ (x y : List Pool). x ++ y) (those-whole f ps (all-map (λ p (e : unused? p ≡ false). not-of (unused? p) e) ps a)) (those-replicate f k noPool (ap not unused-of))
     ∙ append-nil ps
 
-used-leases : (k : ℕ) (xs : List Lease) → All (λ x. empty? x ≡ false) xs → those (λ x. not (empty? x)) (xs ++ replicate k noLease) ≡ xs
+pub used-leases : (k : ℕ) (xs : List Lease) → All (λ x. empty? x ≡ false) xs → those (λ x. not (empty? x)) (xs ++ replicate k noLease) ≡ xs
 used-leases k xs a =
     let f : Lease → Bool = λ x. not (empty? x) in
     those-append f xs (replicate k noLease)

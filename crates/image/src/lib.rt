@@ -58,7 +58,7 @@ fn wide(x: u8) -> u32
 }
 
 // The number that two bytes spell, low byte first.
-fn read16(s: &[u8], at: usize) -> u32
+pub fn read16(s: &[u8], at: usize) -> u32
     requires { ⌜ at + 2 ≤ length (now s) ⌝ }
     ensures { λ r. ⌜ r ≡ number16 (now (s .entry)) at ⌝ }
 {
@@ -66,7 +66,7 @@ fn read16(s: &[u8], at: usize) -> u32
 }
 
 // The number that four bytes spell, low byte first.
-fn read32(s: &[u8], at: usize) -> u32
+pub fn read32(s: &[u8], at: usize) -> u32
     requires { ⌜ at + 4 ≤ length (now s) ⌝ }
     ensures { λ r. ⌜ r ≡ number32 (now (s .entry)) at ⌝ }
 {
@@ -75,12 +75,12 @@ fn read32(s: &[u8], at: usize) -> u32
 
 // READING RECORDS
 
-enum HeadRead {
+pub enum HeadRead {
     Found(Head),
     Other,
 }
 
-enum PoolRead {
+pub enum PoolRead {
     Found(Pool),
     Other,
 }
@@ -91,7 +91,7 @@ enum LeaseRead {
 }
 
 // The head record at the front of the bytes.
-fn head_at(s: &[u8]) -> HeadRead
+pub fn head_at(s: &[u8]) -> HeadRead
     ensures { λ r. ⌜ r ≡ headRead (headAt (now (s .entry))) ⌝ }
 {
     if s.len() < 13 {
@@ -111,7 +111,7 @@ fn head_at(s: &[u8]) -> HeadRead
 }
 
 // The pool record at the front of the bytes; an unused slot has none.
-fn pool_at(s: &[u8]) -> PoolRead
+pub fn pool_at(s: &[u8]) -> PoolRead
     ensures { λ r. ⌜ r ≡ poolRead (poolAt (now (s .entry))) ⌝ }
 {
     if s.len() < 9 {
@@ -134,7 +134,7 @@ fn pool_at(s: &[u8]) -> PoolRead
 }
 
 // The fields of a lease record at the front of the bytes.
-fn lease_in(s: &[u8]) -> Lease
+pub fn lease_in(s: &[u8]) -> Lease
     requires { ⌜ 19 ≤ length (now s) ⌝ }
     ensures { λ r. ⌜ r ≡ leaseIn (now (s .entry)) ⌝ }
 {

@@ -3,3 +3,4 @@ pub mod TableLaws
 pub mod CallLaws
 pub mod Images
 pub mod SheetLaws
+pub mod InPlace

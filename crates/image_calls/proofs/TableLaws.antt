@@ -42,7 +42,7 @@ module _ (buffer : List ℕ) (bytes : ℕ) where
 
 -- A SOUND TABLE IS THAT OF THE IMAGE
 
-blank-unsound : sound blank ≡ false
+pub blank-unsound : sound blank ≡ false
 unfolding sound headOk
 blank-unsound = refl
 
@@ -55,23 +55,23 @@ is-loaded none e = absurd (true≢false (sym e ∙ blank-unsound))
 is-loaded (some t) e = refl
 
 module _ (buffer : List ℕ) (bytes : ℕ) (s : sound (tableIn buffer bytes) ≡ true) where
-  loads : loadImage (imageIn buffer bytes) ≡ some (tableIn buffer bytes)
+  pub held-loads : loadImage (imageIn buffer bytes) ≡ some (tableIn buffer bytes)
   unfolding tableIn
-  loads = is-loaded (loadImage (imageIn buffer bytes)) s
+  held-loads = is-loaded (loadImage (imageIn buffer bytes)) s
 
   pub held-within : bytes ≤ length buffer
   held-within =
       ⊎-elim
       (λ (h : ltb (length buffer) bytes ≡ true).
       let nothing : imageIn buffer bytes ≡ [] = ap (λ (n : ℕ). take n buffer) (cond-true (ltb (length buffer) bytes) 0 bytes h) in
-      absurd (Option·some-ne-none (tableIn buffer bytes) (sym loads ∙ ap loadImage nothing ∙ nothing-loads)))
+      absurd (Option·some-ne-none (tableIn buffer bytes) (sym held-loads ∙ ap loadImage nothing ∙ nothing-loads)))
       (λ (h : ltb (length buffer) bytes ≡ false). ltb-false (length buffer) bytes h)
       (bool-cases (ltb (length buffer) bytes))
 
   module _ (b : Bytes buffer) where
     pub held-image : imageOf (tableIn buffer bytes) ≡ take bytes buffer
     held-image =
-        image-loaded (imageIn buffer bytes) (tableIn buffer bytes) (upTo-all Byte (cond (ltb (length buffer) bytes) 0 bytes) buffer b) loads .1
+        image-loaded (imageIn buffer bytes) (tableIn buffer bytes) (upTo-all Byte (cond (ltb (length buffer) bytes) 0 bytes) buffer b) held-loads .1
         ∙ ap (λ (n : ℕ). take n buffer) (cond-false (ltb (length buffer) bytes) 0 bytes (le-ltb (length buffer) bytes held-within))
 
     pub held-length : length (imageOf (tableIn buffer bytes)) ≡ bytes

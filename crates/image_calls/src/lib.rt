@@ -5,10 +5,9 @@ use image::SaveAnswer;
 use table::LeaseTable;
 ghost use mathlib.Core.Path.{_≡_};
 ghost use mathlib.Core.Bool.{true, cond};
-ghost use Prim.Native.Nat.{_-_, _≤_, _<_};
-ghost use lib.ListN.{length, replicate};
+ghost use Prim.Native.Nat.{_≤_};
+ghost use lib.ListN.{length};
 ghost use lib.Dec.{ltb};
-ghost use Rattle.lists.specs.Put.{put};
 ghost use Rattle.table.specs.Table.{sound};
 ghost use Rattle.image.specs.Image.{imageOf};
 ghost use Rattle.ledger.specs.Ledger.{refusal, acceptance};
@@ -50,18 +49,6 @@ pub fn table_in(image: &[u8], bytes: usize) -> LeaseTable
     loaded.table
 }
 
-// Zeros from `from` up to `to`.
-fn clear(image: &mut [u8], from: usize, to: usize)
-    requires { ⌜ to ≤ length (now image) ⌝ }
-    ensures { λ _. ⌜ now (image .exit) ≡ put (now (image .entry)) from (replicate (to - from) 0) ⌝ }
-{
-    let mut i: usize = from;
-    while i < to {
-        image[i] = 0;
-        i = i + 1;
-    }
-}
-
 // The image of a sound table in the place of one of `old` bytes; how long it is.
 pub fn store(t: LeaseTable, image: &mut [u8], old: usize) -> usize
     requires { ⌜ (sound t ≡ true) × (fullImage ≤ length (now image)) × (old ≤ length (now image)) ⌝ }
@@ -72,7 +59,7 @@ pub fn store(t: LeaseTable, image: &mut [u8], old: usize) -> usize
     let SaveAnswer::Written(bytes) = saved else {
         return 0;
     };
-    clear(image, bytes, old);
+    records::clear(image, bytes, old);
     bytes
 }
 

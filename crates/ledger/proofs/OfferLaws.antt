@@ -4,20 +4,20 @@ use Prim.Native.Nat.{ℕ, zero, suc, _+_, _-_, _≤_, _<_}
 use mathlib.Core.Path.{_≡_, refl, sym, ap, subst, _∙_}
 use mathlib.Core.Logic.{_⊎_, inl, inr, ⊎-elim}
 use mathlib.Core.Bool.{Bool, true, false, not, cond}
-use mathlib.Core.List.{List, [], _∷_, map, List·Permᴰ}
+use mathlib.Core.List.{List, [], _∷_, _++_, map, List·Permᴰ}
 use mathlib.Core.Option.{Option, none, some}
 use native.Mathlib.Omega.{arith}
 use lib.ListN.{length, length-map}
 use lib.Dec.{leb, eqb}
-use borrow.Author.Tests.{leb-true, leb-false, eqb-false}
+use borrow.Author.Tests.{leb-true, leb-false, le-leb, lt-leb, eqb-false}
 use Rattle.lists.specs.Lists.{All, Any, Pairwise, somes}
 use Rattle.lists.proofs.Tests.{bool-cases, cond-true, cond-false}
 use Rattle.lists.proofs.ListLaws.{all-map, all-image, pairwise-image}
 use Rattle.lists.proofs.Permutations.{perm-map, perm-length}
 use Rattle.lists.proofs.SortingLaws.{insertBy-perm}
 use Rattle.prefix.specs.declared.Prefix.{Prefix}
-use Rattle.prefix.specs.Prefixes.{longest, end, Aligned, Apart}
-use Rattle.space.specs.Space.{Pools, Free, Takes, grant, withGrant, serve, after}
+use Rattle.prefix.specs.Prefixes.{longest, end, Aligned, Inside, Apart}
+use Rattle.space.specs.Space.{Pools, Before, Ordered, Free, Takes, grant, withGrant, serve, after}
 use Rattle.space.proofs.ListTheorem.{refused⇔none-free, granted-free}
 use Rattle.space.proofs.Rules.{grant-takes}
 use Rattle.space.proofs.Permuted.{grant-perm}
@@ -25,7 +25,7 @@ use Rattle.table.specs.declared.Pool.{Pool}
 use Rattle.table.specs.declared.Lease.{Lease}
 use Rattle.table.specs.declared.LeaseTable.{LeaseTable}
 use Rattle.table.specs.Table.{leaseSlots, addresses, poolPrefix, prefixOf, networkOf, unused?, prefixesOf, poolsOf, sound, insert}
-use Rattle.table.proofs.Ascending.{used, ascending-apart}
+use Rattle.table.proofs.Ascending.{Ascending, used, ascending-low, ascending-apart}
 use Rattle.table.proofs.TableLaws.{GoodPool, Good, Fine, GoodPools, sound-pools, sound-default, insert-fine}
 use Rattle.ledger.specs.Ledger.{Request, askLength, full, holdTime, offered, offer, add, offers, addAll}
 
@@ -192,6 +192,50 @@ module _ (t : LeaseTable) (now client : ℕ) where
         let e : prefix? o ≡ grant (poolsOf t) ls (askLength t r) = offer-grant xs r (omega arith) o (offer-is xs r) ∙ grant-perm (poolsOf t) p (askLength t r) in
         offers-after rs (add o xs) (withGrant (grant (poolsOf t) ls (askLength t r)) ls) (omega (arith, add-length xs o))
         (subst (λ (g : Option Prefix). List·Permᴰ (prefixes (add o xs)) (withGrant g ls)) e (add-perm xs ls o p))
+
+-- A request while a slot is empty, and while none is.
+
+pub offer-room : (t : LeaseTable) (now client : ℕ) (xs : List Lease) (r : Request) → length xs < leaseSlots
+    → offer t now client xs r ≡ offered now client (r .h) (grant (poolsOf t) (map prefixOf xs) (askLength t r))
+unfolding offer
+offer-room t now client xs r h = cond-false (full xs) none _ (lt-leb leaseSlots (length xs) h)
+
+pub offer-full : (t : LeaseTable) (now client : ℕ) (xs : List Lease) (r : Request) → leaseSlots ≤ length xs → offer t now client xs r ≡ none
+unfolding offer
+offer-full t now client xs r h = cond-true (full xs) none _ (le-leb leaseSlots (length xs) h)
+
+-- One more request of a list.
+
+pub offers-snoc : (t : LeaseTable) (now client : ℕ) (rs : List Request) (xs : List Lease) (r : Request)
+    → offers t now client xs (rs ++ (r ∷ [])) ≡ offers t now client xs rs ++ (offer t now client (addAll (offers t now client xs rs) xs) r ∷ [])
+unfolding offers addAll
+offers-snoc t now client [] xs r = refl
+offers-snoc t now client (q ∷ rs) xs r = ap (λ (os : List (Option Lease)). offer t now client xs q ∷ os) (offers-snoc t now client rs (add (offer t now client xs q) xs) r)
+
+pub addAll-snoc : (os : List (Option Lease)) (o : Option Lease) (xs : List Lease) → addAll (os ++ (o ∷ [])) xs ≡ add o (addAll os xs)
+unfolding addAll
+addAll-snoc [] o xs = refl
+addAll-snoc (p ∷ os) o xs = addAll-snoc os o (add p xs)
+
+pub somes-append : {A : Type 0} (os ps : List (Option A)) → somes (os ++ ps) ≡ somes os ++ somes ps
+somes-append [] ps = refl
+somes-append (none ∷ os) ps = somes-append os ps
+somes-append (some x ∷ os) ps = ap (λ (l : List _). x ∷ l) (somes-append os ps)
+
+-- Pools and leases in order.
+
+ascending-before : {A : Type 0} (pre : A → Prefix) (from : ℕ) (xs : List A) → Ascending pre from xs → Pairwise (λ x y. Before (pre x) (pre y)) xs
+ascending-before pre from [] a = tt
+ascending-before pre from (x ∷ xs) a = (ascending-low pre (end (pre x)) xs (a .1), ascending-before pre (end (pre x)) xs (a .1))
+
+pub ordered : (t : LeaseTable) → sound t ≡ true → (now : ℕ) (ys : List Lease) → Fine (poolsOf t) now 0 ys → Ordered (poolsOf t) (map prefixOf ys)
+unfolding prefixesOf
+ordered t s now ys f = record {
+  good = pools-good t s;
+  poolsAscend = pairwise-image poolPrefix Before (used unused? (t .pools)) (ascending-before poolPrefix 0 (used unused? (t .pools)) (sound-pools t s .ascending));
+  leasesAscend = pairwise-image prefixOf Before ys (ascending-before prefixOf 0 ys (f .1));
+  pooled = all-image prefixOf (λ p. Any (Inside p) (prefixesOf (t .pools))) ys (all-map (λ x g. g .pooled) ys (f .0));
+}
 
 -- THE CHOICE: "An ask of length p takes, among whole free blocks of length at most p, the smallest, the lowest network among equals, and of that the
 -- lowest part of length p." On any sound table, with any leases present.

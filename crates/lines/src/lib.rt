@@ -1,6 +1,4 @@
 // What calls answer and what the reader finds, as lines of text in a lent buffer.
-use answers::Answer;
-use answers::Counts;
 use entries::EntryCursor;
 use entries::EntryFields;
 use entries::EntryStep;
@@ -16,7 +14,6 @@ use option::Suboption;
 ghost use mathlib.Core.Path.{_≡_};
 ghost use Prim.Native.Nat.{_+_, _-_, _*_, _≤_, _<_};
 ghost use lib.ListN.{length};
-ghost use Rattle.answers.specs.Answers.{answerOf};
 ghost use Rattle.option.specs.declared.Suboption.the-variants as Suboption;
 ghost use Rattle.lines.specs.Sizes.{most, Within};
 
@@ -49,44 +46,24 @@ pub fn refused(out: &mut [u8], at: usize, number: u64) -> usize
 }
 
 // The refusal that has a place.
-fn refused_at(out: &mut [u8], at: usize, place: usize) -> usize
+fn refused_at(out: &mut [u8], at: usize, place: u64) -> usize
     requires { ⌜ at + 37 ≤ length (now out) ⌝ }
     ensures { λ r. ⌜ r ≤ at + 37 ⌝ }
 {
     let a = show::text(out, at, b"refused 7 place=");
-    let b = show::number(out, a, place as u64);
+    let b = show::number(out, a, place);
     show::text(out, b, b"\n")
 }
 
-// Document 01's number of a refusal; 0 for an accepted answer.
-fn number_of(a: Answer) -> u64
-    ensures { λ r. ⌜ r ≡ answerOf a .number ⌝ }
-{
-    match a {
-        Answer::Accepted(_) => 0,
-        Answer::ShortReply => 1,
-        Answer::NoClient => 2,
-        Answer::TooEarly => 3,
-        Answer::TooLate => 4,
-        Answer::Unsound => 5,
-        Answer::NotTheOption => 6,
-        Answer::BadSuboption(_) => 7,
-        Answer::WrongPieces => 8,
-        Answer::NoSlot => 9,
-        Answer::NoSpace => 10,
-        Answer::NothingFound => 11,
-    }
-}
-
-// A refusal, with its place if it has one.
-fn refusal(out: &mut [u8], at: usize, a: Answer) -> usize
+// A refusal by its number, with its place if it is the one that has a place.
+pub fn refusal(out: &mut [u8], at: usize, number: u32, place: u32) -> usize
     requires { ⌜ at + 37 ≤ length (now out) ⌝ }
     ensures { λ r. ⌜ r ≤ at + 37 ⌝ }
 {
-    match a {
-        Answer::BadSuboption(place) => refused_at(out, at, place),
-        _ => refused(out, at, number_of(a)),
+    if number == 7 {
+        return refused_at(out, at, place as u64);
     }
+    refused(out, at, number as u64)
 }
 
 fn least(a: usize, b: usize) -> usize
@@ -106,29 +83,20 @@ fn written(out: &mut [u8], at: usize, n: usize, buffer: &[u8]) -> usize
     show::text(out, b, b"\n")
 }
 
-fn accepted(out: &mut [u8], at: usize, n: Counts, reply: &[u8]) -> usize
+// The answer of an ask, a take or a list that was accepted, with the bytes that it wrote to its reply buffer.
+pub fn reply(out: &mut [u8], at: usize, bytes: u32, entries: u32, reply: &[u8]) -> usize
     requires { ⌜ at + 2 * length (now reply) + 58 ≤ length (now out) ⌝ }
     ensures { λ r. ⌜ r ≤ at + 2 * length (now (reply .entry)) + 58 ⌝ }
 {
     let a = show::text(out, at, b"ok bytes=");
-    let b = show::number(out, a, n.bytes as u64);
+    let b = show::number(out, a, bytes as u64);
     let c = show::text(out, b, b" count=");
-    let d = show::number(out, c, n.count as u64);
-    written(out, d, n.bytes, reply)
+    let d = show::number(out, c, entries as u64);
+    written(out, d, bytes as usize, reply)
 }
 
-// The answer of an ask, a take or a list, with the bytes that it wrote to its reply buffer.
-pub fn reply(out: &mut [u8], at: usize, a: Answer, reply: &[u8]) -> usize
-    requires { ⌜ at + 2 * length (now reply) + 58 ≤ length (now out) ⌝ }
-    ensures { λ r. ⌜ r ≤ at + 2 * length (now (reply .entry)) + 58 ⌝ }
-{
-    match a {
-        Answer::Accepted(n) => accepted(out, at, n, reply),
-        _ => refusal(out, at, a),
-    }
-}
-
-fn count(out: &mut [u8], at: usize, n: usize) -> usize
+// The answer of a return that was accepted.
+pub fn count(out: &mut [u8], at: usize, n: u32) -> usize
     requires { ⌜ at + 30 ≤ length (now out) ⌝ }
     ensures { λ r. ⌜ r ≤ at + 30 ⌝ }
 {
@@ -137,36 +105,14 @@ fn count(out: &mut [u8], at: usize, n: usize) -> usize
     show::text(out, b, b"\n")
 }
 
-// The answer of a release.
-pub fn release(out: &mut [u8], at: usize, a: Answer) -> usize
-    requires { ⌜ at + 37 ≤ length (now out) ⌝ }
-    ensures { λ r. ⌜ r ≤ at + 37 ⌝ }
-{
-    match a {
-        Answer::Accepted(n) => count(out, at, n.count),
-        _ => refusal(out, at, a),
-    }
-}
-
-// The answer of a mark.
-pub fn mark(out: &mut [u8], at: usize, a: Answer) -> usize
-    requires { ⌜ at + 37 ≤ length (now out) ⌝ }
-    ensures { λ r. ⌜ r ≤ at + 37 ⌝ }
-{
-    match a {
-        Answer::Accepted(_) => ok(out, at),
-        _ => refusal(out, at, a),
-    }
-}
-
-// The answer of a save that wrote `n` bytes to the front of a buffer.
-pub fn image(out: &mut [u8], at: usize, n: usize, buffer: &[u8]) -> usize
-    requires { ⌜ at + 2 * length (now buffer) + 31 ≤ length (now out) ⌝ }
-    ensures { λ r. ⌜ r ≤ at + 2 * length (now (buffer .entry)) + 31 ⌝ }
+// The answer of a save that was accepted.
+pub fn image(out: &mut [u8], at: usize, image: &[u8]) -> usize
+    requires { ⌜ at + 2 * length (now image) + 31 ≤ length (now out) ⌝ }
+    ensures { λ r. ⌜ r ≤ at + 2 * length (now (image .entry)) + 31 ⌝ }
 {
     let a = show::text(out, at, b"ok bytes=");
-    let b = show::number(out, a, n as u64);
-    written(out, b, n, buffer)
+    let b = show::number(out, a, image.len() as u64);
+    written(out, b, image.len(), image)
 }
 
 // OPTIONS
@@ -357,7 +303,7 @@ pub fn option(out: &mut [u8], at: usize, s: &[u8]) -> usize
     match option::check_option(s) {
         Checked::Good => suboptions(out, at, s),
         Checked::NotTheOption => refused(out, at, 6),
-        Checked::BadSuboption(place) => refused_at(out, at, place),
+        Checked::BadSuboption(place) => refused_at(out, at, place as u64),
     }
 }
 

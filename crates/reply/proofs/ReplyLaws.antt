@@ -40,16 +40,20 @@ entries-length xs =
     ∙ ap (λ (n : ℕ). 7 * n) (length-map xs entryOf)
 
 -- One entry more.
+pub entries-snoc : (xs : List Lease) (x : Lease) → entriesBytes (map entryOf (xs ++ x ∷ [])) ≡ entriesBytes (map entryOf xs) ++ leaseBytes x
+unfolding entriesBytes
+entries-snoc xs x =
+    ap (gather entryBytes) (map-append entryOf xs (x ∷ []))
+    ∙ gather-append entryBytes (map entryOf xs) (entryOf x ∷ [])
+    ∙ ap (λ (l : List ℕ). gather entryBytes (map entryOf xs) ++ l) (gather-one entryBytes (entryOf x) ∙ entry-bytes x)
+
 pub entries-more : (xs : List Lease) (i : ℕ) (d : Lease) → i < length xs
     → entriesBytes (map entryOf (take (i + 1) xs)) ≡ entriesBytes (map entryOf (take i xs)) ++ leaseBytes (getD xs i d)
 unfolding entriesBytes
 entries-more xs i d lt =
     let x = getD xs i d in
     let one : take (i + 1) xs ≡ take i xs ++ (x ∷ []) = rw (add-one i) (take-suc xs i d lt) in
-    ap (λ (l : List Lease). gather entryBytes (map entryOf l)) one
-    ∙ ap (gather entryBytes) (map-append entryOf (take i xs) (x ∷ []))
-    ∙ gather-append entryBytes (map entryOf (take i xs)) (entryOf x ∷ [])
-    ∙ ap (λ (l : List ℕ). gather entryBytes (map entryOf (take i xs)) ++ l) (gather-one entryBytes (entryOf x) ∙ entry-bytes x)
+    ap (λ (l : List Lease). gather entryBytes (map entryOf l)) one ∙ entries-snoc (take i xs) x
 
 -- THE LOOP that puts the entries: those before i stand in the buffer.
 pub record Putting (xs : List Lease) (before after : List ℕ) (i : ℕ) : Type 0 where

@@ -2,15 +2,30 @@
 use table::Lease;
 ghost use mathlib.Core.Path.{_≡_};
 ghost use mathlib.Core.List.{map};
-ghost use Prim.Native.Nat.{_≤_};
+ghost use Prim.Native.Nat.{_+_, _≤_};
 ghost use lib.ListN.{length as count, take as upTo};
 ghost use Rattle.lists.specs.Put.{put};
-ghost use Rattle.option.specs.Writing.{entriesBytes};
+ghost use Rattle.option.specs.Writing.{entryHead, entriesBytes};
 ghost use Rattle.ledger.specs.Ledger.{entryOf};
 ghost use Rattle.reply.specs.Reply.{mostEntries, replyBytes};
 
 // No option has more entries, and no reply shows more.
 pub const MOST_ENTRIES: usize = 35;
+
+// A lease as an entry without figures. The reply has room for it, so no byte is tested.
+pub fn put_lease(reply: &mut [u8], at: usize, x: Lease)
+    requires { ⌜ at + 7 ≤ count (now reply) ⌝ }
+    ensures { λ _. ⌜ now (reply .exit) ≡ put (now (reply .entry)) at (entryHead (x .network) (x .length) (x .h) (x .d) 0) ⌝ }
+{
+    let network = x.network;
+    reply[at] = (network / 16777216) as u8;
+    reply[at + 1] = (network / 65536 % 256) as u8;
+    reply[at + 2] = (network / 256 % 256) as u8;
+    reply[at + 3] = (network % 256) as u8;
+    reply[at + 4] = x.length;
+    reply[at + 5] = option_pieces::flags_byte(x.h, x.d);
+    reply[at + 6] = 0;
+}
 
 // The entries of the first n leases, from place 6 on.
 fn put_leases(reply: &mut [u8], leases: [Lease; MOST_ENTRIES], n: usize)

@@ -10,18 +10,30 @@ pub struct Word {
     pub end: usize,
 }
 
-pub enum Command {
-    Open,
+// The commands that are calls on the book.
+pub enum CallCommand {
     Ask,
     Take,
     List,
     Return,
     Mark,
+}
+
+// The commands that make the book, write it out and show it.
+pub enum BookCommand {
+    Open,
     Save,
     Load,
     Sheet,
+}
+
+// What a line has to do; nothing, if it has no word or its first word begins with `#`.
+pub enum Command {
+    Call(CallCommand),
+    Book(BookCommand),
     Read,
     Buffer,
+    Nothing,
     Unknown,
 }
 
@@ -57,10 +69,11 @@ pub struct NumberAt {
     pub end: usize,
 }
 
-// Whether a word spells octets, and how many; 0 where it does not.
+// Whether a word spells octets, and where they stand in the line instead of it.
 pub struct Octets {
     pub good: bool,
-    pub count: usize,
+    pub start: usize,
+    pub end: usize,
 }
 
 // Whether words are prefixes, and how many.
@@ -69,12 +82,13 @@ pub struct Prefixes {
     pub count: usize,
 }
 
-// What the words of a call spell: a client, a time, and how many octets an option has.
+// What the words of a call spell: a client, a time, and where the octets of an option stand.
 pub struct Call {
     pub good: bool,
     pub client: u32,
     pub time: u32,
-    pub count: usize,
+    pub start: usize,
+    pub end: usize,
 }
 
 // What the words of a mark spell: a time, a prefix and a flag.
@@ -123,31 +137,31 @@ pub fn ends(s: &[u8], from: usize) -> bool
 // The command that a word names.
 pub fn read_command(word: &[u8]) -> Command {
     if check::same(word, b"ask") {
-        return Command::Ask;
+        return Command::Call(CallCommand::Ask);
     }
     if check::same(word, b"take") {
-        return Command::Take;
+        return Command::Call(CallCommand::Take);
     }
     if check::same(word, b"list") {
-        return Command::List;
+        return Command::Call(CallCommand::List);
     }
     if check::same(word, b"return") {
-        return Command::Return;
+        return Command::Call(CallCommand::Return);
     }
     if check::same(word, b"mark") {
-        return Command::Mark;
+        return Command::Call(CallCommand::Mark);
     }
     if check::same(word, b"open") {
-        return Command::Open;
+        return Command::Book(BookCommand::Open);
     }
     if check::same(word, b"save") {
-        return Command::Save;
+        return Command::Book(BookCommand::Save);
     }
     if check::same(word, b"load") {
-        return Command::Load;
+        return Command::Book(BookCommand::Load);
     }
     if check::same(word, b"sheet") {
-        return Command::Sheet;
+        return Command::Book(BookCommand::Sheet);
     }
     if check::same(word, b"read") {
         return Command::Read;
@@ -319,62 +333,61 @@ fn digit(c: u8) -> u8
 }
 
 fn bad_octets() -> Octets
-    ensures { λ r. ⌜ r .count ≡ 0 ⌝ }
+    ensures { λ r. ⌜ (r .start ≡ 0) × (r .end ≡ 0) ⌝ }
 {
     Octets {
         good: false,
-        count: 0,
+        start: 0,
+        end: 0,
     }
 }
 
-// Pairs of hexadecimal digits, into the front of a buffer.
-fn pairs(s: &[u8], out: &mut [u8]) -> Octets
-    requires { ⌜ length (now s) ≤ 2 * length (now out) ⌝ }
-    ensures { λ r. ⌜ r .count ≤ length (now (out .entry)) ⌝ }
-{
+// Pairs of hexadecimal digits, each as an octet, over the front of the same bytes; whether all are digits.
+fn pairs(s: &mut [u8]) -> bool {
     let n = s.len() / 2;
     let mut i: usize = 0;
     while i < n {
         let high = digit(s[2 * i]);
         let low = digit(s[2 * i + 1]);
         if 15 < high {
-            return bad_octets();
+            return false;
         }
         if 15 < low {
-            return bad_octets();
+            return false;
         }
-        out[i] = 16 * high + low;
+        s[i] = 16 * high + low;
         i = i + 1;
     }
-    Octets {
-        good: true,
-        count: n,
-    }
+    true
 }
 
-// The octets that a word spells in hexadecimal, into the front of a buffer; `-` spells none. More than the buffer holds are bad.
-pub fn read_octets(s: &[u8], out: &mut [u8]) -> Octets
-    ensures { λ r. ⌜ r .count ≤ length (now (out .entry)) ⌝ }
+// The octets that a word spells in hexadecimal, over the word itself; `-` spells none.
+pub fn read_octets(s: &mut [u8], start: usize, end: usize) -> Octets
+    requires { ⌜ (start ≤ end) × (end ≤ length (now s)) ⌝ }
+    ensures { λ r. ⌜ (r .start ≤ r .end) × (r .end ≤ length (now (s .entry))) ⌝ }
 {
-    let n = s.len();
+    let n = end - start;
     if n == 0 {
         return bad_octets();
     }
-    if n % 2 == 1 {
-        if n == 1 {
-            if s[0] == b'-' {
-                return Octets {
-                    good: true,
-                    count: 0,
-                };
-            }
+    if n == 1 {
+        if s[start] == b'-' {
+            return Octets {
+                good: true,
+                start,
+                end: start,
+            };
         }
+    }
+    if n % 2 == 1 {
         return bad_octets();
     }
-    if out.len() < n / 2 {
-        return bad_octets();
+    let good = pairs(&mut s[start..end]);
+    Octets {
+        good,
+        start,
+        end: start + n / 2,
     }
-    pairs(s, out)
 }
 
 // LINES
@@ -421,33 +434,32 @@ pub fn read_prefixes(s: &[u8], from: usize, networks: &mut [u32], lengths: &mut 
 }
 
 // The next word as octets, if it is the last one.
-pub fn last_octets(s: &[u8], from: usize, out: &mut [u8]) -> Octets
+pub fn last_octets(s: &mut [u8], from: usize) -> Octets
     requires { ⌜ from ≤ length (now s) ⌝ }
-    ensures { λ r. ⌜ r .count ≤ length (now (out .entry)) ⌝ }
+    ensures { λ r. ⌜ (r .start ≤ r .end) × (r .end ≤ length (now (s .entry))) ⌝ }
 {
     let w = next_word(s, from);
-    let start = w.start;
-    let end = w.end;
-    if !ends(s, end) {
+    if !ends(s, w.end) {
         return bad_octets();
     }
-    read_octets(&s[start..end], out)
+    read_octets(s, w.start, w.end)
 }
 
 fn bad_call() -> Call
-    ensures { λ r. ⌜ r .count ≡ 0 ⌝ }
+    ensures { λ r. ⌜ (r .start ≡ 0) × (r .end ≡ 0) ⌝ }
 {
     Call {
         good: false,
         client: 0,
         time: 0,
-        count: 0,
+        start: 0,
+        end: 0,
     }
 }
 
 // STATION NOW OPTION
-pub fn read_call(s: &[u8], out: &mut [u8]) -> Call
-    ensures { λ r. ⌜ r .count ≤ length (now (out .entry)) ⌝ }
+pub fn read_call(s: &mut [u8]) -> Call
+    ensures { λ r. ⌜ (r .start ≤ r .end) × (r .end ≤ length (now (s .entry))) ⌝ }
 {
     let a = next_number(s, 0);
     let first = a.number;
@@ -459,12 +471,13 @@ pub fn read_call(s: &[u8], out: &mut [u8]) -> Call
     let Number::Of(time) = second else {
         return bad_call();
     };
-    let option = last_octets(s, b.end, out);
+    let option = last_octets(s, b.end);
     Call {
         good: option.good,
         client,
         time,
-        count: option.count,
+        start: option.start,
+        end: option.end,
     }
 }
 

@@ -1,7 +1,9 @@
 pub mod TextLaws
 pub mod ShowLaws
+pub mod LevelLaws
 pub mod RowLaws
 pub mod PoolLaws
 pub mod SheetLaws
 pub mod SheetHolds
+pub mod AnswerLaws
 mod Examples

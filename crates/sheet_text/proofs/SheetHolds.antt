@@ -21,14 +21,14 @@ use Rattle.space.proofs.GrantLaws.{Found, wholes-found}
 use Rattle.space.proofs.Rules.{wholes-exactly}
 use Rattle.table.specs.declared.Lease.{Lease}
 use Rattle.table.specs.declared.LeaseTable.{LeaseTable}
-use Rattle.table.specs.Table.{leaseSlots, poolPrefix, prefixOf, prefixesOf, poolsOf, present, sound}
+use Rattle.table.specs.Table.{poolPrefix, prefixOf, prefixesOf, poolsOf, present, sound}
 use Rattle.table.proofs.Ascending.{ascending-apart}
 use Rattle.table.proofs.TableLaws.{GoodPool, Good, sound-pools, sound-used, sound-fine}
 use Rattle.image.specs.Image.{usedPools, usedLeases, loadImage}
 use Rattle.sheet_text.specs.declared.Used.{Used}
 use Rattle.sheet_text.specs.declared.SheetAnswer.{SheetAnswer}
 use Rattle.sheet_text.specs.declared.SheetAnswer.the-variants.{Written, NotSound, TooSmall}
-use Rattle.sheet_text.specs.Text.{digits, prefixText}
+use Rattle.sheet_text.specs.Text.{prefixText}
 use Rattle.sheet_text.specs.Sheet.{usedBy, prefixUsed, Row, usedRow, freeRow, usedIn, freeIn, rows, rowText, headText, sheetText, sheetSize, into, sheetOf, sheetOfLoaded, sheetOfImage}
 use Rattle.sheet_text.proofs.TextLaws.{length-digits, length-short}
 use Rattle.sheet_text.proofs.SheetLaws.{pools-within, pools-number, leases-number, all-found, rows-found, sheet-sound, loads-sound}
@@ -122,8 +122,8 @@ module _ (t : LeaseTable) (e : sound t ≡ true) where
       (omega (arith, h .1 .1, h .2, size-positive (x .length)), omega (arith, g .long)))
       (present (t .last) (t .leases)) (sound-fine t e (t .last) .0)))
 
-  used-number : length (usedIn (rows t)) ≤ leaseSlots
-  used-number = omega (arith, ap length used-rows, length-map (present (t .last) (t .leases)) usedBy, ap length (sound-used t e), leases-number t e)
+  used-leases : length (usedIn (rows t)) ≡ length (usedLeases t)
+  used-leases = omega (arith, ap length used-rows, length-map (present (t .last) (t .leases)) usedBy, ap length (sound-used t e))
 
   -- "22 free rows for each lease and one for each pool"
   pub free-number : length (freeIn (rows t)) ≤ 5640
@@ -134,21 +134,25 @@ module _ (t : LeaseTable) (e : sound t ≡ true) where
         ap (λ (rs : List Row). length (usedIn rs)) (rows-found t e),
         all-found t e .few,
         pools-number t e,
-        used-number,
+        used-leases,
+        leases-number t e,
       )
 
-  -- The sheet of a sound table fits a buffer of SHEET bytes.
-  pub sheet-fits : length (sheetText t) ≤ sheetSize
+  -- "a first row of at most 26 bytes", used rows "of at most 60", free rows "of at most 24"
+  pub sheet-bound : length (sheetText t) ≤ 26 + 60 * length (usedLeases t) + 24 * length (freeIn (rows t))
   unfolding sheetText
-  sheet-fits =
+  sheet-bound =
       omega (
         arith,
         length-append (headText (length (usedLeases t)) (length (freeIn (rows t)))) (gather rowText (rows t)),
         head-size (length (usedLeases t)) (length (freeIn (rows t))) (omega (arith, leases-number t e)) (omega (arith, free-number)),
         rows-size (rows t) free-short used-short,
-        free-number,
-        used-number,
+        used-leases,
       )
+
+  -- The sheet of a sound table fits a buffer of SHEET bytes.
+  pub sheet-fits : length (sheetText t) ≤ sheetSize
+  sheet-fits = omega (arith, sheet-bound, leases-number t e, free-number)
 
   pub sheet-written : (l : List ℕ) → sheetSize ≤ length l → sheetOf t l .0 ≡ Written (length (sheetText t))
   sheet-written l h =

@@ -1,13 +1,15 @@
--- What the walk finds in a sound table: the rows of its sheet.
+-- What the code finds in the image of a sound table: the rows of its sheet, and how many of them are free.
 -- Assumes nothing.
-use Prim.Native.Nat.{ℕ, zero, suc, _+_, _-_, _≤_, _<_}
+use Prim.Native.Nat.{ℕ, zero, suc, _+_, _-_, _*_, _≤_, _<_}
 use mathlib.Core.Path.{_≡_, refl, sym, ap, ap₂, subst, _∙_}
-use mathlib.Core.Logic.{inr, ⊎-elim}
+use mathlib.Core.Logic.{inr, ⊎-elim, by-cases}
 use mathlib.Core.Bool.{true, false, not}
-use mathlib.Core.List.{List, [], _∷_, _++_, map}
+use mathlib.Core.List.{List, [], _∷_, _++_, map, append-assoc}
 use mathlib.Core.Option.{Option, none, some}
+use native.Mathlib.Decide.{decLe}
 use native.Mathlib.Omega.{arith}
-use lib.ListN.{length, take, drop, getD, replicate, length-append, length-map, List·getD-map}
+use lib.ListN.{length, take, drop, getD, length-map, List·getD-map, drop-of-length-le}
+use lib.Seq.{take-suc, take-all, drop-drop, drop-at}
 use lib.Dec.{eqb}
 use borrow.Author.Tests.{lt-ltb, le-ltb}
 use Rattle.lists.specs.Lists.{All, Any, every, gather}
@@ -16,28 +18,30 @@ use Rattle.lists.proofs.Tests.{bool-cases, cond-true, cond-false, every-to}
 use Rattle.lists.proofs.ListLaws.{all-map, all-image}
 use Rattle.lists.proofs.DropLaws.{all-at}
 use Rattle.lists.proofs.ThoseLaws.{those-fewer}
-use Rattle.lists.proofs.PutLaws.{put-more, put-fits}
+use Rattle.lists.proofs.PutLaws.{put-fits}
 use Rattle.prefix.specs.declared.Prefix.{Prefix}
 use Rattle.prefix.specs.Prefixes.{longest, end, Aligned, Inside}
 use Rattle.table.specs.declared.Pool.{Pool}
 use Rattle.table.specs.declared.Lease.{Lease}
 use Rattle.table.specs.declared.LeaseTable.{LeaseTable}
-use Rattle.table.specs.Table.{poolSlots, leaseSlots, addresses, poolPrefix, prefixOf, noPool, noLease, empty?, prefixesOf, poolsOf, sound}
+use Rattle.table.specs.Table.{poolSlots, leaseSlots, addresses, poolPrefix, prefixOf, noPool, noLease, empty?, unused?, prefixesOf, poolsOf, sound}
 use Rattle.table.proofs.Ascending.{Ascending, ascending-low}
-use Rattle.table.proofs.TableLaws.{GoodPool, Good, Fine, sound-pool-slots, sound-slots, sound-pools, sound-pools-whole, sound-used, sound-fine}
-use Rattle.image.specs.Fields.{Run}
+use Rattle.table.proofs.TableLaws.{GoodPool, Good, Fine, sound-pool-slots, sound-slots, sound-pools, sound-used, sound-fine}
+use Rattle.image.specs.Fields.{le16, le32, number32, Run}
 use Rattle.image.specs.declared.Head.{Head}
-use Rattle.image.specs.declared.Loaded.{Loaded}
-use Rattle.image.specs.declared.LoadAnswer.the-variants.{Accepted, Unsound}
-use Rattle.image.specs.Image.{usedPools, usedLeases, tableWith, headSize, headAt, poolsAt, leasesAt, whole, afterHead, loadImage, loadedOf}
-use Rattle.image.proofs.ImageLaws.{table-whole}
-use Rattle.image.proofs.WriteLaws.{used-count, pools-few, pools-first}
+use Rattle.image.specs.Image.{headRecord, poolRecord, leaseRecord, headOf, usedPools, usedLeases, imageOf, tableWith, headSize, headAt, poolIn, poolsAt, leaseIn, leasesAt, whole, afterHead, loadImage}
+use Rattle.image.proofs.FieldLaws.{spell32}
+use Rattle.image.proofs.ImageLaws.{length-head, length-pool, length-image}
+use Rattle.records.proofs.RecordLaws.{lease-in-place}
+use Rattle.records.proofs.SoundLaws.{image-records}
 use Rattle.sheet_text.specs.declared.Used.{Used}
-use Rattle.sheet_text.specs.declared.Place.{Place}
+use Rattle.sheet_text.specs.declared.Levels.{Levels}
 use Rattle.sheet_text.specs.declared.SheetAnswer.the-variants.{Written, NotSound, TooSmall}
-use Rattle.sheet_text.specs.Sheet.{usedBy, prefixUsed, Row, freeIn, leasesShown, rows, rowText, headText, sheetText, into, sheetOf, sheetOfLoaded, sheetOfImage}
-use Rattle.sheet_text.specs.Scan.{Wrote, leaseIn, Scan, scanAll, Showed, ReadyAll}
+use Rattle.sheet_text.specs.Sheet.{usedBy, prefixUsed, Row, usedRow, freeRow, usedIn, freeIn, leasesShown, rows, rowText, headText, sheetText, into, sheetOf, sheetOfLoaded, sheetOfImage}
+use Rattle.sheet_text.specs.Scan.{Room, leaseShown, poolShown, poolsShown, scanAll, text, ReadyAll}
+use Rattle.sheet_text.specs.Levels.{allLevels, noLevels}
 use Rattle.sheet_text.proofs.ShowLaws.{scanFirst}
+use Rattle.sheet_text.proofs.LevelLaws.{levelsFirst}
 use Rattle.sheet_text.proofs.RowLaws.{Blocks}
 use Rattle.sheet_text.proofs.PoolLaws.{ScannedAll, scanned-all}
 
@@ -54,18 +58,24 @@ ascending-image : {A : Type 0} (pre : A → Prefix) (from : ℕ) (xs : List A) �
 ascending-image pre from [] s = tt
 ascending-image pre from (x ∷ xs) s = (s .0, ascending-image pre (end (pre x)) xs (s .1))
 
--- Past the last element of a list stands what it is padded with.
-getD-padded : {A : Type 0} (xs : List A) (m k : ℕ) (d : A) → getD (xs ++ replicate m d) k d ≡ getD xs k d
-getD-padded [] zero k d = refl
-getD-padded [] (suc m) zero d = refl
-getD-padded [] (suc m) (suc k) d = getD-padded [] m k d
-getD-padded (x ∷ xs) m zero d = refl
-getD-padded (x ∷ xs) m (suc k) d = getD-padded xs m k d
+-- A POOL IN PLACE
 
-all-getD : {A : Type 0} (P : A → Type 0) (xs : List A) (d : A) → All P xs → P d → (k : ℕ) → P (getD xs k d)
-all-getD P [] d a p k = p
-all-getD P (x ∷ xs) d a p zero = a .0
-all-getD P (x ∷ xs) d a p (suc k) = all-getD P xs d (a .1) p k
+pool-read : (p : Pool) (q : List ℕ) → poolIn (poolRecord p ++ q) ≡ p
+unfolding poolRecord le16 le32 number32
+pool-read p q = λ i. record { network = spell32 (p .network) i; length = p .length }
+
+pool-record-at : (ps : List Pool) (j : ℕ) (q : List ℕ) → j < length ps → (rest : List ℕ) × (drop (9 * j) (gather poolRecord ps ++ q) ≡ poolRecord (getD ps j noPool) ++ rest)
+pool-record-at [] j q h = absurd (omega arith)
+pool-record-at (p ∷ ps) zero q h = (gather poolRecord ps ++ q, append-assoc (poolRecord p) (gather poolRecord ps) q)
+pool-record-at (p ∷ ps) (suc j) q h =
+    let later = pool-record-at ps j q (omega arith) in
+    let e : 9 * suc j ≡ 9 + 9 * j = omega arith in (
+      later .0,
+      ap₂ drop e (append-assoc (poolRecord p) (gather poolRecord ps) q)
+          ∙ sym (drop-drop (9 * j) 9 (poolRecord p ++ (gather poolRecord ps ++ q)))
+          ∙ ap (drop (9 * j)) (drop-at (poolRecord p) (gather poolRecord ps ++ q) 9 (length-pool p))
+          ∙ later .1,
+    )
 
 -- A SOUND TABLE
 
@@ -99,13 +109,17 @@ module _ (t : LeaseTable) (e : sound t ≡ true) where
   unfolding prefixesOf
   pools-are = refl
 
+  pools-good : All (λ p. (8 ≤ p .length) × (p .length ≤ longest) × (end p ≤ addresses)) (poolsOf t)
+  pools-good =
+      subst (All (λ p. (8 ≤ p .length) × (p .length ≤ longest) × (end p ≤ addresses))) (sym pools-are)
+      (all-image poolPrefix (λ p. (8 ≤ p .length) × (p .length ≤ longest) × (end p ≤ addresses)) pools
+      (all-map (λ p (g : GoodPool p). (g .short, g .long, g .within)) pools (sound-pools t e .good)))
+
   pub pools-within : All (λ p. end p ≤ addresses) (poolsOf t)
-  pools-within =
-      subst (All (λ p. end p ≤ addresses)) (sym pools-are)
-      (all-image poolPrefix (λ p. end p ≤ addresses) pools (all-map (λ p (g : GoodPool p). g .within) pools (sound-pools t e .good)))
+  pools-within = all-map (λ p (g : (8 ≤ p .length) × (p .length ≤ longest) × (end p ≤ addresses)). g .2) (poolsOf t) pools-good
 
   pub pools-number : length (poolsOf t) ≤ poolSlots
-  pools-number = pools-few t e (length (poolsOf t)) refl
+  pools-number = omega (arith, ap length pools-are, length-map pools poolPrefix, those-fewer (λ p. not (unused? p)) (t .pools), sound-pool-slots t e)
 
   pub leases-number : length (usedLeases t) ≤ leaseSlots
   leases-number = omega (arith, those-fewer (λ x. not (empty? x)) (t .leases), sound-slots t e)
@@ -114,8 +128,7 @@ module _ (t : LeaseTable) (e : sound t ≡ true) where
   pub all-found : ScannedAll (leasesShown t) blank shown-blocks (poolsOf t) 0 (scanAll (λ k. getD (leasesShown t) k blank) (length (leasesShown t)) (poolsOf t) 0)
   all-found =
       scanned-all (leasesShown t) blank shown-blocks (poolsOf t) 0 0
-      (subst (All (λ p. (8 ≤ p .length) × (p .length ≤ longest))) (sym pools-are)
-      (all-image poolPrefix (λ p. (8 ≤ p .length) × (p .length ≤ longest)) pools (all-map (λ p (g : GoodPool p). (g .short, g .long)) pools (sound-pools t e .good))))
+      (all-map (λ p (g : (8 ≤ p .length) × (p .length ≤ longest) × (end p ≤ addresses)). (g .0, g .1)) (poolsOf t) pools-good)
       (subst (All Aligned) (sym pools-are) (all-image poolPrefix Aligned pools (all-map (λ p (g : GoodPool p). g .aligned) pools (sound-pools t e .good))))
       (subst (Ascending (λ p. p) 0) (sym pools-are) (ascending-image poolPrefix 0 pools (sound-pools t e .ascending)))
       (record { bound = omega arith; before = λ k h. absurd (omega arith); later = λ k h l. omega arith })
@@ -125,99 +138,124 @@ module _ (t : LeaseTable) (e : sound t ≡ true) where
   unfolding rows
   rows-found = all-found .rows
 
-  whole-leases : t .leases ≡ usedLeases t ++ replicate (leaseSlots - length (usedLeases t)) noLease
-  whole-leases = ap (λ (u : LeaseTable). u .leases) (table-whole t e)
+  -- THE SAME FROM THE IMAGE
 
-  -- THE SAME FROM COLUMNS
+  module _ (image : List ℕ) (ei : imageOf t ≡ image) (k n : ℕ) (ek : k ≡ length (usedPools t)) (en : n ≡ length (usedLeases t)) where
+    abbrev base : ℕ
+    base = 13 + 9 * k
 
-  module _ (networks lengths clients expires : List ℕ) (en : networks ≡ map (λ x. x .network) (t .leases)) (el : lengths ≡ map (λ x. x .length) (t .leases))
-      (ec : clients ≡ map (λ x. x .client) (t .leases)) (ee : expires ≡ map (λ x. x .expires) (t .leases)) where
-    column-at : (f : Lease → ℕ) (column : List ℕ) → column ≡ map f (t .leases) → f noLease ≡ 0 → (k : ℕ) → getD column k 0 ≡ f (getD (usedLeases t) k noLease)
-    column-at f column ef z k =
-        ap (λ (c : List ℕ). getD c k 0) ef
-        ∙ ap (λ (n : ℕ). getD (map f (t .leases)) k n) (sym z)
-        ∙ List·getD-map f (t .leases) k noLease
-        ∙ ap (λ (l : List Lease). f (getD l k noLease)) whole-leases
-        ∙ ap f (getD-padded (usedLeases t) (leaseSlots - length (usedLeases t)) k noLease)
+    pub image-size : length image ≡ base + 19 * n
+    image-size = omega (arith, ap length ei, length-image t)
 
-    columns-at : (k : ℕ) → leaseIn networks lengths clients expires k ≡ getD (leasesShown t) k blank
-    columns-at k =
-        (λ i. record {
-          network = column-at (λ x. x .network) networks en refl k i;
-          length = column-at (λ x. x .length) lengths el refl k i;
-          client = column-at (λ x. x .client) clients ec refl k i;
-          expires = column-at (λ x. x .expires) expires ee refl k i;
-        })
-        ∙ sym (shown-at k)
+    no-lease : leaseIn [] ≡ noLease
+    unfolding number32
+    no-lease = refl
 
-    columns-are : leaseIn networks lengths clients expires ≡ (λ k. getD (leasesShown t) k blank)
-    columns-are = λ i k. columns-at k i
+    lease-here : (i : ℕ) → leaseIn (drop (base + 19 * i) image) ≡ getD (usedLeases t) i noLease
+    lease-here i =
+        by-cases (decLe n i)
+        (λ h.
+        let far : length image ≤ base + 19 * i = omega (arith, image-size) in
+        ap leaseIn (drop-of-length-le image far) ∙ no-lease ∙ sym (past (usedLeases t) i (omega arith)))
+        (λ h.
+        ap (λ (m : ℕ). leaseIn (drop (13 + 9 * m + 19 * i) image)) ek
+        ∙ lease-in-place image (13 + 9 * length (usedPools t)) (usedLeases t)
+        (image-records t image (length image) (ei ∙ sym (take-all (length image) image (omega arith)))) i (omega arith))
+      where
+        past : (xs : List Lease) (j : ℕ) → length xs ≤ j → getD xs j noLease ≡ noLease
+        past [] j l = refl
+        past (x ∷ xs) zero l = absurd (omega arith)
+        past (x ∷ xs) (suc j) l = past xs j (omega arith)
 
-    module _ (k n : ℕ) (ek : k ≡ length (prefixesOf (t .pools))) (em : n ≡ length (usedLeases t)) where
-      pools-taken : map poolPrefix (take k (t .pools)) ≡ poolsOf t
-      pools-taken = ap (map poolPrefix) (pools-first t e k ek) ∙ sym pools-are
+    leases-at : (i : ℕ) → leaseShown image base i ≡ getD (leasesShown t) i blank
+    unfolding leaseShown
+    leases-at i = ap usedBy (lease-here i) ∙ sym (shown-at i)
 
-      pub found-rows : scanFirst (leaseIn networks lengths clients expires) n (t .pools) k .rows ≡ rows t
-      found-rows =
-          ap (λ (f : ℕ → Used). scanAll f n (map poolPrefix (take k (t .pools))) 0 .rows) columns-are
-          ∙ ap₂ (λ (m : ℕ) (ps : List Prefix). scanAll (λ j. getD (leasesShown t) j blank) m ps 0 .rows) (em ∙ sym (length-map (usedLeases t) usedBy)) pools-taken
-          ∙ rows-found
+    leases-are : leaseShown image base ≡ (λ i. getD (leasesShown t) i blank)
+    leases-are = λ j i. leases-at i j
 
-      pool-at : (j : ℕ) → j < k → GoodPool (getD (t .pools) j noPool)
-      pool-at j h =
-          subst GoodPool
-          (sym (ap (λ (ps : List Pool). getD ps j noPool) (sound-pools-whole t e) ∙ getD-padded pools (poolSlots - length pools) j noPool))
-          (all-at GoodPool pools (sound-pools t e .good) j noPool (omega (arith, h, used-count t e k ek)))
+    pool-here : (j : ℕ) → j < k → poolShown image j ≡ getD (poolsOf t) j (poolPrefix noPool)
+    unfolding poolShown imageOf
+    pool-here j h =
+        let head : List ℕ = headRecord (headOf t) in
+        let rest : List ℕ = gather poolRecord (usedPools t) ++ gather leaseRecord (usedLeases t) in
+        let at = pool-record-at (usedPools t) j (gather leaseRecord (usedLeases t)) (omega arith) in
+        ap (λ (s : List ℕ). poolPrefix (poolIn s))
+        (ap (drop (13 + 9 * j)) (sym ei)
+        ∙ sym (drop-drop (9 * j) 13 (head ++ rest))
+        ∙ ap (drop (9 * j)) (drop-at head rest 13 (length-head (headOf t)))
+        ∙ at .1)
+        ∙ ap poolPrefix (pool-read (getD (usedPools t) j noPool) (at .0))
+        ∙ sym (ap (λ (ps : List Prefix). getD ps j (poolPrefix noPool)) pools-are ∙ List·getD-map poolPrefix (usedPools t) j noPool)
 
-      pub ready-sheet : (at : ℕ) → at ≤ 4294967296 → ReadyAll lengths n (t .pools) k at
-      ready-sheet at h = record {
-        slots = omega (arith, em, leases-number);
-        blocks = λ i.
-            subst (λ (m : ℕ). m ≤ longest) (sym (column-at (λ x. x .length) lengths el refl i))
-            (all-getD (λ (x : Lease). x .length ≤ longest) (usedLeases t) noLease (all-map (λ x (g : Good (poolsOf t) (t .last) x). g .long) (usedLeases t) (fine .0)) (omega arith) i);
-        few = omega (arith, pools-few t e k ek, sound-pool-slots t e);
-        full = sound-pool-slots t e;
-        short = λ j l. pool-at j l .short;
-        long = λ j l. pool-at j l .long;
-        within = λ j l. pool-at j l .within;
-        low = h;
-      }
+    pools-size : length (poolsOf t) ≡ k
+    pools-size = omega (arith, ap length pools-are, length-map (usedPools t) poolPrefix, ek)
 
-      abbrev scan : Scan
-      scan = scanFirst (leaseIn networks lengths clients expires) n (t .pools) k
+    pools-taken : (j : ℕ) → j ≤ k → poolsShown image j ≡ take j (poolsOf t)
+    unfolding poolsShown
+    pools-taken zero h = refl
+    pools-taken (suc j) h =
+        ap₂ (λ (ps : List Prefix) (p : Prefix). ps ++ (p ∷ [])) (pools-taken j (omega arith)) (pool-here j (omega arith))
+        ∙ sym (take-suc (poolsOf t) j (poolPrefix noPool) (omega (arith, pools-size)))
 
-      abbrev text : List ℕ
-      text = gather rowText (scan .rows)
+    pools-shown : poolsShown image k ≡ poolsOf t
+    pools-shown = pools-taken k (omega arith) ∙ take-all k (poolsOf t) (omega (arith, pools-size))
 
-      sheet-is : headText n (length (freeIn (scan .rows))) ++ text ≡ sheetText t
-      unfolding sheetText
-      sheet-is = ap₂ (λ (m : ℕ) (rs : List Row). headText m (length (freeIn rs)) ++ gather rowText rs) em found-rows
+    n-is : n ≡ length (leasesShown t)
+    n-is = en ∙ sym (length-map (usedLeases t) usedBy)
 
-      -- The first pass: how long the sheet is.
-      module _ (l₀ l₁ l₂ l₃ : List ℕ) (place : Place) (head : ℕ) (showed : Showed l₀ (record { at = 0; next = 0; free = 0 }) scan l₁ place) (wrote : Wrote l₂ 0 (headText n (place .free)) l₃ head) where
-        free-is : place .free ≡ length (freeIn (scan .rows))
-        free-is = omega (arith, ap (λ (p : Place). p .free) (showed .place))
+    pub found-rows : scanFirst image base n k .rows ≡ rows t
+    found-rows =
+        ap (λ (f : ℕ → Used). scanAll f n (poolsShown image k) 0 .rows) leases-are
+        ∙ ap₂ (λ (m : ℕ) (ps : List Prefix). scanAll (λ j. getD (leasesShown t) j blank) m ps 0 .rows) n-is pools-shown
+        ∙ rows-found
 
-        head-is : headText n (place .free) ≡ headText n (length (freeIn (scan .rows)))
-        head-is = ap (headText n) free-is
+    found-levels : levelsFirst image base n k ≡ allLevels (λ i. getD (leasesShown t) i blank) (length (leasesShown t)) (poolsOf t) noLevels
+    found-levels =
+        ap (λ (f : ℕ → Used). allLevels f n (poolsShown image k) noLevels) leases-are
+        ∙ ap₂ (λ (m : ℕ) (ps : List Prefix). allLevels (λ j. getD (leasesShown t) j blank) m ps noLevels) n-is pools-shown
 
-        pub measured : head + place .at ≡ length (sheetText t)
-        measured =
-            omega (
-              arith,
-              wrote .place,
-              ap length head-is,
-              ap (λ (p : Place). p .at) (showed .place),
-              length-append (headText n (length (freeIn (scan .rows)))) text,
-              ap length sheet-is,
-            )
+    split-rows : (rs : List Row) → length rs ≡ length (usedIn rs) + length (freeIn rs)
+    split-rows [] = refl
+    split-rows (usedRow x ∷ rs) = omega (arith, split-rows rs)
+    split-rows (freeRow p ∷ rs) = omega (arith, split-rows rs)
 
-        -- The second pass: the sheet is written.
-        pub written : (l l′ l″ : List ℕ) (head′ : ℕ) (last : Place) → Wrote l 0 (headText n (place .free)) l′ head′ → Showed l′ (record { at = head; next = 0; free = 0 }) scan l″ last
-            → l″ ≡ put l 0 (sheetText t)
-        written l l′ l″ head′ last w s =
-            put-more l l′ l″ 0 (headText n (place .free)) head text (w .bytes) (wrote .place) (s .bytes)
-            ∙ ap (put l 0) (ap (λ (h : List ℕ). h ++ text) head-is ∙ sheet-is)
+    -- The sums tell how many free rows there are.
+    pub free-told : (levels : Levels) → levels ≡ levelsFirst image base n k → length (freeIn (rows t)) + (levels .shared + n) ≡ k + levels .deep
+    free-told levels el =
+        let same : levels ≡ allLevels (λ i. getD (leasesShown t) i blank) (length (leasesShown t)) (poolsOf t) noLevels = el ∙ found-levels in
+        omega (
+          arith,
+          all-found .count noLevels refl,
+          ap (λ (l : Levels). l .shared) same,
+          ap (λ (l : Levels). l .deep) same,
+          split-rows (rows t),
+          ap length rows-found,
+          ap (λ (rs : List Row). length (usedIn rs)) rows-found,
+          ap length (all-found .used),
+          n-is,
+          pools-size,
+        )
+
+    pub ready-levels : (base + 19 * n ≤ length image) × (13 + 9 * k ≤ length image) × (n ≤ leaseSlots)
+    ready-levels = (omega (arith, image-size), omega (arith, image-size), omega (arith, leases-number))
+
+    pub few-pools : k ≤ poolSlots
+    few-pools = omega (arith, pools-number, pools-size)
+
+    pub ready-sheet : (out : List ℕ) (at : ℕ) → Room out at (text (scanFirst image base n k)) → ReadyAll image base n k out at
+    ready-sheet out at room = record {
+      slots = omega (arith, image-size);
+      blocks = λ i h. subst (λ (x : Used). x .length ≤ longest) (sym (leases-at i)) (shown-blocks .long i (omega (arith, n-is)));
+      pools = omega (arith, image-size);
+      long = λ j h. subst (λ (p : Prefix). p .length ≤ longest) (sym (pool-here j h)) (all-at (λ p. (8 ≤ p .length) × (p .length ≤ longest) × (end p ≤ addresses)) (poolsOf t) pools-good j (poolPrefix noPool) (omega (arith, pools-size)) .1);
+      within = λ j h. subst (λ (p : Prefix). end p ≤ addresses) (sym (pool-here j h)) (all-at (λ p. (8 ≤ p .length) × (p .length ≤ longest) × (end p ≤ addresses)) (poolsOf t) pools-good j (poolPrefix noPool) (omega (arith, pools-size)) .2);
+      room = room;
+    }
+
+    pub sheet-is : (free : ℕ) → free ≡ length (freeIn (rows t)) → headText n free ++ text (scanFirst image base n k) ≡ sheetText t
+    unfolding sheetText
+    sheet-is free ef = ap₂ (λ (m : ℕ) (f : ℕ). headText m f ++ text (scanFirst image base n k)) en ef ∙ ap (λ (rs : List Row). headText (length (usedLeases t)) (length (freeIn (rows t))) ++ gather rowText rs) found-rows
 
 -- WHAT IS ANSWERED
 
@@ -231,14 +269,9 @@ module _ (text l : List ℕ) where
       let e : l′ ≡ text ++ drop (length text) l = el ∙ put-fits text l 0 (omega arith) ∙ ap (λ (k : ℕ). text ++ drop k l) z in
       ap₂ (λ (k : ℕ) (m : List ℕ). (Written k, m)) es e ∙ sym (rw (le-ltb (length l) (length text) (omega arith)) refl)
 
-module _ (t : LeaseTable) (l : List ℕ) where
-  pub sheet-unsound : sound t ≡ false → (NotSound, l) ≡ sheetOf t l
-  unfolding sheetOf
-  sheet-unsound e = rw e refl
-
-  pub sheet-sound : sound t ≡ true → into (sheetText t) l ≡ sheetOf t l
-  unfolding sheetOf
-  sheet-sound e = rw e refl
+pub sheet-sound : (t : LeaseTable) (l : List ℕ) → sound t ≡ true → into (sheetText t) l ≡ sheetOf t l
+unfolding sheetOf
+sheet-sound t l e = rw e refl
 
 -- What loads is sound.
 whole-sound : (u t : LeaseTable) (rest : List ℕ) → whole u rest ≡ some t → sound t ≡ true
@@ -264,24 +297,11 @@ loads-sound s t e = cases (headAt s) e
         let ls : Run Lease = leasesAt (ps .rest) in
         whole-sound (tableWith x (ps .items) (ls .items)) t (ls .rest) f
 
--- What load answers: a sound table, or none.
-module _ (bytes : List ℕ) (loaded : Loaded) (e : loaded ≡ loadedOf (loadImage bytes)) where
-  accepted : (o : Option LeaseTable) → loaded ≡ loadedOf o → loaded .answer ≡ Accepted → o ≡ some (loaded .table)
-  accepted none f a = let z : _≡_ {A = ℕ} 0 1 = cc (ap (λ (x : Loaded). x .answer) f) in absurd (omega arith)
-  accepted (some t) f a = ap some (sym (ap (λ (x : Loaded). x .table) f))
+module _ (image l : List ℕ) where
+  pub image-sound : (t : LeaseTable) → loadImage image ≡ some t → into (sheetText t) l ≡ sheetOfImage image l
+  unfolding sheetOfImage
+  image-sound t e = sheet-sound t l (loads-sound image t e) ∙ ap (λ (o : Option LeaseTable). sheetOfLoaded o l) (sym e)
 
-  refused : (o : Option LeaseTable) → loaded ≡ loadedOf o → loaded .answer ≡ Unsound → o ≡ none
-  refused none f a = refl
-  refused (some t) f a = let z : _≡_ {A = ℕ} 0 1 = cc (ap (λ (x : Loaded). x .answer) f) in absurd (omega arith)
-
-  pub loaded-sound : loaded .answer ≡ Accepted → sound (loaded .table) ≡ true
-  loaded-sound a = loads-sound bytes (loaded .table) (accepted (loadImage bytes) e a)
-
-  module _ (l : List ℕ) where
-    pub image-sound : loaded .answer ≡ Accepted → into (sheetText (loaded .table)) l ≡ sheetOfImage bytes l
-    unfolding sheetOfImage
-    image-sound a = sheet-sound (loaded .table) l (loaded-sound a) ∙ ap (λ (o : Option LeaseTable). sheetOfLoaded o l) (sym (accepted (loadImage bytes) e a))
-
-    pub image-unsound : loaded .answer ≡ Unsound → (NotSound, l) ≡ sheetOfImage bytes l
-    unfolding sheetOfImage
-    image-unsound a = ap (λ (o : Option LeaseTable). sheetOfLoaded o l) (sym (refused (loadImage bytes) e a))
+  pub image-unsound : loadImage image ≡ none → (NotSound, l) ≡ sheetOfImage image l
+  unfolding sheetOfImage
+  image-unsound e = ap (λ (o : Option LeaseTable). sheetOfLoaded o l) (sym e)

@@ -1,62 +1,42 @@
--- Laws of showing rows: rows put one after another, what the scan of a prefix is, and how much it can come to.
+-- Laws of showing rows: the room they need, rows put one after another, and what the scan of a prefix is.
 -- Assumes nothing.
-use Prim.Native.Nat.{ℕ, zero, suc, _+_, _-_, _*_, _/_, _%_, _^_, _≤_, _<_}
+use Prim.Native.Nat.{ℕ, zero, suc, _+_, _-_, _≤_, _<_}
 use mathlib.Core.Path.{_≡_, refl, sym, ap, subst, _∙_}
-use mathlib.Core.Logic.{⊎-elim}
+use mathlib.Core.Logic.{inl, inr, ⊎-elim, by-cases}
 use mathlib.Core.Bool.{Bool, true, false, true≢false}
-use mathlib.Core.List.{List, [], _∷_, _++_, map, map-append, append-nil, append-assoc}
-use native.Mathlib.Nat.{pow-suc}
+use mathlib.Core.List.{List, [], _∷_, _++_, append-nil, append-assoc}
+use native.Mathlib.Decide.{decLe}
 use native.Mathlib.Numerals.{add-one}
 use native.Mathlib.Omega.{arith}
-use lib.ListN.{length, take, getD, length-append}
-use lib.Seq.{take-suc}
+use lib.ListN.{length, length-append}
 use lib.Dec.{leb, ltb}
 use borrow.Author.Tests.{le-leb, lt-leb, ltb-true, leb-false}
-use lib.Pow.{pow-pos, pow-mono}
-use Rattle.lists.specs.Lists.{gather}
 use Rattle.lists.specs.Put.{put}
 use Rattle.lists.proofs.Tests.{bool-cases, cond-true, cond-false}
 use Rattle.lists.proofs.GatherLaws.{gather-append, gather-one}
-use Rattle.lists.proofs.PutLaws.{put-nothing, put-more}
+use Rattle.lists.proofs.PutLaws.{put-nothing, put-more, put-past}
 use Rattle.prefix.specs.declared.Prefix.{Prefix}
 use Rattle.prefix.specs.Prefixes.{longest, end, lower, upper}
-use Rattle.table.specs.declared.Pool.{Pool}
-use Rattle.table.specs.Table.{noPool, poolPrefix}
+use Rattle.prefix.proofs.PrefixLaws.{lower-inside, upper-inside}
 use Rattle.sheet_text.specs.declared.Used.{Used}
-use Rattle.sheet_text.specs.declared.Place.{Place}
-use Rattle.sheet_text.specs.Text.{prefixText}
-use Rattle.sheet_text.specs.Sheet.{Row, usedRow, freeRow, freeIn, prefixUsed, rowText}
-use Rattle.sheet_text.specs.Scan.{Wrote, Scan, clear?, both, freeScan, usedScan, turn, scan, scanHalves, scanOf, scanAll, after, Showed, Ready, ReadyAll}
-use Rattle.sheet_text.proofs.TextLaws.{length-digits}
+use Rattle.sheet_text.specs.Sheet.{Row, usedRow, freeRow, freeIn, rowText}
+use Rattle.sheet_text.specs.Scan.{Wrote, Room, leaseShown, poolShown, poolsShown, Scan, clear?, both, freeScan, usedScan, scan, scanHalves, scanOf, scanAll, text, Showed, Ready, ReadyAll}
 
-abbrev place : ℕ → ℕ → ℕ → Place
-place at next free = record { at = at; next = next; free = free }
+-- ROOM
 
-place-path : (a a′ n f f′ : ℕ) → a ≡ a′ → f ≡ f′ → place a n f ≡ place a′ n f′
-place-path a a′ n f f′ p q = λ i. place (p i) n (q i)
-
--- ONE ROW
-
-module _ (l l′ : List ℕ) (from : Place) (at : ℕ) where
-  bytes-one : (r : Row) → Wrote l (from .at) (rowText r) l′ at → l′ ≡ put l (from .at) (gather rowText (r ∷ []))
-  bytes-one r w = w .bytes ∙ ap (put l (from .at)) (sym (gather-one rowText r))
-
-  place-one : (r : Row) → Wrote l (from .at) (rowText r) l′ at → at ≡ from .at + length (gather rowText (r ∷ []))
-  place-one r w = w .place ∙ ap (λ (t : List ℕ). from .at + length t) (sym (gather-one rowText r))
-
-pub showed-free : (p : Prefix) (l l′ : List ℕ) (from : Place) (at : ℕ) → Wrote l (from .at) (rowText (freeRow p)) l′ at
-    → Showed l from (freeScan p (from .next)) l′ (place at (from .next) (from .free + 1))
-showed-free p l l′ from at w = record {
-  bytes = bytes-one l l′ from at (freeRow p) w;
-  place = place-path _ _ (from .next) _ _ (place-one l l′ from at (freeRow p) w) refl;
+-- Room for a text is room for what does not end after it.
+pub room-part : (out out′ : List ℕ) (at mid : ℕ) (xs ys : List ℕ) → length out′ ≡ length out → mid + length ys ≤ at + length xs → Room out at xs → Room out′ mid ys
+room-part out out′ at mid xs ys e h r = record {
+  small = omega (arith, r .small);
+  fits = ⊎-elim (λ (z : length out ≡ 0). inl (omega arith)) (λ (f : at + length xs ≤ length out). inr (omega arith)) (r .fits);
 }
 
-pub showed-used : (x : Used) (l l′ : List ℕ) (from : Place) (at : ℕ) → Wrote l (from .at) (rowText (usedRow x)) l′ at
-    → Showed l from (usedScan x (from .next)) l′ (place at (from .next + 1) (from .free))
-showed-used x l l′ from at w = record {
-  bytes = bytes-one l l′ from at (usedRow x) w;
-  place = place-path _ _ (from .next + 1) _ _ (place-one l l′ from at (usedRow x) w) (omega arith);
-}
+pub room-fits : (out : List ℕ) (at : ℕ) (xs : List ℕ) → Room out at xs → (length out ≡ 0 → ⊥) → at + length xs ≤ length out
+room-fits out at xs r n = ⊎-elim (λ (z : length out ≡ 0). absurd (n z)) (λ (f : at + length xs ≤ length out). f) (r .fits)
+
+-- Nothing is put into an empty buffer.
+pub wrote-empty : (l : List ℕ) (at q : ℕ) (xs : List ℕ) → length l ≡ 0 → q ≡ at + length xs → Wrote l at xs l q
+wrote-empty l at q xs z e = record { bytes = sym (put-past xs l at (omega arith)); place = e }
 
 -- ROWS AFTER ROWS
 
@@ -65,28 +45,31 @@ free-append [] ys = refl
 free-append (usedRow x ∷ xs) ys = free-append xs ys
 free-append (freeRow p ∷ xs) ys = ap (λ (ps : List Prefix). p ∷ ps) (free-append xs ys)
 
-abbrev text : Scan → List ℕ
-text s = gather rowText (s .rows)
-
-text-both : (a b : Scan) → text (both a b) ≡ text a ++ text b
+pub text-both : (a b : Scan) → text (both a b) ≡ text a ++ text b
 text-both a b = gather-append rowText (a .rows) (b .rows)
 
-after-both : (from : Place) (a b : Scan) → after (after from a) b ≡ after from (both a b)
-after-both from a b =
-    place-path _ _ (b .next) _ _
-    (omega (arith, ap length (text-both a b), length-append (text a) (text b)))
-    (omega (arith, ap length (free-append (a .rows) (b .rows)), length-append (freeIn (a .rows)) (freeIn (b .rows))))
+length-both : (a b : Scan) → length (text (both a b)) ≡ length (text a) + length (text b)
+length-both a b = ap length (text-both a b) ∙ length-append (text a) (text b)
 
-pub showed-nothing : (l : List ℕ) (from : Place) → Showed l from (record { rows = []; next = from .next }) l from
-showed-nothing l from = record { bytes = sym (put-nothing l (from .at)); place = place-path _ _ (from .next) _ _ (omega arith) (omega arith) }
+pub length-one : (r : Row) (i : ℕ) → length (text (record { rows = r ∷ []; next = i })) ≡ length (rowText r)
+length-one r i = ap length (gather-one rowText r)
 
-pub showed-both : (l l₁ l₂ : List ℕ) (from mid to : Place) (a b : Scan) → Showed l from a l₁ mid → Showed l₁ mid b l₂ to → Showed l from (both a b) l₂ to
-showed-both l l₁ l₂ from mid to a b s t = record {
-  bytes =
-      put-more l l₁ l₂ (from .at) (text a) (mid .at) (text b) (s .bytes) (ap (λ (p : Place). p .at) (s .place)) (t .bytes)
-      ∙ ap (put l (from .at)) (sym (text-both a b));
-  place = t .place ∙ ap (λ (p : Place). after p b) (s .place) ∙ after-both from a b;
+pub showed-one : (r : Row) (l l′ : List ℕ) (at q i j : ℕ) → Wrote l at (rowText r) l′ q → j ≡ i → Showed l at (record { rows = r ∷ []; next = i }) l′ q j
+showed-one r l l′ at q i j w e = record {
+  bytes = w .bytes ∙ ap (put l at) (sym (gather-one rowText r));
+  place = w .place ∙ ap (λ (n : ℕ). at + n) (sym (length-one r i));
+  cursor = e;
 }
+
+pub showed-both : (l l₁ l₂ : List ℕ) (at mid to i j : ℕ) (a b : Scan) → Showed l at a l₁ mid i → Showed l₁ mid b l₂ to j → Showed l at (both a b) l₂ to j
+showed-both l l₁ l₂ at mid to i j a b s t = record {
+  bytes = put-more l l₁ l₂ at (text a) mid (text b) (s .bytes) (s .place) (t .bytes) ∙ ap (put l at) (sym (text-both a b));
+  place = omega (arith, s .place, t .place, length-both a b);
+  cursor = t .cursor;
+}
+
+pub showed-as : (l l′ : List ℕ) (at q j : ℕ) (s s′ : Scan) → s′ ≡ s → Showed l at s l′ q j → Showed l at s′ l′ q j
+showed-as l l′ at q j s s′ e h = subst (λ (u : Scan). Showed l at u l′ q j) (sym e) h
 
 -- WHAT THE SCAN OF A PREFIX IS
 
@@ -112,9 +95,6 @@ module _ (leases : ℕ → Used) (n : ℕ) (p : Prefix) (i : ℕ) where
         let less : longest - p .length ≡ suc (longest - (p .length + 1)) = omega arith in
         ap (λ (left : ℕ). scan leases n left p i) less ∙ scan-split (longest - (p .length + 1)) h
 
-pub clear-told : (n stop stop′ i network : ℕ) (r b : Bool) → stop′ ≡ stop → r ≡ clear? n stop′ i network → r ≡ b → clear? n stop i network ≡ b
-clear-told n stop stop′ i network r b e f g = ap (λ (s : ℕ). clear? n s i network) (sym e) ∙ sym f ∙ g
-
 -- Where a prefix is not clear, a lease is left, and it starts before the end.
 pub clear-not : (n stop i network : ℕ) → clear? n stop i network ≡ false → (i < n) × (network < stop)
 clear-not n stop i network e =
@@ -123,109 +103,79 @@ clear-not n stop i network e =
     (λ (b : ltb i n ≡ false). absurd (true≢false (sym (cond-false (ltb i n) (leb stop network) true b) ∙ e)))
     (bool-cases (ltb i n))
 
--- HOW MUCH IT CAN COME TO
+-- What the code's test of a prefix tells of its scan.
+module _ (leases : ℕ → Used) (n : ℕ) (p : Prefix) (i stop : ℕ) (r : Bool) (es : stop ≡ end p) (er : r ≡ clear? n stop i (leases i .network)) where
+  pub told-clear : (b : Bool) → r ≡ b → clear? n (end p) i (leases i .network) ≡ b
+  told-clear b e = ap (λ (s : ℕ). clear? n s i (leases i .network)) (sym es) ∙ sym er ∙ e
 
-length-prefix : (p : Prefix) → length (prefixText p) ≤ 54
-unfolding prefixText
-length-prefix p =
-    simp length-append (omega (
-      arith,
-      length-digits 9 (p .network / 16777216),
-      length-digits 9 (p .network / 65536 % 256),
-      length-digits 9 (p .network / 256 % 256),
-      length-digits 9 (p .network % 256),
-      length-digits 9 (p .length),
-    ))
+  pub told-free : r ≡ true → scanOf leases n p i ≡ freeScan p i
+  told-free e = scan-clear leases n p i (longest - p .length) (told-clear true e)
 
-pub length-row : (r : Row) → length (rowText r) ≤ 96
-unfolding rowText
-length-row (usedRow x) = simp length-append (omega (arith, length-prefix (prefixUsed x), length-digits 9 (x .client), length-digits 9 (x .expires)))
-length-row (freeRow p) = simp length-append (omega (arith, length-prefix p))
+  pub told-lease : r ≡ false → i < n
+  told-lease e = clear-not n (end p) i (leases i .network) (told-clear false e) .0
 
-pub length-rows : (rs : List Row) → length (gather rowText rs) ≤ 96 * length rs
-length-rows [] = omega arith
-length-rows (r ∷ rs) = omega (arith, length-append (rowText r) (gather rowText rs), length-row r, length-rows rs)
+  module _ (e : r ≡ false) (x : Used) (ex : x ≡ leases i) where
+    pub told-used : x .length ≤ p .length → scanOf leases n p i ≡ usedScan x i
+    told-used h =
+        scan-here leases n p i (told-clear false e) (longest - p .length) (subst (λ (y : Used). y .length ≤ p .length) ex h)
+        ∙ ap (λ (y : Used). usedScan y i) (sym ex)
 
-pub free-fewer : (rs : List Row) → length (freeIn rs) ≤ length rs
-free-fewer [] = omega arith
-free-fewer (usedRow x ∷ rs) = omega (arith, free-fewer rs)
-free-fewer (freeRow p ∷ rs) = omega (arith, free-fewer rs)
+    pub told-halves : p .length < longest → p .length < x .length → scanOf leases n p i ≡ scanHalves leases n p i
+    told-halves s h = scan-halves leases n p i (told-clear false e) s (subst (λ (y : Used). p .length < y .length) ex h)
 
-turn-fewer : (most : ℕ) (b c : Bool) (p : Prefix) (x : Used) (i : ℕ) (s : Scan) → 1 ≤ most → length (s .rows) ≤ most → length (turn b c p x i s .rows) ≤ most
-turn-fewer most true c p x i s h k = h
-turn-fewer most false true p x i s h k = h
-turn-fewer most false false p x i s h k = k
+-- TWO HALVES, ONE AFTER THE OTHER
 
--- At most a row for each part of the longest length.
-pub scan-fewer : (leases : ℕ → Used) (n left : ℕ) (p : Prefix) (i : ℕ) → length (scan leases n left p i .rows) ≤ 2 ^ left
-unfolding scan
-scan-fewer leases n zero p i = turn-fewer 1 (clear? n (end p) i (leases i .network)) (leb (leases i .length) (p .length)) p (leases i) i (record { rows = []; next = i }) (omega arith) (omega arith)
-scan-fewer leases n (suc left) p i =
-    let low : Scan = scan leases n left (lower p) i in
-    let high : Scan = scan leases n left (upper p) (low .next) in
-    turn-fewer (2 ^ suc left) (clear? n (end p) i (leases i .network)) (leb (leases i .length) (p .length)) p (leases i) i (both low high) (pow-pos (suc left))
-    (omega (arith, length-append (low .rows) (high .rows), scan-fewer leases n left (lower p) i, scan-fewer leases n left (upper p) (low .next), pow-suc 2 left))
+pub showed-halves : (leases : ℕ → Used) (n : ℕ) (p low high : Prefix) → low ≡ lower p → high ≡ upper p → (l l₁ l₂ : List ℕ) (at mid to i j k : ℕ)
+    → Showed l at (scanOf leases n low i) l₁ mid j → Showed l₁ mid (scanOf leases n high j) l₂ to k → Showed l at (scanHalves leases n p i) l₂ to k
+showed-halves leases n p low high el eh l l₁ l₂ at mid to i j k s t =
+    let first : Showed l at (scanOf leases n (lower p) i) l₁ mid j = subst (λ (q : Prefix). Showed l at (scanOf leases n q i) l₁ mid j) el s in
+    let second : Showed l₁ mid (scanOf leases n (upper p) j) l₂ to k = subst (λ (q : Prefix). Showed l₁ mid (scanOf leases n q j) l₂ to k) eh t in
+    showed-both l l₁ l₂ at mid to j k (scanOf leases n (lower p) i) (scanOf leases n (upper p) (scanOf leases n (lower p) i .next)) first
+    (subst (λ (m : ℕ). Showed l₁ mid (scanOf leases n (upper p) m) l₂ to k) (first .cursor) second)
 
--- Where the writing stands after a prefix.
-pub after-at : (leases : ℕ → Used) (n : ℕ) (from : Place) (p : Prefix) → after from (scanOf leases n p (from .next)) .at ≤ from .at + 96 * 2 ^ (longest - p .length)
-after-at leases n from p =
-    omega (arith, length-rows (scanOf leases n p (from .next) .rows), scan-fewer leases n (longest - p .length) p (from .next))
+module _ (image : List ℕ) (base n : ℕ) where
+  abbrev leases : ℕ → Used
+  leases = leaseShown image base
 
-pub after-free : (leases : ℕ → Used) (n : ℕ) (from : Place) (p : Prefix) → after from (scanOf leases n p (from .next)) .free ≤ from .free + 2 ^ (longest - p .length)
-after-free leases n from p =
-    omega (arith, free-fewer (scanOf leases n p (from .next) .rows), scan-fewer leases n (longest - p .length) p (from .next))
+  pub ready-as : (out : List ℕ) (at : ℕ) (p : Prefix) (s s′ : Scan) → s ≡ s′ → Ready image base n out at p s → Ready image base n out at p s′
+  ready-as out at p s s′ e r = subst (Ready image base n out at p) e r
 
--- WHAT THE CALLS ASK FOR
+  -- A scan of one row.
+  pub ready-one : (out : List ℕ) (at i : ℕ) (p : Prefix) (s : Scan) (r : Row) → s ≡ record { rows = r ∷ []; next = i } → Ready image base n out at p s → Room out at (rowText r)
+  ready-one out at i p s r e ready =
+      room-part out out at at (text s) (rowText r) refl (omega (arith, ap (λ (u : Scan). length (text u)) e, length-one r i)) (ready .room)
 
-module _ (lengths : List ℕ) (n : ℕ) (from : Place) (p : Prefix) (ready : Ready lengths n from p) where
-  pub ready-row : (from .at < 1152921504606846976) × (from .free < 4294967295)
-  ready-row = (omega (arith, pow-pos (longest - p .length)), omega (arith, pow-pos (longest - p .length)))
-
-  -- A lease that is longer than p is there, so p has halves.
-  pub ready-short : (i : ℕ) → p .length < getD lengths i 0 → p .length < longest
-  ready-short i h = omega (arith, ready .blocks i)
-
-  module _ (short : p .length < longest) where
-    less : 2 ^ (longest - p .length) ≡ 2 ^ (longest - (p .length + 1)) + 2 ^ (longest - (p .length + 1))
-    less =
-        let e : longest - p .length ≡ suc (longest - (p .length + 1)) = omega arith in
-        ap (λ (k : ℕ). 2 ^ k) e ∙ omega (arith, pow-suc 2 (longest - (p .length + 1)))
-
-    -- What showing a half asks for, from a place that is at most a half further.
-    pub ready-half : (place : Place) (q : Prefix) → q .length ≡ p .length + 1 → end q ≤ end p → place .at ≤ from .at + 96 * 2 ^ (longest - (p .length + 1))
-        → place .free ≤ from .free + 2 ^ (longest - (p .length + 1)) → Ready lengths n place q
-    ready-half place q e w r k =
-        let f : 2 ^ (longest - q .length) ≡ 2 ^ (longest - (p .length + 1)) = ap (λ (l : ℕ). 2 ^ (longest - l)) e in
-        record {
-          long = omega (arith, e);
-          within = omega (arith, w, ready .within);
+  module _ (out : List ℕ) (at i : ℕ) (p low high : Prefix) (short : p .length < longest) (el : low ≡ lower p) (eh : high ≡ upper p)
+      (ready : Ready image base n out at p (scanHalves leases n p i)) where
+    pub ready-low : Ready image base n out at low (scanOf leases n low i)
+    ready-low =
+        subst (λ (q : Prefix). Ready image base n out at q (scanOf leases n q i)) (sym el)
+        (record {
+          long = omega arith;
+          within = omega (arith, lower-inside p (omega arith) .1, ready .within);
           slots = ready .slots;
           blocks = ready .blocks;
-          room = omega (arith, less, f, r, ready .room);
-          count = omega (arith, less, f, k, ready .count);
-        }
+          room =
+              let a : Scan = scanOf leases n (lower p) i in
+              let b : Scan = scanOf leases n (upper p) (a .next) in
+              room-part out out at at (text (both a b)) (text a) refl (omega (arith, length-both a b)) (ready .room);
+        })
 
-  -- Where the writing stands after a half.
-  pub after-half : (leases : ℕ → Used) (mid : Place) (q : Prefix) → q .length ≡ p .length + 1 → mid ≡ after from (scanOf leases n q (from .next))
-      → (mid .at ≤ from .at + 96 * 2 ^ (longest - (p .length + 1))) × (mid .free ≤ from .free + 2 ^ (longest - (p .length + 1)))
-  after-half leases mid q e m =
-      let f : 2 ^ (longest - q .length) ≡ 2 ^ (longest - (p .length + 1)) = ap (λ (l : ℕ). 2 ^ (longest - l)) e in (
-        omega (arith, f, ap (λ (r : Place). r .at) m, after-at leases n from q),
-        omega (arith, f, ap (λ (r : Place). r .free) m, after-free leases n from q),
-      )
-
--- Two halves, one after the other.
-pub showed-halves : (leases : ℕ → Used) (n : ℕ) (p low high : Prefix) → low ≡ lower p → high ≡ upper p → (l l₁ l₂ : List ℕ) (from mid to : Place)
-    → Showed l from (scanOf leases n low (from .next)) l₁ mid → Showed l₁ mid (scanOf leases n high (mid .next)) l₂ to → Showed l from (scanHalves leases n p (from .next)) l₂ to
-showed-halves leases n p low high el eh l l₁ l₂ from mid to s t =
-    let first : Showed l from (scanOf leases n (lower p) (from .next)) l₁ mid = subst (λ (q : Prefix). Showed l from (scanOf leases n q (from .next)) l₁ mid) el s in
-    let e : mid .next ≡ scanOf leases n (lower p) (from .next) .next = ap (λ (q : Place). q .next) (first .place) in
-    let second : Showed l₁ mid (scanOf leases n (upper p) (mid .next)) l₂ to = subst (λ (q : Prefix). Showed l₁ mid (scanOf leases n q (mid .next)) l₂ to) eh t in
-    showed-both l l₁ l₂ from mid to (scanOf leases n (lower p) (from .next)) (scanOf leases n (upper p) (scanOf leases n (lower p) (from .next) .next)) first
-    (subst (λ (i : ℕ). Showed l₁ mid (scanOf leases n (upper p) i) l₂ to) e second)
-
-pub showed-as : (l l′ : List ℕ) (from to : Place) (s s′ : Scan) → s′ ≡ s → Showed l from s l′ to → Showed l from s′ l′ to
-showed-as l l′ from to s s′ e h = subst (λ (u : Scan). Showed l from u l′ to) (sym e) h
+    pub ready-high : (out′ : List ℕ) (mid j : ℕ) → length out′ ≡ length out → Showed out at (scanOf leases n low i) out′ mid j → Ready image base n out′ mid high (scanOf leases n high j)
+    ready-high out′ mid j kept s =
+        let a : Scan = scanOf leases n (lower p) i in
+        let b : Scan = scanOf leases n (upper p) (a .next) in
+        let first : Showed out at a out′ mid j = subst (λ (q : Prefix). Showed out at (scanOf leases n q i) out′ mid j) el s in
+        subst (λ (q : Prefix). Ready image base n out′ mid q (scanOf leases n q j)) (sym eh)
+        (record {
+          long = omega arith;
+          within = omega (arith, upper-inside p (omega arith) .1, ready .within);
+          slots = ready .slots;
+          blocks = ready .blocks;
+          room =
+              subst (λ (m : ℕ). Room out′ mid (text (scanOf leases n (upper p) m))) (sym (first .cursor))
+              (room-part out out′ at mid (text (both a b)) (text b) kept (omega (arith, first .place, length-both a b)) (ready .room));
+        })
 
 -- POOLS, ONE AFTER ANOTHER
 
@@ -242,52 +192,54 @@ all-snoc leases n (q ∷ ps) p i =
     ap (both first) (all-snoc leases n ps p (first .next))
     ∙ scan-path _ _ _ (sym (append-assoc (first .rows) (later .rows) (scanOf leases n p (later .next) .rows)))
 
--- The first j pools.
-abbrev pub scanFirst : (ℕ → Used) → ℕ → List Pool → ℕ → Scan
-scanFirst leases n pools j = scanAll leases n (map poolPrefix (take j pools)) 0
+module _ (image : List ℕ) (base n : ℕ) where
+  -- The rows of the first j pools.
+  abbrev pub scanFirst : ℕ → Scan
+  scanFirst j = scanAll (leaseShown image base) n (poolsShown image j) 0
 
-module _ (leases : ℕ → Used) (n : ℕ) (pools : List Pool) (start : Place) (l : List ℕ) where
-  pub showed-none : start .next ≡ 0 → Showed l start (scanFirst leases n pools 0) l start
-  unfolding scanAll
-  showed-none e = showed-as l l start start (record { rows = []; next = start .next }) (scanFirst leases n pools 0) (ap (λ (i : ℕ). record { rows = []; next = i }) (sym e)) (showed-nothing l start)
+  abbrev nextScan : ℕ → ℕ → Scan
+  nextScan j i = scanOf (leaseShown image base) n (poolShown image j) i
 
-  pub showed-pool : (j : ℕ) (l₁ l₂ : List ℕ) (mid to : Place) (p : Prefix) → j < length pools → p ≡ poolPrefix (getD pools j noPool) → Showed l start (scanFirst leases n pools j) l₁ mid
-      → Showed l₁ mid (scanOf leases n p (mid .next)) l₂ to → Showed l start (scanFirst leases n pools (j + 1)) l₂ to
-  showed-pool j l₁ l₂ mid to p lt ep s t =
-      let q : Prefix = poolPrefix (getD pools j noPool) in
-      let more : map poolPrefix (take (j + 1) pools) ≡ map poolPrefix (take j pools) ++ (q ∷ []) =
-      ap (λ (m : ℕ). map poolPrefix (take m pools)) (add-one j) ∙ ap (map poolPrefix) (take-suc pools j noPool lt) ∙ map-append poolPrefix (take j pools) (getD pools j noPool ∷ []) in
-      let e : mid .next ≡ scanFirst leases n pools j .next = ap (λ (r : Place). r .next) (s .place) in
-      let t′ : Showed l₁ mid (scanOf leases n q (scanFirst leases n pools j .next)) l₂ to =
-      subst (λ (i : ℕ). Showed l₁ mid (scanOf leases n q i) l₂ to) e (subst (λ (r : Prefix). Showed l₁ mid (scanOf leases n r (mid .next)) l₂ to) ep t) in
-      showed-as l l₂ start to (both (scanFirst leases n pools j) (scanOf leases n q (scanFirst leases n pools j .next))) (scanFirst leases n pools (j + 1))
-      (ap (λ (ps : List Prefix). scanAll leases n ps 0) more ∙ all-snoc leases n (map poolPrefix (take j pools)) q 0)
-      (showed-both l l₁ l₂ start mid to (scanFirst leases n pools j) (scanOf leases n q (scanFirst leases n pools j .next)) s t′)
+  first-more : (j : ℕ) → scanFirst (suc j) ≡ both (scanFirst j) (nextScan j (scanFirst j .next))
+  unfolding poolsShown
+  first-more j = all-snoc (leaseShown image base) n (poolsShown image j) (poolShown image j) 0
 
--- How much j pools come to: none has more than 2^22 parts of the longest length.
-pub record Within (at j : ℕ) (place : Place) : Type 0 where
-  pub room : place .at ≤ at + 402653184 * j
-  pub count : place .free ≤ 4194304 * j
+  pub showed-none : (l : List ℕ) (at : ℕ) → Showed l at (scanFirst 0) l at 0
+  unfolding scanAll poolsShown
+  showed-none l at = record { bytes = sym (put-nothing l at); place = omega arith; cursor = refl }
 
-parts : (l : ℕ) → 8 ≤ l → 2 ^ (longest - l) ≤ 4194304
-parts l h = pow-mono {i = longest - l} {j = 22} (omega arith)
+  pub showed-pool : (l l₁ l₂ : List ℕ) (at mid to i k j : ℕ) (p : Prefix) → p ≡ poolShown image j → Showed l at (scanFirst j) l₁ mid i
+      → Showed l₁ mid (scanOf (leaseShown image base) n p i) l₂ to k → Showed l at (scanFirst (j + 1)) l₂ to k
+  showed-pool l l₁ l₂ at mid to i k j p e s t =
+      showed-as l l₂ at to k (both (scanFirst j) (nextScan j (scanFirst j .next))) (scanFirst (j + 1)) (ap scanFirst (add-one j) ∙ first-more j)
+      (showed-both l l₁ l₂ at mid to i k (scanFirst j) (nextScan j (scanFirst j .next)) s
+      (subst (λ (m : ℕ). Showed l₁ mid (nextScan j m) l₂ to k) (s .cursor)
+      (subst (λ (q : Prefix). Showed l₁ mid (scanOf (leaseShown image base) n q i) l₂ to k) e t)))
 
-module _ (lengths : List ℕ) (n : ℕ) (pools : List Pool) (k at j : ℕ) (place : Place) (ready : ReadyAll lengths n pools k at) (lt : j < k) (within : Within at j place) where
-  pub ready-pool : Ready lengths n place (poolPrefix (getD pools j noPool))
-  ready-pool = record {
-    long = ready .long j lt;
-    within = ready .within j lt;
-    slots = ready .slots;
-    blocks = ready .blocks;
-    room = omega (arith, parts (getD pools j noPool .length) (ready .short j lt), within .room, ready .low, ready .few, ready .full);
-    count = omega (arith, parts (getD pools j noPool .length) (ready .short j lt), within .count, ready .few, ready .full);
-  }
+  -- All of them.
+  pub wrote-pools : (l l′ : List ℕ) (at to i j k : ℕ) → j ≡ k → Showed l at (scanFirst j) l′ to i → Wrote l at (text (scanFirst k)) l′ to
+  wrote-pools l l′ at to i j k e s = subst (λ (m : ℕ). Wrote l at (text (scanFirst m)) l′ to) e (record { bytes = s .bytes; place = s .place })
 
-  pub within-pool : (leases : ℕ → Used) (p : Prefix) (to : Place) → p ≡ poolPrefix (getD pools j noPool) → to ≡ after place (scanOf leases n p (place .next)) → Within at (j + 1) to
-  within-pool leases p to ep e =
-      let q : Prefix = poolPrefix (getD pools j noPool) in
-      let f : to ≡ after place (scanOf leases n q (place .next)) = e ∙ ap (λ (r : Prefix). after place (scanOf leases n r (place .next))) ep in
-      record {
-        room = omega (arith, ap (λ (r : Place). r .at) f, after-at leases n place q, parts (q .length) (ready .short j lt), within .room);
-        count = omega (arith, ap (λ (r : Place). r .free) f, after-free leases n place q, parts (q .length) (ready .short j lt), within .count);
-      }
+  first-longer : (j k : ℕ) → j ≤ k → length (text (scanFirst j)) ≤ length (text (scanFirst k))
+  first-longer j zero h = let e : j ≡ 0 = omega arith in omega (arith, ap (λ (m : ℕ). length (text (scanFirst m))) e)
+  first-longer j (suc k) h =
+      by-cases (decLe j k)
+      (λ l. omega (arith, first-longer j k l, ap (λ (s : Scan). length (text s)) (first-more k), length-both (scanFirst k) (nextScan k (scanFirst k .next))))
+      (λ l. let e : j ≡ suc k = omega arith in omega (arith, ap (λ (m : ℕ). length (text (scanFirst m))) e))
+
+  pub ready-pool : (k : ℕ) (out out′ : List ℕ) (at mid i j : ℕ) (p : Prefix) → ReadyAll image base n k out at → j < k → p ≡ poolShown image j → length out′ ≡ length out
+      → Showed out at (scanFirst j) out′ mid i → Ready image base n out′ mid p (scanOf (leaseShown image base) n p i)
+  ready-pool k out out′ at mid i j p ready lt e kept s =
+      let b : Scan = nextScan j (scanFirst j .next) in
+      subst (λ (q : Prefix). Ready image base n out′ mid q (scanOf (leaseShown image base) n q i)) (sym e)
+      (record {
+        long = ready .long j lt;
+        within = ready .within j lt;
+        slots = ready .slots;
+        blocks = ready .blocks;
+        room =
+            subst (λ (m : ℕ). Room out′ mid (text (nextScan j m))) (sym (s .cursor))
+            (room-part out out′ at mid (text (scanFirst k)) (text b) kept
+            (omega (arith, s .place, ap (λ (u : Scan). length (text u)) (first-more j), length-both (scanFirst j) b, first-longer (suc j) k (omega arith)))
+            (ready .room));
+      })

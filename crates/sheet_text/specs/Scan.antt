@@ -1,35 +1,62 @@
--- The rows as the code finds them: one walk, with a cursor into the ascending leases. Nobody who reads the contract of `sheet` needs this file; the laws
--- say that on a sound table it finds the rows of `Sheet`.
+-- The rows as the code finds them: one walk over the bytes of an image, with a cursor into its ascending leases. Nobody who reads the contract of
+-- `sheet_of_image` needs this file; the laws say that on the image of a sound table it finds the rows of `Sheet`.
 -- Assumes nothing: these are definitions.
-use Prim.Native.Nat.{ℕ, zero, suc, _+_, _-_, _*_, _^_, _≤_, _<_}
+use Prim.Native.Nat.{ℕ, zero, suc, _+_, _-_, _*_, _≤_, _<_}
 use mathlib.Core.Path.{_≡_}
+use mathlib.Core.Logic.{_⊎_}
 use mathlib.Core.Bool.{Bool, true, false, cond}
 use mathlib.Core.List.{List, [], _∷_, _++_}
-use lib.ListN.{length, getD}
+use mathlib.Core.Option.{some}
+use lib.ListN.{length, drop}
 use lib.Dec.{leb, ltb}
 use Rattle.lists.specs.Lists.{gather}
 use Rattle.lists.specs.Put.{put}
 use Rattle.prefix.specs.declared.Prefix.{Prefix}
 use Rattle.prefix.specs.Prefixes.{longest, end, lower, upper}
-use Rattle.table.specs.declared.Pool.{Pool}
-use Rattle.table.specs.Table.{poolSlots, leaseSlots, addresses, noPool, poolPrefix}
+use Rattle.table.specs.declared.LeaseTable.{LeaseTable}
+use Rattle.table.specs.Table.{addresses, poolPrefix, sound}
+use Rattle.image.specs.Image.{headSize, poolSize, leaseSize, poolIn, leaseIn, usedPools, usedLeases, imageOf, loadImage}
 use Rattle.sheet_text.specs.declared.Used.{Used}
-use Rattle.sheet_text.specs.declared.Place.{Place}
-use Rattle.sheet_text.specs.Sheet.{Row, usedRow, freeRow, freeIn, rowText}
+use Rattle.sheet_text.specs.Sheet.{usedBy, Row, usedRow, freeRow, rowText}
 
 -- Text put into a buffer from a place on, and the place after it.
 pub record Wrote (old : List ℕ) (at : ℕ) (text new : List ℕ) (next : ℕ) : Type 0 where
   pub bytes : new ≡ put old at text
   pub place : next ≡ at + length text
 
--- What the columns hold of lease i.
-abbrev pub leaseIn : List ℕ → List ℕ → List ℕ → List ℕ → ℕ → Used
-leaseIn networks lengths clients expires i = record {
-  network = getD networks i 0;
-  length = getD lengths i 0;
-  client = getD clients i 0;
-  expires = getD expires i 0;
-}
+-- A buffer has room for a text; or it is empty: then nothing is written, and the place after the text is told all the same.
+pub record Room (out : List ℕ) (at : ℕ) (text : List ℕ) : Type 0 where
+  pub small : at + length text ≤ 4294967296
+  pub fits : (length out ≡ 0) ⊎ (at + length text ≤ length out)
+
+-- IN PLACE
+
+-- What an image shows of its i-th lease; they stand from `base` on.
+unfoldable pub leaseShown : List ℕ → ℕ → ℕ → Used
+leaseShown image base i = usedBy (leaseIn (drop (base + leaseSize * i) image))
+
+unfoldable pub poolShown : List ℕ → ℕ → Prefix
+poolShown image j = poolPrefix (poolIn (drop (headSize + poolSize * j) image))
+
+-- Its first pools.
+unfoldable pub poolsShown : List ℕ → ℕ → List Prefix
+poolsShown image zero = []
+poolsShown image (suc k) = poolsShown image k ++ (poolShown image k ∷ [])
+
+-- The bytes are the image of a sound table that has k pools and n leases.
+pub record Sound (image : List ℕ) (k n : ℕ) : Type 0 where
+  pub table : LeaseTable
+  pub loads : loadImage image ≡ some table
+  pub sound : sound table ≡ true
+  pub bytes : imageOf table ≡ image
+  pub pools : k ≡ length (usedPools table)
+  pub leases : n ≡ length (usedLeases table)
+
+-- What holds of the table whose image they are.
+abbrev pub OfTable : List ℕ → (LeaseTable → Type 0) → Type 0
+OfTable image P = (t : LeaseTable) → loadImage image ≡ some t → P t
+
+-- ROWS
 
 -- Rows, and the first lease after them.
 pub record Scan : Type 0 where
@@ -80,36 +107,29 @@ scanAll leases n (p ∷ ps) i =
     let later = scanAll leases n ps (first .next) in
     both first later
 
--- Where the writing stands after some rows.
-abbrev pub after : Place → Scan → Place
-after from s = record {
-  at = from .at + length (gather rowText (s .rows));
-  next = s .next;
-  free = from .free + length (freeIn (s .rows));
-}
+-- Rows as text.
+abbrev pub text : Scan → List ℕ
+text s = gather rowText (s .rows)
 
--- Rows put into a buffer, and where the writing stands then.
-pub record Showed (old : List ℕ) (from : Place) (s : Scan) (new : List ℕ) (to : Place) : Type 0 where
-  pub bytes : new ≡ put old (from .at) (gather rowText (s .rows))
-  pub place : to ≡ after from s
+-- Rows put into a buffer, the place after them, and the next lease.
+pub record Showed (old : List ℕ) (at : ℕ) (s : Scan) (new : List ℕ) (to next : ℕ) : Type 0 where
+  pub bytes : new ≡ put old at (text s)
+  pub place : to ≡ at + length (text s)
+  pub cursor : next ≡ s .next
 
--- What showing a prefix asks for. The rows of a prefix are at most as many as the parts of the longest length in it, and none has more than 96 bytes; so
--- no sum leaves its range.
-pub record Ready (lengths : List ℕ) (n : ℕ) (from : Place) (p : Prefix) : Type 0 where
+-- What showing a prefix asks for: the leases of the image, and room for the rows.
+pub record Ready (image : List ℕ) (base n : ℕ) (out : List ℕ) (at : ℕ) (p : Prefix) (s : Scan) : Type 0 where
   pub long : p .length ≤ longest
   pub within : end p ≤ addresses
-  pub slots : n ≤ leaseSlots
-  pub blocks : (i : ℕ) → getD lengths i 0 ≤ longest
-  pub room : from .at + 96 * 2 ^ (longest - p .length) ≤ 1152921504606846976
-  pub count : from .free + 2 ^ (longest - p .length) ≤ 4294967295
+  pub slots : base + leaseSize * n ≤ length image
+  pub blocks : (i : ℕ) → i < n → leaseShown image base i .length ≤ longest
+  pub room : Room out at (text s)
 
--- The same for the first k pools, which are as a sound table has them.
-pub record ReadyAll (lengths : List ℕ) (n : ℕ) (pools : List Pool) (k at : ℕ) : Type 0 where
-  pub slots : n ≤ leaseSlots
-  pub blocks : (i : ℕ) → getD lengths i 0 ≤ longest
-  pub few : k ≤ length pools
-  pub full : length pools ≡ poolSlots
-  pub short : (j : ℕ) → j < k → 8 ≤ getD pools j noPool .length
-  pub long : (j : ℕ) → j < k → getD pools j noPool .length ≤ longest
-  pub within : (j : ℕ) → j < k → end (poolPrefix (getD pools j noPool)) ≤ addresses
-  pub low : at ≤ 4294967296
+-- The same for the first k pools.
+pub record ReadyAll (image : List ℕ) (base n k : ℕ) (out : List ℕ) (at : ℕ) : Type 0 where
+  pub slots : base + leaseSize * n ≤ length image
+  pub blocks : (i : ℕ) → i < n → leaseShown image base i .length ≤ longest
+  pub pools : headSize + poolSize * k ≤ length image
+  pub long : (j : ℕ) → j < k → poolShown image j .length ≤ longest
+  pub within : (j : ℕ) → j < k → end (poolShown image j) ≤ addresses
+  pub room : Room out at (text (scanAll (leaseShown image base) n (poolsShown image k) 0))

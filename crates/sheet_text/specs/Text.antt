@@ -20,6 +20,10 @@ digits (suc more) n = let front = digits more (n / 10) in cond (ltb n 10) (digit
 abbrev pub decimal : ℕ → List ℕ
 decimal n = digits 9 n
 
+-- The last four digits of a number.
+abbrev pub lastFour : ℕ → List ℕ
+lastFour n = digit (n / 1000) ∷ digit (n / 100) ∷ digit (n / 10) ∷ digit n ∷ []
+
 -- A network as four numbers, the high byte first.
 abbrev pub addressText : ℕ → List ℕ
 addressText n = decimal (n / 16777216) ++ ascii "." ++ decimal (n / 65536 % 256) ++ ascii "." ++ decimal (n / 256 % 256) ++ ascii "." ++ decimal (n % 256)

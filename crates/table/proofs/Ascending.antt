@@ -144,7 +144,7 @@ module _ {A : Type 0} (none? ok : A → Bool) (pre : A → Prefix) (blank : A) w
       slots-step from x xs n (leb-true from (pre x .network) (f .0)) (g .0) (ascends-to only (end (pre x)) xs (g .1)))
       (bool-cases (none? x))
 
-  blanks : none? blank ≡ true → (k : ℕ) → all? none? (replicate k blank) ≡ true
+  pub blanks : none? blank ≡ true → (k : ℕ) → all? none? (replicate k blank) ≡ true
   blanks b zero = refl
   blanks b (suc k) = and-of (none? blank) (all? none? (replicate k blank)) b (blanks b k)
 

@@ -1,48 +1,68 @@
--- `console::run_script` keeps room in the output and the line within its space. The measure is the number of turns left.
+-- `console::run_script` keeps room in the output, and the line within its space. The measure is the number of turns left.
 -- Assumes nothing.
 use Prim.Native.Nat.{_≤_}
-use mathlib.Core.Path.{_≡_, _∙_}
+use mathlib.Core.Path.{_≡_}
 use lib.ListN.{length}
 use native.Mathlib.Omega.{arith}
-use Rattle.console.specs.Room.{Room}
 use borrow.Author.Needs.{needs}
 use Rattle.console.proofs.run_script.Statement.{statement}
 use Rattle.console.proofs.run_script.Tie as tie
 
 abbrev Inv-loop : tie.InvT-loop
-Inv-loop input₀ line₀ bytes₀ reply₀ out₀ state₀ turns₀ input line bytes reply out state turns =
-    (state .pending ≤ length line₀) × Room (state .at) out₀
-    × (length input ≡ length input₀) × (length line ≡ length line₀) × (length bytes ≡ length bytes₀) × (length reply ≡ length reply₀) × (length out ≡ length out₀)
+Inv-loop input₀ line₀ book₀ reply₀ out₀ s₀ r₀ turns₀ input line book reply out s r turns =
+    (s .at ≤ length out₀) × (r .from ≤ r .to) × (r .to ≤ length input₀) × (r .pending ≤ length line₀)
+    × (length input ≡ length input₀) × (length line ≡ length line₀) × (length book ≡ length book₀) × (length reply ≡ length reply₀) × (length out ≡ length out₀)
 
 abbrev μ-loop : tie.MeasureT-loop
-μ-loop input₀ line₀ bytes₀ reply₀ out₀ state₀ turns₀ input line bytes reply out state turns = turns
+μ-loop input₀ line₀ book₀ reply₀ out₀ s₀ r₀ turns₀ input line book reply out s r turns = turns
 
 first-state-requires : tie.Need-first-state-requires Inv-loop μ-loop
 first-state-requires c κs = search needs
 
+first-reader-requires : tie.Need-first-reader-requires Inv-loop μ-loop
+first-reader-requires c κs = search needs
+
 loop-holds : tie.Need-loop-holds Inv-loop μ-loop
 loop-holds c = search needs
 
-sub-turns : tie.Need-sub-turns Inv-loop μ-loop
-sub-turns c = search needs
+make-room-requires : tie.Need-make-room-requires Inv-loop μ-loop
+make-room-requires c κs = search needs
 
-run-some-requires : tie.Need-run-some-requires Inv-loop μ-loop
-run-some-requires c κs = search needs
+go-on-requires : tie.Need-go-on-requires Inv-loop μ-loop
+go-on-requires c κs = search needs
+
+end-line-requires : tie.Need-end-line-requires Inv-loop μ-loop
+end-line-requires c κs =
+    let go = c .before .before .before .before .before .before .before .before .go-on in
+    let made = c .before .before .before .before .before .before .before .before .before .before .before .make-room in
+    let inv = c .before .before .before .before .before .before .before .before .before .before .before .before .before .before .loop .inv in
+    let pre = c .before .before .before .before .before .before .before .before .before .before .before .before .before .before .before .before .before .before .before .before .before .before .pre in
+    (omega (arith, go .ensures, go .kept .1 .1 .0, inv), (omega (arith, inv, pre), (omega (arith, made .ensures, inv), omega (arith, inv, pre))))
+
+turns-left-requires : tie.Need-turns-left-requires Inv-loop μ-loop
+turns-left-requires c κs = search needs
 
 loop-less : tie.Need-loop-less Inv-loop μ-loop
 loop-less c = search needs
 
 loop-again : tie.Need-loop-again Inv-loop μ-loop
-loop-again c = search needs
+loop-again c =
+    let ran = c .before .before .before .before .before .before .before .before .before .end-line in
+    let go = c .before .before .before .before .before .before .before .before .before .before .before .before .before .before .before .before .before .before .go-on in
+    let inv = c .before .before .before .before .before .before .before .before .before .before .before .before .before .before .before .before .before .before .before .before .before .before .before .before .loop .inv in (
+      omega (arith, ran .ensures, inv),
+      omega (arith, go .ensures),
+      omega (arith, go .ensures, inv),
+      omega (arith, go .ensures, inv),
+      omega (arith, go .kept .1 .0, inv),
+      omega (arith, ran .kept .1 .1 .0, go .kept .1 .1 .0, inv),
+      omega (arith, ran .kept .1 .1 .1 .0, inv),
+      omega (arith, ran .kept .1 .1 .1 .1 .0, inv),
+      omega (arith, ran .kept .1 .1 .1 .1 .1 .0, inv),
+    )
 
-loop-less-2 : tie.Need-loop-less-2 Inv-loop μ-loop
-loop-less-2 c = search needs
-
-loop-again-2 : tie.Need-loop-again-2 Inv-loop μ-loop
-loop-again-2 c = search needs
-
-run-last-requires : tie.Need-run-last-requires Inv-loop μ-loop
-run-last-requires c κs = search needs
+flush-requires : tie.Need-flush-requires Inv-loop μ-loop
+flush-requires c κs = search needs
 
 same-length : tie.Need-same-length Inv-loop μ-loop
 same-length c = search needs
@@ -69,14 +89,15 @@ run-script-spec =
     Inv-loop
     μ-loop
     first-state-requires
+    first-reader-requires
     loop-holds
-    sub-turns
-    run-some-requires
+    make-room-requires
+    go-on-requires
+    end-line-requires
+    turns-left-requires
     loop-less
     loop-again
-    loop-less-2
-    loop-again-2
-    run-last-requires
+    flush-requires
     same-length
     same-length-2
     same-length-3

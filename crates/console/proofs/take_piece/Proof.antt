@@ -1,7 +1,7 @@
 -- `console::take_piece` stays within the input and the line. The measure is what is left of the input.
 -- Assumes nothing.
 use Prim.Native.Nat.{_-_, _≤_}
-use mathlib.Core.Path.{_≡_, _∙_}
+use mathlib.Core.Path.{_≡_}
 use lib.ListN.{length, length-set}
 use native.Mathlib.Omega.{arith}
 use borrow.Author.Needs.{needs}
@@ -9,10 +9,10 @@ use Rattle.console.proofs.take_piece.Statement.{statement}
 use Rattle.console.proofs.take_piece.Tie as tie
 
 abbrev Inv-loop : tie.InvT-loop
-Inv-loop input from to line₀ pending i₀ n₀ line i n = (from ≤ i) × (i ≤ to) × (n ≤ length line) × (length line ≡ length line₀)
+Inv-loop pending input line₀ to i₀ n₀ line i n = (i ≤ to) × (n ≤ length line) × (length line ≡ length line₀)
 
 abbrev μ-loop : tie.MeasureT-loop
-μ-loop input from to line₀ pending i₀ n₀ line i n = to - i
+μ-loop pending input line₀ to i₀ n₀ line i n = to - i
 
 loop-holds : tie.Need-loop-holds Inv-loop μ-loop
 loop-holds c = search needs
@@ -39,7 +39,7 @@ loop-less : tie.Need-loop-less Inv-loop μ-loop
 loop-less c = search needs
 
 loop-again : tie.Need-loop-again Inv-loop μ-loop
-loop-again c = (omega arith, omega arith, simp length-set (omega arith), simp length-set (omega arith))
+loop-again c = (omega arith, simp length-set (omega arith), simp length-set (omega arith))
 
 loop-less-2 : tie.Need-loop-less-2 Inv-loop μ-loop
 loop-less-2 c = search needs

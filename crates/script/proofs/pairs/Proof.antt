@@ -1,4 +1,4 @@
--- `script::pairs` stays within the text and the buffer. The measure is the number of octets left.
+-- `script::pairs` stays within the text. The measure is the number of octets left.
 -- Assumes nothing.
 use Prim.Native.Nat.{_-_, _/_, _≤_}
 use mathlib.Core.Path.{_≡_}
@@ -9,10 +9,10 @@ use Rattle.script.proofs.pairs.Statement.{statement}
 use Rattle.script.proofs.pairs.Tie as tie
 
 abbrev Inv-loop : tie.InvT-loop
-Inv-loop s out₀ n i₀ out i = (i ≤ n) × (n ≤ length s / 2) × (length out ≡ length out₀)
+Inv-loop s₀ n i₀ s i = (i ≤ n) × (n ≤ length s / 2) × (length s ≡ length s₀)
 
 abbrev μ-loop : tie.MeasureT-loop
-μ-loop s out₀ n i₀ out i = n - i
+μ-loop s₀ n i₀ s i = n - i
 
 loop-holds : tie.Need-loop-holds Inv-loop μ-loop
 loop-holds c = search needs
@@ -20,8 +20,8 @@ loop-holds c = search needs
 mul-digit : tie.Need-mul-digit Inv-loop μ-loop
 mul-digit c = search needs
 
-shared-slice-read-digit : tie.Need-shared-slice-read-digit Inv-loop μ-loop
-shared-slice-read-digit c = search needs
+slice-read-digit : tie.Need-slice-read-digit Inv-loop μ-loop
+slice-read-digit c = search needs
 
 digit-requires : tie.Need-digit-requires Inv-loop μ-loop
 digit-requires c κs = search needs
@@ -32,14 +32,11 @@ mul-digit-2 c = search needs
 add-digit : tie.Need-add-digit Inv-loop μ-loop
 add-digit c = search needs
 
-shared-slice-read-digit-2 : tie.Need-shared-slice-read-digit-2 Inv-loop μ-loop
-shared-slice-read-digit-2 c = search needs
+slice-read-digit-2 : tie.Need-slice-read-digit-2 Inv-loop μ-loop
+slice-read-digit-2 c = search needs
 
 digit-requires-2 : tie.Need-digit-requires-2 Inv-loop μ-loop
 digit-requires-2 c κs = search needs
-
-bad-octets-requires : tie.Need-bad-octets-requires Inv-loop μ-loop
-bad-octets-requires c κs = search needs
 
 same-length : tie.Need-same-length Inv-loop μ-loop
 same-length c = search needs
@@ -47,23 +44,20 @@ same-length c = search needs
 returns : tie.Need-returns Inv-loop μ-loop
 returns c = search needs
 
-bad-octets-requires-2 : tie.Need-bad-octets-requires-2 Inv-loop μ-loop
-bad-octets-requires-2 c κs = search needs
-
 same-length-2 : tie.Need-same-length-2 Inv-loop μ-loop
 same-length-2 c = search needs
 
 returns-2 : tie.Need-returns-2 Inv-loop μ-loop
 returns-2 c = search needs
 
-mul-out : tie.Need-mul-out Inv-loop μ-loop
-mul-out c = search needs
+mul-s : tie.Need-mul-s Inv-loop μ-loop
+mul-s c = search needs
 
-add-out : tie.Need-add-out Inv-loop μ-loop
-add-out c = search needs
+add-s : tie.Need-add-s Inv-loop μ-loop
+add-s c = search needs
 
-slice-write-out : tie.Need-slice-write-out Inv-loop μ-loop
-slice-write-out c = search needs
+slice-write-s : tie.Need-slice-write-s Inv-loop μ-loop
+slice-write-s c = search needs
 
 add-i : tie.Need-add-i Inv-loop μ-loop
 add-i c = search needs
@@ -72,7 +66,7 @@ loop-less : tie.Need-loop-less Inv-loop μ-loop
 loop-less c = search needs
 
 loop-again : tie.Need-loop-again Inv-loop μ-loop
-loop-again c = search needs
+loop-again c = (omega arith, simp length-set (omega arith), simp length-set (omega arith))
 
 same-length-3 : tie.Need-same-length-3 Inv-loop μ-loop
 same-length-3 c = search needs
@@ -88,21 +82,19 @@ pairs-spec =
     μ-loop
     loop-holds
     mul-digit
-    shared-slice-read-digit
+    slice-read-digit
     digit-requires
     mul-digit-2
     add-digit
-    shared-slice-read-digit-2
+    slice-read-digit-2
     digit-requires-2
-    bad-octets-requires
     same-length
     returns
-    bad-octets-requires-2
     same-length-2
     returns-2
-    mul-out
-    add-out
-    slice-write-out
+    mul-s
+    add-s
+    slice-write-s
     add-i
     loop-less
     loop-again

@@ -1,55 +1,54 @@
 -- `sheet_text::show_prefix` and `show_halves`, which call each other, meet their contracts: 30 minus the length falls.
 -- Assumes nothing.
-use mathlib.Core.Path.{_≡_, sym, ap, subst, _∙_}
-use mathlib.Core.Bool.{true, false}
+use Prim.Native.Nat.{ℕ, _+_, _-_, _<_}
+use mathlib.Core.Path.{_≡_, refl, ap, _∙_}
 use native.Mathlib.Omega.{arith}
 use lib.ListN.{length}
-use Rattle.prefix.specs.declared.Prefix.{Prefix}
-use Rattle.prefix.specs.Prefixes.{longest, end, lower, upper}
-use Rattle.prefix.proofs.PrefixLaws.{lower-inside, upper-inside}
-use Rattle.sheet_text.specs.declared.Used.{Used}
-use Rattle.sheet_text.specs.Scan.{leaseIn, freeScan, usedScan, scanOf, scanHalves}
-use Rattle.sheet_text.proofs.ShowLaws.{scan-clear, scan-here, scan-halves, clear-told, clear-not, ready-row, ready-short, ready-half, after-half, showed-halves, showed-as}
-use Prim.Native.Nat.{ℕ, _+_, _-_, _≤_, _<_}
 use borrow.Fn.Kinds.{In}
 use borrow.Fn.PlainCycle.{Measures, is, falls, and}
+use Rattle.prefix.specs.Prefixes.{longest}
+use Rattle.prefix.specs.declared.Prefix.{Prefix}
+use Rattle.prefix.proofs.Prefix.end.Reads as end-reads
+use Rattle.prefix.proofs.Prefix.lower.Reads as lower-reads
+use Rattle.prefix.proofs.Prefix.upper.Reads as upper-reads
+use Rattle.sheet_text.specs.Scan.{leaseShown, freeScan, usedScan, scanOf, scanHalves}
+use Rattle.sheet_text.specs.Sheet.{usedRow, freeRow}
+use Rattle.sheet_text.specs.declared.Used.{Used}
+use Rattle.sheet_text.proofs.ShowLaws.{told-free, told-lease, told-used, told-halves, ready-as, ready-one, ready-low, ready-high, showed-one, showed-as, showed-halves}
 use Rattle.sheet_text.proofs.show_halves.Reads as show-halves
 use Rattle.sheet_text.proofs.show_halves.Kinds as show-halves-kinds
 use Rattle.sheet_text.proofs.+show_halves+show_prefix.Lts-show_halves as show-halves-lts
 use Rattle.sheet_text.proofs.show_prefix.Reads as show-prefix
 use Rattle.sheet_text.proofs.show_prefix.Kinds as show-prefix-kinds
 use Rattle.sheet_text.proofs.+show_halves+show_prefix.Lts-show_prefix as show-prefix-lts
-use Rattle.prefix.proofs.Prefix.end.Reads as end-reads
-use Rattle.prefix.proofs.Prefix.lower.Reads as lower-reads
-use Rattle.prefix.proofs.Prefix.upper.Reads as upper-reads
 use Rattle.sheet_text.proofs.is_free.Reads as is-free-reads
-use Rattle.sheet_text.proofs.lease_at.Reads as lease-at-reads
+use Rattle.sheet_text.proofs.lease.Reads as lease-reads
 use Rattle.sheet_text.proofs.show_free.Reads as show-free-reads
 use Rattle.sheet_text.proofs.show_used.Reads as show-used-reads
 use Rattle.sheet_text.proofs.+show_halves+show_prefix.{statement}
 use Rattle.sheet_text.proofs.+show_halves+show_prefix.Tie.{close}
 
-abbrev μ-show-halves : Measures 5 show-halves-kinds.ps ℕ
-μ-show-halves κs a = (30 - a .1 .1 .1 .1 .1 .1 .1 .0 .length) + (30 - a .1 .1 .1 .1 .1 .1 .1 .0 .length)
+abbrev μ-show-halves : Measures 3 show-halves-kinds.ps ℕ
+μ-show-halves κs a = (30 - a .1 .1 .1 .1 .1 .1 .0 .length) + (30 - a .1 .1 .1 .1 .1 .1 .0 .length)
 
-abbrev μ-show-prefix : Measures 5 show-prefix-kinds.ps ℕ
-μ-show-prefix κs a = (30 - a .1 .1 .1 .1 .1 .1 .1 .0 .length) + (30 - a .1 .1 .1 .1 .1 .1 .1 .0 .length) + 1
+abbrev μ-show-prefix : Measures 3 show-prefix-kinds.ps ℕ
+μ-show-prefix κs a = (30 - a .1 .1 .1 .1 .1 .1 .0 .length) + (30 - a .1 .1 .1 .1 .1 .1 .0 .length) + 1
 
-abbrev show-halves-at : ℕ → In 5 show-halves-kinds.ps
+abbrev show-halves-at : ℕ → In 3 show-halves-kinds.ps
 show-halves-at t =
-    and 5 show-halves-kinds.ps (is 5 show-halves-kinds.ps μ-show-halves t) show-halves.Pre
+    and 3 show-halves-kinds.ps (is 3 show-halves-kinds.ps μ-show-halves t) show-halves.Pre
 
-abbrev show-halves-below : ℕ → In 5 show-halves-kinds.ps
+abbrev show-halves-below : ℕ → In 3 show-halves-kinds.ps
 show-halves-below t =
-    and 5 show-halves-kinds.ps (falls 5 show-halves-kinds.ps _<_ μ-show-halves t) show-halves.Pre
+    and 3 show-halves-kinds.ps (falls 3 show-halves-kinds.ps _<_ μ-show-halves t) show-halves.Pre
 
-abbrev show-prefix-at : ℕ → In 5 show-prefix-kinds.ps
+abbrev show-prefix-at : ℕ → In 3 show-prefix-kinds.ps
 show-prefix-at t =
-    and 5 show-prefix-kinds.ps (is 5 show-prefix-kinds.ps μ-show-prefix t) show-prefix.Pre
+    and 3 show-prefix-kinds.ps (is 3 show-prefix-kinds.ps μ-show-prefix t) show-prefix.Pre
 
-abbrev show-prefix-below : ℕ → In 5 show-prefix-kinds.ps
+abbrev show-prefix-below : ℕ → In 3 show-prefix-kinds.ps
 show-prefix-below t =
-    and 5 show-prefix-kinds.ps (falls 5 show-prefix-kinds.ps _<_ μ-show-prefix t) show-prefix.Pre
+    and 3 show-prefix-kinds.ps (falls 3 show-prefix-kinds.ps _<_ μ-show-prefix t) show-prefix.Pre
 
 show-halves-lower-requires : (t : ℕ) → show-halves-lts.Need-lower-requires (
   lower-reads.Asked,
@@ -59,7 +58,21 @@ show-halves-lower-requires : (t : ℕ) → show-halves-lts.Need-lower-requires (
   show-prefix-below t,
   show-prefix.Post,
 ) (show-halves-at t) show-halves.Post
-show-halves-lower-requires t c κs = c .before .pre .1 .0
+show-halves-lower-requires t c κs =
+    let pre = c .before .before .pre in
+    pre .1 .0
+
+show-halves-upper-requires : (t : ℕ) → show-halves-lts.Need-upper-requires (
+  lower-reads.Asked,
+  lower-reads.Learnt,
+  upper-reads.Asked,
+  upper-reads.Learnt,
+  show-prefix-below t,
+  show-prefix.Post,
+) (show-halves-at t) show-halves.Post
+show-halves-upper-requires t c κs =
+    let pre = c .before .before .before .pre in
+    (pre .1 .0, pre .1 .1 .within)
 
 show-halves-show-prefix-requires : (t : ℕ) → show-halves-lts.Need-show-prefix-requires (
   lower-reads.Asked,
@@ -70,25 +83,13 @@ show-halves-show-prefix-requires : (t : ℕ) → show-halves-lts.Need-show-prefi
   show-prefix.Post,
 ) (show-halves-at t) show-halves.Post
 show-halves-show-prefix-requires t c κs =
-    let a = c .before .before .before .before .args in
-    let q = c .before .before .before .before .pre in
-    let low = c .before .before .lower in
-    let high = c .before .upper in
-    let l₁ : low .result .length ≡ a .p .length + 1 = ap (λ (x : Prefix). x .length) (low .ensures) in
-    let l₂ : high .result .length ≡ a .p .length + 1 = ap (λ (x : Prefix). x .length) (high .ensures) in
-    let w₁ : end (low .result) ≤ end (a .p) = subst (λ (x : Prefix). end x ≤ end (a .p)) (sym (low .ensures)) (lower-inside (a .p) (omega (arith, q .1 .0)) .1) in
-    let w₂ : end (high .result) ≤ end (a .p) = subst (λ (x : Prefix). end x ≤ end (a .p)) (sym (high .ensures)) (upper-inside (a .p) (omega (arith, q .1 .0)) .1) in
-    (omega (arith, q .0, q .1 .0, l₁, l₂), ready-half (a .lengths .now) (a .n) (a .from) (a .p) (q .1 .1) (q .1 .0) (a .from) _ (omega (arith, l₁, l₂)) (omega (arith, w₁, w₂)) (omega arith) (omega arith))
-
-show-halves-upper-requires : (t : ℕ) → show-halves-lts.Need-upper-requires (
-  lower-reads.Asked,
-  lower-reads.Learnt,
-  upper-reads.Asked,
-  upper-reads.Learnt,
-  show-prefix-below t,
-  show-prefix.Post,
-) (show-halves-at t) show-halves.Post
-show-halves-upper-requires t c κs = (c .before .before .pre .1 .0, c .before .before .pre .1 .1 .within)
+    let lower = c .before .before .before .lower in
+    let a = c .before .before .before .before .before .before .args in
+    let pre = c .before .before .before .before .before .before .pre in
+    let upper = c .before .before .upper in
+    let low : lower .result .length ≡ a .p .length + 1 = ap (λ (x : Prefix). x .length) (lower .ensures) in
+    let high : upper .result .length ≡ a .p .length + 1 = ap (λ (x : Prefix). x .length) (upper .ensures) in
+    (omega (arith, pre .0, pre .1 .0, low, high), ready-low (a .image .now) (a .base) (a .n) (a .out .now) (a .at) (a .next .now) (a .p) (lower .result) (upper .result) (pre .1 .0) (lower .ensures) (upper .ensures) (pre .1 .1))
 
 show-halves-show-prefix-requires-2 : (t : ℕ) → show-halves-lts.Need-show-prefix-requires-2 (
   lower-reads.Asked,
@@ -99,18 +100,14 @@ show-halves-show-prefix-requires-2 : (t : ℕ) → show-halves-lts.Need-show-pre
   show-prefix.Post,
 ) (show-halves-at t) show-halves.Post
 show-halves-show-prefix-requires-2 t c κs =
-    let a = c .before .before .before .before .before .before .before .before .args in
-    let q = c .before .before .before .before .before .before .before .before .pre in
-    let low = c .before .before .before .before .before .before .lower in
-    let high = c .before .before .before .before .before .upper in
-    let l₁ : low .result .length ≡ a .p .length + 1 = ap (λ (x : Prefix). x .length) (low .ensures) in
-    let l₂ : high .result .length ≡ a .p .length + 1 = ap (λ (x : Prefix). x .length) (high .ensures) in
-    let w₁ : end (low .result) ≤ end (a .p) = subst (λ (x : Prefix). end x ≤ end (a .p)) (sym (low .ensures)) (lower-inside (a .p) (omega (arith, q .1 .0)) .1) in
-    let w₂ : end (high .result) ≤ end (a .p) = subst (λ (x : Prefix). end x ≤ end (a .p)) (sym (high .ensures)) (upper-inside (a .p) (omega (arith, q .1 .0)) .1) in
-    let first = c .before .before .before .show-prefix in
-    let leases : ℕ → Used = leaseIn (a .networks .now) (a .lengths .now) (a .clients .now) (a .expires .now) in
-    let m = after-half (a .lengths .now) (a .n) (a .from) (a .p) (q .1 .1) leases (first .result) _ (omega (arith, l₁, l₂)) (first .ensures .place) in
-    (omega (arith, q .0, q .1 .0, l₁, l₂), ready-half (a .lengths .now) (a .n) (a .from) (a .p) (q .1 .1) (q .1 .0) (first .result) _ (omega (arith, l₁, l₂)) (omega (arith, w₁, w₂)) (m .0) (m .1))
+    let upper = c .before .before .before .before .before .before .before .upper in
+    let a = c .before .before .before .before .before .before .before .before .before .before .before .args in
+    let pre = c .before .before .before .before .before .before .before .before .before .before .before .pre in
+    let lower = c .before .before .before .before .before .before .before .before .lower in
+    let show-prefix = c .before .before .before .before .show-prefix in
+    let low : lower .result .length ≡ a .p .length + 1 = ap (λ (x : Prefix). x .length) (lower .ensures) in
+    let high : upper .result .length ≡ a .p .length + 1 = ap (λ (x : Prefix). x .length) (upper .ensures) in
+    (omega (arith, pre .0, pre .1 .0, low, high), ready-high (a .image .now) (a .base) (a .n) (a .out .now) (a .at) (a .next .now) (a .p) (lower .result) (upper .result) (pre .1 .0) (lower .ensures) (upper .ensures) (pre .1 .1) _ (show-prefix .result) _ (show-prefix .kept .0) (show-prefix .ensures))
 
 show-halves-same-length : (t : ℕ) → show-halves-lts.Need-same-length (
   lower-reads.Asked,
@@ -120,7 +117,10 @@ show-halves-same-length : (t : ℕ) → show-halves-lts.Need-same-length (
   show-prefix-below t,
   show-prefix.Post,
 ) (show-halves-at t) show-halves.Post
-show-halves-same-length t c = c .before .before .show-prefix2 .kept .0 ∙ c .before .before .before .before .before .before .show-prefix .kept .0
+show-halves-same-length t c =
+    let show-prefix2 = c .before .before .show-prefix2 in
+    let show-prefix = c .before .before .before .before .before .before .before .show-prefix in
+    show-prefix2 .kept .0 ∙ show-prefix .kept .0
 
 show-halves-returns : (t : ℕ) → show-halves-lts.Need-returns (
   lower-reads.Asked,
@@ -131,13 +131,12 @@ show-halves-returns : (t : ℕ) → show-halves-lts.Need-returns (
   show-prefix.Post,
 ) (show-halves-at t) show-halves.Post
 show-halves-returns t c =
-    let a = c .before .before .before .before .before .before .before .before .before .before .before .args in
-    let low = c .before .before .before .before .before .before .before .before .before .lower in
-    let high = c .before .before .before .before .before .before .before .before .upper in
-    let first = c .before .before .before .before .before .before .show-prefix in
-    let second = c .before .before .show-prefix2 in
-    let leases : ℕ → Used = leaseIn (a .networks .now) (a .lengths .now) (a .clients .now) (a .expires .now) in
-    showed-halves leases (a .n) (a .p) (low .result) (high .result) (low .ensures) (high .ensures) (a .out .now) (first .last .0) (second .last .0) (a .from) (first .result) (second .result) (first .ensures) (second .ensures)
+    let a = c .before .before .before .before .before .before .before .before .before .before .before .before .before .before .args in
+    let lower = c .before .before .before .before .before .before .before .before .before .before .before .lower in
+    let upper = c .before .before .before .before .before .before .before .before .before .before .upper in
+    let show-prefix = c .before .before .before .before .before .before .before .show-prefix in
+    let show-prefix2 = c .before .before .show-prefix2 in
+    showed-halves (leaseShown (a .image .now) (a .base)) (a .n) (a .p) (lower .result) (upper .result) (lower .ensures) (upper .ensures) _ _ _ _ _ _ _ _ _ (show-prefix .ensures) (show-prefix2 .ensures)
 
 show-prefix-end-requires : (t : ℕ) → show-prefix-lts.Need-end-requires (
   end-reads.Asked,
@@ -146,8 +145,8 @@ show-prefix-end-requires : (t : ℕ) → show-prefix-lts.Need-end-requires (
   is-free-reads.Learnt,
   show-free-reads.Asked,
   show-free-reads.Learnt,
-  lease-at-reads.Asked,
-  lease-at-reads.Learnt,
+  lease-reads.Asked,
+  lease-reads.Learnt,
   show-used-reads.Asked,
   show-used-reads.Learnt,
   show-halves-below t,
@@ -162,14 +161,16 @@ show-prefix-is-free-requires : (t : ℕ) → show-prefix-lts.Need-is-free-requir
   is-free-reads.Learnt,
   show-free-reads.Asked,
   show-free-reads.Learnt,
-  lease-at-reads.Asked,
-  lease-at-reads.Learnt,
+  lease-reads.Asked,
+  lease-reads.Learnt,
   show-used-reads.Asked,
   show-used-reads.Learnt,
   show-halves-below t,
   show-halves.Post,
 ) (show-prefix-at t) show-prefix.Post
-show-prefix-is-free-requires t c κs = c .before .before .pre .1 .slots
+show-prefix-is-free-requires t c κs =
+    let pre = c .before .before .before .before .pre in
+    pre .1 .slots
 
 show-prefix-show-free-requires : (t : ℕ) → show-prefix-lts.Need-show-free-requires (
   end-reads.Asked,
@@ -178,14 +179,21 @@ show-prefix-show-free-requires : (t : ℕ) → show-prefix-lts.Need-show-free-re
   is-free-reads.Learnt,
   show-free-reads.Asked,
   show-free-reads.Learnt,
-  lease-at-reads.Asked,
-  lease-at-reads.Learnt,
+  lease-reads.Asked,
+  lease-reads.Learnt,
   show-used-reads.Asked,
   show-used-reads.Learnt,
   show-halves-below t,
   show-halves.Post,
 ) (show-prefix-at t) show-prefix.Post
-show-prefix-show-free-requires t c κs = let a = c .before .before .before .before .before .args in ready-row (a .lengths .now) (a .n) (a .from) (a .p) (c .before .before .before .before .before .pre .1)
+show-prefix-show-free-requires t c κs =
+    let a = c .before .before .before .before .before .before .before .args in
+    let end = c .before .before .before .end in
+    let is-free = c .before .before .is-free in
+    let if1 = c .before .if1 in
+    let pre = c .before .before .before .before .before .before .before .pre in
+    let leases : ℕ → Used = leaseShown (a .image .now) (a .base) in
+    ready-one (a .image .now) (a .base) (a .n) (a .out .now) (a .at) (a .next .now) (a .p) (scanOf leases (a .n) (a .p) (a .next .now)) (freeRow (a .p)) (told-free leases (a .n) (a .p) (a .next .now) (end .result) (is-free .result) (end .ensures .0) (is-free .ensures) (if1 .taken)) (pre .1)
 
 show-prefix-same-length : (t : ℕ) → show-prefix-lts.Need-same-length (
   end-reads.Asked,
@@ -194,14 +202,16 @@ show-prefix-same-length : (t : ℕ) → show-prefix-lts.Need-same-length (
   is-free-reads.Learnt,
   show-free-reads.Asked,
   show-free-reads.Learnt,
-  lease-at-reads.Asked,
-  lease-at-reads.Learnt,
+  lease-reads.Asked,
+  lease-reads.Learnt,
   show-used-reads.Asked,
   show-used-reads.Learnt,
   show-halves-below t,
   show-halves.Post,
 ) (show-prefix-at t) show-prefix.Post
-show-prefix-same-length t c = c .before .before .show-free .kept .0
+show-prefix-same-length t c =
+    let show-free = c .before .before .show-free in
+    show-free .kept .0
 
 show-prefix-returns : (t : ℕ) → show-prefix-lts.Need-returns (
   end-reads.Asked,
@@ -210,39 +220,68 @@ show-prefix-returns : (t : ℕ) → show-prefix-lts.Need-returns (
   is-free-reads.Learnt,
   show-free-reads.Asked,
   show-free-reads.Learnt,
-  lease-at-reads.Asked,
-  lease-at-reads.Learnt,
+  lease-reads.Asked,
+  lease-reads.Learnt,
   show-used-reads.Asked,
   show-used-reads.Learnt,
   show-halves-below t,
   show-halves.Post,
 ) (show-prefix-at t) show-prefix.Post
 show-prefix-returns t c =
-    let a = c .before .before .before .before .before .before .before .before .args in
-    let leases : ℕ → Used = leaseIn (a .networks .now) (a .lengths .now) (a .clients .now) (a .expires .now) in
-    let clear = clear-told (a .n) (end (a .p)) (c .before .before .before .before .before .before .end .result) (a .from .next) (leases (a .from .next) .network) (c .before .before .before .before .before .is-free .result) true (c .before .before .before .before .before .before .end .ensures .0) (c .before .before .before .before .before .is-free .ensures) (c .before .before .before .before .if1 .taken) in
-    showed-as (a .out .now) (c .before .before .show-free .last .0) (a .from) (c .before .before .show-free .result) (freeScan (a .p) (a .from .next)) (scanOf leases (a .n) (a .p) (a .from .next)) (scan-clear leases (a .n) (a .p) (a .from .next) (longest - a .p .length) clear) (c .before .before .show-free .ensures)
+    let a = c .before .before .before .before .before .before .before .before .before .before .args in
+    let end = c .before .before .before .before .before .before .end in
+    let is-free = c .before .before .before .before .before .is-free in
+    let if1 = c .before .before .before .before .if1 in
+    let show-free = c .before .before .show-free in
+    let leases : ℕ → Used = leaseShown (a .image .now) (a .base) in
+    showed-as _ _ _ _ _ (freeScan (a .p) (a .next .now)) (scanOf leases (a .n) (a .p) (a .next .now)) (told-free leases (a .n) (a .p) (a .next .now) (end .result) (is-free .result) (end .ensures .0) (is-free .ensures) (if1 .taken))
+    (showed-one (freeRow (a .p)) _ _ _ _ (a .next .now) _ (show-free .ensures) refl)
 
-show-prefix-lease-at-requires : (t : ℕ) → show-prefix-lts.Need-lease-at-requires (
+show-prefix-lease-requires : (t : ℕ) → show-prefix-lts.Need-lease-requires (
   end-reads.Asked,
   end-reads.Learnt,
   is-free-reads.Asked,
   is-free-reads.Learnt,
   show-free-reads.Asked,
   show-free-reads.Learnt,
-  lease-at-reads.Asked,
-  lease-at-reads.Learnt,
+  lease-reads.Asked,
+  lease-reads.Learnt,
   show-used-reads.Asked,
   show-used-reads.Learnt,
   show-halves-below t,
   show-halves.Post,
 ) (show-prefix-at t) show-prefix.Post
-show-prefix-lease-at-requires t c κs =
-    let a = c .before .before .before .before .args in
-    let leases : ℕ → Used = leaseIn (a .networks .now) (a .lengths .now) (a .clients .now) (a .expires .now) in
-    let clear = clear-told (a .n) (end (a .p)) (c .before .before .end .result) (a .from .next) (leases (a .from .next) .network) (c .before .is-free .result) false (c .before .before .end .ensures .0) (c .before .is-free .ensures) (c .if1 .left) in
-    let some : a .from .next < a .n = clear-not (a .n) (end (a .p)) (a .from .next) (leases (a .from .next) .network) clear .0 in
-    omega (arith, some, c .before .before .before .before .pre .1 .slots)
+show-prefix-lease-requires t c κs =
+    let a = c .before .before .before .before .before .before .args in
+    let end = c .before .before .end in
+    let is-free = c .before .is-free in
+    let if1 = c .if1 in
+    let pre = c .before .before .before .before .before .before .pre in
+    let leases : ℕ → Used = leaseShown (a .image .now) (a .base) in
+    omega (arith, told-lease leases (a .n) (a .p) (a .next .now) (end .result) (is-free .result) (end .ensures .0) (is-free .ensures) (if1 .left), pre .1 .slots)
+
+show-prefix-add-next : (t : ℕ) → show-prefix-lts.Need-add-next (
+  end-reads.Asked,
+  end-reads.Learnt,
+  is-free-reads.Asked,
+  is-free-reads.Learnt,
+  show-free-reads.Asked,
+  show-free-reads.Learnt,
+  lease-reads.Asked,
+  lease-reads.Learnt,
+  show-used-reads.Asked,
+  show-used-reads.Learnt,
+  show-halves-below t,
+  show-halves.Post,
+) (show-prefix-at t) show-prefix.Post
+show-prefix-add-next t c =
+    let a = c .before .before .before .before .before .before .before .before .before .before .args in
+    let end = c .before .before .before .before .before .before .end in
+    let is-free = c .before .before .before .before .before .is-free in
+    let if1 = c .before .before .before .before .if1 in
+    let pre = c .before .before .before .before .before .before .before .before .before .before .pre in
+    let leases : ℕ → Used = leaseShown (a .image .now) (a .base) in
+    omega (arith, told-lease leases (a .n) (a .p) (a .next .now) (end .result) (is-free .result) (end .ensures .0) (is-free .ensures) (if1 .left), pre .1 .slots)
 
 show-prefix-show-used-requires : (t : ℕ) → show-prefix-lts.Need-show-used-requires (
   end-reads.Asked,
@@ -251,19 +290,22 @@ show-prefix-show-used-requires : (t : ℕ) → show-prefix-lts.Need-show-used-re
   is-free-reads.Learnt,
   show-free-reads.Asked,
   show-free-reads.Learnt,
-  lease-at-reads.Asked,
-  lease-at-reads.Learnt,
+  lease-reads.Asked,
+  lease-reads.Learnt,
   show-used-reads.Asked,
   show-used-reads.Learnt,
   show-halves-below t,
   show-halves.Post,
 ) (show-prefix-at t) show-prefix.Post
 show-prefix-show-used-requires t c κs =
-    let a = c .before .before .before .before .before .before .before .before .before .args in
-    let leases : ℕ → Used = leaseIn (a .networks .now) (a .lengths .now) (a .clients .now) (a .expires .now) in
-    let clear = clear-told (a .n) (end (a .p)) (c .before .before .before .before .before .before .before .end .result) (a .from .next) (leases (a .from .next) .network) (c .before .before .before .before .before .before .is-free .result) false (c .before .before .before .before .before .before .before .end .ensures .0) (c .before .before .before .before .before .before .is-free .ensures) (c .before .before .before .before .before .if1 .left) in
-    let some : a .from .next < a .n = clear-not (a .n) (end (a .p)) (a .from .next) (leases (a .from .next) .network) clear .0 in
-    (ready-row (a .lengths .now) (a .n) (a .from) (a .p) (c .before .before .before .before .before .before .before .before .before .pre .1) .0, omega (arith, some, c .before .before .before .before .before .before .before .before .before .pre .1 .slots))
+    let a = c .before .before .before .before .before .before .before .before .before .before .before .args in
+    let lease = c .before .before .before .before .lease in
+    let end = c .before .before .before .before .before .before .before .end in
+    let is-free = c .before .before .before .before .before .before .is-free in
+    let if1 = c .before .before .before .before .before .if1 in
+    let pre = c .before .before .before .before .before .before .before .before .before .before .before .pre in
+    let leases : ℕ → Used = leaseShown (a .image .now) (a .base) in
+    ready-one (a .image .now) (a .base) (a .n) (a .out .now) (a .at) (a .next .now + 1) (a .p) (scanOf leases (a .n) (a .p) (a .next .now)) (usedRow (lease .result)) (told-used leases (a .n) (a .p) (a .next .now) (end .result) (is-free .result) (end .ensures .0) (is-free .ensures) (if1 .left) (lease .result) (lease .ensures) (omega arith)) (pre .1)
 
 show-prefix-same-length-2 : (t : ℕ) → show-prefix-lts.Need-same-length-2 (
   end-reads.Asked,
@@ -272,14 +314,16 @@ show-prefix-same-length-2 : (t : ℕ) → show-prefix-lts.Need-same-length-2 (
   is-free-reads.Learnt,
   show-free-reads.Asked,
   show-free-reads.Learnt,
-  lease-at-reads.Asked,
-  lease-at-reads.Learnt,
+  lease-reads.Asked,
+  lease-reads.Learnt,
   show-used-reads.Asked,
   show-used-reads.Learnt,
   show-halves-below t,
   show-halves.Post,
 ) (show-prefix-at t) show-prefix.Post
-show-prefix-same-length-2 t c = c .before .before .show-used .kept .0
+show-prefix-same-length-2 t c =
+    let show-used = c .before .before .show-used in
+    show-used .kept .0
 
 show-prefix-returns-2 : (t : ℕ) → show-prefix-lts.Need-returns-2 (
   end-reads.Asked,
@@ -288,21 +332,23 @@ show-prefix-returns-2 : (t : ℕ) → show-prefix-lts.Need-returns-2 (
   is-free-reads.Learnt,
   show-free-reads.Asked,
   show-free-reads.Learnt,
-  lease-at-reads.Asked,
-  lease-at-reads.Learnt,
+  lease-reads.Asked,
+  lease-reads.Learnt,
   show-used-reads.Asked,
   show-used-reads.Learnt,
   show-halves-below t,
   show-halves.Post,
 ) (show-prefix-at t) show-prefix.Post
 show-prefix-returns-2 t c =
-    let a = c .before .before .before .before .before .before .before .before .before .before .before .before .args in
-    let leases : ℕ → Used = leaseIn (a .networks .now) (a .lengths .now) (a .clients .now) (a .expires .now) in
-    let clear = clear-told (a .n) (end (a .p)) (c .before .before .before .before .before .before .before .before .before .before .end .result) (a .from .next) (leases (a .from .next) .network) (c .before .before .before .before .before .before .before .before .before .is-free .result) false (c .before .before .before .before .before .before .before .before .before .before .end .ensures .0) (c .before .before .before .before .before .before .before .before .before .is-free .ensures) (c .before .before .before .before .before .before .before .before .if1 .left) in
-    let x : c .before .before .before .before .before .before .before .lease-at .result ≡ leases (a .from .next) = c .before .before .before .before .before .before .before .lease-at .ensures in
-    let fits : leases (a .from .next) .length ≤ a .p .length = subst (λ (y : Used). y .length ≤ a .p .length) x (c .before .before .before .before .if2 .taken) in
-    showed-as (a .out .now) (c .before .before .show-used .last .0) (a .from) (c .before .before .show-used .result) (usedScan (c .before .before .before .before .before .before .before .lease-at .result) (a .from .next)) (scanOf leases (a .n) (a .p) (a .from .next))
-    (scan-here leases (a .n) (a .p) (a .from .next) clear (longest - a .p .length) fits ∙ ap (λ (y : Used). usedScan y (a .from .next)) (sym x)) (c .before .before .show-used .ensures)
+    let a = c .before .before .before .before .before .before .before .before .before .before .before .before .before .before .args in
+    let lease = c .before .before .before .before .before .before .before .lease in
+    let end = c .before .before .before .before .before .before .before .before .before .before .end in
+    let is-free = c .before .before .before .before .before .before .before .before .before .is-free in
+    let if1 = c .before .before .before .before .before .before .before .before .if1 in
+    let show-used = c .before .before .show-used in
+    let leases : ℕ → Used = leaseShown (a .image .now) (a .base) in
+    showed-as _ _ _ _ _ (usedScan (lease .result) (a .next .now)) (scanOf leases (a .n) (a .p) (a .next .now)) (told-used leases (a .n) (a .p) (a .next .now) (end .result) (is-free .result) (end .ensures .0) (is-free .ensures) (if1 .left) (lease .result) (lease .ensures) (omega arith))
+    (showed-one (usedRow (lease .result)) _ _ _ _ (a .next .now + 1) _ (show-used .ensures) refl)
 
 show-prefix-show-halves-requires : (t : ℕ) → show-prefix-lts.Need-show-halves-requires (
   end-reads.Asked,
@@ -311,23 +357,25 @@ show-prefix-show-halves-requires : (t : ℕ) → show-prefix-lts.Need-show-halve
   is-free-reads.Learnt,
   show-free-reads.Asked,
   show-free-reads.Learnt,
-  lease-at-reads.Asked,
-  lease-at-reads.Learnt,
+  lease-reads.Asked,
+  lease-reads.Learnt,
   show-used-reads.Asked,
   show-used-reads.Learnt,
   show-halves-below t,
   show-halves.Post,
 ) (show-prefix-at t) show-prefix.Post
 show-prefix-show-halves-requires t c κs =
-    let a = c .before .before .before .before .before .before .before .before .before .args in
-    let leases : ℕ → Used = leaseIn (a .networks .now) (a .lengths .now) (a .clients .now) (a .expires .now) in
-    let clear = clear-told (a .n) (end (a .p)) (c .before .before .before .before .before .before .before .end .result) (a .from .next) (leases (a .from .next) .network) (c .before .before .before .before .before .before .is-free .result) false (c .before .before .before .before .before .before .before .end .ensures .0) (c .before .before .before .before .before .before .is-free .ensures) (c .before .before .before .before .before .if1 .left) in
-    let some : a .from .next < a .n = clear-not (a .n) (end (a .p)) (a .from .next) (leases (a .from .next) .network) clear .0 in
-    let x : c .before .before .before .before .lease-at .result ≡ leases (a .from .next) = c .before .before .before .before .lease-at .ensures in
-    let more : a .p .length < leases (a .from .next) .length = subst (λ (y : Used). a .p .length < y .length) x (c .before .if2 .left) in
-    let q = c .before .before .before .before .before .before .before .before .before .pre in
-    let short : a .p .length < longest = ready-short (a .lengths .now) (a .n) (a .from) (a .p) (q .1) (a .from .next) more in
-    (omega (arith, q .0), (short, q .1))
+    let a = c .before .before .before .before .before .before .before .before .before .before .before .before .args in
+    let end = c .before .before .before .before .before .before .before .before .end in
+    let is-free = c .before .before .before .before .before .before .before .is-free in
+    let if1 = c .before .before .before .before .before .before .if1 in
+    let lease = c .before .before .before .before .before .lease in
+    let pre = c .before .before .before .before .before .before .before .before .before .before .before .before .pre in
+    let leases : ℕ → Used = leaseShown (a .image .now) (a .base) in
+    let some : a .next .now < a .n = told-lease leases (a .n) (a .p) (a .next .now) (end .result) (is-free .result) (end .ensures .0) (is-free .ensures) (if1 .left) in
+    let deep : lease .result .length ≡ leases (a .next .now) .length = ap (λ (x : Used). x .length) (lease .ensures) in
+    let short : a .p .length < longest = omega (arith, pre .1 .blocks (a .next .now) some, deep) in
+    (omega (arith, pre .0), (short, ready-as (a .image .now) (a .base) (a .n) (a .out .now) (a .at) (a .p) (scanOf leases (a .n) (a .p) (a .next .now)) (scanHalves leases (a .n) (a .p) (a .next .now)) (told-halves leases (a .n) (a .p) (a .next .now) (end .result) (is-free .result) (end .ensures .0) (is-free .ensures) (if1 .left) (lease .result) (lease .ensures) short (omega arith)) (pre .1)))
 
 show-prefix-same-length-3 : (t : ℕ) → show-prefix-lts.Need-same-length-3 (
   end-reads.Asked,
@@ -336,14 +384,16 @@ show-prefix-same-length-3 : (t : ℕ) → show-prefix-lts.Need-same-length-3 (
   is-free-reads.Learnt,
   show-free-reads.Asked,
   show-free-reads.Learnt,
-  lease-at-reads.Asked,
-  lease-at-reads.Learnt,
+  lease-reads.Asked,
+  lease-reads.Learnt,
   show-used-reads.Asked,
   show-used-reads.Learnt,
   show-halves-below t,
   show-halves.Post,
 ) (show-prefix-at t) show-prefix.Post
-show-prefix-same-length-3 t c = c .before .before .show-halves .kept .0
+show-prefix-same-length-3 t c =
+    let show-halves = c .before .before .show-halves in
+    show-halves .kept .0
 
 show-prefix-returns-3 : (t : ℕ) → show-prefix-lts.Need-returns-3 (
   end-reads.Asked,
@@ -352,24 +402,26 @@ show-prefix-returns-3 : (t : ℕ) → show-prefix-lts.Need-returns-3 (
   is-free-reads.Learnt,
   show-free-reads.Asked,
   show-free-reads.Learnt,
-  lease-at-reads.Asked,
-  lease-at-reads.Learnt,
+  lease-reads.Asked,
+  lease-reads.Learnt,
   show-used-reads.Asked,
   show-used-reads.Learnt,
   show-halves-below t,
   show-halves.Post,
 ) (show-prefix-at t) show-prefix.Post
 show-prefix-returns-3 t c =
-    let a = c .before .before .before .before .before .before .before .before .before .before .before .before .args in
-    let leases : ℕ → Used = leaseIn (a .networks .now) (a .lengths .now) (a .clients .now) (a .expires .now) in
-    let clear = clear-told (a .n) (end (a .p)) (c .before .before .before .before .before .before .before .before .before .before .end .result) (a .from .next) (leases (a .from .next) .network) (c .before .before .before .before .before .before .before .before .before .is-free .result) false (c .before .before .before .before .before .before .before .before .before .before .end .ensures .0) (c .before .before .before .before .before .before .before .before .before .is-free .ensures) (c .before .before .before .before .before .before .before .before .if1 .left) in
-    let some : a .from .next < a .n = clear-not (a .n) (end (a .p)) (a .from .next) (leases (a .from .next) .network) clear .0 in
-    let x : c .before .before .before .before .before .before .before .lease-at .result ≡ leases (a .from .next) = c .before .before .before .before .before .before .before .lease-at .ensures in
-    let more : a .p .length < leases (a .from .next) .length = subst (λ (y : Used). a .p .length < y .length) x (c .before .before .before .before .if2 .left) in
-    let q = c .before .before .before .before .before .before .before .before .before .before .before .before .pre in
-    let short : a .p .length < longest = ready-short (a .lengths .now) (a .n) (a .from) (a .p) (q .1) (a .from .next) more in
-    showed-as (a .out .now) (c .before .before .show-halves .last .0) (a .from) (c .before .before .show-halves .result) (scanHalves leases (a .n) (a .p) (a .from .next)) (scanOf leases (a .n) (a .p) (a .from .next))
-    (scan-halves leases (a .n) (a .p) (a .from .next) clear short more) (c .before .before .show-halves .ensures)
+    let a = c .before .before .before .before .before .before .before .before .before .before .before .before .before .before .before .args in
+    let end = c .before .before .before .before .before .before .before .before .before .before .before .end in
+    let is-free = c .before .before .before .before .before .before .before .before .before .before .is-free in
+    let if1 = c .before .before .before .before .before .before .before .before .before .if1 in
+    let lease = c .before .before .before .before .before .before .before .before .lease in
+    let pre = c .before .before .before .before .before .before .before .before .before .before .before .before .before .before .before .pre in
+    let show-halves = c .before .before .show-halves in
+    let leases : ℕ → Used = leaseShown (a .image .now) (a .base) in
+    let some : a .next .now < a .n = told-lease leases (a .n) (a .p) (a .next .now) (end .result) (is-free .result) (end .ensures .0) (is-free .ensures) (if1 .left) in
+    let deep : lease .result .length ≡ leases (a .next .now) .length = ap (λ (x : Used). x .length) (lease .ensures) in
+    let short : a .p .length < longest = omega (arith, pre .1 .blocks (a .next .now) some, deep) in
+    showed-as _ _ _ _ _ (scanHalves leases (a .n) (a .p) (a .next .now)) (scanOf leases (a .n) (a .p) (a .next .now)) (told-halves leases (a .n) (a .p) (a .next .now) (end .result) (is-free .result) (end .ensures .0) (is-free .ensures) (if1 .left) (lease .result) (lease .ensures) short (omega arith)) (show-halves .ensures)
 
 pub +show-halves+show-prefix-spec : {M : Type 1} → statement M
 +show-halves+show-prefix-spec = close μ-show-halves μ-show-prefix (λ t. show-halves-lts.spec (
@@ -395,8 +447,8 @@ pub +show-halves+show-prefix-spec : {M : Type 1} → statement M
       is-free-reads.Learnt,
       show-free-reads.Asked,
       show-free-reads.Learnt,
-      lease-at-reads.Asked,
-      lease-at-reads.Learnt,
+      lease-reads.Asked,
+      lease-reads.Learnt,
       show-used-reads.Asked,
       show-used-reads.Learnt,
       show-halves-below t,
@@ -409,7 +461,8 @@ pub +show-halves+show-prefix-spec : {M : Type 1} → statement M
     (show-prefix-show-free-requires t)
     (show-prefix-same-length t)
     (show-prefix-returns t)
-    (show-prefix-lease-at-requires t)
+    (show-prefix-lease-requires t)
+    (show-prefix-add-next t)
     (show-prefix-show-used-requires t)
     (show-prefix-same-length-2 t)
     (show-prefix-returns-2 t)

@@ -1,8 +1,10 @@
 -- `sheet_text::put_used` meets its contract: the parts of the row, one after another.
 -- Assumes nothing.
+use native.Mathlib.Omega.{arith}
+use lib.ListN.{length-append}
+use borrow.Author.Needs.{needs}
 use Rattle.sheet_text.specs.Sheet.{rowText}
 use Rattle.sheet_text.proofs.TextLaws.{wrote-then}
-use borrow.Author.Needs.{needs}
 use Rattle.sheet_text.proofs.put_used.Statement.{statement}
 use Rattle.sheet_text.proofs.put_used.Tie as tie
 
@@ -10,38 +12,67 @@ slice-aggregate-put-text : tie.Need-slice-aggregate-put-text
 slice-aggregate-put-text c = search needs
 
 put-text-requires : tie.Need-put-text-requires
-put-text-requires c κs = search needs
+unfolding rowText
+put-text-requires c κs =
+    let pre = c .before .before .before .pre in
+    omega (arith, simp length-append at pre)
 
 put-prefix-requires : tie.Need-put-prefix-requires
-put-prefix-requires c κs = search needs
+unfolding rowText
+put-prefix-requires c κs =
+    let pre = c .before .before .before .before .before .before .before .pre in
+    omega (arith, simp length-append at pre)
 
 slice-aggregate-put-text-2 : tie.Need-slice-aggregate-put-text-2
 slice-aggregate-put-text-2 c = search needs
 
 put-text-requires-2 : tie.Need-put-text-requires-2
-put-text-requires-2 c κs = search needs
+unfolding rowText
+put-text-requires-2 c κs =
+    let pre = c .before .before .before .before .before .before .before .before .before .before .before .before .pre in
+    omega (arith, simp length-append at pre)
 
 put-decimal-requires : tie.Need-put-decimal-requires
-put-decimal-requires c κs = search needs
+unfolding rowText
+put-decimal-requires c κs =
+    let pre = c .before .before .before .before .before .before .before .before .before .before .before .before .before .before .before .before .pre in
+    omega (arith, simp length-append at pre)
 
 slice-aggregate-put-text-3 : tie.Need-slice-aggregate-put-text-3
 slice-aggregate-put-text-3 c = search needs
 
 put-text-requires-3 : tie.Need-put-text-requires-3
-put-text-requires-3 c κs = search needs
+unfolding rowText
+put-text-requires-3 c κs =
+    let pre = c .before .before .before .before .before .before .before .before .before .before .before .before .before .before .before .before .before .before .before .before .before .pre in
+    omega (arith, simp length-append at pre)
 
 put-decimal-requires-2 : tie.Need-put-decimal-requires-2
-put-decimal-requires-2 c κs = search needs
+unfolding rowText
+put-decimal-requires-2 c κs =
+    let pre = c .before .before .before .before .before .before .before .before .before .before .before .before .before .before .before .before .before .before .before .before .before .before .before .before .before .pre in
+    omega (arith, simp length-append at pre)
 
 put-byte-requires : tie.Need-put-byte-requires
-put-byte-requires c κs = search needs
+unfolding rowText
+put-byte-requires c κs =
+    let pre = c .before .before .before .before .before .before .before .before .before .before .before .before .before .before .before .before .before .before .before .before .before .before .before .before .before .before .before .before .before .pre in
+    omega (arith, simp length-append at pre)
 
 same-length : tie.Need-same-length
 same-length c = search needs
 
 returns : tie.Need-returns
 unfolding rowText
-returns c = wrote-then (wrote-then (wrote-then (wrote-then (wrote-then (wrote-then (c .before .before .before .before .before .before .before .before .before .before .before .before .before .before .before .before .before .before .before .before .before .before .before .before .before .before .before .before .put-text .ensures) (c .before .before .before .before .before .before .before .before .before .before .before .before .before .before .before .before .before .before .before .before .before .before .before .before .put-prefix .ensures .0)) (c .before .before .before .before .before .before .before .before .before .before .before .before .before .before .before .before .before .before .before .put-text2 .ensures)) (c .before .before .before .before .before .before .before .before .before .before .before .before .before .before .before .put-decimal .ensures .0)) (c .before .before .before .before .before .before .before .before .before .before .put-text3 .ensures)) (c .before .before .before .before .before .before .put-decimal2 .ensures .0)) (c .before .before .put-byte .ensures)
+returns c =
+    let put-text = c .before .before .before .before .before .before .before .before .before .before .before .before .before .before .before .before .before .before .before .before .before .before .before .before .before .before .before .before .put-text in
+    let put-prefix = c .before .before .before .before .before .before .before .before .before .before .before .before .before .before .before .before .before .before .before .before .before .before .before .before .put-prefix in
+    let put-text2 = c .before .before .before .before .before .before .before .before .before .before .before .before .before .before .before .before .before .before .before .put-text2 in
+    let put-decimal = c .before .before .before .before .before .before .before .before .before .before .before .before .before .before .before .put-decimal in
+    let put-text3 = c .before .before .before .before .before .before .before .before .before .before .put-text3 in
+    let put-decimal2 = c .before .before .before .before .before .before .put-decimal2 in
+    let put-byte = c .before .before .put-byte in
+    wrote-then (wrote-then (wrote-then (wrote-then (wrote-then (wrote-then (put-text .ensures) (put-prefix .ensures)) (put-text2 .ensures)) (put-decimal .ensures)) (put-text3 .ensures)) (put-decimal2 .ensures)) (put-byte .ensures)
 
 pub put-used-spec : {M : Type 1} → statement M
 put-used-spec =

@@ -1,21 +1,33 @@
--- `sheet_text::show_used` meets its contract: one used row.
+-- `sheet_text::show_used` meets its contract.
 -- Assumes nothing.
-use Rattle.sheet_text.proofs.ShowLaws.{showed-used}
+use native.Mathlib.Omega.{arith}
 use borrow.Author.Needs.{needs}
+use Rattle.sheet_text.proofs.ShowLaws.{room-fits, wrote-empty}
 use Rattle.sheet_text.proofs.show_used.Statement.{statement}
 use Rattle.sheet_text.proofs.show_used.Tie as tie
 
-put-used-requires : tie.Need-put-used-requires
-put-used-requires c κs = search needs
+used-size-requires : tie.Need-used-size-requires
+used-size-requires c κs = search needs
 
-add-t7 : tie.Need-add-t7
-add-t7 c = search needs
+add-result : tie.Need-add-result
+add-result c = search needs
+
+returns : tie.Need-returns
+returns c = wrote-empty _ _ _ _ (omega arith) (omega arith)
+
+put-used-requires : tie.Need-put-used-requires
+put-used-requires c κs =
+    let pre = c .before .before .before .pre in
+    let if1 = c .before .if1 in
+    room-fits _ _ _ pre (if1 .left)
 
 same-length : tie.Need-same-length
 same-length c = search needs
 
-returns : tie.Need-returns
-returns c = let a = c .before .before .before .before .before .before .args in showed-used (a .x) (a .out .now) (c .before .before .before .put-used .last .0) (a .from) (c .before .before .before .put-used .result) (c .before .before .before .put-used .ensures)
+returns-2 : tie.Need-returns-2
+returns-2 c = search needs
 
 pub show-used-spec : {M : Type 1} → statement M
-show-used-spec = tie.close (tie.spec put-used-requires add-t7 same-length returns)
+show-used-spec =
+    tie.close
+    (tie.spec used-size-requires add-result returns put-used-requires same-length returns-2)

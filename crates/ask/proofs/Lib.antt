@@ -1,2 +1,0 @@
-pub mod ReplyPuts
-pub mod AskLaws

@@ -1,0 +1,5 @@
+pub mod NamedLaws
+pub mod ManyLaws
+pub mod EntriesLaws
+pub mod RowLaws
+pub mod CallLaws

@@ -1,0 +1,119 @@
+-- Laws of finding the lease that an entry names, and of changing it in place.
+-- Assumes nothing.
+use Prim.Native.Nat.{ℕ, _+_, _-_, _*_, _≤_, _<_}
+use native.Mathlib.Omega.{arith}
+use mathlib.Core.Path.{_≡_, sym, ap, subst, _∙_}
+use mathlib.Core.Bool.{Bool, true, false}
+use mathlib.Core.List.{List, [], _∷_, map}
+use lib.ListN.{length, getD, drop, length-map}
+use lib.Seq.{getD-set-same}
+use lib.Dec.{leb, ltb, eqb}
+use borrow.Author.Tests.{ltb-true, lt-ltb, eqb-true, eq-eqb}
+use Rattle.lists.specs.Lists.{All, every, those, gather}
+use Rattle.lists.specs.Put.{put}
+use Rattle.lists.proofs.Tests.{and-to, and-of, not-true⇒false, every-to, every-of}
+use Rattle.table.specs.declared.Lease.{Lease}
+use Rattle.table.specs.Table.{noLease}
+use Rattle.image.specs.Image.{leaseRecord, leaseIn}
+use Rattle.records.specs.Records.{Records, Ascending}
+use Rattle.records.proofs.RecordLaws.{lease-in-place, records-room, put-records, put-leases-same, edit-is}
+use Rattle.records.proofs.FindLaws.{none-map, found-within, found-none, found-other, found-those, found-map}
+use Rattle.entry_leases.specs.EntryLeases.{named?, Found, leasedUntil, changedIf, Changed}
+
+-- THE TEST
+
+abbrev namedTests : ℕ → ℕ → ℕ → Lease → List Bool
+namedTests client network len x = eqb (x .client) client ∷ eqb (x .network) network ∷ eqb (x .length) len ∷ []
+
+abbrev pub Named : ℕ → ℕ → ℕ → ℕ → Lease → Type 0
+Named now client network len x = (now < x .expires) × (x .client ≡ client) × (x .network ≡ network) × (x .length ≡ len)
+
+module _ (now client network len : ℕ) (x : Lease) where
+  pub named-to : named? now client network len x ≡ true → Named now client network len x
+  named-to e =
+      let both = and-to (ltb now (x .expires)) (every (namedTests client network len x)) e in
+      let tests = every-to (namedTests client network len x) (both .1) in
+      (ltb-true now (x .expires) (both .0), eqb-true (x .client) client (tests .0), eqb-true (x .network) network (tests .1 .0), eqb-true (x .length) len (tests .1 .1 .0))
+
+  pub named-of : Named now client network len x → named? now client network len x ≡ true
+  named-of p =
+      and-of (ltb now (x .expires)) (every (namedTests client network len x)) (lt-ltb now (x .expires) (p .0))
+      (every-of (namedTests client network len x) (eq-eqb (x .client) client (p .1), (eq-eqb (x .network) network (p .2), (eq-eqb (x .length) len (p .3), tt))))
+
+-- FINDING IT
+
+missing : (g : Lease → Bool) (xs : List Lease) (n : ℕ) → n ≡ length xs → All (λ x. g x ≡ false) xs → Found g xs n
+missing g xs n e a = record { none = λ z. a; one = λ h. absurd (omega arith); edited = λ h. absurd (omega arith) }
+
+module _ (now client network len : ℕ) (l : List ℕ) (from n r : ℕ)
+    (placed : (xs : List Lease) → Records l from xs → n ≡ length xs → Ascending xs → r ≡ length (those (λ x. leb (x .network) network) xs)) where
+  only : (x : Lease) → named? now client network len x ≡ true → x .network ≡ network
+  only x t = named-to now client network len x t .2
+
+  -- No lease has a network up to this one.
+  pub find-none : r ≡ 0 → (xs : List Lease) → Records l from xs → n ≡ length xs → Ascending xs → Found (named? now client network len) xs n
+  find-none z xs held counted a =
+      missing (named? now client network len) xs n counted (found-none network xs a r (placed xs held counted a) (named? now client network len) only z)
+
+  -- The last of those that have.
+  module _ (h : 0 < r) (x : Lease) (read : x ≡ leaseIn (drop (from + 19 * (r - 1)) l)) where
+    it-is : (xs : List Lease) → Records l from xs → n ≡ length xs → Ascending xs → named? now client network len (getD xs (r - 1) noLease) ≡ named? now client network len x
+    it-is xs held counted a =
+        ap (named? now client network len)
+        (sym (read ∙ lease-in-place l from xs held (r - 1) (found-within network xs a r (placed xs held counted a) h)))
+
+    pub find-other : (Named now client network len x → ⊥) → (xs : List Lease) → Records l from xs → n ≡ length xs → Ascending xs
+        → Found (named? now client network len) xs n
+    find-other k xs held counted a =
+        missing (named? now client network len) xs n counted
+        (found-other network xs a r (placed xs held counted a) (named? now client network len) only
+        (it-is xs held counted a ∙ not-true⇒false (named? now client network len x) (λ t. k (named-to now client network len x t))))
+
+    pub find-here : Named now client network len x → (xs : List Lease) → Records l from xs → n ≡ length xs → Ascending xs
+        → Found (named? now client network len) xs (r - 1)
+    find-here p xs held counted a =
+        let place = placed xs held counted a in
+        let within = found-within network xs a r place h in
+        let here = it-is xs held counted a ∙ named-of now client network len x p in
+        record {
+          none = λ z. absurd (omega arith);
+          one = λ i. found-those network xs a r place (named? now client network len) only h here;
+          edited = λ i. found-map network xs a r place (named? now client network len) only h here;
+        }
+
+-- CHANGING IT
+
+module _ (g : Lease → Bool) (expires : ℕ) (l : List ℕ) (from : ℕ) (xs : List Lease) (held : Records l from xs) (r : ℕ) (f : Found g xs r) where
+  -- There is none.
+  pub change-none : r ≡ length xs → (after : List ℕ) → after ≡ l → Changed g expires l from xs after r
+  change-none z after same = record {
+    found = f;
+    after-is =
+        same
+        ∙ sym (ap (λ (ys : List Lease). put l from (gather leaseRecord ys)) (none-map g (leasedUntil expires) xs (f .none z)) ∙ put-leases-same l from xs held);
+  }
+
+  -- Its record is edited.
+  pub change-here : r < length xs → (x : Lease) → x ≡ leaseIn (drop (from + 19 * r) l) → (after : List ℕ)
+      → after ≡ put l (from + 19 * r) (leaseRecord (leasedUntil expires x)) → Changed g expires l from xs after r
+  change-here h x read after e = record {
+    found = f;
+    after-is =
+        e
+        ∙ ap (λ (y : Lease). put l (from + 19 * r) (leaseRecord (leasedUntil expires y))) (read ∙ lease-in-place l from xs held r h)
+        ∙ edit-is l from xs held r h (leasedUntil expires (getD xs r noLease))
+        ∙ ap (λ (ys : List Lease). put l from (gather leaseRecord ys)) (sym (f .edited h (leasedUntil expires)));
+  }
+
+  module _ (after : List ℕ) (c : Changed g expires l from xs after r) where
+    -- The leases stand there, with the changed one.
+    pub change-holds : from + 19 * length xs ≤ length l → Records after from (map (changedIf g expires) xs)
+    change-holds room =
+        subst (λ (s : List ℕ). Records s from (map (changedIf g expires) xs)) (sym (c .after-is))
+        (put-records l from (map (changedIf g expires) xs) (omega (arith, length-map xs (changedIf g expires))))
+
+    pub change-lease : r < length xs → leaseIn (drop (from + 19 * r) after) ≡ leasedUntil expires (getD xs r noLease)
+    change-lease h =
+        lease-in-place after from (map (changedIf g expires) xs) (change-holds (records-room l from xs held (omega arith))) r (omega (arith, length-map xs (changedIf g expires)))
+        ∙ ap (λ (ys : List Lease). getD ys r noLease) (f .edited h (leasedUntil expires))
+        ∙ getD-set-same xs r (leasedUntil expires (getD xs r noLease)) noLease h

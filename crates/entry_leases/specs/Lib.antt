@@ -1,0 +1,2 @@
+pub mod EntryLeases
+pub mod EntryRows

@@ -1,0 +1,8 @@
+pub mod FitLaws
+pub mod SplitLaws
+pub mod ColumnLaws
+pub mod MoveLaws
+pub mod EndLaws
+pub mod BitLaws
+pub mod SearchLaws
+pub mod WalkLaws

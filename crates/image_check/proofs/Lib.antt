@@ -1,0 +1,5 @@
+pub mod FitLaws
+pub mod RunLaws
+pub mod BookLaws
+pub mod PoolLaws
+pub mod ScanLaws

@@ -1,0 +1,4 @@
+pub mod BookLaws
+pub mod RowLaws
+pub mod CallRows
+pub mod FinishLaws

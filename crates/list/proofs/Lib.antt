@@ -1,3 +1,0 @@
--- Laws of list.
-pub mod PageLaws
-pub mod ListCall

@@ -1,0 +1,82 @@
+-- Laws of the place that a list resumes at: the leases from there on are those above the position.
+-- Assumes nothing.
+use Prim.Native.Nat.{ℕ, _≤_, _<_}
+use mathlib.Core.Path.{_≡_, refl, sym, ap, _∙_}
+use mathlib.Core.Logic.{⊎-elim}
+use mathlib.Core.Bool.{Bool, true, false, _&&_}
+use mathlib.Core.List.{List, [], _∷_}
+use mathlib.Core.Option.{Option, none, some}
+use native.Mathlib.Omega.{arith}
+use lib.ListN.{length, drop}
+use lib.Dec.{leb, ltb, eqb}
+use borrow.Author.Tests.{lt-ltb, le-ltb, lt-leb, leb-true, leb-false}
+use Rattle.lists.specs.Lists.{All, every, those}
+use Rattle.lists.proofs.ListLaws.{all-map, all-every}
+use Rattle.lists.proofs.Tests.{bool-cases}
+use Rattle.lists.proofs.ThoseLaws.{those-yes, those-no, those-none}
+use Rattle.lists.proofs.MapLaws.{those-those}
+use Rattle.table.specs.declared.Lease.{Lease}
+use Rattle.table.specs.Table.{present}
+use Rattle.ledger.specs.Ledger.{above?, listed}
+use Rattle.records.specs.Records.{Ascending}
+use Rattle.records.proofs.FindLaws.{all-above}
+use Rattle.list_image.specs.Page.{shown?, startOf}
+
+-- The ledger's test, on the leases in the image.
+abbrev meant? : ℕ → ℕ → Option ℕ → Lease → Bool
+meant? now client p x = ltb now (x .expires) && every (eqb (x .client) client ∷ x .leased ∷ above? p (x .network) ∷ [])
+
+meant-is : (now client : ℕ) (p : Option ℕ) (xs : List Lease) → those (meant? now client p) xs ≡ listed client p (present now xs)
+unfolding present
+meant-is now client p xs =
+    sym (those-those (λ (x : Lease). ltb now (x .expires)) (λ (x : Lease). every (eqb (x .client) client ∷ x .leased ∷ above? p (x .network) ∷ [])) xs)
+
+same-test : (a b c : Bool) → (b && (c && a)) ≡ (a && (b && (c && (true && true))))
+same-test true true true = refl
+same-test true true false = refl
+same-test true false c = refl
+same-test false true true = refl
+same-test false true false = refl
+same-test false false c = refl
+
+never : (a b c : Bool) → (a && (b && (c && (false && true)))) ≡ false
+never true true true = refl
+never true true false = refl
+never true false c = refl
+never false b c = refl
+
+shown-meant : (now client : ℕ) (p : Option ℕ) (x : Lease) → above? p (x .network) ≡ true → shown? now client x ≡ meant? now client p x
+shown-meant now client p x e = rw e (same-test (ltb now (x .expires)) (eqb (x .client) client) (x .leased))
+
+not-meant : (now client : ℕ) (p : Option ℕ) (x : Lease) → above? p (x .network) ≡ false → meant? now client p x ≡ false
+not-meant now client p x e = rw e (never (ltb now (x .expires)) (eqb (x .client) client) (x .leased))
+
+those-when : {A : Type 0} (f g : A → Bool) (xs : List A) → All (λ x. f x ≡ g x) xs → those f xs ≡ those g xs
+those-when f g [] a = refl
+those-when f g (x ∷ xs) a = rw (a .0, those-when f g xs (a .1))
+
+-- Where all of them are above the position.
+all-shown : (now client : ℕ) (p : Option ℕ) (xs : List Lease) → All (λ x. above? p (x .network) ≡ true) xs → those (shown? now client) xs ≡ those (meant? now client p) xs
+all-shown now client p xs a = those-when (shown? now client) (meant? now client p) xs (all-map (shown-meant now client p) xs a)
+
+from-position : (now client p : ℕ) (xs : List Lease) → Ascending xs
+    → those (shown? now client) (drop (length (those (λ x. leb (x .network) p) xs)) xs) ≡ those (meant? now client (some p)) xs
+unfolding Ascending
+from-position now client p [] a = refl
+from-position now client p (x ∷ xs) a =
+    ⊎-elim
+    (λ (t : leb (x .network) p ≡ true).
+    let skipped : meant? now client (some p) x ≡ false = not-meant now client (some p) x (le-ltb p (x .network) (leb-true (x .network) p t)) in
+    ap (λ (l : List Lease). those (shown? now client) (drop (length l) (x ∷ xs))) (those-yes (λ (y : Lease). leb (y .network) p) x xs t)
+    ∙ from-position now client p xs (a .1)
+    ∙ sym (those-no (meant? now client (some p)) x xs skipped))
+    (λ (t : leb (x .network) p ≡ false).
+    let above = all-above p x xs a (leb-false (x .network) p t) in
+    let nothing = those-none (λ (y : Lease). leb (y .network) p) (x ∷ xs) (all-map (λ y (h : p < y .network). lt-leb (y .network) p h) (x ∷ xs) above) in
+    ap (λ (l : List Lease). those (shown? now client) (drop (length l) (x ∷ xs))) nothing
+    ∙ all-shown now client (some p) (x ∷ xs) (all-map (λ y (h : p < y .network). lt-ltb p (y .network) h) (x ∷ xs) above))
+    (bool-cases (leb (x .network) p))
+
+pub listed-from : (now client : ℕ) (p : Option ℕ) (xs : List Lease) → Ascending xs → those (shown? now client) (drop (startOf p xs) xs) ≡ listed client p (present now xs)
+listed-from now client none xs a = all-shown now client none xs (all-every (λ x. refl) xs) ∙ meant-is now client none xs
+listed-from now client (some p) xs a = from-position now client p xs a ∙ meant-is now client (some p) xs

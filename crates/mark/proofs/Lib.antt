@@ -1,2 +1,0 @@
--- Laws of mark.
-pub mod MarkLaws

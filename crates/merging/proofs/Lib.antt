@@ -1,0 +1,3 @@
+pub mod AddLaws
+pub mod PlacesLaws
+pub mod MergeLaws

@@ -1,0 +1,5 @@
+pub mod ColumnLaws
+pub mod SortLaws
+pub mod MoveLaws
+pub mod OrderLaws
+pub mod OpenImageLaws

@@ -1,0 +1,3 @@
+pub mod EntryWalk
+pub mod Adding
+pub mod SuboptionWalk

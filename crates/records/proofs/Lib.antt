@@ -1,0 +1,9 @@
+pub mod ZeroLaws
+pub mod PutForms
+pub mod RecordLaws
+pub mod MoveLaws
+pub mod RemoveLaws
+pub mod PlaceLaws
+pub mod InsertLaws
+pub mod FindLaws
+pub mod SoundLaws

@@ -1,0 +1,206 @@
+-- Laws of leases that stand as records in a buffer: reading one, editing one, and writing all of them anew.
+-- Assumes nothing.
+use Prim.Native.Nat.{ℕ, zero, suc, _+_, _-_, _*_, _≤_, _<_}
+use native.Mathlib.Omega.{arith}
+use mathlib.Core.Path.{_≡_, refl, sym, ap, ap₂, subst, _∙_}
+use mathlib.Core.Logic.{⊎-elim}
+use mathlib.Core.Bool.{Bool, true, false, cond}
+use mathlib.Core.List.{List, [], _∷_, _++_, append-assoc}
+use mathlib.Core.Option.{none, some}
+use lib.ListN.{length, set, getD, take, drop, length-append, length-drop, length-set, length-replicate, replicate, take-append-drop}
+use lib.Seq.{drop-drop, drop-at, take-add, take-at, length-take-le}
+use Rattle.lists.specs.Lists.{every, gather}
+use Rattle.lists.specs.Put.{put}
+use Rattle.lists.proofs.Tests.{bool-cases}
+use Rattle.lists.proofs.DropLaws.{drop-at as list-at}
+use Rattle.lists.proofs.GatherLaws.{gather-append}
+use Rattle.lists.proofs.PutLaws.{put-more, put-append}
+use Rattle.table.specs.declared.Lease.{Lease}
+use Rattle.table.specs.Table.{noLease, empty?}
+use Rattle.table.proofs.TableLaws.{empty-to}
+use Rattle.image.specs.Fields.{le16, le32, number32}
+use Rattle.image.specs.Image.{leaseRecord, leaseIn, leaseTests, leaseAt}
+use Rattle.image.proofs.ImageLaws.{lease-reads, length-lease, length-gather}
+use Rattle.records.specs.Records.{Records}
+use Rattle.records.proofs.PutForms.{take-put, drop-put, drop-put-at, put-behind, put-front, put-inside, put-same, put-over}
+
+-- A RECORD READS BACK
+
+some-is : {A : Type 0} (b : Bool) (x y : A) → cond b (some x) none ≡ some y → x ≡ y
+some-is true x y e = cc
+some-is false x y e = let z : _≡_ {A = ℕ} 0 1 = cc in absurd (omega arith)
+
+none-read : (q : List ℕ) → leaseIn (leaseRecord noLease ++ q) ≡ noLease
+unfolding leaseRecord le16 le32 number32
+none-read q = refl
+
+pub lease-read : (x : Lease) (q : List ℕ) → leaseIn (leaseRecord x ++ q) ≡ x
+unfolding leaseAt
+lease-read x q =
+    ⊎-elim
+    (λ (e : empty? x ≡ true). let n = empty-to x e in ap (λ (y : Lease). leaseIn (leaseRecord y ++ q)) n ∙ none-read q ∙ sym n)
+    (λ (e : empty? x ≡ false). some-is (every (leaseTests (leaseRecord x ++ q))) (leaseIn (leaseRecord x ++ q)) x (lease-reads x q e))
+    (bool-cases (empty? x))
+
+pub length-leases : (xs : List Lease) → length (gather leaseRecord xs) ≡ 19 * length xs
+length-leases xs = length-gather leaseRecord 19 length-lease xs
+
+-- LEASES IN PLACE
+
+gather-drop : (xs : List Lease) (i : ℕ) (q : List ℕ) → i ≤ length xs → drop (19 * i) (gather leaseRecord xs ++ q) ≡ gather leaseRecord (drop i xs) ++ q
+gather-drop xs zero q h = refl
+gather-drop [] (suc i) q h = absurd (omega arith)
+gather-drop (x ∷ xs) (suc i) q h =
+    let rest : List ℕ = gather leaseRecord xs ++ q in
+    let e : 19 * suc i ≡ 19 + 19 * i = omega arith in
+    ap (drop (19 * suc i)) (append-assoc (leaseRecord x) (gather leaseRecord xs) q)
+    ∙ ap (λ (k : ℕ). drop k (leaseRecord x ++ rest)) e
+    ∙ sym (drop-drop (19 * i) 19 (leaseRecord x ++ rest))
+    ∙ ap (drop (19 * i)) (drop-at (leaseRecord x) rest 19 (length-lease x))
+    ∙ gather-drop xs i q (omega arith)
+
+module _ (l : List ℕ) (from : ℕ) (xs : List Lease) (r : Records l from xs) where
+  -- Where there is a lease, the buffer has room for all of them.
+  pub records-room : 0 < length xs → from + 19 * length xs ≤ length l
+  unfolding Records
+  records-room h =
+      let size = ap length r ∙ length-append (gather leaseRecord xs) (drop (from + 19 * length xs) l) in
+      omega (arith, size, length-leases xs, length-drop from l, length-drop (from + 19 * length xs) l)
+
+  -- The leases from the i-th on stand from there on.
+  pub records-drop : (i : ℕ) → i ≤ length xs → Records l (from + 19 * i) (drop i xs)
+  unfolding Records
+  records-drop i h =
+      let e : from + 19 * length xs ≡ from + 19 * i + 19 * length (drop i xs) = omega (arith, length-drop i xs) in
+      sym (drop-drop (19 * i) from l)
+      ∙ ap (drop (19 * i)) r
+      ∙ gather-drop xs i (drop (from + 19 * length xs) l) h
+      ∙ ap (λ (k : ℕ). gather leaseRecord (drop i xs) ++ drop k l) e
+
+pub records-first : (l : List ℕ) (from : ℕ) (x : Lease) (xs : List Lease) → Records l from (x ∷ xs) → drop from l ≡ leaseRecord x ++ drop (from + 19) l
+unfolding Records
+records-first l from x xs r =
+    let rest : List ℕ = drop (from + 19 * length (x ∷ xs)) l in
+    let here : drop from l ≡ leaseRecord x ++ (gather leaseRecord xs ++ rest) = r ∙ append-assoc (leaseRecord x) (gather leaseRecord xs) rest in
+    let next : gather leaseRecord xs ++ rest ≡ drop (from + 19) l =
+    sym (drop-at (leaseRecord x) (gather leaseRecord xs ++ rest) 19 (length-lease x)) ∙ ap (drop 19) (sym here) ∙ drop-drop 19 from l in
+    here ∙ ap (λ (s : List ℕ). leaseRecord x ++ s) next
+
+module _ (l : List ℕ) (from : ℕ) (xs : List Lease) (r : Records l from xs) (i : ℕ) (h : i < length xs) where
+  -- The record of the i-th lease.
+  pub record-at : drop (from + 19 * i) l ≡ leaseRecord (getD xs i noLease) ++ drop (from + 19 * i + 19) l
+  record-at =
+      records-first l (from + 19 * i) (getD xs i noLease) (drop (i + 1) xs)
+      (subst (Records l (from + 19 * i)) (list-at xs i noLease h) (records-drop l from xs r i (omega arith)))
+
+  pub lease-in-place : leaseIn (drop (from + 19 * i) l) ≡ getD xs i noLease
+  lease-in-place = ap leaseIn record-at ∙ lease-read (getD xs i noLease) (drop (from + 19 * i + 19) l)
+
+  pub record-within : from + 19 * i + 19 ≤ length l
+  record-within = omega (arith, records-room l from xs r (omega arith))
+
+-- THE FIRST OF THEM
+
+module _ (l : List ℕ) (from : ℕ) (xs : List Lease) (r : Records l from xs) (m : ℕ) (h : m ≤ length xs) where
+  size-first : length (gather leaseRecord (take m xs)) ≡ 19 * m
+  size-first = omega (arith, length-leases (take m xs), length-take-le m xs h)
+
+  records-split : drop from l ≡ gather leaseRecord (take m xs) ++ (gather leaseRecord (drop m xs) ++ drop (from + 19 * length xs) l)
+  unfolding Records
+  records-split =
+      let q : List ℕ = drop (from + 19 * length xs) l in
+      r ∙ ap (λ (ys : List Lease). gather leaseRecord ys ++ q) (sym (take-append-drop m xs))
+      ∙ ap (λ (b : List ℕ). b ++ q) (gather-append leaseRecord (take m xs) (drop m xs))
+      ∙ append-assoc (gather leaseRecord (take m xs)) (gather leaseRecord (drop m xs)) q
+
+  -- What is put behind the first m is put behind these.
+  pub put-after-first : (bs : List ℕ) → put l (from + 19 * m) bs ≡ put l from (gather leaseRecord (take m xs) ++ bs)
+  put-after-first bs =
+      let low : List ℕ = gather leaseRecord (take m xs) in
+      let place : from + 19 * m ≡ from + length low = omega (arith, size-first) in
+      ap₂ (λ (b : List ℕ) (k : ℕ). put b k bs) (sym (put-same low l from (gather leaseRecord (drop m xs) ++ drop (from + 19 * length xs) l) records-split)) place
+      ∙ put-append low l from bs
+
+  -- And leaves them where they stand.
+  pub first-stay : from ≤ length l → (at : ℕ) (bs : List ℕ) → from + 19 * m ≤ at → Records (put l at bs) from (take m xs)
+  unfolding Records
+  first-stay within at bs behind =
+      let low : List ℕ = gather leaseRecord (take m xs) in
+      let l₁ : List ℕ = put l at bs in
+      let end : ℕ = from + 19 * m in
+      let front : take end l₁ ≡ take from l ++ low =
+      take-put bs l at end behind ∙ take-add from (19 * m) l
+      ∙ ap (λ (s : List ℕ). take from l ++ take (19 * m) s) records-split
+      ∙ ap (λ (s : List ℕ). take from l ++ s) (take-at low (gather leaseRecord (drop m xs) ++ drop (from + 19 * length xs) l) (19 * m) size-first) in
+      let place : end ≡ from + 19 * length (take m xs) = omega (arith, length-take-le m xs h) in
+      ap (drop from) (sym (take-append-drop end l₁) ∙ ap (λ (s : List ℕ). s ++ drop end l₁) front ∙ append-assoc (take from l) low (drop end l₁))
+      ∙ drop-at (take from l) (low ++ drop end l₁) from (length-take-le from l within)
+      ∙ ap (λ (k : ℕ). low ++ drop k l₁) place
+
+-- WRITTEN ANEW
+
+-- All of them put from `from` on stand there.
+pub put-records : (l : List ℕ) (from : ℕ) (ys : List Lease) → from + 19 * length ys ≤ length l → Records (put l from (gather leaseRecord ys)) from ys
+unfolding Records
+put-records l from ys h =
+    let zs : List ℕ = gather leaseRecord ys in
+    let size = length-leases ys in
+    drop-put-at zs l from (omega (arith, size))
+    ∙ ap (λ (k : ℕ). zs ++ drop (from + k) l) size
+    ∙ ap (λ (q : List ℕ). zs ++ q) (sym (drop-put zs l from (from + 19 * length ys) (omega (arith, size))))
+
+-- Those that stand there already change nothing.
+pub put-leases-same : (l : List ℕ) (from : ℕ) (xs : List Lease) → Records l from xs → put l from (gather leaseRecord xs) ≡ l
+unfolding Records
+put-leases-same l from xs r = put-same (gather leaseRecord xs) l from (drop (from + 19 * length xs) l) r
+
+-- ONE OF THEM EDITED
+
+edit-gathered : (xs : List Lease) (i : ℕ) (y : Lease) (q : List ℕ) → i < length xs
+    → put (gather leaseRecord xs ++ q) (19 * i) (leaseRecord y) ≡ gather leaseRecord (set xs i y) ++ q
+edit-gathered [] i y q h = absurd (omega arith)
+edit-gathered (x ∷ xs) zero y q h =
+    ap (λ (l : List ℕ). put l 0 (leaseRecord y)) (append-assoc (leaseRecord x) (gather leaseRecord xs) q)
+    ∙ put-front (leaseRecord y) (leaseRecord x) (gather leaseRecord xs ++ q) (length-lease x ∙ sym (length-lease y))
+    ∙ sym (append-assoc (leaseRecord y) (gather leaseRecord xs) q)
+edit-gathered (x ∷ xs) (suc i) y q h =
+    let rest : List ℕ = gather leaseRecord xs ++ q in
+    let e : 19 * suc i ≡ length (leaseRecord x) + 19 * i = omega (arith, length-lease x) in
+    ap₂ (λ (l : List ℕ) (k : ℕ). put l k (leaseRecord y)) (append-assoc (leaseRecord x) (gather leaseRecord xs) q) e
+    ∙ put-behind (leaseRecord y) (leaseRecord x) rest (19 * i)
+    ∙ ap (λ (l : List ℕ). leaseRecord x ++ l) (edit-gathered xs i y q (omega arith))
+    ∙ sym (append-assoc (leaseRecord x) (gather leaseRecord (set xs i y)) q)
+
+module _ (l : List ℕ) (from : ℕ) (xs : List Lease) (r : Records l from xs) (i : ℕ) (h : i < length xs) (y : Lease) where
+  pub edit-is : put l (from + 19 * i) (leaseRecord y) ≡ put l from (gather leaseRecord (set xs i y))
+  unfolding Records
+  edit-is =
+      let p : List ℕ = take from l in
+      let q : List ℕ = drop (from + 19 * length xs) l in
+      let front : length p ≡ from = length-take-le from l (omega (arith, records-room l from xs r (omega arith))) in
+      let here : l ≡ p ++ (gather leaseRecord xs ++ q) = sym (take-append-drop from l) ∙ ap (λ (s : List ℕ). p ++ s) r in
+      let size : length (gather leaseRecord xs) ≡ length (gather leaseRecord (set xs i y)) = omega (arith, length-leases xs, length-leases (set xs i y), length-set xs i y) in
+      ap₂ (λ (s : List ℕ) (k : ℕ). put s (k + 19 * i) (leaseRecord y)) here (sym front)
+      ∙ put-behind (leaseRecord y) p (gather leaseRecord xs ++ q) (19 * i)
+      ∙ ap (λ (s : List ℕ). p ++ s) (edit-gathered xs i y q h)
+      ∙ sym (put-inside from (gather leaseRecord (set xs i y)) p (gather leaseRecord xs) q front size)
+      ∙ ap (λ (s : List ℕ). put s from (gather leaseRecord (set xs i y))) (sym here)
+
+  pub edit-holds : Records (put l (from + 19 * i) (leaseRecord y)) from (set xs i y)
+  edit-holds =
+      subst (λ (s : List ℕ). Records s from (set xs i y)) (sym edit-is)
+      (put-records l from (set xs i y) (omega (arith, records-room l from xs r (omega arith), length-set xs i y)))
+
+-- CLEARED BEHIND THEM
+
+-- Leases written over others, and zeros over what is left of the n that stood there.
+pub cleared : (l l₁ l₂ : List ℕ) (from n k : ℕ) (ys zs : List Lease) → length ys ≤ n → k ≡ length zs
+    → l₁ ≡ put (put l from (gather leaseRecord ys)) from (gather leaseRecord zs) → l₂ ≡ put l₁ (from + 19 * k) (replicate (from + 19 * n - (from + 19 * k)) 0)
+    → l₂ ≡ put l from (gather leaseRecord zs ++ replicate (from + 19 * n - (from + 19 * length zs)) 0)
+cleared l l₁ l₂ from n k ys zs few e e₁ e₂ =
+    let old : List ℕ = gather leaseRecord ys in
+    let new : List ℕ = gather leaseRecord zs in
+    let zeros : List ℕ = replicate (from + 19 * n - (from + 19 * length zs)) 0 in
+    let count : length zeros ≡ from + 19 * n - (from + 19 * length zs) = length-replicate (from + 19 * n - (from + 19 * length zs)) 0 in
+    put-more (put l from old) l₁ l₂ from new (from + 19 * length zs) zeros e₁ (omega (arith, length-leases zs)) (e₂ ∙ ap (λ (j : ℕ). put l₁ (from + 19 * j) (replicate (from + 19 * n - (from + 19 * j)) 0)) e)
+    ∙ put-over old (new ++ zeros) l from (omega (arith, length-append new zeros, length-leases ys, length-leases zs, count))

@@ -1,0 +1,121 @@
+-- Laws of the leases of a table, as its image holds them: they stand as records and ascend, and what keeps them ascending.
+-- Assumes nothing.
+use Prim.Native.Nat.{ℕ, _+_, _-_, _*_, _≤_, _<_}
+use native.Mathlib.Omega.{arith}
+use mathlib.Core.Path.{_≡_, sym, ap, subst, _∙_}
+use mathlib.Core.Logic.{⊎-elim}
+use mathlib.Core.Bool.{Bool, true, false, not}
+use mathlib.Core.List.{List, [], _∷_, _++_, append-assoc}
+use lib.ListN.{length, getD, set, take, drop, length-append, take-append-drop}
+use lib.Seq.{drop-at, map-set-same}
+use lib.Dec.{ltb}
+use borrow.Author.Tests.{ltb-true, ltb-false}
+use Rattle.lists.specs.Lists.{All, Pairwise, those, gather}
+use Rattle.lists.specs.Sorting.{insertBy}
+use Rattle.lists.proofs.Tests.{bool-cases}
+use Rattle.lists.proofs.ListLaws.{all-map, pairwise-image, pairwise-preimage}
+use Rattle.lists.proofs.ThoseLaws.{those-yes, those-no, those-all, those-fewer}
+use Rattle.lists.proofs.SortingLaws.{insertBy-before, insertBy-after, insertBy-all}
+use Rattle.prefix.proofs.PrefixLaws.{size-positive}
+use Rattle.table.specs.declared.Lease.{Lease}
+use Rattle.table.specs.declared.LeaseTable.{LeaseTable}
+use Rattle.table.specs.Table.{poolSlots, leaseSlots, noLease, unused?, empty?, prefixOf, networkOf, present, sound, insert}
+use Rattle.table.proofs.Ascending.{ascending-low}
+use Rattle.table.proofs.Ascending as table
+use Rattle.table.proofs.TableLaws.{sound-used, sound-fine, sound-slots, sound-pool-slots, present-padded, present?}
+use Rattle.image.specs.Image.{headRecord, poolRecord, leaseRecord, usedPools, usedLeases, headOf, imageOf}
+use Rattle.image.proofs.ImageLaws.{length-head, length-pool, length-gather, length-image, table-whole}
+use Rattle.records.specs.Records.{Records, Ascending}
+use Rattle.records.proofs.RecordLaws.{length-leases}
+
+-- ASCENDING
+
+-- Prefixes that ascend without overlap do so by network.
+pub ascending-prefixes : (from : ℕ) (xs : List Lease) → table.Ascending prefixOf from xs → Ascending xs
+unfolding Ascending
+ascending-prefixes from [] s = tt
+ascending-prefixes from (x ∷ xs) s = (
+  all-map (λ y h. omega (arith, size-positive (x .length))) xs (ascending-low prefixOf _ xs (s .1)),
+  ascending-prefixes _ xs (s .1),
+)
+
+module _ (f : Lease → Bool) where
+  pub ascending-those : (xs : List Lease) → Ascending xs → Ascending (those f xs)
+  unfolding Ascending
+  ascending-those [] a = tt
+  ascending-those (x ∷ xs) a =
+      ⊎-elim
+      (λ (e : f x ≡ true).
+      subst Ascending (sym (those-yes f x xs e)) (those-all f (λ y. x .network < y .network) xs (a .0), ascending-those xs (a .1)))
+      (λ (e : f x ≡ false). subst Ascending (sym (those-no f x xs e)) (ascending-those xs (a .1)))
+      (bool-cases (f x))
+
+pub ascending-present : (time : ℕ) (xs : List Lease) → Ascending xs → Ascending (present time xs)
+unfolding present
+ascending-present time xs a = ascending-those (present? time) xs a
+
+-- One edited in what is not its network.
+pub ascending-set : (xs : List Lease) (i : ℕ) (y : Lease) → y .network ≡ getD xs i noLease .network → Ascending xs → Ascending (set xs i y)
+unfolding Ascending
+ascending-set xs i y e a =
+    pairwise-preimage networkOf _<_ (set xs i y)
+    (subst (Pairwise _<_) (sym (map-set-same networkOf xs i y noLease e)) (pairwise-image networkOf _<_ xs a))
+
+-- One inserted whose network none has.
+pub ascending-insert : (x : Lease) (xs : List Lease) → All (λ y. y .network ≡ x .network → ⊥) xs → Ascending xs → Ascending (insert x xs)
+unfolding Ascending insertBy
+ascending-insert x [] n a = (tt, tt)
+ascending-insert x (y ∷ ys) n a =
+    ⊎-elim
+    (λ (h : ltb (x .network) (y .network) ≡ true).
+    let below = ltb-true (x .network) (y .network) h in
+    subst Ascending (sym (insertBy-before networkOf x y ys h)) ((below, all-map (λ z (g : y .network < z .network). omega arith) ys (a .0)), a))
+    (λ (h : ltb (x .network) (y .network) ≡ false).
+    let upTo = ltb-false (x .network) (y .network) h in
+    let above : y .network < x .network = let apart = n .0 in omega arith in
+    subst Ascending (sym (insertBy-after networkOf x y ys h))
+    (insertBy-all networkOf (λ z. y .network < z .network) x ys above (a .0), ascending-insert x ys (n .1) (a .1)))
+    (bool-cases (ltb (x .network) (y .network)))
+
+-- THE LEASES OF A TABLE
+
+module _ (t : LeaseTable) (e : sound t ≡ true) where
+  pub sound-ascending : Ascending (usedLeases t)
+  sound-ascending = subst Ascending (sym (sound-used t e)) (ascending-prefixes 0 (present (t .last) (t .leases)) (sound-fine t e (t .last) .1))
+
+  -- Empty slots are not present.
+  pub present-used : (time : ℕ) → present time (t .leases) ≡ present time (usedLeases t)
+  present-used time =
+      ap (λ (u : LeaseTable). present time (u .leases)) (table-whole t e) ∙ present-padded time (leaseSlots - length (usedLeases t)) (usedLeases t)
+
+  pub used-few : (length (usedPools t) ≤ poolSlots) × (length (usedLeases t) ≤ leaseSlots)
+  used-few = (
+    omega (arith, those-fewer (λ p. not (unused? p)) (t .pools), sound-pool-slots t e),
+    omega (arith, those-fewer (λ x. not (empty? x)) (t .leases), sound-slots t e),
+  )
+
+-- A buffer that an image is the front of holds the leases as records.
+module _ (t : LeaseTable) (l : List ℕ) (bytes : ℕ) (e : imageOf t ≡ take bytes l) where
+  pub image-records : Records l (13 + 9 * length (usedPools t)) (usedLeases t)
+  unfolding Records imageOf
+  image-records =
+      let head : List ℕ = headRecord (headOf t) in
+      let pools : List ℕ = gather poolRecord (usedPools t) in
+      let leases : List ℕ = gather leaseRecord (usedLeases t) in
+      let from : ℕ = 13 + 9 * length (usedPools t) in
+      let rest : List ℕ = drop bytes l in
+      let front : length (head ++ pools) ≡ from =
+      length-append head pools ∙ omega (arith, length-head (headOf t), length-gather poolRecord 9 length-pool (usedPools t)) in
+      let here : l ≡ (head ++ pools) ++ (leases ++ rest) =
+      sym (take-append-drop bytes l)
+      ∙ ap (λ (s : List ℕ). s ++ rest) (sym e ∙ sym (append-assoc head pools leases))
+      ∙ append-assoc (head ++ pools) leases rest in
+      let after : length ((head ++ pools) ++ leases) ≡ from + 19 * length (usedLeases t) =
+      length-append (head ++ pools) leases ∙ omega (arith, length-leases (usedLeases t)) in
+      ap (drop from) here
+      ∙ drop-at (head ++ pools) (leases ++ rest) from front
+      ∙ ap (λ (s : List ℕ). leases ++ s)
+      (sym (ap (drop (from + 19 * length (usedLeases t))) (here ∙ sym (append-assoc (head ++ pools) leases rest)) ∙ drop-at ((head ++ pools) ++ leases) rest (from + 19 * length (usedLeases t)) after))
+
+  pub image-within : 13 + 9 * length (usedPools t) + 19 * length (usedLeases t) ≤ length l
+  image-within = omega (arith, length-image t, ap length e, ap length (take-append-drop bytes l), length-append (take bytes l) (drop bytes l))

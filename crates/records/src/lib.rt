@@ -1,0 +1,228 @@
+// Records in a lent buffer: writing one, and leases that stand as records one after another.
+use image::Head;
+use table::Lease;
+use table::Pool;
+ghost use mathlib.Core.Path.{_≡_};
+ghost use mathlib.Core.List.{List, _∷_, _++_};
+ghost use Prim.Native.Nat.{_+_, _-_, _*_, _≤_};
+ghost use lib.ListN.{length, take, drop, replicate};
+ghost use lib.Dec.{leb};
+ghost use Rattle.lists.specs.Lists.{those, gather};
+ghost use Rattle.lists.specs.Put.{put};
+ghost use Rattle.table.specs.declared.Lease.{Lease};
+ghost use Rattle.table.specs.Table.{present, insert};
+ghost use Rattle.image.specs.Fields.{le16, le32};
+ghost use Rattle.image.specs.Image.{
+  headRecord,
+  poolRecord,
+  leaseRecord,
+  leaseIn,
+  stateByte,
+  flagsByte,
+};
+ghost use Rattle.records.specs.Records.{Records, Ascending};
+
+// WRITING RECORDS
+
+pub fn put16(out: &mut [u8], at: usize, n: u16)
+    requires { ⌜ at + 2 ≤ length (now out) ⌝ }
+    ensures { λ _. ⌜ now (out .exit) ≡ put (now (out .entry)) at (le16 n) ⌝ }
+{
+    out[at] = (n % 256) as u8;
+    out[at + 1] = (n / 256) as u8;
+}
+
+pub fn put32(out: &mut [u8], at: usize, n: u32)
+    requires { ⌜ at + 4 ≤ length (now out) ⌝ }
+    ensures { λ _. ⌜ now (out .exit) ≡ put (now (out .entry)) at (le32 n) ⌝ }
+{
+    out[at] = (n % 256) as u8;
+    out[at + 1] = (n / 256 % 256) as u8;
+    out[at + 2] = (n / 65536 % 256) as u8;
+    out[at + 3] = (n / 16777216) as u8;
+}
+
+pub fn state_byte(leased: bool) -> u8
+    ensures { λ r. ⌜ r ≡ stateByte leased ⌝ }
+{
+    if leased { 2 } else { 1 }
+}
+
+pub fn flags_byte(h: bool, d: bool) -> u8
+    ensures { λ r. ⌜ r ≡ flagsByte h d ⌝ }
+{
+    if h {
+        if d { 3 } else { 1 }
+    } else {
+        if d { 2 } else { 0 }
+    }
+}
+
+pub fn put_head(out: &mut [u8], head: Head)
+    requires { ⌜ 13 ≤ length (now out) ⌝ }
+    ensures { λ _. ⌜ now (out .exit) ≡ put (now (out .entry)) 0 (headRecord head) ⌝ }
+{
+    put16(out, 0, 11);
+    put16(out, 2, 1);
+    put32(out, 4, head.term);
+    out[8] = head.default_length;
+    put32(out, 9, head.last);
+}
+
+pub fn put_pool(out: &mut [u8], at: usize, p: Pool)
+    requires { ⌜ at + 9 ≤ length (now out) ⌝ }
+    ensures { λ _. ⌜ now (out .exit) ≡ put (now (out .entry)) at (poolRecord p) ⌝ }
+{
+    put16(out, at, 7);
+    put16(out, at + 2, 2);
+    put32(out, at + 4, p.network);
+    out[at + 8] = p.length;
+}
+
+pub fn put_lease(out: &mut [u8], at: usize, x: Lease)
+    requires { ⌜ at + 19 ≤ length (now out) ⌝ }
+    ensures { λ _. ⌜ now (out .exit) ≡ put (now (out .entry)) at (leaseRecord x) ⌝ }
+{
+    put16(out, at, 17);
+    put16(out, at + 2, 3);
+    put32(out, at + 4, x.network);
+    out[at + 8] = x.length;
+    out[at + 9] = state_byte(x.leased);
+    out[at + 10] = flags_byte(x.h, x.d);
+    put32(out, at + 11, x.client);
+    put32(out, at + 15, x.expires);
+}
+
+// Zeros from `from` up to `to`.
+pub fn clear(image: &mut [u8], from: usize, to: usize)
+    requires { ⌜ to ≤ length (now image) ⌝ }
+    ensures { λ _. ⌜ now (image .exit) ≡ put (now (image .entry)) from (replicate (to - from) 0) ⌝ }
+{
+    let mut i: usize = from;
+    while i < to {
+        image[i] = 0;
+        i = i + 1;
+    }
+}
+
+// LEASES IN PLACE
+
+// The lease whose record begins here.
+pub fn lease_at(image: &[u8], at: usize) -> Lease
+    requires { ⌜ at + 19 ≤ length (now image) ⌝ }
+    ensures { λ r. ⌜ r ≡ leaseIn (drop at (now (image .entry))) ⌝ }
+{
+    image::lease_in(&image[at..])
+}
+
+// The bytes of a record. Copied out and in again, they move as words, whether or not the two places overlap.
+fn record_at(image: &[u8], at: usize) -> [u8; 19]
+    requires { ⌜ at + 19 ≤ length (now image) ⌝ }
+    ensures { λ r. ⌜ r ≡ take 19 (drop at (now (image .entry))) ⌝ }
+{
+    let mut bytes = [0u8; 19];
+    let mut k: usize = 0;
+    while k < 19 {
+        bytes[k] = image[at + k];
+        k = k + 1;
+    }
+    bytes
+}
+
+fn put_record(image: &mut [u8], at: usize, bytes: [u8; 19])
+    requires { ⌜ at + 19 ≤ length (now image) ⌝ }
+    ensures { λ _. ⌜ now (image .exit) ≡ put (now (image .entry)) at bytes ⌝ }
+{
+    let mut k: usize = 0;
+    while k < 19 {
+        image[at + k] = bytes[k];
+        k = k + 1;
+    }
+}
+
+// The record at `at` also at `to`. Nothing is written where it stands there already.
+fn move_record(image: &mut [u8], to: usize, at: usize)
+    requires { ⌜ (to + 19 ≤ length (now image)) × (at + 19 ≤ length (now image)) ⌝ }
+    ensures { λ _. ⌜ now (image .exit) ≡ put (now (image .entry)) to (take 19 (drop at (now (image .entry)))) ⌝ }
+{
+    if to != at {
+        let bytes = record_at(image, at);
+        put_record(image, to, bytes);
+    }
+}
+
+// Removes the leases that have expired, each later one moved down in place; how many are left. The bytes after those stay.
+pub fn remove_expired(image: &mut [u8], from: usize, n: usize, time: u32) -> usize
+    requires { ⌜ from + 19 * n ≤ length (now image) ⌝ }
+    ensures { λ r. ⌜ r ≤ n ⌝ }
+    ensures { λ r. ⌜ ((xs : List Lease) → Records (now (image .entry)) from xs → n ≡ length xs
+        → (r ≡ length (present time xs)) × (now (image .exit) ≡ put (now (image .entry)) from (gather leaseRecord (present time xs)))) ⌝ }
+{
+    let mut kept: usize = 0;
+    let mut i: usize = 0;
+    while i < n {
+        let at = from + 19 * i;
+        let x = lease_at(image, at);
+        if time < x.expires {
+            move_record(image, from + 19 * kept, at);
+            kept = kept + 1;
+        }
+        i = i + 1;
+    }
+    kept
+}
+
+// How many of n leases that ascend have a network up to this one: the place after them, found by halving. The test in the loop only
+// chooses a number, so it costs no branch that the processor cannot foresee.
+pub fn place_after(image: &[u8], from: usize, n: usize, network: u32) -> usize
+    requires { ⌜ from + 19 * n ≤ length (now image) ⌝ }
+    ensures { λ r. ⌜ r ≤ n ⌝ }
+    ensures { λ r. ⌜ ((xs : List Lease) → Records (now (image .entry)) from xs → n ≡ length xs → Ascending xs
+        → r ≡ length (those (λ x. leb (x .network) network) xs)) ⌝ }
+{
+    if n == 0 {
+        return 0;
+    }
+    let mut low: usize = 0;
+    let mut left: usize = n;
+    while 1 < left {
+        let half = left / 2;
+        let x = lease_at(image, from + 19 * (low + half));
+        if x.network <= network {
+            low = low + half;
+        }
+        left = left - half;
+    }
+    let x = lease_at(image, from + 19 * low);
+    if x.network <= network {
+        return low + 1;
+    }
+    low
+}
+
+// The records from `place` up to n also `room` places up, from the last down.
+fn raise(image: &mut [u8], from: usize, place: usize, n: usize, room: usize)
+    requires { ⌜ (place ≤ n) × (from + 19 * (n + room) ≤ length (now image)) ⌝ }
+    ensures { λ _. ⌜ now (image .exit) ≡ put (now (image .entry)) (from + 19 * place + 19 * room) (take (from + 19 * n - (from + 19 * place)) (drop (from + 19 * place) (now (image .entry)))) ⌝ }
+{
+    let mut k: usize = n;
+    while place < k {
+        k = k - 1;
+        let bytes = record_at(image, from + 19 * k);
+        put_record(image, from + 19 * (k + room), bytes);
+    }
+}
+
+// A lease among n that ascend: those after it moved up by `room` records, its own right before them; how many stand before it.
+// The records between stay for leases that belong there. With room 1 this is an insertion.
+pub fn insert_above(image: &mut [u8], from: usize, n: usize, room: usize, x: Lease) -> usize
+    requires { ⌜ (1 ≤ room) × (from + 19 * (n + room) ≤ length (now image)) ⌝ }
+    ensures { λ r. ⌜ r ≤ n ⌝ }
+    ensures { λ r. ⌜ ((xs : List Lease) → Records (now (image .entry)) from xs → n ≡ length xs → Ascending xs
+        → (insert x xs ≡ take r xs ++ (x ∷ drop r xs)) × (now (image .exit) ≡ put (now (image .entry)) (from + 19 * (r + room - 1)) (gather leaseRecord (x ∷ drop r xs)))) ⌝ }
+{
+    let place = place_after(image, from, n, x.network);
+    raise(image, from, place, n, room);
+    put_lease(image, from + 19 * (place + room - 1), x);
+    place
+}

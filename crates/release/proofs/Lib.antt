@@ -1,2 +1,0 @@
--- Laws of release.
-pub mod ReleaseLaws

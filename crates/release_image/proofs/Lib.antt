@@ -1,0 +1,2 @@
+pub mod StrikeLaws
+pub mod ReleaseLaws

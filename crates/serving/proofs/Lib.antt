@@ -1,3 +1,0 @@
-pub mod ColumnLaws
-pub mod ServeLaws
-pub mod ReadyLaws

@@ -1,0 +1,27 @@
+-- `sheet_text::lease` meets its contract.
+-- Assumes nothing.
+use mathlib.Core.Path.{ap}
+use borrow.Author.Needs.{needs}
+use Rattle.table.specs.declared.Lease.{Lease}
+use Rattle.sheet_text.specs.Scan.{leaseShown}
+use Rattle.sheet_text.specs.Sheet.{usedBy}
+use Rattle.sheet_text.proofs.lease.Statement.{statement}
+use Rattle.sheet_text.proofs.lease.Tie as tie
+
+mul-lease-at : tie.Need-mul-lease-at
+mul-lease-at c = search needs
+
+add-lease-at : tie.Need-add-lease-at
+add-lease-at c = search needs
+
+lease-at-requires : tie.Need-lease-at-requires
+lease-at-requires c κs = search needs
+
+returns : tie.Need-returns
+unfolding leaseShown
+returns c =
+    let lease-at = c .lease-at in
+    ap (λ (x : Lease). usedBy x) (lease-at .ensures)
+
+pub lease-spec : {M : Type 1} → statement M
+lease-spec = tie.close (tie.spec mul-lease-at add-lease-at lease-at-requires returns)
