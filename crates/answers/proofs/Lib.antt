@@ -1,3 +1,2 @@
 -- Laws of the rows that calls have in common.
 pub mod CommonRows
-pub mod PieceLaws

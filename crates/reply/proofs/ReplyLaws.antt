@@ -8,13 +8,13 @@ use native.Mathlib.Numerals.{add-one}
 use native.Mathlib.Omega.{arith}
 use lib.ListN.{length, take, drop, getD, length-append, length-map}
 use lib.Seq.{take-suc, length-take-le}
-use Rattle.lists.specs.Lists.{All, gather}
+use Rattle.lists.specs.Lists.{gather}
 use Rattle.lists.specs.Put.{put}
 use Rattle.lists.proofs.ListLaws.{all-every, all-image}
 use Rattle.lists.proofs.GatherLaws.{gather-append, gather-one, length-gather}
 use Rattle.lists.proofs.MapLaws.{map-append}
-use Rattle.lists.proofs.PutLaws.{put-nothing, put-more, put-fits}
-use Rattle.option.specs.Values.{Entry, SuboptionValue, information}
+use Rattle.lists.proofs.PutLaws.{put-nothing, put-more, put-before, put-fits}
+use Rattle.option.specs.Values.{Entry, information}
 use Rattle.option.specs.Writing.{fourBytes, entryHead, entryBytes, entriesBytes, informationHead, suboptionBytes, suboptionsBytes, optionHead, optionBytes}
 use Rattle.table.specs.declared.Lease.{Lease}
 use Rattle.ledger.specs.Ledger.{entryOf}
@@ -40,20 +40,26 @@ entries-length xs =
     ∙ ap (λ (n : ℕ). 7 * n) (length-map xs entryOf)
 
 -- One entry more.
-pub entries-snoc : (xs : List Lease) (x : Lease) → entriesBytes (map entryOf (xs ++ x ∷ [])) ≡ entriesBytes (map entryOf xs) ++ leaseBytes x
+pub entries-and-one : (es : List Entry) (x : Lease) → entriesBytes (es ++ (entryOf x ∷ [])) ≡ entriesBytes es ++ leaseBytes x
 unfolding entriesBytes
-entries-snoc xs x =
-    ap (gather entryBytes) (map-append entryOf xs (x ∷ []))
-    ∙ gather-append entryBytes (map entryOf xs) (entryOf x ∷ [])
-    ∙ ap (λ (l : List ℕ). gather entryBytes (map entryOf xs) ++ l) (gather-one entryBytes (entryOf x) ∙ entry-bytes x)
+entries-and-one es x =
+    gather-append entryBytes es (entryOf x ∷ []) ∙ ap (λ (l : List ℕ). gather entryBytes es ++ l) (gather-one entryBytes (entryOf x) ∙ entry-bytes x)
+
+pub entries-snoc : (xs : List Lease) (x : Lease) → entriesBytes (map entryOf (xs ++ x ∷ [])) ≡ entriesBytes (map entryOf xs) ++ leaseBytes x
+entries-snoc xs x = ap entriesBytes (map-append entryOf xs (x ∷ [])) ∙ entries-and-one (map entryOf xs) x
 
 pub entries-more : (xs : List Lease) (i : ℕ) (d : Lease) → i < length xs
     → entriesBytes (map entryOf (take (i + 1) xs)) ≡ entriesBytes (map entryOf (take i xs)) ++ leaseBytes (getD xs i d)
-unfolding entriesBytes
 entries-more xs i d lt =
     let x = getD xs i d in
     let one : take (i + 1) xs ≡ take i xs ++ (x ∷ []) = rw (add-one i) (take-suc xs i d lt) in
-    ap (λ (l : List Lease). gather entryBytes (map entryOf l)) one ∙ entries-snoc (take i xs) x
+    ap (λ (l : List Lease). entriesBytes (map entryOf l)) one ∙ entries-snoc (take i xs) x
+
+-- No entries.
+pub entries-none : (xs : List Lease) (l : List ℕ) → length xs ≡ 0 → put l 6 (entriesBytes (map entryOf xs)) ≡ l
+unfolding entriesBytes
+entries-none [] l e = put-nothing l 6
+entries-none (x ∷ xs) l e = absurd (omega arith)
 
 -- THE LOOP that puts the entries: those before i stand in the buffer.
 pub record Putting (xs : List Lease) (before after : List ℕ) (i : ℕ) : Type 0 where
@@ -116,6 +122,19 @@ reply-put c s xs n k l l₁ l₂ l₃ e₁ e₂ e₃ =
     put-more l l₂ l₃ 0 heads 6 (entriesBytes (map entryOf xs)) (put-more l l₁ l₂ 0 (optionHead (7 * n + 4)) 3 (informationHead (7 * n + 1) c s) e₁ three e₂) six e₃
     ∙ ap (put l 0)
     (ap (λ (m : ℕ). (optionHead (7 * m + 4) ++ informationHead (7 * m + 1) c s) ++ entriesBytes (map entryOf xs)) (sym k) ∙ sym (reply-parts c s xs))
+
+-- The entries first, and then the heads before them.
+pub heads-last : (c s : Bool) (xs : List Lease) (n : ℕ) → n ≡ length xs → (l l₁ l₂ : List ℕ) → l₁ ≡ put l 6 (entriesBytes (map entryOf xs))
+    → l₂ ≡ put (put l₁ 0 (optionHead (7 * n + 4))) 3 (informationHead (7 * n + 1) c s) → l₂ ≡ put l 0 (replyBytes c s xs)
+heads-last c s xs n k l l₁ l₂ e₁ e₂ =
+    let heads : List ℕ = optionHead (7 * n + 4) ++ informationHead (7 * n + 1) c s in
+    let es : List ℕ = entriesBytes (map entryOf xs) in
+    let three : 3 ≡ 0 + length (optionHead (7 * n + 4)) = omega (arith, head-length (7 * n + 4)) in
+    let six : 6 ≡ 0 + length heads = omega (arith, heads-length (7 * n + 4) (7 * n + 1) c s) in
+    put-more l₁ (put l₁ 0 (optionHead (7 * n + 4))) l₂ 0 (optionHead (7 * n + 4)) 3 (informationHead (7 * n + 1) c s) refl three e₂
+    ∙ ap (λ (m : List ℕ). put m 0 heads) (e₁ ∙ ap (λ (at : ℕ). put l at es) six)
+    ∙ put-before heads l 0 es
+    ∙ ap (put l 0) (ap (λ (m : ℕ). (optionHead (7 * m + 4) ++ informationHead (7 * m + 1) c s) ++ es) k ∙ sym (reply-parts c s xs))
 
 -- "Bytes of the reply buffer after those written keep their content."
 pub reply-fits : (bytes l : List ℕ) → length bytes ≤ length l → put l 0 bytes ≡ bytes ++ drop (length bytes) l

@@ -2,10 +2,10 @@
 use table::Lease;
 ghost use mathlib.Core.Path.{_≡_};
 ghost use mathlib.Core.List.{map};
-ghost use Prim.Native.Nat.{_+_, _≤_};
+ghost use Prim.Native.Nat.{_+_, _*_, _≤_};
 ghost use lib.ListN.{length as count, take as upTo};
 ghost use Rattle.lists.specs.Put.{put};
-ghost use Rattle.option.specs.Writing.{entryHead, entriesBytes};
+ghost use Rattle.option.specs.Writing.{entryHead, entriesBytes, informationHead, optionHead};
 ghost use Rattle.ledger.specs.Ledger.{entryOf};
 ghost use Rattle.reply.specs.Reply.{mostEntries, replyBytes};
 
@@ -25,6 +25,17 @@ pub fn put_lease(reply: &mut [u8], at: usize, x: Lease)
     reply[at + 4] = x.length;
     reply[at + 5] = option_pieces::flags_byte(x.h, x.d);
     reply[at + 6] = 0;
+}
+
+// Code and Len of the option and the head of its information, before the entries of n leases; the bytes of the whole reply.
+pub fn put_heads(reply: &mut [u8], n: usize, c: bool, s: bool) -> usize
+    requires { ⌜ n ≤ mostEntries ⌝ }
+    ensures { λ r. ⌜ r ≡ 7 * n + 6 ⌝ }
+    ensures { λ _. ⌜ now (reply .exit) ≡ put (put (now (reply .entry)) 0 (optionHead (7 * n + 4))) 3 (informationHead (7 * n + 1) c s) ⌝ }
+{
+    option_pieces::put_option_head(reply, (7 * n + 4) as u8);
+    option_pieces::put_information_head(reply, 3, (7 * n + 1) as u8, c, s);
+    7 * n + 6
 }
 
 // The entries of the first n leases, from place 6 on.

@@ -1,3 +1,0 @@
-pub mod CollectLaws
-pub mod EntryBytes
-pub mod MessageHolds

@@ -1,2 +1,0 @@
--- Laws of the leases that entries name.
-pub mod NamedLaws

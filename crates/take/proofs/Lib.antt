@@ -1,3 +1,0 @@
--- Laws of take.
-pub mod TakeLaws
-pub mod TakeCall
