@@ -30,6 +30,7 @@ use Rattle.image.proofs.ImageLaws.{used-pools, used-leases}
 use Rattle.image_check.specs.declared.Book.{Book}
 use Rattle.image_check.specs.Book.{unsound, bookOf}
 use Rattle.image_check.specs.Inner.{poolCount, prefixIn, due, Begun}
+use Rattle.image_check.specs.Pass.{bookWith, due?, left?, ending, leasesFrom}
 use Rattle.image_check.proofs.RunLaws.{pools-taken, lease-known, leases-taken}
 use Rattle.image_check.proofs.FitLaws.{Fits, read-fits}
 
@@ -45,20 +46,6 @@ ascends-padded none? ok pre blank b from k (x ∷ xs) a =
     cond-false (none? x) _ _ (a .0)
     ∙ ap (λ (r : Bool). leb from (pre x .network) && (ok x && r)) (ascends-padded none? ok pre blank b (end (pre x)) k xs (a .1))
     ∙ sym (cond-false (none? x) _ _ (a .0))
-
-abbrev pub bookWith : Head → ℕ → ℕ → ℕ → Book
-bookWith x pools leases expired = record {
-  sound = true;
-  term = x .term;
-  «default_length» = x .«default_length»;
-  last = x .last;
-  pools = pools;
-  leases = leases;
-  expired = expired;
-}
-
-abbrev pub due? : ℕ → Lease → Bool
-due? time y = leb (y .expires) time
 
 -- The table of a head, pools and leases that were read: what is left to test of it, and what its book is.
 module _ (x : Head) (ps : List Pool) (xs : List Lease) (few : length ps ≤ poolSlots) (fewer : length xs ≤ leaseSlots) (pools : All (λ p. unused? p ≡ false) ps)
@@ -89,17 +76,6 @@ module _ (x : Head) (ps : List Pool) (xs : List Lease) (few : length ps ≤ pool
   table-book time false = refl
 
 -- WHAT IS LEFT
-
--- The leases that were read are as a sound table has them, from an address on, and nothing follows.
-abbrev pub left? : List Prefix → ℕ → ℕ → Run Lease → Bool
-left? qs last low r = every (eqb (length (r .rest)) 0 ∷ leasesAscend? qs last low (r .items) ∷ [])
-
--- The book, where i leases were read before these and e of them have expired.
-abbrev pub ending : Head → ℕ → ℕ → List Prefix → ℕ → ℕ → ℕ → Run Lease → Book
-ending x time n qs i e low r = cond (left? qs (x .last) low r) (bookWith x n (i + length (r .items)) (e + length (those (due? time) (r .items)))) unsound
-
-abbrev pub leasesFrom : ℕ → List ℕ → Run Lease
-leasesFrom limit s = records leaseAt leaseSize limit s
 
 -- The bytes after a head: the pools, and the leases after them.
 module _ (x : Head) (s : List ℕ) where

@@ -1,17 +1,17 @@
 -- What the pass over the leases of an image knows after each of them.
 -- Assumes nothing.
 use Prim.Native.Nat.{ℕ, zero, suc, _+_, _-_, _*_, _≤_, _<_}
-use mathlib.Core.Path.{_≡_, refl, sym, ap, ap₂, subst, subst₂, _∙_}
+use mathlib.Core.Path.{_≡_, refl, sym, ap, ap₂, subst, _∙_}
 use mathlib.Core.Logic.{⊎-elim}
 use mathlib.Core.Bool.{Bool, true, false, not, true≢false}
-use mathlib.Core.List.{List, [], _∷_, map}
+use mathlib.Core.List.{List, [], _∷_}
 use mathlib.Core.Option.{some}
 use native.Mathlib.Omega.{arith}
 use lib.ListN.{length, drop, getD, length-map, length-drop, List·getD-map}
 use lib.Seq.{drop-drop}
-use lib.Dec.{leb, eqb}
-use borrow.Author.Tests.{leb-true, leb-false, eqb-true}
-use Rattle.lists.specs.Lists.{any?}
+use lib.Dec.{leb, ltb, eqb}
+use borrow.Author.Tests.{ltb-true, ltb-false, eqb-true}
+use Rattle.lists.specs.Lists.{every, any?}
 use Rattle.lists.proofs.Tests.{bool-cases, or-left, or-right, not-of, cond-true, cond-false, every-to}
 use Rattle.lists.proofs.ListLaws.{all-map}
 use Rattle.lists.proofs.DropLaws.{drop-end, all-at}
@@ -29,10 +29,12 @@ use Rattle.image.specs.Fields.{number32, Run}
 use Rattle.image.specs.Image.{leaseSize, leaseIn, leaseAt, poolsAt, afterHead}
 use Rattle.image.proofs.FieldLaws.{Bytes, bytes-drop, records-none}
 use Rattle.image_check.specs.Book.{unsound, bookOf}
-use Rattle.image_check.specs.Inner.{prefixIn, nthPool, spans?, FirstPool, due, Begun}
-use Rattle.image_check.proofs.FitLaws.{Fits, Met, fits-read, fits-ok}
+use Rattle.image_check.specs.declared.Pass.{Pass}
+use Rattle.image_check.specs.Inner.{prefixIn, nthPool, fitTests, due, Begun}
+use Rattle.image_check.specs.Pass.{bookWith, ending, leasesFrom, poolsIn, Answered, Reached}
+use Rattle.image_check.proofs.FitLaws.{Fits, Met, fits-to, fits-of, fits-read, fits-ok}
 use Rattle.image_check.proofs.RunLaws.{pools-taken, leases-taken}
-use Rattle.image_check.proofs.BookLaws.{bookWith, ending, leasesFrom, read-begun, ending-none, ending-unsound, ending-next, left-fits}
+use Rattle.image_check.proofs.BookLaws.{read-begun, ending-none, ending-unsound, ending-next, left-fits}
 
 -- A test that some element passes, by its place; and one that none passes.
 any?-at : {A : Type 0} (f : A → Bool) (xs : List A) (k : ℕ) (d : A) → k < length xs → f (getD xs k d) ≡ true → any? f xs ≡ true
@@ -56,19 +58,19 @@ due-few expires time =
     ⊎-elim (λ (b : leb expires time ≡ true). omega (arith, cond-true {A = ℕ} (leb expires time) 1 0 b)) (λ (b : leb expires time ≡ false). omega (arith, cond-false {A = ℕ} (leb expires time) 1 0 b))
     (bool-cases (leb expires time))
 
-abbrev pub poolsIn : List ℕ → List Prefix
-poolsIn s = map poolPrefix (poolsAt s .items)
-
--- After i leases, up to the position `at`, which end at `low` and of which some have expired: the answer is that for what is left. The pools before the j-th end before that, and
--- what lies between `low` and `to` lies in a pool.
-pub record Scanned (x : Head) (s : List ℕ) (n time low j to expired at i : ℕ) : Type 0 where
-  pub place : at ≡ 9 * n + 19 * i
-  pub reached : at ≤ length s
-  pub pool : j ≤ n
-  pub bound : expired ≤ i
-  pub passed : (k : ℕ) → k < j → end (nthPool s k) ≤ low
-  pub inside : (p : Prefix) → low ≤ p .network → end p ≤ to → any? (inside? p) (poolsIn s) ≡ true
-  pub same : bookOf time (afterHead (some x) s) ≡ ending x time n (poolsIn s) i expired low (leasesFrom (leaseSlots - i) (drop at s))
+-- In pool k a pass comes to a position with `low`, where a lease may begin: the start of the pool, or the end of the lease before.
+pub record Along (x : Head) (s : List ℕ) (n time k low : ℕ) (p : Pass) : Type 0 where
+  pub leases : ℕ
+  pub least : ℕ
+  pub size : length s ≤ 9 * n + 19 * leaseSlots
+  pub place : p .at ≡ 9 * n + 19 * leases
+  pub above : least ≤ low
+  pub under : low ≤ end (nthPool s k)
+  pub begins : nthPool s k .network ≤ low
+  pub between : (q : Prefix) → least ≤ q .network → q .network < low → inside? q (nthPool s k) ≡ false
+  pub passed : (j : ℕ) → j < k → p .at < length s → every (fitTests (x .last) (drop (p .at) s)) ≡ true → least ≤ number32 (drop (p .at) s) 4
+      → inside? (prefixIn (drop (p .at) s)) (nthPool s j) ≡ false
+  pub same : Answered x s n time least leases (p .expired) (p .at)
 
 module _ (x : Head) (s : List ℕ) (n time : ℕ) (begun : Begun x s n) where
   pool-at : (k : ℕ) → k < n → getD (poolsIn s) k (poolPrefix noPool) ≡ nthPool s k
@@ -90,16 +92,8 @@ module _ (x : Head) (s : List ℕ) (n time : ℕ) (begun : Begun x s n) where
   pub pools-inside : 9 * n ≤ length s
   pools-inside = omega (arith, pools-taken s .inside, begun .counted)
 
-  pub scanned-start : Scanned x s n time 0 0 0 0 (9 * n) 0
-  scanned-start = record {
-    place = omega arith;
-    reached = pools-inside;
-    pool = omega arith;
-    bound = omega arith;
-    passed = λ k (h : k < 0). absurd (omega arith);
-    inside = λ p l (e : end p ≤ 0). absurd (omega (arith, size-positive (p .length)));
-    same = read-begun x s n begun time;
-  }
+  in-pool : (q : Prefix) (k : ℕ) → k < n → inside? q (nthPool s k) ≡ true → any? (inside? q) (poolsIn s) ≡ true
+  in-pool q k h e = any?-at (inside? q) (poolsIn s) k (poolPrefix noPool) (omega (arith, pools-many)) (ap (inside? q) (pool-at k h) ∙ e)
 
   -- No number of leases makes up the rest.
   pub scanned-size : ((m : ℕ) → m ≤ leaseSlots → 9 * n + 19 * m ≡ length s → ⊥) → bookOf time (afterHead (some x) s) ≡ unsound
@@ -111,17 +105,18 @@ module _ (x : Head) (s : List ℕ) (n time : ℕ) (begun : Begun x s n) where
       let q = leases-taken leaseSlots (drop (9 * n) s) in
       h (length (r .items)) (q .few) (omega (arith, eqb-true (length (r .rest)) 0 (t .0), ap length (q .rest), length-drop (19 * length (r .items)) (drop (9 * n) s), q .inside, length-drop (9 * n) s, pools-inside)))
 
-  -- A lease more, and the end.
-  module _ (low j to expired at i : ℕ) (scanned : Scanned x s n time low j to expired at i) where
+  -- THE LEASE AT A PLACE
+
+  module _ (low expired at i : ℕ) (place : at ≡ 9 * n + 19 * i) (same : Answered x s n time low i expired at) where
     abbrev here : List ℕ
     here = drop at s
 
-    pub scanned-all : length s ≤ at → bookOf time (afterHead (some x) s) ≡ bookWith x n i expired
+    nothing-left : length s ≤ at → bookOf time (afterHead (some x) s) ≡ bookWith x n i expired
     unfolding leaseAt
-    scanned-all e =
+    nothing-left e =
         let nothing : here ≡ [] = drop-end s at e in
         let none : leasesFrom (leaseSlots - i) [] ≡ record { items = []; rest = [] } = records-none leaseAt leaseSize (leaseSlots - i) [] refl in
-        scanned .same
+        same
         ∙ ap (λ (u : List ℕ). ending x time n (poolsIn s) i expired low (leasesFrom (leaseSlots - i) u)) nothing
         ∙ ap (ending x time n (poolsIn s) i expired low) none
         ∙ ending-none x time n (poolsIn s) i expired low
@@ -134,89 +129,124 @@ module _ (x : Head) (s : List ℕ) (n time : ℕ) (begun : Begun x s n) where
       less = omega arith
 
       -- No sound table has it.
-      pub scanned-unsound : (Fits (x .last) here → low ≤ number32 here 4 → any? (inside? (prefixIn here)) (poolsIn s) ≡ true → ⊥) → bookOf time (afterHead (some x) s) ≡ unsound
-      scanned-unsound h =
-          scanned .same
+      no-lease : (Fits (x .last) here → low ≤ number32 here 4 → any? (inside? (prefixIn here)) (poolsIn s) ≡ true → ⊥) → bookOf time (afterHead (some x) s) ≡ unsound
+      no-lease h =
+          same
           ∙ ap (λ (k : ℕ). ending x time n (poolsIn s) i expired low (leasesFrom k here)) less
           ∙ ending-unsound x time n (poolsIn s) i expired low (leasesFrom (suc (leaseSlots - (i + 1))) here) (λ e.
           let f = left-fits x time n (poolsIn s) low (leaseSlots - (i + 1)) here long e in
           h (f .0) (f .1) (f .2))
 
-      module _ (bytes : Bytes s) (network top expires : ℕ) (met : Met (x .last) here network top expires) (above : low ≤ network) where
-        abbrev lease : Prefix
-        lease = prefixIn here
+      -- It lies in a pool, after the one before it.
+      one-lease : Bytes s → (network top expires : ℕ) → Met (x .last) here network top expires → low ≤ network → any? (inside? (prefixIn here)) (poolsIn s) ≡ true
+          → Answered x s n time top (i + 1) (expired + due expires time) (at + 19)
+      one-lease bytes network top expires met above a =
+          let higher : low ≤ number32 here 4 = omega (arith, met .starts) in
+          same
+          ∙ ap (λ (k : ℕ). ending x time n (poolsIn s) i expired low (leasesFrom k here)) less
+          ∙ ending-next x time n (poolsIn s) low (leaseSlots - (i + 1)) here (leaseIn here) (fits-read (x .last) here (bytes-drop at s bytes) long (met .fits)) i expired higher
+          (fits-ok (x .last) here (poolsIn s) (met .fits) a)
+          ∙ ap₂ (λ (e t : ℕ). ending x time n (poolsIn s) (i + 1) (expired + due e time) t (leasesFrom (leaseSlots - (i + 1)) (drop 19 here))) (sym (met .until)) (sym (met .ends))
+          ∙ ap (λ (u : List ℕ). ending x time n (poolsIn s) (i + 1) (expired + due expires time) top (leasesFrom (leaseSlots - (i + 1)) u))
+          (drop-drop 19 at s)
 
-        abbrev next : ℕ
-        next = expired + due expires time
+  -- ALL POOLS
 
-        next-same : any? (inside? lease) (poolsIn s) ≡ true
-            → bookOf time (afterHead (some x) s) ≡ ending x time n (poolsIn s) (i + 1) next top (leasesFrom (leaseSlots - (i + 1)) (drop (at + 19) s))
-        next-same a =
-            let higher : low ≤ number32 here 4 = omega (arith, met .starts) in
-            scanned .same
-            ∙ ap (λ (k : ℕ). ending x time n (poolsIn s) i expired low (leasesFrom k here)) less
-            ∙ ending-next x time n (poolsIn s) low (leaseSlots - (i + 1)) here (leaseIn here) (fits-read (x .last) here (bytes-drop at s bytes) long (met .fits)) i expired higher
-            (fits-ok (x .last) here (poolsIn s) (met .fits) a)
-            ∙ ap₂ (λ (e t : ℕ). ending x time n (poolsIn s) (i + 1) (expired + due e time) t (leasesFrom (leaseSlots - (i + 1)) (drop 19 here))) (sym (met .until)) (sym (met .ends))
-            ∙ ap (λ (u : List ℕ). ending x time n (poolsIn s) (i + 1) next top (leasesFrom (leaseSlots - (i + 1)) u))
-            (drop-drop 19 at s)
+  pub reached-start : length s ≤ 9 * n + 19 * leaseSlots → Reached x s n time 0 (record { at = 9 * n; expired = 0 })
+  reached-start size = record {
+    leases = 0;
+    low = 0;
+    size = size;
+    place = omega arith;
+    below = λ h. omega arith;
+    passed = λ j (h : j < 0). absurd (omega arith);
+    same = read-begun x s n begun time;
+  }
 
-        next-bound : next ≤ i + 1
-        next-bound = omega (arith, scanned .bound, due-few expires time)
+  pub reached-end : (k : ℕ) (p : Pass) (r : Reached x s n time k p) → length s ≤ p .at → bookOf time (afterHead (some x) s) ≡ bookWith x n (r .leases) (p .expired)
+  reached-end k p r e = nothing-left (r .low) (p .expired) (p .at) (r .leases) (r .place) (r .same) e
 
-        rises : low ≤ top
-        rises = omega (arith, met .starts, met .ends)
+  -- A lease is left that lies in no pool.
+  pub reached-none : (k : ℕ) (p : Pass) → Reached x s n time k p → n ≤ k → p .at + 19 ≤ length s → bookOf time (afterHead (some x) s) ≡ unsound
+  reached-none k p r h room =
+      no-lease (r .low) (p .expired) (p .at) (r .leases) (r .place) (r .same) (omega (arith, r .size, r .place)) room (λ f l a.
+      true≢false
+      (sym a
+      ∙ any?-none (inside? (prefixIn (drop (p .at) s))) (poolsIn s) (poolPrefix noPool) (λ j (b : j < length (poolsIn s)).
+      let c : j < n = omega (arith, pools-many) in
+      ap (inside? (prefixIn (drop (p .at) s))) (pool-at j c) ∙ r .passed j (omega arith) (omega arith) (fits-of (x .last) (drop (p .at) s) f) l)))
 
-        -- It lies in the pool of the one before.
-        stays : top ≤ to → Scanned x s n time top j to next (at + 19) (i + 1)
-        stays e = record {
-          place = omega (arith, scanned .place);
-          reached = room;
-          pool = scanned .pool;
-          bound = next-bound;
-          passed = λ k (h : k < j). omega (arith, scanned .passed k h, rises);
-          inside = λ p (l : top ≤ p .network) (f : end p ≤ to). scanned .inside p (omega (arith, rises)) f;
-          same = next-same (scanned .inside lease (omega (arith, met .starts)) (omega (arith, met .ends)));
-        }
+  -- ONE POOL
 
-        pub scanned-stay : (j′ to′ : ℕ) → top ≤ to → j′ ≡ j → to′ ≡ to → Scanned x s n time top j′ to′ next (at + 19) (i + 1)
-        scanned-stay j′ to′ h k l = subst₂ (λ (a b : ℕ). Scanned x s n time top a b next (at + 19) (i + 1)) (sym k) (sym l) (stays h)
+  module _ (k : ℕ) (lt : k < n) where
+    abbrev pool : Prefix
+    pool = nthPool s k
 
-        -- It lies in a later one, or in none.
-        module _ (r : ℕ) (first : FirstPool s n j network top r) where
-          same-test : (k : ℕ) → inside? lease (nthPool s k) ≡ spans? (nthPool s k) network top
-          same-test k = ap₂ (spans? (nthPool s k)) (sym (met .starts)) (sym (met .ends))
+    pub along-start : (p : Pass) → Reached x s n time k p → Along x s n time k (pool .network) p
+    along-start p r = record {
+      leases = r .leases;
+      least = r .low;
+      size = r .size;
+      place = r .place;
+      above = r .below lt;
+      under = omega arith;
+      begins = omega arith;
+      between = λ q l (h : q .network < pool .network). inside-not q pool (λ w. omega (arith, w .0));
+      passed = r .passed;
+      same = r .same;
+    }
 
-          in-pool : (p : Prefix) (k : ℕ) → k < n → inside? p (nthPool s k) ≡ true → any? (inside? p) (poolsIn s) ≡ true
-          in-pool p k h e = any?-at (inside? p) (poolsIn s) k (poolPrefix noPool) (omega (arith, pools-many)) (ap (inside? p) (pool-at k h) ∙ e)
+    module _ (low : ℕ) (p : Pass) (a : Along x s n time k low p) where
+      abbrev front : List ℕ
+      front = drop (p .at) s
 
-          moved : r < n → Scanned x s n time top r (end (nthPool s r)) next (at + 19) (i + 1)
-          moved h =
-              let e = same-test r ∙ first .here h in
-              let w = inside-to lease (nthPool s r) e in
-              let up : nthPool s r .network ≤ top = omega (arith, w .0, met .ends) in
-              record {
-                place = omega (arith, scanned .place);
-                reached = room;
-                pool = omega arith;
-                bound = next-bound;
-                passed = λ k (l : k < r). omega (arith, pools-apart k r l h, up);
-                inside = λ p (l : top ≤ p .network) (f : end p ≤ end (nthPool s r)). in-pool p r h (inside-of p (nthPool s r) (omega (arith, up), f));
-                same = next-same (in-pool lease r h e);
-              }
+      -- The lease here lies in the pool.
+      pub along-lease : Bytes s → p .at + 19 ≤ length s → (network top expires : ℕ) → Met (x .last) front network top expires → low ≤ network → top ≤ end pool
+          → Along x s n time k top (record { at = p .at + 19; expired = p .expired + due expires time })
+      along-lease bytes room network top expires met h e =
+          let lease : Prefix = prefixIn front in
+          let rises : low ≤ top = omega (arith, met .starts, met .ends) in
+          let inside : inside? lease pool ≡ true = inside-of lease pool (omega (arith, a .begins, met .starts), omega (arith, met .ends)) in
+          record {
+            leases = a .leases + 1;
+            least = top;
+            size = a .size;
+            place = omega (arith, a .place);
+            above = omega arith;
+            under = e;
+            begins = omega (arith, a .begins, rises);
+            between = λ q l (b : q .network < top). absurd (omega arith);
+            passed = λ j (b : j < k) c f (l : top ≤ number32 (drop (p .at + 19) s) 4).
+                inside-not (prefixIn (drop (p .at + 19) s)) (nthPool s j) (λ w. omega (arith, w .1, pools-apart j k b lt, a .begins, rises, size-positive (prefixIn (drop (p .at + 19) s) .length)));
+            same = one-lease (a .least) (p .expired) (p .at) (a .leases) (a .place) (a .same) (omega (arith, a .size, a .place)) room bytes network top expires met (omega (arith, a .above)) (in-pool lease k lt inside);
+          }
 
-          pub scanned-move : (p : Prefix) (e j′ to′ : ℕ) → r < n → p ≡ nthPool s r → e ≡ end p → j′ ≡ r → to′ ≡ e → Scanned x s n time top j′ to′ next (at + 19) (i + 1)
-          scanned-move p e j′ to′ h same ends k l = subst₂ (λ (a b : ℕ). Scanned x s n time top a b next (at + 19) (i + 1)) (sym k) (sym (l ∙ ends ∙ ap end same)) (moved h)
+      -- What is here, if anything, does not lie in the pool.
+      pub along-stop : (p .at < length s → every (fitTests (x .last) front) ≡ true → a .least ≤ number32 front 4 → inside? (prefixIn front) pool ≡ false) → Reached x s n time (k + 1) p
+      along-stop out = record {
+        leases = a .leases;
+        low = a .least;
+        size = a .size;
+        place = a .place;
+        below = λ (h : k + 1 < n). omega (arith, a .above, a .under, pools-apart k (k + 1) (omega arith) h);
+        passed = λ j (h : j < k + 1) c f l.
+            ⊎-elim
+            (λ (b : ltb j k ≡ true). a .passed j (ltb-true j k b) c f l)
+            (λ (b : ltb j k ≡ false). let e : j ≡ k = omega (arith, ltb-false j k b) in ap (λ (m : ℕ). inside? (prefixIn front) (nthPool s m)) e ∙ out c f l)
+            (bool-cases (ltb j k));
+        same = a .same;
+      }
 
-          pub scanned-none : n ≤ r → bookOf time (afterHead (some x) s) ≡ unsound
-          scanned-none h =
-              scanned-unsound (λ f l a. true≢false (sym a ∙ any?-none (inside? lease) (poolsIn s) (poolPrefix noPool) (λ k (b : k < length (poolsIn s)).
-              let c : k < n = omega (arith, pools-many) in
-              ap (inside? lease) (pool-at k c) ∙ outside k c)))
-            where
-              outside : (k : ℕ) → k < n → inside? lease (nthPool s k) ≡ false
-              outside k c =
-                  ⊎-elim
-                  (λ (b : leb j k ≡ true). same-test k ∙ first .passed k (omega (arith, first .within)) (leb-true j k b))
-                  (λ (b : leb j k ≡ false). inside-not lease (nthPool s k) (λ i. omega (arith, scanned .passed k (leb-false j k b), i .1, met .starts, size-positive (lease .length))))
-                  (bool-cases (leb j k))
+      -- The ways in which it does not.
+      pub stop-end : length s ≤ p .at → Reached x s n time (k + 1) p
+      stop-end e = along-stop (λ c. absurd (omega arith))
+
+      pub stop-unfit : (Fits (x .last) front → ⊥) → Reached x s n time (k + 1) p
+      stop-unfit h = along-stop (λ c f l. absurd (h (fits-to (x .last) front f)))
+
+      module _ (network top expires : ℕ) (met : Met (x .last) front network top expires) where
+        pub stop-low : network < low → Reached x s n time (k + 1) p
+        stop-low h = along-stop (λ c f l. a .between (prefixIn front) l (omega (arith, met .starts)))
+
+        pub stop-high : end pool < top → Reached x s n time (k + 1) p
+        stop-high h = along-stop (λ c f l. inside-not (prefixIn front) pool (λ w. omega (arith, w .1, met .ends)))

@@ -1,8 +1,8 @@
 -- What each step of the pass over an image answers.
 -- Assumes nothing: these are definitions.
-use Prim.Native.Nat.{ℕ, _*_, _≤_, _<_}
+use Prim.Native.Nat.{ℕ, _*_, _/_, _%_}
 use mathlib.Core.Path.{_≡_}
-use mathlib.Core.Bool.{Bool, true, false, not, cond, _&&_}
+use mathlib.Core.Bool.{Bool, true, not, cond}
 use mathlib.Core.List.{List, [], _∷_}
 use lib.ListN.{length, drop, getD}
 use lib.Dec.{leb, ltb, eqb}
@@ -35,16 +35,9 @@ prefixIn s = prefix (number32 s 4) (getD s 8 0)
 abbrev pub nthPool : List ℕ → ℕ → Prefix
 nthPool s k = prefixIn (drop (poolSize * k) s)
 
--- The addresses from `network` up to `to` lie in a prefix.
-abbrev pub spans? : Prefix → ℕ → ℕ → Bool
-spans? p network to = leb (p .network) network && leb to (end p)
-
--- r is the first from j to n of the pools that these addresses lie in, or n.
-pub record FirstPool (s : List ℕ) (n j network to r : ℕ) : Type 0 where
-  pub from : j ≤ r
-  pub within : r ≤ n
-  pub passed : (k : ℕ) → k < r → j ≤ k → spans? (nthPool s k) network to ≡ false
-  pub here : r < n → spans? (nthPool s r) network to ≡ true
+-- State and flags, the second and third byte of a word of four, are as a lease has them.
+abbrev pub stateAndFlags? : ℕ → Bool
+stateAndFlags? word = every (leb 1 (word / 256 % 256) ∷ leb (word / 256 % 256) 2 ∷ leb (word / 65536 % 256) 3 ∷ [])
 
 -- A lease record whose fields are as a sound table has them, wherever the lease lies.
 abbrev pub fitTests : ℕ → List ℕ → List Bool

@@ -8,11 +8,13 @@ use table::POOLS;
 use table::Pool;
 ghost use mathlib.Core.Path.{_≡_};
 ghost use mathlib.Core.Option.{some};
-ghost use Prim.Native.Nat.{_+_, _*_, _≤_};
+ghost use Prim.Native.Nat.{ℕ, _+_, _*_, _≤_, _<_};
 ghost use lib.ListN.{length};
+ghost use Rattle.image.specs.declared.Head.{Head};
 ghost use Rattle.image.specs.Image.{poolsAt, afterHead, loadImage};
 ghost use Rattle.image_check.specs.Book.{unsound, bookOf};
-ghost use Rattle.image_check.specs.Inner.{poolEnd, poolCount, prefixIn, nthPool, spans?, FirstPool, fitAt, due, Begun};
+ghost use Rattle.image_check.specs.Inner.{poolEnd, poolCount, prefixIn, nthPool, stateAndFlags?, fitAt, due, Begun};
+ghost use Rattle.image_check.specs.Pass.{Left, Reached};
 
 // The head of the table that bytes are the image of, and how many pools, leases and expired leases it has; all of it 0
 // where they are no image of a sound table.
@@ -101,31 +103,6 @@ fn prefix_in(s: &[u8]) -> Prefix
     }
 }
 
-// Whether the addresses from `network` up to `end` lie in a prefix.
-fn spans(p: Prefix, network: u32, end: u64) -> bool
-    ensures { λ r. ⌜ r ≡ spans? p network end ⌝ }
-{
-    if network < p.network {
-        return false;
-    }
-    end <= p.end()
-}
-
-// The first from j to n of the pools that these addresses lie in, or n.
-fn pool_of(s: &[u8], n: usize, j: usize, network: u32, end: u64) -> usize
-    requires { ⌜ (j ≤ n) × (9 * n ≤ length (now s)) ⌝ }
-    ensures { λ r. ⌜ FirstPool (now (s .entry)) n j network end r ⌝ }
-{
-    let mut k: usize = j;
-    while k < n {
-        if spans(pool(s, k), network, end) {
-            return k;
-        }
-        k = k + 1;
-    }
-    k
-}
-
 // LEASES
 
 // A lease record that is as a sound table has it, wherever the lease lies.
@@ -141,6 +118,18 @@ enum Fit {
 // The first four bytes of a lease record: its length 17 and its kind 3.
 const LEASE_START: u32 = 196625;
 
+// Whether state and flags, the second and third byte of a word, are as a lease has them: 1 or 2, and at most 3. One more than the
+// state is 2 or 3, so that the tests are of single bits, and compiled they are one mask.
+fn state_and_flags(word: u32) -> bool
+    ensures { λ r. ⌜ r ≡ stateAndFlags? word ⌝ }
+{
+    let next = (word as u64) + 256;
+    if next / 512 % 128 != 1 {
+        return false;
+    }
+    next / 262144 % 64 == 0
+}
+
 // The lease record at the front of the bytes.
 fn fit_at(s: &[u8], last: u32) -> Fit
     requires { ⌜ 19 ≤ length (now s) ⌝ }
@@ -149,21 +138,15 @@ fn fit_at(s: &[u8], last: u32) -> Fit
     if image::read32(s, 0) != LEASE_START {
         return Fit::Other;
     }
-    let length = s[8];
+    let word = image::read32(s, 8);
+    let length = (word % 256) as u8;
     if length < Prefix::SHORTEST {
         return Fit::Other;
     }
     if Prefix::LONGEST < length {
         return Fit::Other;
     }
-    let state = s[9];
-    if state < 1 {
-        return Fit::Other;
-    }
-    if 2 < state {
-        return Fit::Other;
-    }
-    if 3 < s[10] {
+    if !state_and_flags(word) {
         return Fit::Other;
     }
     if image::read32(s, 11) == 0 {
@@ -192,8 +175,46 @@ fn due(expires: u32, time: u32) -> usize
     if expires <= time { 1 } else { 0 }
 }
 
-// The leases after n pools, and nothing after them. Pools and leases both ascend, so the pool that a lease lies in moves only forward; most leases
-// lie in the pool of the one before.
+// How far a pass over the leases has come, and how many of those behind it have expired.
+struct Pass {
+    at: usize,
+    expired: usize,
+}
+
+// The leases from a place on that lie in a pool, in order. The pass stops at the first record that is not one of them.
+fn in_pool(s: &[u8], p: Prefix, from: Pass, last: u32, time: u32) -> Pass
+    requires { ⌜ Left (now s) from ⌝ }
+    ensures { λ r. ⌜ Left (now (s .entry)) r ⌝ }
+    ensures { λ r. ⌜ ((x : Head) (n k : ℕ) → Begun x (now (s .entry)) n → x .last ≡ last → k < n → p ≡ nthPool (now (s .entry)) k
+        → Reached x (now (s .entry)) n time k from → Reached x (now (s .entry)) n time (k + 1) r) ⌝ }
+{
+    let stop = p.end();
+    let mut low = p.network as u64;
+    let mut expired = from.expired;
+    let mut at = from.at;
+    while at < s.len() {
+        let Fit::Lease {
+            network,
+            end,
+            expires,
+        } = fit_at(&s[at..], last)
+        else {
+            return Pass { at, expired };
+        };
+        if (network as u64) < low {
+            return Pass { at, expired };
+        }
+        if stop < end {
+            return Pass { at, expired };
+        }
+        low = end;
+        expired = expired + due(expires, time);
+        at = at + 19;
+    }
+    Pass { at, expired }
+}
+
+// The leases after n pools, and nothing after them. Pools and leases both ascend, so the leases of one pool stand together, before those of the next.
 fn leases_in(head: Head, s: &[u8], n: usize, time: u32) -> Book
     requires { ⌜ Begun head (now s) n ⌝ }
     ensures { λ r. ⌜ r ≡ bookOf time (afterHead (some head) (now (s .entry))) ⌝ }
@@ -206,33 +227,17 @@ fn leases_in(head: Head, s: &[u8], n: usize, time: u32) -> Book
     if from + 19 * count != s.len() {
         return unsound();
     }
-    let mut low: u64 = 0;
-    let mut j: usize = 0;
-    let mut pool_end: u64 = 0;
-    let mut expired: usize = 0;
-    let mut at: usize = from;
-    while at < s.len() {
-        let Fit::Lease {
-            network,
-            end,
-            expires,
-        } = fit_at(&s[at..], head.last)
-        else {
-            return unsound();
-        };
-        if (network as u64) < low {
+    let mut pass = Pass {
+        at: from,
+        expired: 0,
+    };
+    let mut k: usize = 0;
+    while pass.at < s.len() {
+        if n <= k {
             return unsound();
         }
-        if pool_end < end {
-            j = pool_of(s, n, j, network, end);
-            if n <= j {
-                return unsound();
-            }
-            pool_end = pool(s, j).end();
-        }
-        low = end;
-        expired = expired + due(expires, time);
-        at = at + 19;
+        pass = in_pool(s, pool(s, k), pass, head.last, time);
+        k = k + 1;
     }
     Book {
         sound: true,
@@ -241,7 +246,7 @@ fn leases_in(head: Head, s: &[u8], n: usize, time: u32) -> Book
         last: head.last,
         pools: n,
         leases: count,
-        expired,
+        expired: pass.expired,
     }
 }
 
