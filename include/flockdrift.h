@@ -16,7 +16,7 @@
  * - A pointer points to as many elements as the size after it says (`networks` to n, `lengths` to m); where the size is
  *   0 it may be null. Bytes that a call writes overlap no other argument.
  * - Nothing is kept between two calls: no pointer, no allocation, no global. Any number of threads may call at once, each
- *   with buffers of its own; two calls on one image need a lock around them. A call takes up to 96 KiB of stack
+ *   with buffers of its own; two calls on one image need a lock around them. A call takes up to 4 KiB of stack
  *   (measured on x86-64; a proof says nothing of the stack).
  *
  * Networks are IPv4 addresses as numbers, 10.0.1.0 being 0x0a000100, and lengths are prefix lengths. Times are seconds
