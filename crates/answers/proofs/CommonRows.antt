@@ -1,13 +1,13 @@
 -- Laws of the common rows: what the reader's answer says of rows 6 and 7, and how a call goes on after the common rows.
 -- Assumes nothing.
-use Prim.Native.Nat.{ℕ, _≤_}
-use mathlib.Core.Path.{_≡_, refl, sym, ap, subst, _∙_}
+use Prim.Native.Nat.{ℕ}
+use mathlib.Core.Path.{_≡_, refl, sym, subst, _∙_}
 use mathlib.Core.Logic.{_⊎_, ⊎-elim}
-use mathlib.Core.Bool.{Bool, true, false, not, cond, true≢false, false≢true}
+use mathlib.Core.Bool.{Bool, true, false, cond, true≢false}
 use mathlib.Core.List.{List, [], _∷_, _++_}
-use mathlib.Core.Option.{Option, none, some, Option·some-ne-none}
+use mathlib.Core.Option.{none, some, Option·some-ne-none}
 use lib.Dec.{ltb, eqb}
-use borrow.Author.Tests.{ltb-false, not-false}
+use borrow.Author.Tests.{not-false}
 use Rattle.lists.specs.Lists.{All}
 use Rattle.lists.proofs.Tests.{bool-cases, cond-true, cond-false}
 use Rattle.option.specs.Values.{SuboptionValue, Outcome, refused, accepted}
@@ -20,7 +20,7 @@ use Rattle.ledger.specs.Ledger as ledger
 use Rattle.ledger.specs.Ledger.{Row, firstOf, orElse, refuses?, placeIn}
 use Rattle.ledger.proofs.RowLaws.{first-none}
 use Rattle.answers.specs.declared.Answer.{Answer}
-use Rattle.answers.specs.Answers.{shortest, answerOf, refused?, checkedAnswer, commonRows, answered}
+use Rattle.answers.specs.Answers.{answerOf, checkedAnswer, commonRows, answered}
 
 -- Rows 6 and 7 of what an option reads as.
 abbrev optionRows : Outcome → List Row
@@ -71,42 +71,6 @@ first-after (r ∷ xs) ys e =
     cond-false (r .1) (some (r .0)) (firstOf (xs ++ ys)) b ∙ first-after xs ys (sym (cond-false (r .1) (some (r .0)) (firstOf xs) b) ∙ e))
     (bool-cases (r .1))
 
--- HOW A CALL GOES ON after rows that it has in common with others: an answer that stands for these rows refuses the call exactly where one of them
--- applies. No row has number 0.
-
-module _ (common : List Row) (numbered : All (λ (r : Row). eqb (r .0) 0 ≡ false) common) (option : List ℕ) (a : Answer)
-    (e : answerOf a ≡ answered (firstOf common) option) where
-  refused-by : (o : Option ℕ) → firstOf common ≡ o → refused? a ≡ true → (n : ℕ) × (firstOf common ≡ some n)
-  refused-by none f r =
-      let zero : answerOf a ≡ ledger.acceptance 0 0 = e ∙ ap (λ (o : Option ℕ). answered o option) f in
-      absurd (true≢false (sym r ∙ ap (λ (x : ledger.Answer). not (eqb (x .number) 0)) zero))
-  refused-by (some n) f r = (n, f)
-
-  passed-by : (o : Option ℕ) → firstOf common ≡ o → refused? a ≡ false → firstOf common ≡ none
-  passed-by none f r = f
-  passed-by (some n) f r =
-      let number : answerOf a ≡ ledger.refusal n (ledger.refusalPlace option n) = e ∙ ap (λ (o : Option ℕ). answered o option) f in
-      let some-number : eqb n 0 ≡ false = first-number (λ (m : ℕ). eqb m 0 ≡ false) common numbered n f in
-      absurd (true≢false (sym (ap not some-number) ∙ sym (ap (λ (x : ledger.Answer). not (eqb (x .number) 0)) number) ∙ r))
-
-  -- Refused, the call gives this answer, whatever its own rows say.
-  pub common-refuses : {R : Type 0} (own : List Row) (make : ledger.Answer → R) (accepting : R) → refused? a ≡ true
-      → make (answerOf a) ≡ orElse (firstOf (common ++ own)) (λ (number : ℕ). make (ledger.refusal number (ledger.refusalPlace option number))) accepting
-  common-refuses {R} own make accepting r =
-      let n = refused-by (firstOf common) refl r in
-      ap make (e ∙ ap (λ (o : Option ℕ). answered o option) (n .1))
-      ∙ sym (ap (λ (o : Option ℕ). orElse o (λ (number : ℕ). make (ledger.refusal number (ledger.refusalPlace option number))) accepting)
-      (first-before common own (n .0) (n .1)))
-
-  -- Not refused, it goes by its own rows.
-  pub common-passes : {R : Type 0} (own : List Row) (refusing : ℕ → R) (accepting : R) → refused? a ≡ false
-      → orElse (firstOf (common ++ own)) refusing accepting ≡ orElse (firstOf own) refusing accepting
-  common-passes {R} own refusing accepting r =
-      ap (λ (o : Option ℕ). orElse o refusing accepting) (first-after common own (passed-by (firstOf common) refl r))
-
-  pub common-none : refused? a ≡ false → firstOf common ≡ none
-  common-none r = passed-by (firstOf common) refl r
-
 -- WHERE NONE OF THEM APPLIES: the table is sound, the time is neither too early nor too late, and the option reads as suboptions.
 
 pub record Passed (t : LeaseTable) (now client : ℕ) (option : List ℕ) : Type 0 where
@@ -138,32 +102,3 @@ passed-common t now client option e =
       pieces = readSuboptions option 3 .0;
       read = read-accepted option (rows .1 .1 .1 .1 .0) (rows .1 .1 .1 .1 .1 .0);
     }
-
--- The same after row 1.
-pub passed-with-reply : (t : LeaseTable) (now client : ℕ) (option : List ℕ) (room : ℕ) → firstOf ((1, ltb room shortest) ∷ commonRows t now client option) ≡ none
-    → (shortest ≤ room) × Passed t now client option
-passed-with-reply t now client option room e =
-    let rows = first-none ((1, ltb room shortest) ∷ commonRows t now client option) e in
-    let one : firstOf (commonRows t now client option) ≡ none = sym (cond-false (ltb room shortest) (some 1) (firstOf (commonRows t now client option)) (rows .0)) ∙ e in
-    (ltb-false room shortest (rows .0), passed-common t now client option one)
-
--- No common row has number 0.
-pub common-numbered : (t : LeaseTable) (now client : ℕ) (option : List ℕ) → All (λ (r : Row). eqb (r .0) 0 ≡ false) (commonRows t now client option)
-common-numbered t now client option = (refl, (refl, (refl, (refl, (refl, (refl, tt))))))
-
-pub with-reply-numbered : (t : LeaseTable) (now client : ℕ) (option : List ℕ) (room : ℕ)
-    → All (λ (r : Row). eqb (r .0) 0 ≡ false) ((1, ltb room shortest) ∷ commonRows t now client option)
-with-reply-numbered t now client option room = (refl, common-numbered t now client option)
-
--- A call that is not refused by them.
-pub passed-call : (t : LeaseTable) (now client : ℕ) (option : List ℕ) (a : Answer) → answerOf a ≡ answered (firstOf (commonRows t now client option)) option
-    → refused? a ≡ false → Passed t now client option
-passed-call t now client option a e r =
-    passed-common t now client option (common-none (commonRows t now client option) (common-numbered t now client option) option a e r)
-
-pub passed-call-with-reply : (t : LeaseTable) (now client : ℕ) (option : List ℕ) (room : ℕ) (a : Answer)
-    → answerOf a ≡ answered (firstOf ((1, ltb room shortest) ∷ commonRows t now client option)) option → refused? a ≡ false
-    → (shortest ≤ room) × Passed t now client option
-passed-call-with-reply t now client option room a e r =
-    passed-with-reply t now client option room
-    (common-none ((1, ltb room shortest) ∷ commonRows t now client option) (with-reply-numbered t now client option room) option a e r)

@@ -1,18 +1,16 @@
 -- How the code's answers read as the ledger's, and the rows that calls have in common.
 -- Assumes nothing: these are definitions.
 use Prim.Native.Nat.{ℕ}
-use mathlib.Core.Bool.{Bool, true, false, not}
+use mathlib.Core.Bool.{not}
 use mathlib.Core.List.{List, [], _∷_}
 use mathlib.Core.Option.{Option}
 use lib.Dec.{ltb, eqb}
 use Rattle.option.specs.Reading.{readOption}
 use Rattle.option.specs.declared.Checked.{Checked}
 use Rattle.option.specs.declared.Checked.the-variants as checked
-use Rattle.table.specs.declared.Lease.{Lease}
 use Rattle.table.specs.declared.LeaseTable.{LeaseTable}
 use Rattle.table.specs.Table.{latest, sound}
 use Rattle.ledger.specs.Ledger as ledger
-use Rattle.answers.specs.declared.Counts.{Counts}
 use Rattle.answers.specs.declared.Answer.{Answer}
 use Rattle.answers.specs.declared.Answer.the-variants.{
   Accepted,
@@ -28,11 +26,6 @@ use Rattle.answers.specs.declared.Answer.the-variants.{
   NoSpace,
   NothingFound,
 }
-use Rattle.answers.specs.declared.Called.{Called}
-
--- Row 1: "reply buffer below 257 bytes".
-abbrev pub shortest : ℕ
-shortest = 257
 
 -- Document 01's number and values for each answer; 0 is no refusal.
 abbrev pub answerOf : Answer → ledger.Answer
@@ -48,16 +41,6 @@ answerOf WrongPieces = ledger.refusal 8 0
 answerOf NoSlot = ledger.refusal 9 0
 answerOf NoSpace = ledger.refusal 10 0
 answerOf NothingFound = ledger.refusal 11 0
-
--- A call's answer and table, with the reply buffer after it; and those of a call that has none.
-abbrev pub resultOf : Called → List ℕ → ledger.Result
-resultOf r buffer = record { answer = answerOf (r .answer); table = r .table; buffer = buffer }
-
-abbrev pub updateOf : Called → ledger.Update
-updateOf r = record { answer = answerOf (r .answer); table = r .table }
-
-abbrev pub refused? : Answer → Bool
-refused? a = not (eqb (answerOf a .number) 0)
 
 -- The reader's answers.
 abbrev pub checkedAnswer : Checked → Answer
@@ -79,7 +62,3 @@ commonRows t now client option =
 -- The refusal of the row that applies, or an accepted answer with no counts.
 abbrev pub answered : Option ℕ → List ℕ → ledger.Answer
 answered row option = ledger.orElse row (λ number. ledger.refusal number (ledger.refusalPlace option number)) (ledger.acceptance 0 0)
-
--- The table with other lease slots and another last time. (`store` of crate `table` is this of leases with empty slots behind them.)
-abbrev pub replaced : LeaseTable → ℕ → List Lease → LeaseTable
-replaced t now slots = record { pools = t .pools; leases = slots; term = t .term; «default_length» = t .«default_length»; last = now }

@@ -1,12 +1,12 @@
 -- The lowest bit of a number, and multiples of a power of two by their bits.
 -- Assumes nothing.
-use Prim.Native.Nat.{ℕ, zero, suc, _+_, _-_, _*_, _/_, _%_, _^_, _≤_, _<_, min, max}
-use mathlib.Core.Path.{_≡_, refl, sym, ap, ap₂, subst, _∙_}
+use Prim.Native.Nat.{ℕ, zero, suc, _+_, _-_, _*_, _/_, _%_, _^_, _<_, min, max}
+use mathlib.Core.Path.{_≡_, refl, sym, ap, ap₂, _∙_}
 use mathlib.Core.Logic.{_⊎_, inl, inr, ⊎-elim}
 use native.Mathlib.Nat.{le-refl, mod-one, mod-lt, div-add-mod', pow-suc, min-eq-left, min-zero, zero-min, le-max-left, le-max-right, max-le}
 use native.Mathlib.Omega.{arith}
 use lib.Arith.{bin-ind, digits-div, digits-mod, mod-mul}
-use lib.Bits.{bitAnd, bitOr, and-step, or-step, and-zero-l}
+use lib.Bits.{bitAnd, bitOr, and-step, or-step}
 use lib.Pow.{pow-pos}
 
 two : 0 < 2

@@ -1,11 +1,11 @@
 -- Gaps in columns: one more at the end, and the four ways in which a gap is split.
 -- Assumes nothing.
 use Prim.Native.Nat.{ℕ, zero, suc, _+_, _-_, _≤_, _<_}
-use mathlib.Core.Path.{_≡_, refl, sym, ap, ap₂, subst, _∙_}
+use mathlib.Core.Path.{_≡_, refl, sym, ap, ap₂, _∙_}
 use mathlib.Core.List.{List, [], _∷_, _++_, append-nil}
 use native.Mathlib.Omega.{arith}
 use native.Mathlib.Numerals.{add-one}
-use lib.ListN.{length, take, drop, set, getD, length-set}
+use lib.ListN.{length, take, set, getD}
 use lib.Seq.{take-suc-set, length-take-le, take-set-lt, getD-take}
 use Rattle.lists.proofs.TakeLaws.{take-short}
 use Rattle.prefix.specs.declared.Prefix.{Prefix}

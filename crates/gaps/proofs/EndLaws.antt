@@ -1,10 +1,9 @@
 -- Rounding by masks, and the best fit at the two ends of a gap by their lowest bit.
 -- Assumes nothing.
-use Prim.Native.Nat.{ℕ, zero, suc, _+_, _-_, _*_, _^_, _/_, _%_, _≤_, _<_}
-use mathlib.Core.Path.{_≡_, refl, sym, ap, ap₂, subst, _∙_}
-use mathlib.Core.Logic.{_⊎_, inl, inr, ⊎-elim, by-cases}
-use mathlib.Core.Bool.{true, false, cond}
-use mathlib.Core.Option.{Option, none, some}
+use Prim.Native.Nat.{ℕ, zero, suc, _+_, _-_, _^_, _%_, _≤_, _<_}
+use mathlib.Core.Path.{_≡_, sym, ap, ap₂, _∙_}
+use mathlib.Core.Logic.{by-cases}
+use mathlib.Core.Option.{Option, some}
 use native.Mathlib.Nat.{le-refl, mod-lt, div-add-mod', pow-suc}
 use native.Mathlib.Decide.{decLe}
 use native.Mathlib.Omega.{arith}
@@ -15,8 +14,8 @@ use borrow.Author.Tests.{lt-ltb, le-ltb}
 use Rattle.lists.proofs.Tests.{cond-true, cond-false}
 use Rattle.prefix.specs.declared.Prefix.{Prefix}
 use Rattle.prefix.specs.Prefixes.{size, prefix}
-use Rattle.prefix.proofs.PrefixLaws.{size-positive, size-bound}
-use Rattle.prefix.proofs.Nesting.{aligned-down, aligned-pow, next-multiple}
+use Rattle.prefix.proofs.PrefixLaws.{size-positive}
+use Rattle.prefix.proofs.Nesting.{aligned-down, next-multiple}
 use Rattle.space.specs.Scan.{lengthOf, levels, inGap, roundUp, roundDown}
 use Rattle.space.proofs.LevelLaws.{levels-low, levels-high, levels-on, levels-none, gap-small, gap-nothing, gap-empty, gap-ends}
 use Rattle.space.proofs.GapLaws.{up-multiple, up-ge, up-least, down-multiple, down-le}

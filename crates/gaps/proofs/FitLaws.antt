@@ -1,19 +1,19 @@
 -- The gaps of pools and leases have what `grant` has; and how a walk through pools and leases comes to them, one after the other.
 -- Assumes nothing.
-use Prim.Native.Nat.{ℕ, zero, suc, _+_, _≤_, _<_}
-use mathlib.Core.Path.{_≡_, refl, sym, ap, ap₂, subst, _∙_}
+use Prim.Native.Nat.{ℕ, _+_, _≤_, _<_}
+use mathlib.Core.Path.{_≡_, refl, sym, ap, ap₂, _∙_}
 use mathlib.Core.Logic.{⊎-elim}
 use mathlib.Core.Bool.{Bool, true, false, cond}
-use mathlib.Core.List.{List, [], _∷_, _++_, append-nil, append-assoc}
-use mathlib.Core.Option.{Option, none, some}
+use mathlib.Core.List.{List, [], _∷_, _++_, append-assoc}
+use mathlib.Core.Option.{Option, none}
 use native.Mathlib.Omega.{arith}
 use lib.Dec.{ltb}
 use borrow.Author.Tests.{ltb-true, ltb-false, lt-ltb, le-ltb}
 use Rattle.lists.proofs.Tests.{bool-cases, cond-true, cond-false}
 use Rattle.prefix.specs.declared.Prefix.{Prefix}
-use Rattle.prefix.specs.Prefixes.{size, end}
+use Rattle.prefix.specs.Prefixes.{end}
 use Rattle.prefix.proofs.PrefixLaws.{size-positive}
-use Rattle.space.specs.Space.{Length, Ordered, wholes, best, lowestPart, grant}
+use Rattle.space.specs.Space.{Length, Ordered, best, lowestPart, grant}
 use Rattle.space.specs.Scan.{lengthOf, inGap, Scan, inPool, inPools}
 use Rattle.space.proofs.LevelLaws.{gap-small, gap-exact}
 use Rattle.space.proofs.ScanLaws.{scan-best}

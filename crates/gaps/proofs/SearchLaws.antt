@@ -1,13 +1,13 @@
 -- The search through gaps in columns, one gap after the other.
 -- Assumes nothing.
-use Prim.Native.Nat.{ℕ, zero, suc, _+_, _-_, _≤_, _<_}
-use mathlib.Core.Path.{_≡_, refl, sym, ap, ap₂, subst, _∙_}
+use Prim.Native.Nat.{ℕ, _+_, _-_, _≤_, _<_}
+use mathlib.Core.Path.{_≡_, refl, sym, ap, ap₂, _∙_}
 use mathlib.Core.Logic.{_⊎_, inl, inr, ⊎-elim}
-use mathlib.Core.Bool.{Bool, true, false, not, cond, true≢false}
+use mathlib.Core.Bool.{true, not, cond, true≢false}
 use mathlib.Core.List.{List, [], _∷_}
 use mathlib.Core.Option.{Option, none, some}
 use native.Mathlib.Omega.{arith}
-use lib.Bits.{bitAnd, bitOr}
+use lib.Bits.{bitAnd}
 use lib.Dec.{eqb}
 use lib.ListN.{length, take, drop, getD}
 use lib.Pow.{pow-lt}
@@ -25,9 +25,8 @@ use Rattle.space.specs.Scan.{lengthOf, inGap, roundUp, roundDown}
 use Rattle.space.proofs.LevelLaws.{gap-small}
 use Rattle.space.proofs.GapLaws.{up-ge, down-le}
 use Rattle.gaps.specs.declared.Best.{Best}
-use Rattle.gaps.specs.declared.Choice.{Choice}
-use Rattle.gaps.specs.Gaps.{Gap, fitFrom, fitIn, LiesIn}
-use Rattle.gaps.specs.Columns.{held, heldIn, heldFrom, FirstLarge, bitsOf, Found, AtEnd, fitOf, Fitted}
+use Rattle.gaps.specs.Gaps.{fitFrom, fitIn, LiesIn}
+use Rattle.gaps.specs.Columns.{held, heldIn, heldFrom, FirstLarge, bitsOf, Found, AtEnd, Fitted}
 use Rattle.gaps.proofs.FitLaws.{fit-exact}
 use Rattle.gaps.proofs.ColumnLaws.{at-lies}
 use Rattle.gaps.proofs.EndLaws.{gap-worse, gap-open, gap-found, gap-better}

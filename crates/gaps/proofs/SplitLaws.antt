@@ -14,7 +14,7 @@ use Rattle.lists.proofs.Tests.{bool-cases}
 use Rattle.lists.proofs.ListLaws.{all-map, all-append}
 use Rattle.lists.proofs.SortingLaws.{insertBy-before, insertBy-after, insertBy-all}
 use Rattle.prefix.specs.declared.Prefix.{Prefix}
-use Rattle.prefix.specs.Prefixes.{size, end}
+use Rattle.prefix.specs.Prefixes.{end}
 use Rattle.prefix.proofs.PrefixLaws.{size-positive}
 use Rattle.space.specs.Space.{Before}
 use Rattle.gaps.specs.Gaps.{Gap, between, PoolGaps, poolGaps, gapsOf, gapsAt, without, LiesIn}

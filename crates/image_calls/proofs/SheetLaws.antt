@@ -1,22 +1,19 @@
 -- Laws of the sheet of an image: where it is written, its bytes and the image's are few.
 -- Assumes nothing.
 use Prim.Native.Nat.{ℕ, _≤_}
-use mathlib.Core.Path.{_≡_, refl, sym, ap, _∙_}
-use mathlib.Core.Logic.{⊎-elim}
+use mathlib.Core.Path.{_≡_, refl, ap, _∙_}
 use mathlib.Core.Bool.{Bool, true, false}
-use mathlib.Core.List.{List, _++_}
+use mathlib.Core.List.{List}
 use mathlib.Core.Option.{Option, none, some}
 use native.Mathlib.Omega.{arith}
-use lib.ListN.{length, drop}
+use lib.ListN.{length}
 use lib.Dec.{ltb}
-use Rattle.lists.proofs.Tests.{bool-cases, cond-true, cond-false}
 use Rattle.table.specs.declared.LeaseTable.{LeaseTable}
-use Rattle.table.specs.Table.{sound}
-use Rattle.image.specs.Image.{imageOf, loadImage}
+use Rattle.image.specs.Image.{loadImage}
 use Rattle.image.proofs.ImageLaws.{image-loaded, longest-image}
 use Rattle.sheet_text.specs.declared.SheetAnswer.{SheetAnswer}
-use Rattle.sheet_text.specs.declared.SheetAnswer.the-variants.{Written, NotSound, TooSmall}
-use Rattle.sheet_text.specs.Sheet.{sheetText, sheetSize, sheetBytes, into, sheetOf, sheetOfLoaded, sheetOfImage}
+use Rattle.sheet_text.specs.declared.SheetAnswer.the-variants.{Written}
+use Rattle.sheet_text.specs.Sheet.{sheetText, sheetSize, sheetBytes, into, sheetOfLoaded, sheetOfImage}
 use Rattle.sheet_text.proofs.SheetLaws.{sheet-sound}
 use Rattle.sheet_text.proofs.SheetHolds.{sheet-fits}
 use Rattle.ledger.specs.Sizes.{Bytes}

@@ -1,2 +1,1 @@
 pub mod ImageCalls
-pub mod Inner

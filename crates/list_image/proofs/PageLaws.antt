@@ -2,14 +2,13 @@
 -- Assumes nothing.
 use Prim.Native.Nat.{ℕ, _+_, _*_, _≤_, _<_}
 use mathlib.Core.Path.{_≡_, refl, sym, ap, _∙_}
-use mathlib.Core.Bool.{Bool, true, false, cond}
+use mathlib.Core.Bool.{Bool, true, false}
 use mathlib.Core.List.{List, [], _∷_, _++_, map, append-assoc, append-nil}
 use native.Mathlib.Omega.{arith}
 use lib.ListN.{length, take, drop, getD, length-append}
-use lib.Seq.{take-all, take-append-add, append-snoc}
-use lib.Dec.{ltb}
+use lib.Seq.{take-all, take-append-add}
 use borrow.Author.Tests.{lt-ltb, le-ltb}
-use Rattle.lists.specs.Lists.{those, gather}
+use Rattle.lists.specs.Lists.{those}
 use Rattle.lists.specs.Put.{put}
 use Rattle.lists.proofs.DropLaws.{those-at, those-end}
 use Rattle.lists.proofs.Tests.{cond-true, cond-false}
@@ -20,7 +19,6 @@ use Rattle.table.specs.Table.{noLease}
 use Rattle.ledger.specs.Ledger.{entryOf}
 use Rattle.reply.specs.Reply.{mostEntries}
 use Rattle.reply.proofs.ReplyLaws.{leaseBytes, entries-length, entries-snoc}
-use Rattle.list_image.specs.declared.Page.{Page}
 use Rattle.list_image.specs.Page.{PageOf}
 
 -- The leases from `first` up to i that pass the test stand in the reply, and so many were counted.

@@ -8,9 +8,6 @@ ghost use mathlib.Core.Option.{none, some};
 ghost use Prim.Native.Nat.{_+_, _*_, _≤_};
 ghost use lib.ListN.{length, drop};
 ghost use Rattle.lists.specs.Lists.{those};
-ghost use Rattle.lists.specs.Put.{put};
-ghost use Rattle.option.specs.Writing.{optionHead, informationHead};
-ghost use Rattle.reply.specs.Reply.{mostEntries};
 ghost use Rattle.table.specs.declared.Lease.{Lease};
 ghost use Rattle.records.specs.Records.{Records, Ascending};
 ghost use Rattle.image_calls.specs.ImageCalls.{listImage};
@@ -78,18 +75,6 @@ fn first_above(image: &[u8], from: usize, n: usize, resumes: bool, position: u32
     0
 }
 
-// Code and Len of the option and the head of its information, before the entries of the leases shown; the bytes of the
-// whole reply.
-fn put_heads(reply: &mut [u8], count: usize, more: bool) -> usize
-    requires { ⌜ count ≤ mostEntries ⌝ }
-    ensures { λ r. ⌜ r ≡ 7 * count + 6 ⌝ }
-    ensures { λ _. ⌜ now (reply .exit) ≡ put (put (now (reply .entry)) 0 (optionHead (7 * count + 4))) 3 (informationHead (7 * count + 1) true more) ⌝ }
-{
-    option_pieces::put_option_head(reply, (7 * count + 4) as u8);
-    option_pieces::put_information_head(reply, 3, (7 * count + 1) as u8, true, more);
-    7 * count + 6
-}
-
 // List changes nothing, so the image is only read.
 pub fn list(
     image: &[u8],
@@ -136,6 +121,6 @@ pub fn list(
     if shown == 0 {
         return image_calls::refused(11, 0);
     }
-    let bytes = put_heads(reply, shown, page.more);
+    let bytes = reply::put_heads(reply, shown, true, page.more);
     image_calls::accepted(bytes as u32, shown as u32, image_bytes)
 }

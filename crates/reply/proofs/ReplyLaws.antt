@@ -1,13 +1,11 @@
 -- The bytes of a reply: an option with one information, head by head and entry by entry.
 -- Assumes nothing.
-use Prim.Native.Nat.{ℕ, _+_, _*_, _≤_, _<_}
+use Prim.Native.Nat.{ℕ, _+_, _*_, _≤_}
 use mathlib.Core.Path.{_≡_, refl, sym, ap, ap₂, _∙_}
 use mathlib.Core.Bool.{Bool}
 use mathlib.Core.List.{List, [], _∷_, _++_, map, append-nil, append-assoc}
-use native.Mathlib.Numerals.{add-one}
 use native.Mathlib.Omega.{arith}
-use lib.ListN.{length, take, drop, getD, length-append, length-map}
-use lib.Seq.{take-suc, length-take-le}
+use lib.ListN.{length, drop, length-append, length-map}
 use Rattle.lists.specs.Lists.{gather}
 use Rattle.lists.specs.Put.{put}
 use Rattle.lists.proofs.ListLaws.{all-every, all-image}
@@ -48,36 +46,11 @@ entries-and-one es x =
 pub entries-snoc : (xs : List Lease) (x : Lease) → entriesBytes (map entryOf (xs ++ x ∷ [])) ≡ entriesBytes (map entryOf xs) ++ leaseBytes x
 entries-snoc xs x = ap entriesBytes (map-append entryOf xs (x ∷ [])) ∙ entries-and-one (map entryOf xs) x
 
-pub entries-more : (xs : List Lease) (i : ℕ) (d : Lease) → i < length xs
-    → entriesBytes (map entryOf (take (i + 1) xs)) ≡ entriesBytes (map entryOf (take i xs)) ++ leaseBytes (getD xs i d)
-entries-more xs i d lt =
-    let x = getD xs i d in
-    let one : take (i + 1) xs ≡ take i xs ++ (x ∷ []) = rw (add-one i) (take-suc xs i d lt) in
-    ap (λ (l : List Lease). entriesBytes (map entryOf l)) one ∙ entries-snoc (take i xs) x
-
 -- No entries.
 pub entries-none : (xs : List Lease) (l : List ℕ) → length xs ≡ 0 → put l 6 (entriesBytes (map entryOf xs)) ≡ l
 unfolding entriesBytes
 entries-none [] l e = put-nothing l 6
 entries-none (x ∷ xs) l e = absurd (omega arith)
-
--- THE LOOP that puts the entries: those before i stand in the buffer.
-pub record Putting (xs : List Lease) (before after : List ℕ) (i : ℕ) : Type 0 where
-  pub stored : after ≡ put before 6 (entriesBytes (map entryOf (take i xs)))
-
-pub putting-none : (xs : List Lease) (before : List ℕ) → Putting xs before before 0
-unfolding entriesBytes
-putting-none xs before = record { stored = sym (put-nothing before 6) }
-
-pub putting-more : (xs : List Lease) (before after next : List ℕ) (i : ℕ) → Putting xs before after i → i < length xs → (d : Lease)
-    → next ≡ put after (6 + 7 * i) (leaseBytes (getD xs i d)) → Putting xs before next (i + 1)
-putting-more xs before after next i p lt d e =
-    let at : 6 + 7 * i ≡ 6 + length (entriesBytes (map entryOf (take i xs))) = omega (arith, entries-length (take i xs), length-take-le i xs (omega arith)) in
-    record {
-      stored =
-          put-more before after next 6 (entriesBytes (map entryOf (take i xs))) (6 + 7 * i) (leaseBytes (getD xs i d)) (p .stored) at e
-          ∙ ap (put before 6) (sym (entries-more xs i d lt));
-    }
 
 -- THE WHOLE REPLY
 
@@ -111,17 +84,6 @@ reply-length c s xs =
     ap length (reply-parts c s xs)
     ∙ length-append (optionHead (7 * length xs + 4) ++ informationHead (7 * length xs + 1) c s) (entriesBytes (map entryOf xs))
     ∙ omega (arith, heads-length (7 * length xs + 4) (7 * length xs + 1) c s, entries-length xs)
-
--- Put part by part.
-pub reply-put : (c s : Bool) (xs : List Lease) (n : ℕ) → length xs ≡ n → (l l₁ l₂ l₃ : List ℕ) → l₁ ≡ put l 0 (optionHead (7 * n + 4)) → l₂ ≡ put l₁ 3 (informationHead (7 * n + 1) c s)
-    → l₃ ≡ put l₂ 6 (entriesBytes (map entryOf xs)) → l₃ ≡ put l 0 (replyBytes c s xs)
-reply-put c s xs n k l l₁ l₂ l₃ e₁ e₂ e₃ =
-    let heads : List ℕ = optionHead (7 * n + 4) ++ informationHead (7 * n + 1) c s in
-    let three : 3 ≡ 0 + length (optionHead (7 * n + 4)) = omega (arith, head-length (7 * n + 4)) in
-    let six : 6 ≡ 0 + length heads = omega (arith, heads-length (7 * n + 4) (7 * n + 1) c s) in
-    put-more l l₂ l₃ 0 heads 6 (entriesBytes (map entryOf xs)) (put-more l l₁ l₂ 0 (optionHead (7 * n + 4)) 3 (informationHead (7 * n + 1) c s) e₁ three e₂) six e₃
-    ∙ ap (put l 0)
-    (ap (λ (m : ℕ). (optionHead (7 * m + 4) ++ informationHead (7 * m + 1) c s) ++ entriesBytes (map entryOf xs)) (sym k) ∙ sym (reply-parts c s xs))
 
 -- The entries first, and then the heads before them.
 pub heads-last : (c s : Bool) (xs : List Lease) (n : ℕ) → n ≡ length xs → (l l₁ l₂ : List ℕ) → l₁ ≡ put l 6 (entriesBytes (map entryOf xs))

@@ -1,13 +1,11 @@
 // The reply of take and list: an option with one information.
 use table::Lease;
 ghost use mathlib.Core.Path.{_≡_};
-ghost use mathlib.Core.List.{map};
 ghost use Prim.Native.Nat.{_+_, _*_, _≤_};
-ghost use lib.ListN.{length as count, take as upTo};
+ghost use lib.ListN.{length as count};
 ghost use Rattle.lists.specs.Put.{put};
-ghost use Rattle.option.specs.Writing.{entryHead, entriesBytes, informationHead, optionHead};
-ghost use Rattle.ledger.specs.Ledger.{entryOf};
-ghost use Rattle.reply.specs.Reply.{mostEntries, replyBytes};
+ghost use Rattle.option.specs.Writing.{entryHead, informationHead, optionHead};
+ghost use Rattle.reply.specs.Reply.{mostEntries};
 
 // No option has more entries, and no reply shows more.
 pub const MOST_ENTRIES: usize = 35;
@@ -36,44 +34,4 @@ pub fn put_heads(reply: &mut [u8], n: usize, c: bool, s: bool) -> usize
     option_pieces::put_option_head(reply, (7 * n + 4) as u8);
     option_pieces::put_information_head(reply, 3, (7 * n + 1) as u8, c, s);
     7 * n + 6
-}
-
-// The entries of the first n leases, from place 6 on.
-fn put_leases(reply: &mut [u8], leases: [Lease; MOST_ENTRIES], n: usize)
-    requires { ⌜ n ≤ mostEntries ⌝ }
-    ensures { λ _. ⌜ now (reply .exit) ≡ put (now (reply .entry)) 6 (entriesBytes (map entryOf (upTo n leases))) ⌝ }
-{
-    let mut i: usize = 0;
-    while i < n {
-        let x = leases[i];
-        option_pieces::put_entry(reply, 6 + 7 * i, x.network, x.length, x.h, x.d, 0);
-        i = i + 1;
-    }
-}
-
-// An option with one information whose entries are the first n leases, where there are so many; the number of bytes written.
-fn put_shown(reply: &mut [u8], c: bool, s: bool, leases: [Lease; MOST_ENTRIES], n: usize) -> usize
-    requires { ⌜ n ≤ mostEntries ⌝ }
-    ensures { λ r. ⌜ (now (reply .exit) ≡ put (now (reply .entry)) 0 (replyBytes c s (upTo n leases))) × (r ≡ count (replyBytes c s (upTo n leases))) ⌝ }
-{
-    option_pieces::put_option_head(reply, (7 * n + 4) as u8);
-    option_pieces::put_information_head(reply, 3, (7 * n + 1) as u8, c, s);
-    put_leases(reply, leases, n);
-    7 * n + 6
-}
-
-// An option with one information whose entries are the first n leases, all of them where n is more; the number of bytes written.
-pub fn put_reply(
-    reply: &mut [u8],
-    c: bool,
-    s: bool,
-    leases: [Lease; MOST_ENTRIES],
-    n: usize,
-) -> usize
-    ensures { λ r. ⌜ (now (reply .exit) ≡ put (now (reply .entry)) 0 (replyBytes c s (upTo n leases))) × (r ≡ count (replyBytes c s (upTo n leases))) ⌝ }
-{
-    if MOST_ENTRIES < n {
-        return put_shown(reply, c, s, leases, MOST_ENTRIES);
-    }
-    put_shown(reply, c, s, leases, n)
 }

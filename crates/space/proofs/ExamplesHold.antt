@@ -2,13 +2,11 @@
 -- Assumes nothing.
 use Prim.Native.Nat.{ℕ}
 use mathlib.Core.Path.{_≡_, refl}
-use mathlib.Core.List.{List, [], _∷_, map, List·Permᴰ, Permᴰ·refl}
-use mathlib.Core.Option.{Option, none, some}
+use mathlib.Core.List.{[], _∷_, map, List·Permᴰ}
 use native.Mathlib.Omega.{arith}
-use Rattle.prefix.specs.declared.Prefix.{Prefix}
 use Rattle.prefix.specs.Prefixes.{prefix}
-use Rattle.space.specs.Space.{Pools, Packing, wholes, serve, after, number}
-use Rattle.space.specs.Examples.{Row, rows}
+use Rattle.space.specs.Space.{Pools, Packing, wholes, serve, after}
+use Rattle.space.specs.Examples.{rows}
 use Rattle.space.proofs.ListTheorem.{Served, serve-packing}
 use Rattle.space.proofs.OrderTheorem.{any-order-granted}
 

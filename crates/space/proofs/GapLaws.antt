@@ -1,6 +1,6 @@
 -- One gap between leases: its smallest whole free prefix that is large enough is found at one of its two ends.
 -- Assumes nothing.
-use Prim.Native.Nat.{ℕ, zero, suc, _+_, _-_, _*_, _^_, _%_, _/_, _≤_, _<_}
+use Prim.Native.Nat.{ℕ, zero, suc, _+_, _-_, _*_, _%_, _/_, _≤_, _<_}
 use mathlib.Core.Path.{_≡_, refl, sym, ap, subst, _∙_}
 use mathlib.Core.Logic.{_⊎_, inl, inr, ⊎-elim, by-cases}
 use mathlib.Core.Bool.{Bool, true, false, cond}
@@ -12,7 +12,7 @@ use native.Mathlib.Decide.{decLe, decLt}
 use native.Mathlib.Omega.{arith}
 use lib.Dec.{leb, ltb, eqb}
 use lib.Pow.{pow-mono}
-use borrow.Author.Tests.{leb-true, leb-false, ltb-true, ltb-false, eqb-true, eqb-false}
+use borrow.Author.Tests.{leb-true, leb-false, ltb-true, eqb-true, eqb-false}
 use Rattle.lists.specs.Lists.{Holds}
 use Rattle.lists.proofs.Tests.{bool-cases, cond-true, cond-false}
 use Rattle.lists.proofs.ListLaws.{holds-map, any-all}
@@ -23,7 +23,7 @@ use Rattle.prefix.proofs.Nesting.{order, inside-order, aligned-down, aligned-ad
 use Rattle.space.specs.Space.{Length, Pools, Free, around, Whole, NotWorse}
 use Rattle.space.specs.Scan.{roundUp, roundDown, lengthOf, levels, inGap}
 use Rattle.space.proofs.BestLaws.{not-worse-trans}
-use Rattle.space.proofs.Rules.{largest, whole-length}
+use Rattle.space.proofs.Rules.{largest}
 
 -- rounding
 

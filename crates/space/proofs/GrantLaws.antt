@@ -1,9 +1,9 @@
 -- One grant, over all pools: what it gives, and what it leaves. The asks are counted by their orders.
 -- Assumes nothing.
-use Prim.Native.Nat.{ℕ, zero, suc, _+_, _-_, _*_, _^_, _%_, _≤_, _<_}
-use mathlib.Core.Path.{_≡_, refl, sym, ap, subst, _∙_}
-use mathlib.Core.Logic.{_⊎_, inl, inr, ⊎-elim, by-cases}
-use mathlib.Core.List.{List, [], _∷_, _++_, map}
+use Prim.Native.Nat.{ℕ, _+_, _-_, _*_, _≤_, _<_}
+use mathlib.Core.Path.{_≡_, refl, ap}
+use mathlib.Core.Logic.{inl, inr, by-cases}
+use mathlib.Core.List.{List, [], _∷_}
 use mathlib.Core.Option.{Option, none, some}
 use native.Mathlib.Nat.{le-refl, lt-of-mul-lt-mul-right}
 use native.Mathlib.Decide.{decLe}
@@ -12,7 +12,7 @@ use lib.Pow.{pow-mono}
 use Rattle.lists.specs.Lists.{All, Any, Pairwise, Holds}
 use Rattle.lists.proofs.ListLaws.{all-map, any-map, all-map₂, all-append, any-left, any-right, any-all}
 use Rattle.prefix.specs.declared.Prefix.{Prefix}
-use Rattle.prefix.specs.Prefixes.{size, prefix, end, Aligned, Inside, Apart}
+use Rattle.prefix.specs.Prefixes.{prefix, Aligned, Inside, Apart}
 use Rattle.prefix.proofs.PrefixLaws.{apart-sym}
 use Rattle.prefix.proofs.Nesting.{order, inside-trans, apart-sub, all-apart-sub, inside-order, aligned-down}
 use Rattle.space.specs.Space.{Length, Pools, Free, NotWorse, walk, wholes, best}

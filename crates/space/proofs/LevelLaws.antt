@@ -1,23 +1,16 @@
 -- The clauses of `levels`, at a length that is above `stop`; and that an exact fit stays.
 -- Assumes nothing.
 use Prim.Native.Nat.{ℕ, zero, suc, _+_, _-_, _%_, _≤_, _<_}
-use mathlib.Core.Path.{_≡_, refl, sym, ap, subst, _∙_}
-use mathlib.Core.Logic.{_⊎_, inl, inr, ⊎-elim}
+use mathlib.Core.Path.{_≡_, refl, ap}
 use mathlib.Core.Bool.{Bool, true, false, cond}
-use mathlib.Core.List.{List, [], _∷_}
-use mathlib.Core.Option.{Option, none, some}
-use native.Mathlib.Nat.{add-zero}
+use mathlib.Core.Option.{Option, some}
 use native.Mathlib.Omega.{arith}
-use native.Mathlib.Numerals.{add-one}
 use lib.Dec.{leb, ltb, eqb}
-use lib.ListN.{length, getD, drop, drop-of-length-le}
-use lib.Seq.{drop-cons}
 use borrow.Author.Tests.{eq-eqb, ne-eqb, lt-ltb, le-ltb, le-leb, lt-leb}
-use Rattle.lists.proofs.Tests.{cond-true, cond-false, bool-cases}
 use Rattle.prefix.specs.declared.Prefix.{Prefix}
-use Rattle.prefix.specs.Prefixes.{size, prefix, end}
+use Rattle.prefix.specs.Prefixes.{size, prefix}
 use Rattle.prefix.proofs.Nesting.{aligned-down}
-use Rattle.space.specs.Scan.{roundUp, roundDown, lengthOf, levels, inGap, Scan, inPool, inPools, prefixes}
+use Rattle.space.specs.Scan.{roundUp, roundDown, lengthOf, levels, inGap}
 
 module _ (a b stop len : ℕ) (best : Option Prefix) (above : stop < len) where
   steps : len - stop ≡ suc (len - 1 - stop)
@@ -85,58 +78,3 @@ module _ (l : ℕ) (best : Option Prefix) (a b : ℕ) where
 
 pub gap-exact : (l : ℕ) (best : Option Prefix) (a b : ℕ) → lengthOf best ≡ l → inGap l best a b ≡ best
 gap-exact l best a b e = gap-nothing l best a b (levels-done (roundUp l a) (roundDown l b) (lengthOf best) l best (omega arith))
-
-pub pool-exact : (l : ℕ) (xs : List Prefix) (best : Option Prefix) (from stop : ℕ) → lengthOf best ≡ l → inPool l best from stop xs .best ≡ best
-pool-exact l [] best from stop e = gap-exact l best from stop e
-pool-exact l (x ∷ xs) best from stop e =
-    let g = gap-exact l best from (x .network) e in
-    either (ltb (x .network) stop) (inPool l (inGap l best from (x .network)) (end x) stop xs) (record { best = inGap l best from stop; left = x ∷ xs })
-    (pool-exact l xs (inGap l best from (x .network)) (end x) stop (ap lengthOf g ∙ e) ∙ g) (gap-exact l best from stop e)
-  where
-    either : (t : Bool) (s u : Scan) → s .best ≡ best → u .best ≡ best → cond t s u .best ≡ best
-    either true s u p q = p
-    either false s u p q = q
-
-pub pools-exact : (l : ℕ) (ps xs : List Prefix) (best : Option Prefix) → lengthOf best ≡ l → inPools l best ps xs ≡ best
-pools-exact l [] xs best e = refl
-pools-exact l (p ∷ ps) xs best e =
-    let q = pool-exact l xs best (p .network) (end p) e in
-    pools-exact l ps (inPool l best (p .network) (end p) xs .left) (inPool l best (p .network) (end p) xs .best) (ap lengthOf q ∙ e) ∙ q
-
--- columns
-
-pub drop-prefixes : (i : ℕ) (ns ls : List ℕ) → drop i (prefixes ns ls) ≡ prefixes (drop i ns) (drop i ls)
-drop-prefixes zero ns ls = refl
-drop-prefixes (suc i) [] ls = refl
-drop-prefixes (suc i) (n ∷ ns) [] = sym (no-lengths (drop i ns))
-  where
-    no-lengths : (ns : List ℕ) → prefixes ns [] ≡ []
-    no-lengths [] = refl
-    no-lengths (n ∷ ns) = refl
-drop-prefixes (suc i) (n ∷ ns) (l ∷ ls) = drop-prefixes i ns ls
-
-module _ (ns ls : List ℕ) (i : ℕ) where
-  pub prefixes-next : length ns ≡ length ls → i < length ns → drop i (prefixes ns ls) ≡ prefix (getD ns i 0) (getD ls i 0) ∷ drop (i + 1) (prefixes ns ls)
-  prefixes-next same low =
-      let p : i < length ls = omega arith in
-      drop-prefixes i ns ls ∙ rw (add-one, drop-cons ns i 0, drop-cons ls i 0) (ap (λ (xs : List Prefix). prefix (getD ns i 0) (getD ls i 0) ∷ xs) (sym (drop-prefixes (suc i) ns ls)))
-
-  pub prefixes-end : length ns ≤ i → drop i (prefixes ns ls) ≡ []
-  prefixes-end high = drop-prefixes i ns ls ∙ rw (drop-of-length-le ns high)
-
--- A pool's scan, of which `whole` is the answer, at the lease i of the columns: it ends before the pool does, or the next one is past it, or there is none.
-module _ (l : ℕ) (best : Option Prefix) (from stop : ℕ) (ns ls : List ℕ) (i : ℕ) (same : length ns ≡ length ls) (whole : Scan)
-    (answer : whole ≡ inPool l best from stop (drop i (prefixes ns ls))) where
-  pub pool-stops : i < length ns → stop ≤ getD ns i 0 → whole ≡ record { best = inGap l best from stop; left = drop i (prefixes ns ls) }
-  pool-stops low h =
-      answer ∙ ap (inPool l best from stop) (prefixes-next ns ls i same low) ∙ rw (le-ltb (getD ns i 0) stop h)
-      (ap (λ (xs : List Prefix). record { best = inGap l best from stop; left = xs }) (sym (prefixes-next ns ls i same low)))
-
-  pub pool-goes-on : i < length ns → getD ns i 0 < stop
-      → whole ≡ inPool l (inGap l best from (getD ns i 0)) (getD ns i 0 + size (getD ls i 0)) stop (drop (i + 1) (prefixes ns ls))
-  pool-goes-on low h = answer ∙ ap (inPool l best from stop) (prefixes-next ns ls i same low) ∙ rw (lt-ltb (getD ns i 0) stop h)
-
-  pub pool-ends : length ns ≤ i → whole ≡ record { best = inGap l best from stop; left = drop i (prefixes ns ls) }
-  pool-ends high =
-      answer ∙ ap (inPool l best from stop) (prefixes-end ns ls i high)
-      ∙ ap (λ (xs : List Prefix). record { best = inGap l best from stop; left = xs }) (sym (prefixes-end ns ls i high))

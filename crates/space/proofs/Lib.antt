@@ -9,5 +9,4 @@ pub mod Permuted
 pub mod LevelLaws
 pub mod GapLaws
 pub mod ScanLaws
-pub mod FitLaws
 pub mod ExamplesHold

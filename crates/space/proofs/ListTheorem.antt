@@ -1,8 +1,8 @@
 -- The theorems about asks and lists of asks: when one is refused, and that a list which can be packed is granted.
 -- Assumes nothing.
-use Prim.Native.Nat.{ℕ, zero, suc, _+_, _-_, _≤_, _<_}
+use Prim.Native.Nat.{ℕ, _-_, _≤_, _<_}
 use mathlib.Core.Path.{_≡_, refl, sym, ap, ap₂, subst, _∙_}
-use mathlib.Core.Logic.{_⊎_, _↔_, inl, inr}
+use mathlib.Core.Logic.{_↔_}
 use mathlib.Core.List.{List, [], _∷_, map, nil≢cons, head-eq-of-cons-eq, tail-eq-of-cons-eq}
 use mathlib.Core.Option.{Option, none, some, Option·some-ne-none, Option·none-ne-some, Option·some-injective}
 use native.Mathlib.Omega.{arith}
@@ -14,7 +14,7 @@ use Rattle.prefix.proofs.PrefixLaws.{apart-sym}
 use Rattle.prefix.proofs.Nesting.{order, inside-order}
 use Rattle.space.specs.Space.{Pools, Free, Packing, wholes, best, lowestPart, grant, withGrant, serve}
 use Rattle.space.proofs.BestLaws.{Best, best-best, best-holds}
-use Rattle.space.proofs.GrantLaws.{Found, found, cover, Fits, takes, lowest-free, Granted, granted}
+use Rattle.space.proofs.GrantLaws.{Found, found, cover, Fits, takes, lowest-free, granted}
 
 serve-step : (pools leases : List Prefix) (l : ℕ) (ls : List ℕ) (g : Prefix) (gs : List Prefix)
     → grant pools leases l ≡ some g → serve pools (g ∷ leases) ls ≡ map some gs → serve pools leases (l ∷ ls) ≡ map some (g ∷ gs)

@@ -1,11 +1,10 @@
 -- Two orders of one list that can be packed leave as many whole free prefixes of each length.
 -- Assumes nothing.
-use Prim.Native.Nat.{ℕ, zero, suc, _+_, _-_, _*_, _^_, _≤_, _<_}
-use mathlib.Core.Path.{_≡_, refl, sym, ap, subst, _∙_}
-use mathlib.Core.Logic.{_⊎_, inl, inr, ⊎-elim}
-use mathlib.Core.Bool.{Bool, true, false}
+use Prim.Native.Nat.{ℕ, zero, suc, _+_, _-_, _*_, _≤_}
+use mathlib.Core.Path.{_≡_, refl, sym, ap, _∙_}
+use mathlib.Core.Logic.{_⊎_, ⊎-elim}
+use mathlib.Core.Bool.{true, false}
 use mathlib.Core.List.{List, [], _∷_, _++_, List·Permᴰ, Permᴰ·symm}
-use mathlib.Core.Option.{Option, none, some}
 use native.Mathlib.Nat.{le-antisymm, pow-suc}
 use native.Mathlib.Omega.{arith}
 use lib.ListN.{replicate}
@@ -20,7 +19,7 @@ use Rattle.prefix.proofs.Nesting.{order}
 use Rattle.space.specs.Space.{Length, Pools, Packing, wholes, lowestPart, after, one?, number}
 use Rattle.space.proofs.Weights.{wt, wt-self, wt-mul-le}
 use Rattle.space.proofs.WalkLaws.{sum}
-use Rattle.space.proofs.GrantLaws.{Found, found, room, load, Fits, takes, granted}
+use Rattle.space.proofs.GrantLaws.{found, room, load, Fits, takes, granted}
 use Rattle.space.proofs.ListTheorem.{packed-fits, Served, served}
 
 -- the load of a list does not depend on its order

@@ -1,11 +1,10 @@
 -- The order in which the leases are held does not matter.
 -- Assumes nothing.
-use Prim.Native.Nat.{ℕ, zero, suc, _+_, _-_}
-use mathlib.Core.Path.{_≡_, refl, sym, ap, _∙_}
-use mathlib.Core.Bool.{Bool, true, false}
-use mathlib.Core.List.{List, [], _∷_, _++_, List·Permᴰ, Permᴰ·symm}
-use mathlib.Core.Option.{Option}
-use Rattle.lists.specs.Lists.{All, Any}
+use Prim.Native.Nat.{ℕ, zero, suc, _-_}
+use mathlib.Core.Path.{_≡_, refl, ap}
+use mathlib.Core.Bool.{true}
+use mathlib.Core.List.{List, [], _∷_, List·Permᴰ, Permᴰ·symm}
+use Rattle.lists.specs.Lists.{Any}
 use Rattle.lists.proofs.Tests.{bool-ext, any?-of}
 use Rattle.lists.proofs.Permutations.{perm-all, perm-any}
 use Rattle.prefix.specs.declared.Prefix.{Prefix}

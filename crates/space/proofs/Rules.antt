@@ -6,21 +6,20 @@ use mathlib.Core.Logic.{_⊎_, _↔_, inl, inr, ⊎-elim, by-cases}
 use mathlib.Core.Bool.{Bool, true, false, true≢false}
 use mathlib.Core.List.{List, [], _∷_, _++_}
 use mathlib.Core.Option.{Option, none, some, Option·none-ne-some}
-use native.Mathlib.Nat.{le-refl, mul-mod-left, div-add-mod', div-mul-le-self, lt-div-mul-add}
+use native.Mathlib.Nat.{mul-mod-left, div-add-mod', div-mul-le-self, lt-div-mul-add}
 use native.Mathlib.Decide.{decLe}
 use native.Mathlib.Omega.{arith}
-use lib.Pow.{pow-pos}
 use lib.Arith.{digits-div}
-use Rattle.lists.specs.Lists.{All, Any, Pairwise, Holds, gather}
-use Rattle.lists.proofs.ListLaws.{all-map, all-map₂, any-map, any-map₂, all-append, any-all, pairwise-map, pairwise-append}
+use Rattle.lists.specs.Lists.{All, Any, Pairwise, Holds}
+use Rattle.lists.proofs.ListLaws.{all-map, all-map₂, any-map₂, all-append, any-all, pairwise-map, pairwise-append}
 use Rattle.prefix.specs.declared.Prefix.{Prefix}
 use Rattle.prefix.specs.Prefixes.{longest, size, prefix, end, Aligned, Inside, Apart, lower, upper}
 use Rattle.prefix.proofs.PrefixLaws.{size-half, size-positive, apart-sym}
-use Rattle.prefix.proofs.Nesting.{order, prefix-path, inside-refl, inside-trans, apart-sub, apart-absurd, inside-order, aligned-down, aligned-end, aligned-lower, aligned-upper, next-multiple, nested}
+use Rattle.prefix.proofs.Nesting.{order, prefix-path, inside-trans, apart-sub, apart-absurd, inside-order, aligned-down, aligned-end, aligned-lower, aligned-upper, next-multiple, nested}
 use Rattle.space.specs.Space.{Length, Pools, Before, Free, around, Whole, NotWorse, Takes, unused?, covered?, pick, walk, wholes, best, lowestPart, grant}
-use Rattle.space.proofs.WalkLaws.{Level, short, unused-of, pick-all, Listed, walk-listed}
+use Rattle.space.proofs.WalkLaws.{Level, short, unused-of, pick-all, walk-listed}
 use Rattle.space.proofs.BestLaws.{Best, not-worse-antisym, best-best, best-holds}
-use Rattle.space.proofs.GrantLaws.{walkPool, pool-level, Found, wholes-found, found, cover, free-inside}
+use Rattle.space.proofs.GrantLaws.{walkPool, pool-level, wholes-found, found, cover, free-inside}
 
 -- the prefix twice the size around another
 

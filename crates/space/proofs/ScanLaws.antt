@@ -1,7 +1,7 @@
 -- The scan through pools and leases finds what `best` does.
 -- Assumes nothing.
-use Prim.Native.Nat.{ℕ, zero, suc, _+_, _-_, _≤_, _<_}
-use mathlib.Core.Path.{_≡_, refl, sym, ap, subst, _∙_}
+use Prim.Native.Nat.{ℕ, _+_, _-_, _≤_, _<_}
+use mathlib.Core.Path.{_≡_, refl, sym, subst, _∙_}
 use mathlib.Core.Logic.{_⊎_, inl, inr, ⊎-elim, by-cases}
 use mathlib.Core.Bool.{Bool, true, false, cond}
 use mathlib.Core.List.{List, [], _∷_, _++_, append-assoc}
@@ -11,16 +11,16 @@ use native.Mathlib.Decide.{decLe}
 use native.Mathlib.Omega.{arith}
 use lib.Dec.{ltb}
 use borrow.Author.Tests.{ltb-true, ltb-false}
-use Rattle.lists.specs.Lists.{All, Any, Pairwise, Holds}
+use Rattle.lists.specs.Lists.{All, Any, Pairwise}
 use Rattle.lists.proofs.ListLaws.{all-map, all-map₂, all-append, all-right, all-every, any-map, any-right, any-append, any-all, holds-map}
 use Rattle.prefix.specs.declared.Prefix.{Prefix}
-use Rattle.prefix.specs.Prefixes.{size, prefix, end, Aligned, Inside, Apart}
+use Rattle.prefix.specs.Prefixes.{end, Inside, Apart}
 use Rattle.prefix.proofs.PrefixLaws.{size-positive}
-use Rattle.space.specs.Space.{Length, Pools, Before, Ordered, Free, Whole, NotWorse, wholes, best}
+use Rattle.space.specs.Space.{Length, Before, Ordered, Free, Whole, wholes, best}
 use Rattle.space.specs.Scan.{lengthOf, inGap, Scan, inPool, inPools}
 use Rattle.space.proofs.BestLaws.{Best, best-unique}
 use Rattle.space.proofs.Rules.{wholes-whole, wholes-exactly}
-use Rattle.space.proofs.GapLaws.{Beats, Edge, Clear, Below, Within, below-keep, gap-below}
+use Rattle.space.proofs.GapLaws.{Beats, Edge, Clear, Below, below-keep, gap-below}
 
 -- The prefixes `xs` are left of `all` at an address c: those before them end there at the latest, and they ascend from there on.
 record Reached (all : List Prefix) (c : ℕ) (xs : List Prefix) : Type 0 where

@@ -1,6 +1,6 @@
 -- The whole free prefixes in one prefix: what the walk lists, and what a new lease does to them.
 -- Assumes nothing.
-use Prim.Native.Nat.{ℕ, zero, suc, _+_, _-_, _*_, _^_, _%_, _≤_, _<_}
+use Prim.Native.Nat.{ℕ, zero, suc, _+_, _-_, _≤_, _<_}
 use mathlib.Core.Path.{_≡_, refl, sym, ap, subst, _∙_}
 use mathlib.Core.Logic.{_⊎_, inl, inr, ⊎-elim, by-cases}
 use mathlib.Core.Bool.{Bool, true, false, true≢false}
@@ -8,11 +8,11 @@ use mathlib.Core.List.{List, [], _∷_, _++_}
 use native.Mathlib.Nat.{add-zero}
 use native.Mathlib.Decide.{decLt}
 use native.Mathlib.Omega.{arith}
-use Rattle.lists.specs.Lists.{All, Any, all?, any?}
+use Rattle.lists.specs.Lists.{All, Any}
 use Rattle.lists.proofs.Tests.{not-true⇒false, all?-to, all?-of, any?-to}
 use Rattle.lists.proofs.ListLaws.{all-map, all-map₂, all-append, any-left, any-right, any-all}
 use Rattle.prefix.specs.declared.Prefix.{Prefix}
-use Rattle.prefix.specs.Prefixes.{size, prefix, end, Aligned, Inside, inside?, Apart, apart?, lower, upper}
+use Rattle.prefix.specs.Prefixes.{Aligned, Inside, inside?, Apart, apart?, lower, upper}
 use Rattle.prefix.proofs.PrefixLaws.{inside-to, inside-of, inside-not, apart-to, apart-of, apart-not, apart-sym, lower-inside, upper-inside}
 use Rattle.prefix.proofs.Nesting.{order, inside-refl, inside-trans, apart-sub, apart-absurd, all-apart-sub, inside-order, inside-same-order, aligned-lower, aligned-upper, in-half}
 use Rattle.space.specs.Space.{unused?, covered?, pick, walk}

@@ -2,11 +2,10 @@
 -- k ≤ h, and none otherwise.
 -- Assumes nothing.
 use Prim.Native.Nat.{ℕ, zero, suc, _+_, _*_, _^_, _≤_, _<_}
-use mathlib.Core.Path.{_≡_, refl, sym, ap, subst}
-use native.Mathlib.Nat.{le-of-suc-le-suc, not-suc-le-zero, mul-le-mul-right, pow-suc, le-dest, add-zero, add-suc, mul-assoc, mul-comm, one-mul, le-of-eq, le-refl}
+use mathlib.Core.Path.{_≡_, refl, subst}
+use native.Mathlib.Nat.{le-of-suc-le-suc, not-suc-le-zero, pow-suc, le-dest, add-zero, add-suc, le-refl}
 use mathlib.Core.Logic.{_⊎_, inl, inr, ⊎-elim}
 use native.Mathlib.Omega.{arith}
-use lib.Pow.{pow-pos}
 
 abbrev pub wt : ℕ → ℕ → ℕ
 wt h zero = 2 ^ h

@@ -1,47 +1,12 @@
--- The search as the code does it: through the gaps between the leases, once. Nobody who reads the contract of `best_fit` needs this file; the laws say
--- that it finds what `best` of `Space` does.
+-- The search through the gaps between the leases, once, as the code of `gaps` does it. The laws say that it finds what `best` of `Space` does.
 -- Assumes nothing: these are definitions.
-use Prim.Native.Nat.{ℕ, zero, suc, _+_, _-_, _%_, _≤_}
-use mathlib.Core.Path.{_≡_}
-use mathlib.Core.Logic.{_⊎_}
-use mathlib.Core.Bool.{Bool, cond}
+use Prim.Native.Nat.{ℕ, zero, suc, _+_, _-_, _%_}
+use mathlib.Core.Bool.{cond}
 use mathlib.Core.List.{List, [], _∷_}
 use mathlib.Core.Option.{Option, none, some}
 use lib.Dec.{leb, ltb, eqb}
-use lib.ListN.{drop}
-use lib.ListN.{length as list-length}
-use Rattle.lists.specs.Lists.{All}
 use Rattle.prefix.specs.declared.Prefix.{Prefix}
 use Rattle.prefix.specs.Prefixes.{size, prefix, end}
-use Rattle.space.specs.Space.{Length, Ordered}
-use Rattle.space.specs.declared.Best.{Best}
-use Rattle.space.specs.declared.Best.the-variants.{At, Nothing}
-use Rattle.space.specs.declared.Fit.{Fit}
-use Rattle.space.specs.declared.PoolScan.{PoolScan}
-use Rattle.space.specs.declared.Fit.the-variants.{Granted, Refused}
-
--- What an answer of the code stands for.
-abbrev pub bestOf : Best → Option Prefix
-bestOf (At network length) = some (prefix network length)
-bestOf Nothing = none
-
-abbrev pub grantOf : Fit → Option Prefix
-grantOf (Granted p) = some p
-grantOf Refused = none
-
--- The prefixes that two columns hold.
-abbrev pub prefixes : List ℕ → List ℕ → List Prefix
-prefixes [] ls = []
-prefixes (n ∷ ns) [] = []
-prefixes (n ∷ ns) (l ∷ ls) = prefix n l ∷ prefixes ns ls
-
--- The columns are as a sound table keeps pools and leases, and the length is one that a block may have.
-pub record Lent (poolNetworks poolLengths networks lengths : List ℕ) (length : ℕ) : Type 0 where
-  pub ordered : Ordered (prefixes poolNetworks poolLengths) (prefixes networks lengths)
-  pub inSpace : All (λ p. end p ≤ 4294967296) (prefixes poolNetworks poolLengths)
-  pub poolColumns : list-length poolNetworks ≡ list-length poolLengths
-  pub columns : list-length networks ≡ list-length lengths
-  pub block : Length length
 
 -- The first multiple of a length's size from an address on, and the last one up to it.
 abbrev pub roundUp : ℕ → ℕ → ℕ
@@ -85,8 +50,3 @@ inPool l best from stop (x ∷ xs) =
 abbrev pub inPools : ℕ → Option Prefix → List Prefix → List Prefix → Option Prefix
 inPools l best [] xs = best
 inPools l best (p ∷ ps) xs = let s = inPool l best (p .network) (end p) xs in inPools l (s .best) ps (s .left)
-
--- What the scan of one pool answers: the best; and, unless it fits exactly and nothing better can come, where the leases that are left begin.
-pub record InPool (r : PoolScan) (l : ℕ) (found : Option Prefix) (from stop : ℕ) (leases : List Prefix) (first : ℕ) : Type 0 where
-  pub best : bestOf (r .best) ≡ inPool l found from stop (drop first leases) .best
-  pub left : (lengthOf (bestOf (r .best)) ≡ l) ⊎ (drop (r .next) leases ≡ inPool l found from stop (drop first leases) .left)

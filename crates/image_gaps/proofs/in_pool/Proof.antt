@@ -57,7 +57,7 @@ returns c =
     let a = met .before .before .before .before .before .before .args in
     walked-past (a .image .now) (a .from) (a .n) (a .time) (a .network) (a .stop) (a .at) (a .starts .now) (a .lasts .now) (l .cursor) (l .gaps) (l .i) (l .starts) (l .lasts) (l .inv .5)
     (omega arith) (met .lease-at .result) (met .lease-at .ensures) (then .before .before .if1 .taken) (pushed .push .result) (pushed .push .last .0) (pushed .push .last .1 .0)
-    (l .inv .0) (l .inv .2) (then .if2 .taken) (pushed .push .ensures)
+    (l .inv .0) (l .inv .2) (omega (arith, then .if2 .taken)) (pushed .push .ensures)
 
 push-requires-2 : tie.Need-push-requires-2 Inv-loop μ-loop
 push-requires-2 c κs = search needs

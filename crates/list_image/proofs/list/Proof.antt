@@ -62,7 +62,7 @@ returns-2 c =
     let else = then .before in
     let a = else .before .before .before .before .before .args in
     ap (λ (r : ImageAnswer). (r, a .image .now, a .reply .now)) (c .refused2 .ensures)
-    ∙ list-short (a .image .now) (a .image-bytes) (a .time) (a .client) (a .option .now) (a .reply .now) (holds else) (lt-ltb (length (a .reply .now)) 257 (then .if2 .taken))
+    ∙ list-short (a .image .now) (a .image-bytes) (a .time) (a .client) (a .option .now) (a .reply .now) (holds else) (lt-ltb (length (a .reply .now)) 257 (omega (arith, then .if2 .taken)))
 
 -- The reply is long enough.
 room : (c : tie.Else2) → ltb (length (c .before .before .before .before .before .before .args .reply .now)) 257 ≡ false
