@@ -80,7 +80,7 @@ pub enum HeadRead {
     Other,
 }
 
-pub enum PoolRead {
+enum PoolRead {
     Found(Pool),
     Other,
 }
@@ -111,7 +111,7 @@ pub fn head_at(s: &[u8]) -> HeadRead
 }
 
 // The pool record at the front of the bytes; an unused slot has none.
-pub fn pool_at(s: &[u8]) -> PoolRead
+fn pool_at(s: &[u8]) -> PoolRead
     ensures { λ r. ⌜ r ≡ poolRead (poolAt (now (s .entry))) ⌝ }
 {
     if s.len() < 9 {

@@ -1,26 +1,27 @@
 -- The pools of an image, read and tested one by one.
 -- Assumes nothing.
 use Prim.Native.Nat.{ℕ, suc, _+_, _-_, _*_, _≤_, _<_}
-use mathlib.Core.Path.{_≡_, refl, sym, ap, _∙_}
+use mathlib.Core.Path.{_≡_, refl, sym, ap, subst, _∙_}
 use mathlib.Core.Logic.{⊎-elim}
-use mathlib.Core.Bool.{Bool, true, false, _&&_}
+use mathlib.Core.Bool.{Bool, true, false, _&&_, cond, true≢false}
 use mathlib.Core.List.{List, [], _∷_}
 use mathlib.Core.Option.{none, some}
 use native.Mathlib.Omega.{arith}
 use lib.ListN.{length, drop, length-drop}
 use lib.Seq.{drop-drop}
-use lib.Dec.{leb}
-use borrow.Author.Tests.{le-leb, leb-true}
-use Rattle.lists.proofs.Tests.{bool-cases, and-to, cond-true, cond-false, not-true⇒false}
+use lib.Dec.{leb, eqb}
+use borrow.Author.Tests.{le-leb, leb-true, eqb-true, eq-eqb, not-true}
+use Rattle.lists.specs.Lists.{every}
+use Rattle.lists.proofs.Tests.{bool-cases, and-to, cond-true, cond-false, not-of, not-true⇒false, every-to, every-of}
 use Rattle.prefix.specs.Prefixes.{end}
 use Rattle.prefix.proofs.PrefixLaws.{size-positive}
 use Rattle.table.specs.declared.Pool.{Pool}
 use Rattle.table.specs.Table.{poolSlots, poolPrefix, unused?, poolOk, ascends?, poolsAscend?}
-use Rattle.table.proofs.TableLaws.{GoodPool, poolOk-to}
-use Rattle.image.specs.Fields.{Run, records}
-use Rattle.image.specs.Image.{poolSize, poolAt, poolsAt}
-use Rattle.image.proofs.FieldLaws.{records-none, records-some}
-use Rattle.image_check.specs.Inner.{poolEnd, poolCount}
+use Rattle.table.proofs.TableLaws.{GoodPool, poolOk-to, long-not-unused}
+use Rattle.image.specs.Fields.{number16, number32, Run, records}
+use Rattle.image.specs.Image.{poolSize, poolIn, poolTests, poolAt, poolsAt}
+use Rattle.image.proofs.FieldLaws.{Bytes, bytes-drop, records-none, records-some}
+use Rattle.image_check.specs.Inner.{poolEnd, poolCount, poolStart, poolBegins?}
 use Rattle.image_check.proofs.RunLaws.{pool-known}
 
 -- What the end of a pool tells.
@@ -34,11 +35,49 @@ module _ (p : Pool) where
   pub end-bad : 0 ≡ poolEnd p → poolOk p ≡ true → ⊥
   end-bad z e = omega (arith, z, end-some e, size-positive (p .length))
 
-  pub end-good : (to : ℕ) → to ≡ poolEnd p → (to ≡ 0 → ⊥) → (poolOk p ≡ true) × (to ≡ end (poolPrefix p))
+  end-good : (to : ℕ) → to ≡ poolEnd p → (to ≡ 0 → ⊥) → (poolOk p ≡ true) × (to ≡ end (poolPrefix p))
   end-good to e h =
       ⊎-elim (λ (b : poolOk p ≡ true). (b, e ∙ cond-true (poolOk p) (end (poolPrefix p)) 0 b))
       (λ (b : poolOk p ≡ false). absurd (h (e ∙ cond-false (poolOk p) (end (poolPrefix p)) 0 b)))
       (bool-cases (poolOk p))
+
+pub begins-long : (s : List ℕ) → poolBegins? s ≡ true → 9 ≤ length s
+begins-long s e = leb-true 9 (length s) (every-to (leb poolSize (length s) ∷ eqb (number32 s 0) poolStart ∷ []) e .0)
+
+-- A record that begins as a pool's is one, unless it is unused.
+module _ (s : List ℕ) (bytes : Bytes s) where
+  abbrev starts : List Bool
+  starts = leb poolSize (length s) ∷ eqb (number32 s 0) poolStart ∷ []
+
+  halves : number32 s 0 ≡ number16 s 0 + 65536 * number16 s 2
+  unfolding number16 number32
+  halves = omega arith
+
+  small : (number16 s 0 < 65536) × (number16 s 2 < 65536)
+  unfolding number16
+  small = (omega (arith, bytes 0, bytes 1), omega (arith, bytes 2, bytes 3))
+
+  pub begins-not : poolBegins? s ≡ false → poolAt s ≡ none
+  unfolding poolAt
+  begins-not e =
+      cond-false (every (poolTests s)) (some (poolIn s)) none (not-true⇒false (every (poolTests s)) (λ f.
+      let t = every-to (poolTests s) f in
+      let start : number32 s 0 ≡ poolStart = omega (arith, halves, eqb-true (number16 s 0) 7 (t .1 .0), eqb-true (number16 s 2) 2 (t .1 .1 .0)) in
+      true≢false (sym (every-of starts (t .0, (eq-eqb (number32 s 0) poolStart start, tt))) ∙ e)))
+
+  pub begins-unused : unused? (poolIn s) ≡ true → poolAt s ≡ none
+  unfolding poolAt
+  begins-unused e =
+      cond-false (every (poolTests s)) (some (poolIn s)) none (not-true⇒false (every (poolTests s)) (λ f.
+      true≢false (sym e ∙ not-true (unused? (poolIn s)) (every-to (poolTests s) f .1 .1 .1 .0))))
+
+  pub begins-pool : poolBegins? s ≡ true → unused? (poolIn s) ≡ false → poolAt s ≡ some (poolIn s)
+  unfolding poolAt
+  begins-pool e u =
+      let t = every-to starts e in
+      let start : number32 s 0 ≡ poolStart = eqb-true (number32 s 0) poolStart (t .1 .0) in
+      cond-true (every (poolTests s)) (some (poolIn s)) none
+      (every-of (poolTests s) (t .0, (eq-eqb (number16 s 0) 7 (omega (arith, halves, small .0, small .1)), (eq-eqb (number16 s 2) 2 (omega (arith, halves, small .0, small .1)), (not-of (unused? (poolIn s)) u, tt)))))
 
 -- Pools that are counted are as a sound table has them.
 pub counted-pools : (ps : List Pool) (n : ℕ) → n ≡ poolCount ps → (n ≡ 0 → ⊥) → (poolsAscend? ps ≡ true) × (n ≡ length ps)
@@ -118,3 +157,23 @@ module _ (s : List ℕ) where
         ascends = first ∙ rw (le-leb from (p .network) l, o);
         counted = r .counted ∙ omega (arith, ap length items);
       }
+
+-- A record that begins as a pool's.
+module _ (s : List ℕ) (bytes : Bytes s) (from n : ℕ) (r : PoolsRead s from n) (lt : n < poolSlots) (begins : poolBegins? (drop (9 * n) s) ≡ true) (p : Pool)
+    (same : p ≡ poolIn (drop (9 * n) s)) where
+  used-pool : unused? p ≡ false → poolAt (drop (9 * n) s) ≡ some p
+  used-pool u = begins-pool (drop (9 * n) s) (bytes-drop (9 * n) s bytes) begins (ap unused? (sym same) ∙ u) ∙ ap some (sym same)
+
+  -- It is not as a sound table has it.
+  pub pools-stopped : (from ≤ p .network → poolOk p ≡ true → ⊥) → cond (unused? p) n 0 ≡ poolCount (poolsAt s .items)
+  pools-stopped bad =
+      ⊎-elim
+      (λ (u : unused? p ≡ true). cond-true (unused? p) n 0 u ∙ pools-stop s from n r (begins-unused (drop (9 * n) s) (bytes-drop (9 * n) s bytes) (ap unused? (sym same) ∙ u)))
+      (λ (u : unused? p ≡ false). cond-false (unused? p) n 0 u ∙ pools-bad s from n r p (used-pool u) lt bad)
+      (bool-cases (unused? p))
+
+  -- It is.
+  pub pools-good : (to : ℕ) → to ≡ poolEnd p → (to ≡ 0 → ⊥) → from ≤ p .network → PoolsRead s to (n + 1)
+  pools-good to e h l =
+      let good = end-good p to e h in
+      subst (λ (f : ℕ). PoolsRead s f (n + 1)) (sym (good .1)) (pools-more s from n r p (used-pool (long-not-unused p (omega (arith, poolOk-to p (good .0) .short)))) lt l (good .0))

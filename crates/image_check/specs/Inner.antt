@@ -24,6 +24,14 @@ poolEnd p = cond (poolOk p) (end (poolPrefix p)) 0
 abbrev pub poolCount : List Pool → ℕ
 poolCount ps = cond (poolsAscend? ps) (length ps) 0
 
+-- The first four bytes of a pool record: its length 7 and its kind 2.
+abbrev pub poolStart : ℕ
+poolStart = 131079
+
+-- A pool record begins here, be it of an unused slot.
+abbrev pub poolBegins? : List ℕ → Bool
+poolBegins? s = every (leb poolSize (length s) ∷ eqb (number32 s 0) poolStart ∷ [])
+
 -- The first four bytes of a lease record: its length 17 and its kind 3.
 abbrev pub leaseStart : ℕ
 leaseStart = 196625

@@ -1,19 +1,20 @@
 // Whether bytes are the image of a sound table, in one pass over the bytes: no table is made.
 use image::Head;
 use image::HeadRead;
-use image::PoolRead;
 use prefix::Prefix;
 use table::LEASES;
 use table::POOLS;
 use table::Pool;
 ghost use mathlib.Core.Path.{_≡_};
+ghost use mathlib.Core.Bool.{cond};
 ghost use mathlib.Core.Option.{some};
 ghost use Prim.Native.Nat.{ℕ, _+_, _*_, _≤_, _<_};
 ghost use lib.ListN.{length};
 ghost use Rattle.image.specs.declared.Head.{Head};
-ghost use Rattle.image.specs.Image.{poolsAt, afterHead, loadImage};
+ghost use Rattle.table.specs.Table.{unused?};
+ghost use Rattle.image.specs.Image.{poolIn, poolsAt, afterHead, loadImage};
 ghost use Rattle.image_check.specs.Book.{unsound, bookOf};
-ghost use Rattle.image_check.specs.Inner.{poolEnd, poolCount, prefixIn, nthPool, stateAndFlags?, fitAt, due, Begun};
+ghost use Rattle.image_check.specs.Inner.{poolEnd, poolCount, poolBegins?, prefixIn, nthPool, stateAndFlags?, fitAt, due, Begun};
 ghost use Rattle.image_check.specs.Pass.{Left, Reached};
 
 // The head of the table that bytes are the image of, and how many pools, leases and expired leases it has; all of it 0
@@ -61,6 +62,40 @@ fn pool_end(p: Pool) -> u64
     (p.network as u64) + size
 }
 
+// The first four bytes of a pool record: its length 7 and its kind 2.
+const POOL_START: u32 = 131079;
+
+// Whether a pool record begins here, be it of an unused slot.
+fn pool_begins(s: &[u8]) -> bool
+    ensures { λ r. ⌜ r ≡ poolBegins? (now (s .entry)) ⌝ }
+{
+    if s.len() < 9 {
+        return false;
+    }
+    image::read32(s, 0) == POOL_START
+}
+
+fn pool_in(s: &[u8]) -> Pool
+    requires { ⌜ 9 ≤ length (now s) ⌝ }
+    ensures { λ r. ⌜ r ≡ poolIn (now (s .entry)) ⌝ }
+{
+    Pool {
+        network: image::read32(s, 4),
+        length: s[8],
+    }
+}
+
+// What n pools count for before a pool that is not as a sound table has it. One that is unused is no pool: it ends them, and its test comes
+// last, since a sound image has none.
+fn counted_before(p: Pool, n: usize) -> usize
+    ensures { λ r. ⌜ r ≡ cond (unused? p) n 0 ⌝ }
+{
+    if table::pool_unused(p) {
+        return n;
+    }
+    0
+}
+
 // How many pools stand at the front of the bytes, or 0 where they are not as a sound table has them.
 fn pools_in(s: &[u8]) -> usize
     ensures { λ r. ⌜ r ≡ poolCount (poolsAt (now (s .entry)) .items) ⌝ }
@@ -69,15 +104,16 @@ fn pools_in(s: &[u8]) -> usize
     let mut n: usize = 0;
     while n < POOLS {
         let at = 9 * n;
-        let PoolRead::Found(p) = image::pool_at(&s[at..]) else {
+        if !pool_begins(&s[at..]) {
             return n;
-        };
+        }
+        let p = pool_in(&s[at..]);
         if (p.network as u64) < from {
-            return 0;
+            return counted_before(p, n);
         }
         from = pool_end(p);
         if from == 0 {
-            return 0;
+            return counted_before(p, n);
         }
         n = n + 1;
     }

@@ -2,7 +2,7 @@
 use option::Checked;
 ghost use mathlib.Core.Path.{_≡_};
 ghost use mathlib.Core.Bool.{true, _&&_};
-ghost use Prim.Native.Nat.{_+_, _≤_, _<_};
+ghost use Prim.Native.Nat.{_+_, _-_, _≤_, _<_};
 ghost use lib.ListN.{length, getD};
 ghost use Rattle.option.specs.Reading.{bit1, bit2, option?, readRequest, readInformation, readName, readBody};
 ghost use Rattle.pieces.specs.Held.{columns, Long, Reads};
@@ -102,8 +102,14 @@ fn entry_next(s: &[u8], at: usize, end: usize) -> usize
     next
 }
 
+// How many entries the columns hold, and the network of the last one.
+struct Filled {
+    count: usize,
+    last: u32,
+}
+
 // The entries of an information, tested and stored after the `count` that the columns hold; how many they hold then, 0 if one
-// is a bad one.
+// is a bad one. The columns are only written, so that a caller that looks at none of them need not clear them.
 fn store_entries(
     s: &[u8],
     from: usize,
@@ -111,23 +117,26 @@ fn store_entries(
     count: usize,
     networks: &mut [u32],
     lengths: &mut [u8],
-) -> usize
+) -> Filled
     requires { ⌜ Room (now s) from end count (now networks) (now lengths) ⌝ }
-    ensures { λ r. ⌜ Entered (now (s .entry)) from end count (now (networks .entry)) (now (lengths .entry)) r (now (networks .exit)) (now (lengths .exit)) ⌝ }
+    ensures { λ r. ⌜ Entered (now (s .entry)) from end count (now (networks .entry)) (now (lengths .entry)) (r .count) (now (networks .exit)) (now (lengths .exit)) ⌝ }
+    ensures { λ r. ⌜ (0 < r .count → r .last ≡ getD (now (networks .exit)) (r .count - 1) 0) ⌝ }
 {
     let mut at = from;
     let mut n = count;
+    let mut last: u32 = 0;
     while at < end {
         let next = entry_next(s, at, end);
         if next == 0 {
-            return 0;
+            return Filled { count: 0, last: 0 };
         }
-        networks[n] = entries::four_at(s, at);
+        last = entries::four_at(s, at);
+        networks[n] = last;
         lengths[n] = s[at + 4];
         n = n + 1;
         at = next;
     }
-    n
+    Filled { count: n, last }
 }
 
 // Nothing read, or a bad suboption at a place.
@@ -206,20 +215,19 @@ fn information_at(
     if end <= at + 3 {
         return nothing(at);
     }
-    let n = store_entries(s, at + 3, end, found.entries, networks, lengths);
+    let filled = store_entries(s, at + 3, end, found.entries, networks, lengths);
+    let n = filled.count;
     if n == 0 {
         return nothing(at);
     }
     if resumes(s[at + 2]) {
-        let last = n - 1;
-        let position = networks[last];
         return Found {
             bad: 0,
             requests: found.requests,
             listing: found.listing,
             entries: n,
             resumes: 1,
-            position,
+            position: filled.last,
         };
     }
     Found {

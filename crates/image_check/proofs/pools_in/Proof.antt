@@ -1,14 +1,17 @@
 -- `image_check::pools_in` meets its contract: what is left to test and to count is what the bytes from the n-th pool on hold.
 -- Assumes nothing.
-use Prim.Native.Nat.{_+_, _*_, _-_}
+use Prim.Native.Nat.{ℕ, _-_, _*_, _≤_}
 use mathlib.Core.Path.{_≡_, sym, ap, subst, _∙_}
-use mathlib.Core.Option.{some}
-use lib.ListN.{drop}
+use mathlib.Core.Bool.{true, false}
+use mathlib.Core.List.{List}
+use lib.ListN.{length, drop}
+use borrow.Author.Tests.{not-true, not-false}
 use Rattle.table.specs.Table.{poolSlots}
-use Rattle.image.specs.Image.{poolAt}
-use Rattle.image.proofs.ImageLaws.{pool-of-found, pool-of-other}
+use Rattle.image.specs.Image.{poolIn}
+use Rattle.image.proofs.FieldLaws.{Bytes, bytes-drop}
+use Rattle.image_check.specs.Inner.{poolBegins?}
 use Rattle.image_check.proofs.RunLaws.{part-rest}
-use Rattle.image_check.proofs.PoolLaws.{end-bad, end-good, PoolsRead, pools-none, pools-stop, pools-full, pools-bad, pools-more}
+use Rattle.image_check.proofs.PoolLaws.{end-bad, begins-long, begins-not, PoolsRead, pools-none, pools-stop, pools-full, pools-stopped, pools-good}
 use borrow.Author.Needs.{needs}
 use native.Mathlib.Omega.{arith}
 use Rattle.image_check.proofs.pools_in.Statement.{statement}
@@ -20,9 +23,27 @@ Inv-loop s from₀ n₀ from n = PoolsRead s from n
 abbrev μ-loop : tie.MeasureT-loop
 μ-loop s from₀ n₀ from n = poolSlots - n
 
--- The pool that was read.
-found : (c : tie.After-struct-known Inv-loop μ-loop) → poolAt (drop (9 * c .before .before .before .before .before .before .before .loop .n) (c .before .before .before .before .before .before .before .before .before .args .s .now)) ≡ some (c .before .before .p .given .0 .0)
-found c = ap poolAt (sym (part-rest (c .before .before .before .before .before .before .before .before .before .args .s .now) (9 * c .before .before .before .before .before .before .before .loop .n))) ∙ pool-of-found _ _ (sym (c .before .before .before .before .pool-at .ensures) ∙ c .before .before .p .given .1)
+-- Places further back in the code: where a pool was read, and the loop.
+abbrev begun-at : tie.After-pool-in Inv-loop μ-loop → tie.After-pool-begins Inv-loop μ-loop
+begun-at c = c .before .before .before
+
+abbrev loop-at : tie.After-pool-begins Inv-loop μ-loop → tie.At-loop Inv-loop μ-loop
+loop-at c = c .before .before .before
+
+abbrev bytes-of : tie.At-loop Inv-loop μ-loop → List ℕ
+bytes-of c = c .before .before .args .s .now
+
+bytes : (c : tie.At-loop Inv-loop μ-loop) → Bytes (bytes-of c)
+bytes c = λ i. omega (arith, c .before .shared-slice-known .given i)
+
+-- A pool record begins, and the pool is read from it.
+begins : (c : tie.Else1 Inv-loop μ-loop) → let at = loop-at (c .before) in poolBegins? (drop (9 * at .loop .n) (bytes-of at)) ≡ true
+begins c =
+    let at = loop-at (c .before) in
+    ap poolBegins? (sym (part-rest (bytes-of at) (9 * at .loop .n))) ∙ sym (c .before .pool-begins .ensures) ∙ not-false _ (c .if1 .left)
+
+pool : (c : tie.After-pool-in Inv-loop μ-loop) → let at = loop-at (begun-at c) in c .pool-in .result ≡ poolIn (drop (9 * at .loop .n) (bytes-of at))
+pool c = let at = loop-at (begun-at c) in c .pool-in .ensures ∙ ap poolIn (part-rest (bytes-of at) (9 * at .loop .n))
 
 loop-holds : tie.Need-loop-holds Inv-loop μ-loop
 loop-holds c = pools-none (c .before .args .s .now)
@@ -30,46 +51,68 @@ loop-holds c = pools-none (c .before .args .s .now)
 mul-at : tie.Need-mul-at Inv-loop μ-loop
 mul-at c = search needs
 
-sub-pool-at : tie.Need-sub-pool-at Inv-loop μ-loop
-sub-pool-at c = search needs
+sub-pool-begins : tie.Need-sub-pool-begins Inv-loop μ-loop
+sub-pool-begins c = search needs
 
-part-pool-at-start : tie.Need-part-pool-at-start Inv-loop μ-loop
-part-pool-at-start c = search needs
+part-pool-begins-start : tie.Need-part-pool-begins-start Inv-loop μ-loop
+part-pool-begins-start c = search needs
 
-part-pool-at-end : tie.Need-part-pool-at-end Inv-loop μ-loop
-part-pool-at-end c = search needs
+part-pool-begins-end : tie.Need-part-pool-begins-end Inv-loop μ-loop
+part-pool-begins-end c = search needs
 
-pool-at-requires : tie.Need-pool-at-requires Inv-loop μ-loop
-pool-at-requires c κs = search needs
-
-enum-known-p : tie.Need-enum-known-p Inv-loop μ-loop
-enum-known-p c = search needs
-
-enum-told : tie.Need-enum-told Inv-loop μ-loop
-enum-told c = search needs
+pool-begins-requires : tie.Need-pool-begins-requires Inv-loop μ-loop
+pool-begins-requires c κs = search needs
 
 returns : tie.Need-returns Inv-loop μ-loop
 returns c =
-    let s = c .before .before .before .before .before .before .before .args .s .now in
-    let l = c .before .before .before .before .before .loop in
-    pools-stop s (l .from) (l .n) (l .inv) (ap poolAt (sym (part-rest s (9 * l .n))) ∙ pool-of-other _ (sym (c .before .before .pool-at .ensures) ∙ c .enum-told .given .1))
+    let at = loop-at (c .before) in
+    let s = bytes-of at in
+    let l = at .loop in
+    let none : poolBegins? (drop (9 * l .n) s) ≡ false = ap poolBegins? (sym (part-rest s (9 * l .n))) ∙ sym (c .before .pool-begins .ensures) ∙ not-true _ (c .if1 .taken) in
+    pools-stop s (l .from) (l .n) (l .inv) (begins-not (drop (9 * l .n) s) (bytes-drop (9 * l .n) s (bytes at)) none)
 
-cast-if1 : tie.Need-cast-if1 Inv-loop μ-loop
-cast-if1 c = search needs
+sub-pool-in : tie.Need-sub-pool-in Inv-loop μ-loop
+sub-pool-in c = search needs
+
+part-pool-in-start : tie.Need-part-pool-in-start Inv-loop μ-loop
+part-pool-in-start c = search needs
+
+part-pool-in-end : tie.Need-part-pool-in-end Inv-loop μ-loop
+part-pool-in-end c = search needs
+
+pool-in-requires : tie.Need-pool-in-requires Inv-loop μ-loop
+pool-in-requires c κs =
+    let at = loop-at (c .before .before) in
+    let s = bytes-of at in
+    subst (λ (u : List ℕ). 9 ≤ length u) (sym (part-rest s (9 * at .loop .n))) (begins-long (drop (9 * at .loop .n) s) (begins (c .before)))
+
+cast-if2 : tie.Need-cast-if2 Inv-loop μ-loop
+cast-if2 c = search needs
+
+counted-before-requires : tie.Need-counted-before-requires Inv-loop μ-loop
+counted-before-requires c κs = search needs
 
 returns-2 : tie.Need-returns-2 Inv-loop μ-loop
 returns-2 c =
-    let l = c .before .before .before .before .before .before .before .before .loop in
-    pools-bad (c .before .before .before .before .before .before .before .before .before .before .args .s .now) (l .from) (l .n) (l .inv) (c .before .before .before .p .given .0 .0) (found (c .before)) (omega arith) (λ a o. omega arith)
+    let read = c .before .before .before in
+    let at = loop-at (begun-at read) in
+    let l = at .loop in
+    c .counted-before .ensures ∙ pools-stopped (bytes-of at) (bytes at) (l .from) (l .n) (l .inv) (omega arith) (begins (read .before .before)) (read .pool-in .result) (pool read) (λ a o. omega arith)
 
 pool-end-requires : tie.Need-pool-end-requires Inv-loop μ-loop
 pool-end-requires c κs = search needs
 
+counted-before-requires-2 : tie.Need-counted-before-requires-2 Inv-loop μ-loop
+counted-before-requires-2 c κs = search needs
+
 returns-3 : tie.Need-returns-3 Inv-loop μ-loop
 returns-3 c =
-    let l = c .before .before .before .before .before .before .before .before .before .before .loop in
-    let p = c .before .before .before .before .before .p .given .0 .0 in
-    pools-bad (c .before .before .before .before .before .before .before .before .before .before .before .before .args .s .now) (l .from) (l .n) (l .inv) p (found (c .before .before .before)) (omega arith) (λ a o. end-bad p (sym (c .if2 .taken) ∙ c .before .pool-end .ensures) o)
+    let ended = c .before .before in
+    let read = ended .before .before .before in
+    let at = loop-at (begun-at read) in
+    let l = at .loop in
+    let p = read .pool-in .result in
+    c .counted-before2 .ensures ∙ pools-stopped (bytes-of at) (bytes at) (l .from) (l .n) (l .inv) (omega arith) (begins (read .before .before)) p (pool read) (λ a o. end-bad p (sym (c .before .if3 .taken) ∙ ended .pool-end .ensures) o)
 
 add-n : tie.Need-add-n Inv-loop μ-loop
 add-n c = search needs
@@ -79,16 +122,14 @@ loop-less c = search needs
 
 loop-again : tie.Need-loop-again Inv-loop μ-loop
 loop-again c =
-    let s = c .before .before .before .before .before .before .before .before .before .before .before .before .args .s .now in
-    let l = c .before .before .before .before .before .before .before .before .before .before .loop in
-    let p = c .before .before .before .before .before .p .given .0 .0 in
-    let good = end-good p (c .before .pool-end .result) (c .before .pool-end .ensures) (c .if2 .left) in
-    subst (λ from. PoolsRead s from (l .n + 1)) (sym (good .1)) (pools-more s (l .from) (l .n) (l .inv) p (found (c .before .before .before)) (omega arith) (omega arith) (good .0))
+    let ended = c .before in
+    let read = ended .before .before .before in
+    let at = loop-at (begun-at read) in
+    let l = at .loop in
+    pools-good (bytes-of at) (bytes at) (l .from) (l .n) (l .inv) (omega arith) (begins (read .before .before)) (read .pool-in .result) (pool read) (ended .pool-end .result) (ended .pool-end .ensures) (c .if3 .left) (omega arith)
 
 returns-4 : tie.Need-returns-4 Inv-loop μ-loop
-returns-4 c =
-    let l = c .before .loop in
-    pools-full (c .before .before .before .args .s .now) (l .from) (l .n) (l .inv) (omega arith)
+returns-4 c = let l = c .before .loop in pools-full (bytes-of (c .before)) (l .from) (l .n) (l .inv) (omega arith)
 
 pub pools-in-spec : {M : Type 1} → statement M
 pools-in-spec =
@@ -98,16 +139,20 @@ pools-in-spec =
     μ-loop
     loop-holds
     mul-at
-    sub-pool-at
-    part-pool-at-start
-    part-pool-at-end
-    pool-at-requires
-    enum-known-p
-    enum-told
+    sub-pool-begins
+    part-pool-begins-start
+    part-pool-begins-end
+    pool-begins-requires
     returns
-    cast-if1
+    sub-pool-in
+    part-pool-in-start
+    part-pool-in-end
+    pool-in-requires
+    cast-if2
+    counted-before-requires
     returns-2
     pool-end-requires
+    counted-before-requires-2
     returns-3
     add-n
     loop-less

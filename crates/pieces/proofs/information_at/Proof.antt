@@ -2,7 +2,8 @@
 -- Assumes nothing.
 use Prim.Native.Nat.{ℕ, _+_}
 use native.Mathlib.Omega.{arith}
-use mathlib.Core.Path.{refl, sym, _∙_}
+use mathlib.Core.Path.{refl, sym, ap, _∙_}
+use mathlib.Core.Option.{some}
 use mathlib.Core.Bool.{_&&_}
 use lib.ListN.{getD}
 use denote.Ref.{now}
@@ -43,7 +44,7 @@ same-length-2 c = search needs
 returns-2 : tie.Need-returns-2
 returns-2 c ls hs =
     let k = c .before .before .before .before .before .before in
-    taken-bad _ _ _ (columns ls hs _ _) _ (columns ls hs _ _) (c .before .before .before .before .before .before .before .before .before .before .before .before .before .pre .1) (information-bad _ _ _ (k .store-entries .ensures .bad (c .before .if2 .taken))) (c .nothing2 .ensures)
+    taken-bad _ _ _ (columns ls hs _ _) _ (columns ls hs _ _) (c .before .before .before .before .before .before .before .before .before .before .before .before .before .pre .1) (information-bad _ _ _ (k .store-entries .ensures .0 .bad (c .before .if2 .taken))) (c .nothing2 .ensures)
 
 add-resumes : tie.Need-add-resumes
 add-resumes c = search needs
@@ -54,21 +55,6 @@ shared-slice-read-resumes c = search needs
 resumes-requires : tie.Need-resumes-requires
 resumes-requires c κs = search needs
 
-sub-last : tie.Need-sub-last
-sub-last c = search needs
-
-mul-position : tie.Need-mul-position
-mul-position c =
-    let k = c .before .before .before .before .before .before .before .before in
-    let g = k .store-entries .ensures .good (omega arith) in
-    omega (arith, g .2 .fits)
-
-slice-read-position : tie.Need-slice-read-position
-slice-read-position c =
-    let k = c .before .before .before .before .before .before .before .before .before in
-    let g = k .store-entries .ensures .good (omega arith) in
-    omega (arith, g .2 .fits)
-
 same-length-3 : tie.Need-same-length-3
 same-length-3 c = search needs
 
@@ -77,7 +63,7 @@ same-length-4 c = search needs
 
 returns-3 : tie.Need-returns-3
 returns-3 c ls hs =
-    let e = c .before .before .before .before in
+    let e = c .before .before .before in
     let k = e .before .before .before .before .before in
     let start = k .before .before .before .before .before .before .before in
     let a = start .args in
@@ -85,11 +71,11 @@ returns-3 c ls hs =
     let u = start .pre .1 in
     let s = now (a .s) in
     let flags : ℕ = getD s (a .at + 2) 0 in
-    let g = k .store-entries .ensures .good (omega arith) in
+    let g = k .store-entries .ensures .0 .good (omega arith) in
     taken-good _ _ m (columns ls hs _ _) _ (columns ls hs _ _) (informationAt s (a .at) (a .end)) (information-good s (a .at) (a .end) (omega arith) (g .0))
     (record { good = refl; place = omega arith; requests = omega arith; listing = u .listing; entries = omega (arith, g .2 .fits) })
     (hold-information _ _ _ _ _ _ _ _ (g .2) m refl (omega arith) ls hs (bit2 flags) (bit1 flags) 1 _
-    (λ p h. stored-last _ _ _ _ _ _ _ _ (g .2) (g .1) (omega (arith, g .1, g .2 .fits)) p ∙ sym (cond-true (bit2 flags && bit1 flags) _ p (sym (c .before .before .resumes .ensures) ∙ c .before .if3 .taken))))
+    (λ p h. ap some (k .store-entries .ensures .1 (omega arith)) ∙ stored-last _ _ _ _ _ _ _ _ (g .2) (g .1) (omega (arith, g .1, g .2 .fits)) p ∙ sym (cond-true (bit2 flags && bit1 flags) _ p (sym (c .before .resumes .ensures) ∙ c .if3 .taken))))
 
 same-length-5 : tie.Need-same-length-5
 same-length-5 c = search needs
@@ -107,7 +93,7 @@ returns-4 c ls hs =
     let u = start .pre .1 in
     let s = now (a .s) in
     let flags : ℕ = getD s (a .at + 2) 0 in
-    let g = k .store-entries .ensures .good (omega arith) in
+    let g = k .store-entries .ensures .0 .good (omega arith) in
     taken-good _ _ m (columns ls hs _ _) _ (columns ls hs _ _) (informationAt s (a .at) (a .end)) (information-good s (a .at) (a .end) (omega arith) (g .0))
     (record { good = refl; place = omega arith; requests = omega arith; listing = u .listing; entries = omega (arith, g .2 .fits) })
     (hold-information _ _ _ _ _ _ _ _ (g .2) m refl (omega arith) ls hs (bit2 flags) (bit1 flags) (m .resumes) (m .position)
@@ -129,9 +115,6 @@ information-at-spec =
     add-resumes
     shared-slice-read-resumes
     resumes-requires
-    sub-last
-    mul-position
-    slice-read-position
     same-length-3
     same-length-4
     returns-3

@@ -1,24 +1,30 @@
--- `store_entries` meets its contract. The loop's invariant: the entries up to `at` are good and stored. The measure is what is left.
+-- `store_entries` meets its contract. The loop's invariant: the entries up to `at` are good and stored, the last one with its network. The measure is what is left.
 -- Assumes nothing.
-use Prim.Native.Nat.{_+_, _-_, _≤_, _<_}
+use Prim.Native.Nat.{ℕ, _+_, _-_, _≤_, _<_}
 use native.Mathlib.Omega.{arith}
-use mathlib.Core.Path.{sym, _∙_}
-use lib.ListN.{length}
+use mathlib.Core.Path.{_≡_, sym, _∙_}
+use mathlib.Core.List.{List}
+use lib.ListN.{length, set, getD}
+use lib.Seq.{getD-set-same}
 use borrow.Author.Needs.{needs}
 use Rattle.pieces.proofs.EntryWalk.{Entering, entering-none, entering-bad, entering-more, entering-all, next-some}
 use Rattle.pieces.proofs.store_entries.Statement.{statement}
 use Rattle.pieces.proofs.store_entries.Tie as tie
 
+-- What is stored is there.
+stored-here : (l : List ℕ) (n v : ℕ) → n < length l → v ≡ getD (set l n v) (n + 1 - 1) 0
+stored-here l n v lt = let same : n + 1 - 1 ≡ n = omega arith in rw (same, getD-set-same l n v 0)
+
 abbrev Inv-loop : tie.InvT-loop
-Inv-loop s from end count networks₀ lengths₀ at₀ n₀ networks lengths at n = Entering s from end count networks₀ lengths₀ at n networks lengths
+Inv-loop s from end count networks₀ lengths₀ at₀ n₀ last₀ networks lengths at n last = Entering s from end count networks₀ lengths₀ at n networks lengths × (count < n → last ≡ getD networks (n - 1) 0)
 
 abbrev μ-loop : tie.MeasureT-loop
-μ-loop s from end count networks₀ lengths₀ at₀ n₀ networks lengths at n = end - at
+μ-loop s from end count networks₀ lengths₀ at₀ n₀ last₀ networks lengths at n last = end - at
 
 loop-holds : tie.Need-loop-holds Inv-loop μ-loop
 loop-holds c =
     let r = c .before .before .before .pre in
-    entering-none _ _ _ _ _ _ (omega (arith, r .some)) (r .others)
+    (entering-none _ _ _ _ _ _ (omega (arith, r .some)) (r .others), λ lt. absurd (omega arith))
 
 entry-next-requires : tie.Need-entry-next-requires Inv-loop μ-loop
 entry-next-requires c κs =
@@ -26,15 +32,15 @@ entry-next-requires c κs =
     (c .loop-test .taken, r .inside, r .short)
 
 same-length : tie.Need-same-length Inv-loop μ-loop
-same-length c = c .before .before .before .loop .inv .stored .long .0
+same-length c = c .before .before .before .loop .inv .0 .stored .long .0
 
 same-length-2 : tie.Need-same-length-2 Inv-loop μ-loop
-same-length-2 c = c .before .before .before .loop .inv .stored .long .1
+same-length-2 c = c .before .before .before .loop .inv .0 .stored .long .1
 
 returns : tie.Need-returns Inv-loop μ-loop
 returns c =
     let l = c .before .before .before .loop in
-    entering-bad _ _ _ _ _ _ _ _ _ _ (l .inv) (c .before .before .loop-test .taken) (sym (c .before .entry-next .ensures) ∙ c .if1 .taken) _ _
+    (entering-bad _ _ _ _ _ _ _ _ _ _ (l .inv .0) (c .before .before .loop-test .taken) (sym (c .before .entry-next .ensures) ∙ c .if1 .taken) _ _, λ some. absurd (omega arith))
 
 -- The entry has its seven bytes and lies in the information, and the columns have room for it.
 turn : (c : tie.Else1 Inv-loop μ-loop)
@@ -48,7 +54,7 @@ room : (c : tie.Else1 Inv-loop μ-loop)
     → (c .before .before .before .loop .n < length (c .before .before .before .loop .networks)) × (c .before .before .before .loop .n < length (c .before .before .before .loop .lengths))
 room c =
     let t = turn c in
-    let st = c .before .before .before .loop .inv .stored in
+    let st = c .before .before .before .loop .inv .0 .stored in
     let r = c .before .before .before .before .before .before .before .pre in
     (omega (arith, st .fits, st .long .0, r .networks, r .short), omega (arith, st .fits, st .long .1, r .lengths, r .short))
 
@@ -80,17 +86,22 @@ loop-again : tie.Need-loop-again Inv-loop μ-loop
 loop-again c =
     let e = c .before .before .before in
     let l = e .before .before .loop in
-    let k = room (c .before .before) in
-    entering-more _ _ _ _ _ _ _ _ _ _ (l .inv) (e .before .loop-test .taken) _ (e .entry-next .ensures) (omega arith) (k .0) (k .1) _ (c .before .four-at .ensures)
+    let k = room (c .before .before) in (
+      entering-more _ _ _ _ _ _ _ _ _ _ (l .inv .0) (e .before .loop-test .taken) _ (e .entry-next .ensures) (omega arith) (k .0) (k .1) _ (c .before .four-at .ensures),
+      λ lt. stored-here (l .networks) (l .n) (c .before .four-at .result) (k .0),
+    )
 
 same-length-3 : tie.Need-same-length-3 Inv-loop μ-loop
-same-length-3 c = c .before .loop .inv .stored .long .0
+same-length-3 c = c .before .loop .inv .0 .stored .long .0
 
 same-length-4 : tie.Need-same-length-4 Inv-loop μ-loop
-same-length-4 c = c .before .loop .inv .stored .long .1
+same-length-4 c = c .before .loop .inv .0 .stored .long .1
 
 returns-2 : tie.Need-returns-2 Inv-loop μ-loop
-returns-2 c = entering-all _ _ _ _ _ _ _ _ _ _ (c .before .loop .inv) (c .loop-test .left) (c .before .before .before .before .before .pre .some)
+returns-2 c =
+    let l = c .before .loop in
+    let some = c .before .before .before .before .before .pre .some in
+    (entering-all _ _ _ _ _ _ _ _ _ _ (l .inv .0) (c .loop-test .left) some, λ held. l .inv .1 (l .inv .0 .begun (omega arith)))
 
 pub store-entries-spec : {M : Type 1} → statement M
 store-entries-spec =
