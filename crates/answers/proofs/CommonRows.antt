@@ -1,15 +1,12 @@
 -- Laws of the common rows: what the reader's answer says of rows 6 and 7, and how a call goes on after the common rows.
 -- Assumes nothing.
 use Prim.Native.Nat.{ℕ}
-use mathlib.Core.Path.{_≡_, refl, sym, subst, _∙_}
-use mathlib.Core.Logic.{_⊎_, ⊎-elim}
+use mathlib.Core.Path.{_≡_, refl}
 use mathlib.Core.Bool.{Bool, true, false, cond, true≢false}
-use mathlib.Core.List.{List, [], _∷_, _++_}
-use mathlib.Core.Option.{none, some, Option·some-ne-none}
+use mathlib.Core.List.{List, [], _∷_}
+use mathlib.Core.Option.{none}
 use lib.Dec.{ltb, eqb}
 use borrow.Author.Tests.{not-false}
-use Rattle.lists.specs.Lists.{All}
-use Rattle.lists.proofs.Tests.{bool-cases, cond-true, cond-false}
 use Rattle.option.specs.Values.{SuboptionValue, Outcome, refused, accepted}
 use Rattle.option.specs.Reading.{End, whole, badAt, ended, option?, readSuboptions, readOption}
 use Rattle.option.specs.Answers.{checkedOf}
@@ -19,6 +16,7 @@ use Rattle.table.specs.Table.{sound as soundOf}
 use Rattle.ledger.specs.Ledger as ledger
 use Rattle.ledger.specs.Ledger.{Row, firstOf, orElse, refuses?, placeIn}
 use Rattle.ledger.proofs.RowLaws.{first-none}
+pub use Rattle.ledger.proofs.RowLaws.{first-number, first-before, first-after}
 use Rattle.answers.specs.declared.Answer.{Answer}
 use Rattle.answers.specs.Answers.{answerOf, checkedAnswer, commonRows, answered}
 
@@ -38,38 +36,6 @@ reader-rows false subs e = refl
 pub option-rows : (option : List ℕ) → answerOf (checkedAnswer (checkedOf (readOption option))) ≡ answered (firstOf (optionRows (readOption option))) option
 unfolding readOption
 option-rows option = reader-rows (option? option) (readSuboptions option 3 .0) (readSuboptions option 3 .1)
-
--- THE FIRST ROW THAT APPLIES
-
--- What holds of the numbers of all rows holds of the first that applies.
-pub first-number : (P : ℕ → Type 0) (rows : List Row) → All (λ (r : Row). P (r .0)) rows → (n : ℕ) → firstOf rows ≡ some n → P n
-first-number P [] a n e = absurd (Option·some-ne-none n (sym e))
-first-number P (r ∷ rows) a n e =
-    ⊎-elim
-    (λ (b : r .1 ≡ true).
-    let same : r .0 ≡ n = cc (cond-true (r .1) (some (r .0)) (firstOf rows) b) in
-    subst P same (a .0))
-    (λ (b : r .1 ≡ false). first-number P rows (a .1) n (sym (cond-false (r .1) (some (r .0)) (firstOf rows) b) ∙ e))
-    (bool-cases (r .1))
-
--- Rows before others: the others count only where none of those applies.
-pub first-before : (xs ys : List Row) (n : ℕ) → firstOf xs ≡ some n → firstOf (xs ++ ys) ≡ some n
-first-before [] ys n e = absurd (Option·some-ne-none n (sym e))
-first-before (r ∷ xs) ys n e =
-    ⊎-elim
-    (λ (b : r .1 ≡ true). cond-true (r .1) (some (r .0)) (firstOf (xs ++ ys)) b ∙ sym (cond-true (r .1) (some (r .0)) (firstOf xs) b) ∙ e)
-    (λ (b : r .1 ≡ false).
-    cond-false (r .1) (some (r .0)) (firstOf (xs ++ ys)) b ∙ first-before xs ys n (sym (cond-false (r .1) (some (r .0)) (firstOf xs) b) ∙ e))
-    (bool-cases (r .1))
-
-pub first-after : (xs ys : List Row) → firstOf xs ≡ none → firstOf (xs ++ ys) ≡ firstOf ys
-first-after [] ys e = refl
-first-after (r ∷ xs) ys e =
-    ⊎-elim
-    (λ (b : r .1 ≡ true). absurd (Option·some-ne-none (r .0) (sym (cond-true (r .1) (some (r .0)) (firstOf xs) b) ∙ e)))
-    (λ (b : r .1 ≡ false).
-    cond-false (r .1) (some (r .0)) (firstOf (xs ++ ys)) b ∙ first-after xs ys (sym (cond-false (r .1) (some (r .0)) (firstOf xs) b) ∙ e))
-    (bool-cases (r .1))
 
 -- WHERE NONE OF THEM APPLIES: the table is sound, the time is neither too early nor too late, and the option reads as suboptions.
 

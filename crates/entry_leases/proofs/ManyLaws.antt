@@ -2,17 +2,16 @@
 -- Assumes nothing.
 use Prim.Native.Nat.{ℕ, _+_, _≤_, _<_}
 use native.Mathlib.Omega.{arith}
-use mathlib.Core.Path.{_≡_, refl, sym, ap, ap₂, _∙_}
-use mathlib.Core.Logic.{⊎-elim}
+use mathlib.Core.Path.{_≡_, refl, sym, ap, _∙_}
 use mathlib.Core.Bool.{Bool, true, false, not, cond, _&&_, _||_, and-false}
 use mathlib.Core.List.{List, [], _∷_, _++_, map}
 use lib.ListN.{length, length-append}
 use borrow.Author.Tests.{lt-ltb, le-ltb}
-use Rattle.lists.specs.Lists.{All, any?, those, gather}
-use Rattle.lists.proofs.Tests.{bool-cases, cond-true, cond-false}
+use Rattle.lists.specs.Lists.{All, those, gather}
 use Rattle.lists.proofs.ListLaws.{all-map₂, all-every}
-use Rattle.lists.proofs.ThoseLaws.{those-yes, those-no}
-use Rattle.lists.proofs.MapLaws.{those-map, those-those}
+use Rattle.lists.proofs.ThoseLaws.{those-yes, those-no, count-first}
+pub use Rattle.lists.proofs.ThoseLaws.{none-of}
+use Rattle.lists.proofs.MapLaws.{those-map, those-those, any-more, map-same, map-map}
 use Rattle.lists.proofs.GatherLaws.{gather-append, gather-one}
 use Rattle.option.specs.Values.{Entry}
 use Rattle.table.specs.declared.Lease.{Lease}
@@ -25,26 +24,6 @@ use Rattle.entry_leases.specs.EntryLeases.{named?, leasedUntil, changedI
 -- A test of a lease by several entries.
 abbrev pub namedByPresent? : ℕ → ℕ → List Entry → Lease → Bool
 namedByPresent? now client es x = present? now x && namedBy? client es x
-
-any-more : {A : Type 0} (f : A → Bool) (xs : List A) (y : A) → any? f (xs ++ (y ∷ [])) ≡ any? f xs || f y
-any-more f [] y = or-none (f y)
-  where
-    or-none : (b : Bool) → (b || false) ≡ b
-    or-none true = refl
-    or-none false = refl
-any-more f (x ∷ xs) y = ap (λ (b : Bool). f x || b) (any-more f xs y) ∙ or-assoc (f x) (any? f xs) (f y)
-  where
-    or-assoc : (a b c : Bool) → (a || (b || c)) ≡ ((a || b) || c)
-    or-assoc true b c = refl
-    or-assoc false b c = refl
-
-map-same : {A B : Type 0} (f g : A → B) → ((x : A) → f x ≡ g x) → (xs : List A) → map f xs ≡ map g xs
-map-same f g same [] = refl
-map-same {A} {B} f g same (x ∷ xs) = ap₂ (λ (y : B) (l : List B). y ∷ l) (same x) (map-same f g same xs)
-
-map-map : {A B C : Type 0} (f : A → B) (g : B → C) (xs : List A) → map g (map f xs) ≡ map (λ x. g (f x)) xs
-map-map f g [] = refl
-map-map {C = C} f g (x ∷ xs) = ap (λ (l : List C). g (f x) ∷ l) (map-map f g xs)
 
 -- ONE ENTRY MORE
 
@@ -89,13 +68,6 @@ changed-none now client expires xs =
     none-map (namedByPresent? now client []) (leasedUntil expires) xs (all-every (λ x. and-false (present? now x)) xs)
 
 -- HOW MANY: those that an entry names, where the time that the lease gets has passed.
-
-count-first : {A : Type 0} (f : A → Bool) (x : A) (xs : List A) → length (those f (x ∷ xs)) ≡ cond (f x) 1 0 + length (those f xs)
-count-first f x xs =
-    ⊎-elim
-    (λ (t : f x ≡ true). ap length (those-yes f x xs t) ∙ omega (arith, cond-true {A = ℕ} (f x) 1 0 t))
-    (λ (t : f x ≡ false). ap length (those-no f x xs t) ∙ omega (arith, cond-false {A = ℕ} (f x) 1 0 t))
-    (bool-cases (f x))
 
 module _ {A : Type 0} (a b k : A → Bool) (f : A → A) (each : (x : A) → cond (a x) 1 0 ≡ cond (b x) 1 0 + cond (k (f x)) 1 0) where
   count-both : (xs : List A) → length (those a xs) ≡ length (those b xs) + length (those k (map f xs))
@@ -172,14 +144,6 @@ module _ (now client expires : ℕ) (later : now < expires) (es : List Entry) wh
         same-entry : (x : Lease) (b : Bool) → entryOf (cond b (leasedUntil expires x) x) ≡ entryOf x
         same-entry x true = refl
         same-entry x false = refl
-
-pub none-of : {A : Type 0} (g : A → Bool) (ys : List A) → length (those g ys) ≡ 0 → All (λ y. g y ≡ false) ys
-none-of g [] z = tt
-none-of g (y ∷ ys) z =
-    ⊎-elim
-    (λ (t : g y ≡ true). absurd (omega (arith, ap length (those-yes g y ys t))))
-    (λ (t : g y ≡ false). (t, none-of g ys (sym (ap length (those-no g y ys t)) ∙ z)))
-    (bool-cases (g y))
 
 -- The leases that entries name, in order.
 module _ (now client : ℕ) (xs : List Lease) where

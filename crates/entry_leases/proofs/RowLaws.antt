@@ -8,7 +8,7 @@ use mathlib.Core.List.{List, [], _∷_}
 use mathlib.Core.Option.{Option, none, some}
 use lib.ListN.{length, take, length-map}
 use lib.Dec.{eqb}
-use borrow.Author.Tests.{eq-eqb, ne-eqb, eqb-false}
+use borrow.Author.Tests.{eqb-false}
 use Rattle.lists.proofs.Tests.{cond-true, cond-false, not-of, not-to}
 use Rattle.option.specs.Values.{Outcome, SuboptionValue}
 use Rattle.option.specs.Values as values
@@ -16,10 +16,11 @@ use Rattle.option.specs.Reading.{readOption}
 use Rattle.option.specs.Answers.{checkedOf}
 use Rattle.option.specs.declared.Checked.{Checked}
 use Rattle.option.specs.declared.Checked.the-variants.{NotTheOption, BadSuboption}
-use Rattle.ledger.specs.Ledger.{Answer, firstOf, refusal, nothing?, suboptions, requests, entries, entriesIn, forTake}
-use Rattle.ledger.proofs.StepLaws.{nothing-length}
+use Rattle.ledger.specs.Ledger.{Answer, firstOf, refusal, suboptions, requests, entries, entriesIn, forTake}
+use Rattle.ledger.proofs.RowLaws.{first-number, first-before, first-after}
+pub use Rattle.ledger.proofs.RowLaws.{nothing-none, nothing-some}
 use Rattle.answers.specs.Answers.{answerOf, checkedAnswer, answered}
-use Rattle.answers.proofs.CommonRows.{option-rows, first-number, first-before, first-after}
+use Rattle.answers.proofs.CommonRows.{option-rows}
 use Rattle.pieces.specs.declared.Pieces.{Pieces}
 use Rattle.pieces.specs.Held.{Columns, HoldsOf, Reads}
 use Rattle.image_calls.specs.declared.ImageAnswer.{ImageAnswer}
@@ -27,12 +28,6 @@ use Rattle.image_calls.specs.ImageCalls.{answerWith}
 use Rattle.image_rows.specs.Opened.{optionRows}
 use Rattle.entry_leases.specs.declared.EntriesRead.{EntriesRead}
 use Rattle.entry_leases.specs.EntryRows.{eight, entryRows, ReadsEntries}
-
-pub nothing-none : {A : Type 0} (xs : List A) → length xs ≡ 0 → nothing? xs ≡ true
-nothing-none xs z = nothing-length xs ∙ eq-eqb (length xs) 0 z
-
-pub nothing-some : {A : Type 0} (xs : List A) → (length xs ≡ 0 → ⊥) → nothing? xs ≡ false
-nothing-some xs k = nothing-length xs ∙ ne-eqb (length xs) 0 k
 
 -- ROW 8
 module _ (m : Pieces) (c : Columns) (subs : List SuboptionValue) (h : HoldsOf m c subs) where

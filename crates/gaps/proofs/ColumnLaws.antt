@@ -47,12 +47,6 @@ lies-within p i (s ∷ ss) [] k = absurd k
 lies-within p zero (s ∷ ss) (l ∷ ls) k = (omega arith, omega arith)
 lies-within p (suc i) (s ∷ ss) (l ∷ ls) k = let t = lies-within p i ss ls k in (omega (arith, t .0), omega (arith, t .1))
 
-pub lies-at : (p : Prefix) (i : ℕ) (ss ls : List ℕ) → LiesIn p i (held ss ls) → (getD ss i 0 ≤ p .network) × (end p ≤ getD ls i 0 + 1)
-lies-at p i [] ls k = absurd k
-lies-at p i (s ∷ ss) [] k = absurd k
-lies-at p zero (s ∷ ss) (l ∷ ls) k = k
-lies-at p (suc i) (s ∷ ss) (l ∷ ls) k = lies-at p i ss ls k
-
 pub at-lies : (p : Prefix) (i : ℕ) (ss ls : List ℕ) → i < length ss → i < length ls → getD ss i 0 ≤ p .network → end p ≤ getD ls i 0 + 1 → LiesIn p i (held ss ls)
 at-lies p i [] ls h k low high = absurd (omega arith)
 at-lies p i (s ∷ ss) [] h k low high = absurd (omega arith)
@@ -107,9 +101,6 @@ module _ (starts lasts : List ℕ) (n i network l : ℕ) (within : i < n) (lies 
 
   last-is : getD (take n lasts) i 0 ≡ getD lasts i 0
   last-is = getD-take n lasts i 0 within
-
-  pub part-inside : (getD starts i 0 ≤ network) × (network + size l ≤ getD lasts i 0 + 1)
-  part-inside = let t = lies-at (prefix network l) i (take n starts) (take n lasts) lies in (omega (arith, t .0, start-is), omega (arith, t .1, last-is))
 
   pub part-both : (ss ls : List ℕ) → take (n + 1) ss ≡ doubled (take n starts) i → take (n + 1) ls ≡ doubled (take n lasts) i
       → (after : ℕ) → after ≡ network + size l → getD starts i 0 < network → after ≤ getD lasts i 0

@@ -85,9 +85,6 @@ fit-grants pools leases ordered l block = ap (lowestPart l) (gaps-scan l none po
 
 -- A WALK: at an address of a pool, before a lease in the pool, before one in a later pool, and after the last lease.
 
-pub walk-start : (p : Prefix) (ps xs : List Prefix) → gapsOf (p ∷ ps) xs ≡ gapsAt (p .network) (end p) ps xs
-walk-start p ps xs = refl
-
 module _ (from stop : ℕ) (ps : List Prefix) where
   pub walk-lease : (x : Prefix) (xs : List Prefix) → x .network < stop → gapsAt from stop ps (x ∷ xs) ≡ between from (x .network) ++ gapsAt (end x) stop ps xs
   walk-lease x xs h =
@@ -97,6 +94,3 @@ module _ (from stop : ℕ) (ps : List Prefix) where
 
   pub walk-pool : (x : Prefix) (xs : List Prefix) → stop ≤ x .network → gapsAt from stop ps (x ∷ xs) ≡ between from stop ++ gapsOf ps (x ∷ xs)
   walk-pool x xs h = ap (λ (g : PoolGaps). g .gaps ++ gapsOf ps (g .left)) (cond-false (ltb (x .network) stop) _ _ (le-ltb (x .network) stop h))
-
-  pub walk-end : gapsAt from stop ps [] ≡ between from stop ++ gapsOf ps []
-  walk-end = refl

@@ -5,4 +5,3 @@ pub mod MoveLaws
 pub mod EndLaws
 pub mod BitLaws
 pub mod SearchLaws
-pub mod WalkLaws

@@ -2,23 +2,23 @@
 -- Assumes nothing.
 use Prim.Native.Nat.{ℕ, zero, suc, _+_, _-_, _≤_, _<_}
 use mathlib.Core.Path.{_≡_, refl, sym, ap, ap₂, subst, _∙_}
-use mathlib.Core.Logic.{⊎-elim, by-cases}
-use mathlib.Core.Bool.{Bool, true, false, not, cond}
+use mathlib.Core.Logic.{by-cases}
+use mathlib.Core.Bool.{Bool, true, false, not}
 use mathlib.Core.List.{List, [], _∷_, _++_, map, append-nil}
 use mathlib.Core.Option.{Option, none, some}
 use native.Mathlib.Decide.{decLe}
 use native.Mathlib.Omega.{arith}
 use native.Mathlib.Numerals.{add-one}
-use lib.Dec.{ltb, eqb}
+use lib.Dec.{eqb}
 use lib.ListN.{length, take, set, getD, length-append}
 use lib.Seq.{take-suc-set, length-take-le, getD-take}
 use Rattle.lists.specs.Lists.{somes}
-use Rattle.lists.specs.Sorting.{insertBy}
-use Rattle.lists.proofs.Tests.{bool-cases, cond-true, cond-false}
-use Rattle.lists.proofs.SortingLaws.{insertBy-before, insertBy-after, insertBy-longer}
+use Rattle.lists.proofs.ListLaws.{all-every}
+use Rattle.lists.proofs.Tests.{cond-true, cond-false}
+use Rattle.lists.proofs.SortingLaws.{insertBy-longer, insertBy-image}
 use Rattle.prefix.specs.declared.Prefix.{Prefix}
-use Rattle.prefix.specs.Prefixes.{prefix, longest}
-use Rattle.space.specs.Space.{Length, lowestPart, grant}
+use Rattle.prefix.specs.Prefixes.{prefix}
+use Rattle.space.specs.Space.{lowestPart, grant}
 use Rattle.gaps.specs.declared.Choice.{Choice}
 use Rattle.gaps.specs.Gaps.{Gap, gapsOf, fitIn, without, LiesIn}
 use Rattle.gaps.specs.Columns.{heldIn, Kept, fitOf, Fitted}
@@ -26,22 +26,11 @@ use Rattle.gaps.proofs.FitLaws.{fit-grants}
 use Rattle.gaps.proofs.SplitLaws.{gaps-split}
 use Rattle.table.specs.declared.Lease.{Lease}
 use Rattle.table.specs.declared.LeaseTable.{LeaseTable}
-use Rattle.table.specs.Table.{leaseSlots, networkOf, prefixOf, poolsOf, insert}
+use Rattle.table.specs.Table.{leaseSlots, networkOf, prefixOf, poolsOf}
 use Rattle.ledger.specs.Ledger.{Request, askLength, holdTime, offered, offer, add}
 use Rattle.ledger.proofs.OfferLaws.{offer-room, offer-full}
 use Rattle.granting.specs.declared.Progress.{Progress}
 use Rattle.granting.specs.Granting.{flagOf, leasesHeld, Columns, columns, grantedIn, Holds, Asked, Served}
-
--- The image of an insertion is the insertion of the image.
-map-insert : {A B : Type 0} (f : A → B) (key : B → ℕ) (x : A) (ys : List A) → map f (insertBy (λ a. key (f a)) x ys) ≡ insertBy key (f x) (map f ys)
-unfolding insertBy
-map-insert f key x [] = refl
-map-insert {A} {B} f key x (y ∷ ys) =
-    ⊎-elim
-    (λ (h : ltb (key (f x)) (key (f y)) ≡ true). ap (map f) (insertBy-before (λ a. key (f a)) x y ys h) ∙ sym (insertBy-before key (f x) (f y) (map f ys) h))
-    (λ (h : ltb (key (f x)) (key (f y)) ≡ false).
-    ap (map f) (insertBy-after (λ a. key (f a)) x y ys h) ∙ ap (λ (l : List B). f y ∷ l) (map-insert f key x ys) ∙ sym (insertBy-after key (f x) (f y) (map f ys) h))
-    (bool-cases (ltb (key (f x)) (key (f y))))
 
 -- One lease more at the end of the columns.
 
@@ -153,7 +142,7 @@ module _ (l h : ℕ) (c : Columns) (p : Progress) where
                 kept .gaps
                 ∙ ap (without (prefix (r .network) l) (r .index)) (k .gaps)
                 ∙ sym (gaps-split (prefix (r .network) l) (poolsOf t) (map prefixOf ys) (a .ordered .poolsAscend) (a .ordered .leasesAscend) (r .index) lies)
-                ∙ ap (gapsOf (poolsOf t)) (sym (map-insert prefixOf (λ (y : Prefix). y .network) x ys));
+                ∙ ap (gapsOf (poolsOf t)) (sym (insertBy-image prefixOf networkOf (λ (y : Prefix). y .network) x ys refl (all-every (λ y. refl) ys)));
             left = omega (arith, k .left, insertBy-longer networkOf x ys);
             granted = more;
             count = omega (arith, k .count, length-append gs (x ∷ []));

@@ -3,21 +3,22 @@
 use Prim.Native.Nat.{ℕ, zero, suc, _+_, _-_, _≤_, _<_}
 use mathlib.Core.Path.{_≡_, refl, sym, ap, ap₂, subst, _∙_}
 use mathlib.Core.Bool.{false, cond}
-use mathlib.Core.List.{List, [], _∷_, _++_, map}
+use mathlib.Core.List.{List, [], _∷_, _++_}
 use mathlib.Core.Option.{Option}
 use native.Mathlib.Omega.{arith}
 use native.Mathlib.Numerals.{add-one}
 use lib.Dec.{eqb}
 use lib.ListN.{length, take, getD, length-map, List·getD-map}
-use lib.Seq.{take-suc, take-all, length-take-le, getD-take}
+use lib.Seq.{take-suc, take-all}
 use Rattle.lists.specs.Lists.{All, somes}
-use Rattle.lists.proofs.DropLaws.{all-at}
+use Rattle.lists.proofs.IndexLaws.{all-at}
 use Rattle.prefix.specs.Prefixes.{longest}
 use Rattle.table.specs.declared.Lease.{Lease}
 use Rattle.table.specs.declared.LeaseTable.{LeaseTable}
-use Rattle.table.specs.Table.{leaseSlots, poolsOf, present, sound}
+use Rattle.table.specs.Table.{leaseSlots, poolsOf}
 use Rattle.table.proofs.TableLaws.{Fine, sound-fine, sound-fewer}
 use Rattle.ledger.specs.Ledger.{Request, askLength, offer, offers, add, addAll}
+use Rattle.lists.proofs.PartLaws.{somes-append}
 use Rattle.ledger.proofs.OfferLaws as offer-laws
 use Rattle.granting.specs.declared.Progress.{Progress}
 use Rattle.granting.specs.Granting.{flagOf, Columns, columns, Holds, Asked, Served, Ready, Granted}
@@ -80,7 +81,7 @@ module _ (t : LeaseTable) (time client : ℕ) (xs : List Lease) (rs : List Reque
         ap (λ (m : ℕ). offers t time client xs (take m rs)) (add-one j) ∙ ap (offers t time client xs) (take-suc rs j nothing lt) ∙ offer-laws.offers-snoc t time client (take j rs) xs r in
         subst (λ (ps : List (Option Lease)). Holds t time client (addAll ps xs) (somes ps) d q) (sym next)
         (subst (λ (ls : List Lease). Holds t time client ls (somes (os ++ (o ∷ []))) d q) (sym (offer-laws.addAll-snoc os o xs))
-        (subst (λ (ls : List Lease). Holds t time client (add o (addAll os xs)) ls d q) (sym (offer-laws.somes-append os (o ∷ [])))
+        (subst (λ (ls : List Lease). Holds t time client (add o (addAll os xs)) ls d q) (sym (somes-append os (o ∷ [])))
         (served .offered t time client (addAll os xs) (somes os) r (asked j lt) holds)))
 
     pub serve-end : (j : ℕ) (c : Columns) (p : Progress) → length ask-lengths ≤ j → After j c p → Granted t time client xs rs (p .granted) (c .networks) (c .lengths) (c .flags)

@@ -2,12 +2,10 @@
 -- Assumes nothing.
 use Prim.Native.Nat.{ℕ, zero, suc, _+_, _-_, _*_, _/_, _%_, _≤_, _<_}
 use mathlib.Core.Path.{_≡_, refl, sym, ap, ap₂, subst, _∙_}
-use mathlib.Core.Logic.{_⊎_, inl, inr, ⊎-elim}
-use mathlib.Core.Bool.{Bool, true, false, cond}
 use mathlib.Core.List.{List, [], _∷_, _++_, append-assoc, append-nil}
 use mathlib.Core.Option.{Option, none, some}
 use native.Mathlib.Omega.{arith}
-use lib.ListN.{length, take, drop, getD, replicate, set, length-append, length-set, length-drop, take-append-drop}
+use lib.ListN.{length, take, drop, getD, replicate, set, length-set, length-drop, take-append-drop}
 use lib.Seq.{drop-drop, drop-set-lt, take-suc-set, append-snoc, length-take-le, getD-drop, take-all}
 use native.Mathlib.Numerals.{add-one}
 use Rattle.lists.specs.Lists.{All, gather}
@@ -25,11 +23,12 @@ bytes-of [] a i = omega arith
 bytes-of (x ∷ s) a zero = a .0
 bytes-of (x ∷ s) a (suc i) = bytes-of s (a .1) i
 
+pub bytes-all : (s : List ℕ) → Bytes s → All (λ b. b < 256) s
+bytes-all [] b = tt
+bytes-all (x ∷ s) b = (b 0, bytes-all s (λ i. b (suc i)))
+
 pub bytes-drop : (n : ℕ) (s : List ℕ) → Bytes s → Bytes (drop n s)
 bytes-drop n s b i = subst (λ (x : ℕ). x < 256) (sym (getD-drop n s i 0)) (b (n + i))
-
-pub spell16 : (n : ℕ) → n % 256 + 256 * (n / 256) ≡ n
-spell16 n = omega arith
 
 pub spell32 : (n : ℕ) → n % 256 + 256 * (n / 256 % 256) + 65536 * (n / 65536 % 256) + 16777216 * (n / 16777216) ≡ n
 spell32 n = omega arith

@@ -1,31 +1,30 @@
 -- Laws of writing an image: fields one after another are a record, records one after another are the image, and what save answers.
 -- Assumes nothing.
-use Prim.Native.Nat.{ℕ, zero, suc, _+_, _-_, _*_, _≤_, _<_}
-use mathlib.Core.Path.{_≡_, refl, sym, ap, ap₂, subst, _∙_}
-use mathlib.Core.Bool.{Bool, true, false, not}
+use Prim.Native.Nat.{ℕ, _+_, _-_, _*_, _≤_, _<_}
+use mathlib.Core.Path.{_≡_, refl, sym, ap, ap₂, _∙_}
+use mathlib.Core.Bool.{true, false, not}
 use mathlib.Core.List.{List, [], _∷_, _++_, append-assoc, append-nil}
 use native.Mathlib.Nat.{add-assoc}
 use native.Mathlib.Numerals.{add-one}
 use native.Mathlib.Omega.{arith}
 use lib.ListN.{length, take, drop, getD, set, replicate, length-append, length-map}
 use lib.Seq.{take-suc, take-at, length-take-le}
-use lib.Dec.{ltb}
 use borrow.Author.Tests.{lt-ltb, le-ltb}
-use Rattle.lists.specs.Lists.{gather, those}
+use Rattle.lists.specs.Lists.{gather}
 use Rattle.lists.specs.Put.{put}
+use Rattle.lists.proofs.GatherLaws.{gather-append}
 use Rattle.lists.proofs.ThoseLaws.{those-fewer}
 use Rattle.lists.proofs.PutLaws.{put-one, put-append, put-fits}
 use Rattle.table.specs.declared.Pool.{Pool}
 use Rattle.table.specs.declared.Lease.{Lease}
 use Rattle.table.specs.declared.LeaseTable.{LeaseTable}
-use Rattle.table.specs.Table.{poolSlots, leaseSlots, noPool, noLease, unused?, empty?, poolPrefix, prefixesOf, sound, padded}
+use Rattle.table.specs.Table.{poolSlots, leaseSlots, noPool, noLease, unused?, poolPrefix, prefixesOf, sound}
 use Rattle.table.proofs.TableLaws.{sound-pools-whole, sound-pool-slots}
 use Rattle.image.specs.declared.Head.{Head}
-use Rattle.image.specs.declared.SaveAnswer.{SaveAnswer}
 use Rattle.image.specs.declared.SaveAnswer.the-variants.{Written, NotSound, TooSmall}
 use Rattle.image.specs.Fields.{le16, le32}
 use Rattle.image.specs.Image.{headRecord, poolRecord, leaseRecord, stateByte, flagsByte, usedPools, usedLeases, headOf, imageOf, saved}
-use Rattle.image.proofs.ImageLaws.{table-whole, length-gather, length-image, length-head, length-pool, length-lease}
+use Rattle.image.proofs.ImageLaws.{table-whole, length-gather, length-image, length-head, length-pool}
 
 -- FIELDS, ONE AFTER ANOTHER
 
@@ -73,10 +72,6 @@ lease-put x at st fl l l₁ l₂ l₃ l₄ l₅ es ef e₁ e₂ e₃ e₄ e₅ =
     then-put 15 l l₄ at (le16 17 ++ le16 3 ++ le32 (x .network) ++ bytes ++ le32 (x .client)) refl f₅ l₅ (le32 (x .expires)) e₅
 
 -- RECORDS, ONE AFTER ANOTHER
-
-gather-append : {A : Type 0} (rec : A → List ℕ) (xs ys : List A) → gather rec (xs ++ ys) ≡ gather rec xs ++ gather rec ys
-gather-append rec [] ys = refl
-gather-append rec (x ∷ xs) ys = ap (λ (l : List ℕ). rec x ++ l) (gather-append rec xs ys) ∙ sym (append-assoc (rec x) (gather rec xs) (gather rec ys))
 
 -- One record more.
 pub more-put : {A : Type 0} (rec : A → List ℕ) (n : ℕ) → ((x : A) → length (rec x) ≡ n) → (l l₁ l₂ : List ℕ) (at i : ℕ) (xs : List A) (d : A) → i < length xs

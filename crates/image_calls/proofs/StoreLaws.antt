@@ -6,9 +6,9 @@ use mathlib.Core.Bool.{true}
 use mathlib.Core.List.{List, _++_}
 use native.Mathlib.Omega.{arith}
 use borrow.Author.Tests.{eq-eqb, ne-eqb}
-use lib.ListN.{length, drop, replicate, length-append, length-replicate}
+use lib.ListN.{length, replicate, length-append, length-replicate}
 use Rattle.lists.specs.Put.{put}
-use Rattle.lists.proofs.PutLaws.{put-append, put-fits}
+use Rattle.lists.proofs.PutLaws.{put-append, put-front}
 use Rattle.table.specs.declared.LeaseTable.{LeaseTable}
 use Rattle.table.specs.Table.{sound}
 use Rattle.image.specs.Image.{imageOf}
@@ -17,9 +17,6 @@ use Rattle.ledger.specs.Ledger as ledger
 use Rattle.image_calls.specs.ImageCalls.{fullImage, answerWith, stored, settled}
 
 -- WHAT SAVE AND THE ZEROS AFTER IT LEAVE
-
-front : (xs l : List ℕ) → length xs ≤ length l → put l 0 xs ≡ xs ++ drop (length xs) l
-front xs l h = let z : 0 + length xs ≡ length xs = omega arith in put-fits xs l 0 (omega arith) ∙ ap (λ (k : ℕ). xs ++ drop k l) z
 
 module _ (t : LeaseTable) (s : sound t ≡ true) (l : List ℕ) (room : fullImage ≤ length l) where
   fits : length (imageOf t) ≤ length l
@@ -38,7 +35,7 @@ module _ (t : LeaseTable) (s : sound t ≡ true) (l : List ℕ) (room : fullImag
       ∙ ap₂ (λ (m : List ℕ) (k : ℕ). put m k (replicate (old - k) 0)) e₁ counted
       ∙ ap (λ (k : ℕ). put (put l 0 xs) k zs) z
       ∙ put-append xs l 0 zs
-      ∙ front (xs ++ zs) l size
+      ∙ put-front (xs ++ zs) l size
 
 -- WHAT A CALL LEAVES
 

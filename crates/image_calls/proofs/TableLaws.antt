@@ -1,10 +1,10 @@
 -- Laws of the table that an image is of: where it is sound, the image is within the buffer and is its image; its numbers are within the code's types.
 -- Assumes nothing.
-use Prim.Native.Nat.{ℕ, suc, _+_, _-_, _≤_}
+use Prim.Native.Nat.{ℕ, _+_, _-_, _≤_}
 use mathlib.Core.Path.{_≡_, refl, sym, ap, _∙_}
 use mathlib.Core.Logic.{⊎-elim}
 use mathlib.Core.Bool.{true, false, cond, true≢false}
-use mathlib.Core.List.{List, [], _∷_, _++_, append-nil}
+use mathlib.Core.List.{List, [], _++_, append-nil}
 use mathlib.Core.Option.{Option, none, some, Option·some-ne-none}
 use native.Mathlib.Omega.{arith}
 use lib.ListN.{length, take, drop, replicate, take-append-drop}
@@ -15,7 +15,7 @@ use Rattle.lists.proofs.Tests.{bool-cases, cond-true, cond-false}
 use Rattle.table.specs.declared.LeaseTable.{LeaseTable}
 use Rattle.table.specs.Table.{headOk, sound, blank}
 use Rattle.image.specs.Image.{imageOf, headAt, loadImage, loadedOf}
-use Rattle.image.proofs.FieldLaws.{Bytes as EachByte}
+pub use Rattle.image.proofs.FieldLaws.{bytes-all}
 use Rattle.image.proofs.ImageLaws.{image-loaded}
 use Rattle.ledger.specs.Sizes.{Byte, Bytes}
 use Rattle.ledger.proofs.Counts.{upTo-all}
@@ -75,9 +75,3 @@ module _ (buffer : List ℕ) (bytes : ℕ) (s : sound (tableIn buffer bytes) ≡
         ap (λ (l : List ℕ). l ++ drop (length l) buffer) same
         ∙ ap (λ (n : ℕ). take bytes buffer ++ drop n buffer) (length-take-le bytes buffer held-within)
         ∙ take-append-drop bytes buffer
-
--- ITS BYTES
-
-pub bytes-all : (s : List ℕ) → EachByte s → Bytes s
-bytes-all [] b = tt
-bytes-all (x ∷ s) b = (b 0, bytes-all s (λ i. b (suc i)))

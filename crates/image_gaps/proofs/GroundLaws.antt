@@ -12,7 +12,7 @@ use lib.Dec.{ltb}
 use Rattle.lists.specs.Lists.{gather}
 use Rattle.lists.proofs.Tests.{bool-cases, cond-true, cond-false}
 use Rattle.lists.proofs.ListLaws.{all-map}
-use Rattle.lists.proofs.DropLaws.{all-at}
+use Rattle.lists.proofs.IndexLaws.{all-at}
 use Rattle.prefix.specs.declared.Prefix.{Prefix}
 use Rattle.prefix.specs.Prefixes.{prefix, end}
 use Rattle.table.specs.declared.Pool.{Pool}

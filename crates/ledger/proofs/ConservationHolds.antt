@@ -1,13 +1,13 @@
 -- Conservation holds of the ledger, over every history.
 -- Assumes nothing.
-use Prim.Native.Nat.{ℕ, zero, suc, _+_, _-_, _≤_, _<_}
+use Prim.Native.Nat.{ℕ, _+_, _-_, _≤_}
 use mathlib.Core.Path.{_≡_, refl, sym, ap, ap₂, subst, _∙_}
-use mathlib.Core.Logic.{_⊎_, inl, inr, ⊎-elim}
+use mathlib.Core.Logic.{_⊎_, ⊎-elim}
 use mathlib.Core.Bool.{Bool, true, false, not, cond}
-use mathlib.Core.List.{List, [], _∷_, _++_, map, List·Permᴰ}
+use mathlib.Core.List.{List, [], _∷_, map, List·Permᴰ}
 use mathlib.Core.Option.{Option, none, some}
 use native.Mathlib.Omega.{arith}
-use lib.ListN.{length, drop, replicate}
+use lib.ListN.{length}
 use lib.Dec.{leb, ltb, eqb}
 use borrow.Author.Tests.{ltb-false}
 use Rattle.lists.specs.Lists.{All, those, somes}
@@ -15,25 +15,22 @@ use Rattle.lists.proofs.Tests.{bool-cases, cond-false}
 use Rattle.lists.proofs.ThoseLaws.{those-yes, those-no}
 use Rattle.prefix.specs.declared.Prefix.{Prefix}
 use Rattle.prefix.specs.Prefixes.{size}
-use Rattle.space.specs.Space.{Pools}
 use Rattle.option.specs.Values.{Entry}
-use Rattle.option.specs.Writing.{optionBytes}
 use Rattle.table.specs.declared.Lease.{Lease}
 use Rattle.table.specs.declared.LeaseTable.{LeaseTable}
-use Rattle.table.specs.Table.{leaseSlots, latest, noLease, prefixOf, poolsOf, present, sound, store}
-use Rattle.opening.specs.Open.{given, openOk, fresh}
-use Rattle.table.proofs.TableLaws.{Good, sound-fine, sound-fewer, fine-those, fine-map, present-padded, present-stored}
+use Rattle.table.specs.Table.{leaseSlots, prefixOf, poolsOf, present, sound, store}
+use Rattle.table.proofs.TableLaws.{Good, sound-fine, fine-those, fine-map, present-padded, present-stored}
 use Rattle.opening.proofs.OpenLaws.{open-sound}
-use Rattle.ledger.specs.Ledger.{Answer, Result, Update, Row, firstOf, orElse, before, refuse, refuseUpdate, refusalPlace, requestsIn, entriesIn, entryOf, full, openRows, openTable, offer, add, offers, addAll, askOffers, informationFor, askRows, ask, namedBy?, renew, takeRows, take, list, releaseRows, release, at?, withD, markRows, mark}
-use Rattle.ledger.specs.Demand3.{Call, run, none?, wellFormed, asksOf, replyEntries}
-use Rattle.ledger.specs.Histories.{Event, asked, taken, wasListed, returned, marked, saved, next, afterwards, Reachable, leasesOf}
-use Rattle.ledger.specs.Conservation.{addressesOf, addressesIn, grantedBy, ifAccepted, returnedBy, endedAt, endedBy, summed, FromLoad, FromOpen}
-use Rattle.ledger.proofs.ListFacts.{Opposite, opposite-not}
+use Rattle.ledger.specs.Ledger.{Result, Update, before, refusalPlace, entriesIn, entryOf, full, openTable, add, offers, addAll, askRows, ask, namedBy?, renew, takeRows, take, releaseRows, release, at?, withD, markRows, mark}
+use Rattle.ledger.specs.Demand3.{Call, run, wellFormed, asksOf, replyEntries}
+use Rattle.ledger.specs.Histories.{Event, asked, taken, wasListed, returned, marked, saved, next, afterwards, leasesOf}
+use Rattle.ledger.specs.Conservation.{addressesOf, addressesIn, grantedBy, returnedBy, endedAt, endedBy, summed, FromLoad, FromOpen}
+use Rattle.lists.proofs.PartLaws.{Opposite, opposite-not}
 use Rattle.ledger.proofs.RowLaws.{first-none, first-number, Numbered, by-rows, numbered-take, numbered-release, numbered-mark}
 use Rattle.ledger.proofs.EmptySlots.{present-or-ended, present-later}
 use Rattle.ledger.proofs.ReplyLaws.{reads-none}
 use Rattle.ledger.proofs.OfferLaws.{insert-perm}
-use Rattle.ledger.proofs.CallLaws.{rowsFor, numberFor, tableFor, Served, WellFormed, well, run-refused, called}
+use Rattle.ledger.proofs.CallLaws.{rowsFor, numberFor, tableFor, well, run-refused, called}
 use Rattle.ledger.proofs.SoundKept.{Mild, cond-mild, renew-mild, withD-mild, list-keeps}
 use Rattle.ledger.proofs.HistoriesHold.{next-sound, opened-is}
 
@@ -147,7 +144,7 @@ ask-balance t now c = ⊎-elim good bad (bool-cases (wellFormed now t c))
     bad : wellFormed now t c ≡ false → AskBalance t now (run ask now t c)
     bad e =
         let r = run-refused now t c e in
-        let z : eqb (r .0) 0 ≡ false = first-number (λ m. eqb m 0 ≡ false) (rowsFor now t c) (r .0) (numbered-before t now (c .client) (c .option) (c .reply)) (r .1) in
+        let z : eqb (r .0) 0 ≡ false = first-number (λ m. eqb m 0 ≡ false) (rowsFor now t c) (numbered-before t now (c .client) (c .option) (c .reply)) (r .0) (r .1) in
         subst (AskBalance t now) (sym (r .2))
         (refused-balance t now 0 (r .0) z ∙ ap (λ (es : List Entry). addressesOf (leasesOf t) + addressesIn es) (sym (reads-none (r .0) (refusalPlace (c .option) (r .0)) t (c .reply))))
 

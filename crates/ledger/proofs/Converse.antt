@@ -1,6 +1,6 @@
 -- THE CONVERSE of demand 3's list: where every well-formed ask of a list is granted, the prefixes could be chosen and there was a slot for each.
 -- Assumes nothing.
-use Prim.Native.Nat.{ℕ, suc, _+_, _≤_}
+use Prim.Native.Nat.{ℕ, _+_, _≤_}
 use mathlib.Core.Path.{_≡_, refl, sym, ap, ap₂, subst, _∙_}
 use mathlib.Core.Logic.{_↔_, ⊎-elim}
 use mathlib.Core.Bool.{Bool, true, false}
@@ -20,16 +20,16 @@ use Rattle.space.proofs.Permuted.{grant-perm}
 use Rattle.option.specs.Values.{Entry}
 use Rattle.table.specs.declared.Lease.{Lease}
 use Rattle.table.specs.declared.LeaseTable.{LeaseTable}
-use Rattle.table.specs.Table.{leaseSlots, prefixOf, prefixesOf, poolsOf, present, sound}
+use Rattle.table.specs.Table.{leaseSlots, prefixOf, poolsOf, present, sound}
 use Rattle.table.proofs.TableLaws.{sound-fewer}
 use Rattle.ledger.specs.Ledger.{Request, entryOf, askLength, offer, add, offers, addAll, ask}
-use Rattle.ledger.specs.Demand3.{Call, run, Received, received, wellFormed, Accepts, asksOf, granted, entryPrefix, inUse, wellFormedCalls, wellFormedAsks, lengthsAsked, prefixesAt, CanBeChosen, AllGranted}
-use Rattle.ledger.proofs.ListFacts.{split-some}
+use Rattle.ledger.specs.Demand3.{Call, run, Received, received, wellFormed, Accepts, asksOf, granted, entryPrefix, inUse, wellFormedCalls, wellFormedAsks, lengthsAsked, prefixesAt, CanBeChosen}
+use Rattle.lists.proofs.PartLaws.{split-some}
 use Rattle.ledger.proofs.EmptySlots.{empty-slots}
-use Rattle.ledger.proofs.OfferLaws.{prefixes, prefix?, pools-good, Offered, Offer, offer-is, add-perm}
+use Rattle.ledger.proofs.OfferLaws.{prefixes, prefix?, pools-good, Offer, offer-is, add-perm, offers-length}
 use Rattle.ledger.proofs.AskLaws.{entry?}
 use Rattle.ledger.proofs.CallLaws.{run-not, called, granted-is}
-use Rattle.ledger.proofs.Demand3Holds.{serve-append, addAll-perm, State, same, next, start, pools-same, lens-same, offers-length, all-granted}
+use Rattle.ledger.proofs.Demand3Holds.{serve-append, addAll-perm, State, same, next, start, pools-same, lens-same, prefixes-of, all-granted}
 
 -- "every well-formed ask is granted"
 abbrev pub EveryGranted : ℕ → LeaseTable → List Call → Type 0
@@ -47,10 +47,6 @@ told-leases (some x ∷ os) (g ∷ gs) e =
     let h : some (entryOf x) ≡ some g = head-eq-of-cons-eq e in
     let k : entryOf x ≡ g = cc in
     (x ∷ r .0, ap (λ (l : List (Option Lease)). some x ∷ l) (r .1), ap₂ (λ (b : Entry) (l : List Entry). b ∷ l) k (r .2))
-
-prefixes-told : (ys : List Lease) → map entryPrefix (map entryOf ys) ≡ prefixes ys
-prefixes-told [] = refl
-prefixes-told (y ∷ ys) = ap (λ (l : List Prefix). prefixOf y ∷ l) (prefixes-told ys)
 
 -- Offers that lack nothing are the grants of crate `space`.
 module _ (t : LeaseTable) (good : Pools (poolsOf t)) (now client : ℕ) where
@@ -140,12 +136,12 @@ module _ (t : LeaseTable) (now : ℕ) (st : sound t ≡ true) (ac : Accepts t no
       (ap₂ (λ (ps : List Prefix) (z : List ℕ). after ps ls z) (pools-same t now st ac u s) (lens-same t now st ac u (asksOf c) s)) (m .1)) in
       let n : length (present now (run ask now u c .table .leases)) ≡ length xs + length (asksOf c) =
       ap length (called now u c w .left) ∙ ap (λ (z : List (Option Lease)). length (addAll z xs)) (a .1) ∙ perm-length (addAll-perm (a .0) xs) ∙ length-append xs (a .0)
-      ∙ omega (arith, length-map (a .0) some, ap length (a .1), offers-length t now st ac u now (c .client) (asksOf c) xs) in
+      ∙ omega (arith, length-map (a .0) some, ap length (a .1), offers-length u now (c .client) (asksOf c) xs) in
       let rest = k (run ask now u c .table) (after (poolsOf t) ls js) (r .1) (next t now st ac u c s) q (r .3) in (
         ap (λ (z : List Call). serve (poolsOf t) ls (map (askLength t) (gather asksOf z))) f
             ∙ ap (serve (poolsOf t) ls) (map-append (askLength t) (asksOf c) (wellFormedAsks now t cs))
             ∙ serve-append (poolsOf t) ls js (lengthsAsked now t cs)
-            ∙ ap₂ (λ (x y : List (Option Prefix)). x ++ y) (d ∙ ap (map some) (sym (prefixes-told (a .0)) ∙ ap (map entryPrefix) (a .2))) (rest .0)
+            ∙ ap₂ (λ (x y : List (Option Prefix)). x ++ y) (d ∙ ap (map some) (sym (prefixes-of (a .0)) ∙ ap (map entryPrefix) (a .2))) (rest .0)
             ∙ sym (map-append some (map entryPrefix (r .0)) (map entryPrefix (r .1)))
             ∙ ap (map some) (sym (map-append entryPrefix (r .0) (r .1)) ∙ ap (map entryPrefix) (sym (r .4))),
         omega (arith, n, rest .1, ap (λ (z : List Call). length (gather asksOf z)) f, length-append (asksOf c) (wellFormedAsks now t cs)),

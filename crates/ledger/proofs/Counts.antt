@@ -1,20 +1,19 @@
 -- How many: what an ask grants, what the entries of a take find, what a page of a list has; and that each reply fits every buffer that row 1 lets pass.
 -- Assumes nothing.
-use Prim.Native.Nat.{ℕ, zero, suc, _+_, _*_, _≤_, _<_}
-use mathlib.Core.Path.{_≡_, refl, sym, ap, subst, _∙_}
+use Prim.Native.Nat.{ℕ, zero, suc, _≤_, _<_}
+use mathlib.Core.Path.{_≡_, ap}
 use mathlib.Core.Logic.{_⊎_, inl, inr, ⊎-elim}
 use mathlib.Core.Bool.{Bool, true, false, not}
-use mathlib.Core.List.{List, [], _∷_, _++_, map}
-use mathlib.Core.Option.{Option, none, some}
+use mathlib.Core.List.{List, [], _∷_, map}
 use native.Mathlib.Omega.{arith}
-use lib.ListN.{length, getD, length-append}
+use lib.ListN.{length, length-append}
 use lib.ListN.{take as upTo}
 use lib.Dec.{leb, eqb}
 use borrow.Author.Tests.{leb-true, eqb-true}
-use Rattle.lists.specs.Lists.{All, every, all?, those, gather, somes}
+use Rattle.lists.specs.Lists.{All, all?, those, somes}
+use Rattle.lists.proofs.PartLaws.{somes-few}
 use Rattle.lists.proofs.Tests.{bool-cases, every-to}
 use Rattle.lists.proofs.ListLaws.{all-map}
-use Rattle.lists.proofs.DropLaws.{all-at}
 use Rattle.lists.proofs.ThoseLaws.{those-yes, those-no, those-none}
 use Rattle.prefix.specs.Prefixes.{end}
 use Rattle.prefix.proofs.PrefixLaws.{size-positive}
@@ -25,30 +24,16 @@ use Rattle.table.specs.declared.LeaseTable.{LeaseTable}
 use Rattle.table.specs.Table.{prefixOf, present, sound}
 use Rattle.table.proofs.Ascending.{Ascending, ascending-low}
 use Rattle.table.proofs.TableLaws.{sound-fine}
-use Rattle.ledger.specs.Ledger.{Request, entryOf, forAsk, informationFor, add, offer, offers, names?, found}
+use Rattle.ledger.specs.Ledger.{Request, entryOf, forAsk, informationFor, offers, names?, found}
+use Rattle.ledger.proofs.OfferLaws.{offers-length}
 use Rattle.ledger.proofs.ReplyLaws.{ask-bytes, information-bytes}
-
-pub upTo-few : {A : Type 0} (n : ℕ) (xs : List A) → length (upTo n xs) ≤ n
-upTo-few zero xs = omega arith
-upTo-few (suc n) [] = omega arith
-upTo-few (suc n) (x ∷ xs) = omega (arith, upTo-few n xs)
 
 pub upTo-all : {A : Type 0} (P : A → Type 0) (n : ℕ) (xs : List A) → All P xs → All P (upTo n xs)
 upTo-all P zero xs a = tt
 upTo-all P (suc n) [] a = tt
 upTo-all P (suc n) (x ∷ xs) a = (a .0, upTo-all P n xs (a .1))
 
-pub somes-few : {A : Type 0} (os : List (Option A)) → length (somes os) ≤ length os
-somes-few [] = omega arith
-somes-few (none ∷ os) = omega (arith, somes-few os)
-somes-few (some x ∷ os) = omega (arith, somes-few os)
-
 -- ASK: no more than it has requests, and these are at most 25.
-
-pub offers-length : (t : LeaseTable) (now client : ℕ) (rs : List Request) (xs : List Lease) → length (offers t now client xs rs) ≡ length rs
-unfolding offers
-offers-length t now client [] xs = refl
-offers-length t now client (r ∷ rs) xs = ap suc (offers-length t now client rs (add (offer t now client xs r) xs))
 
 pub asks-few : (rs : List Request) → forAsk rs ≡ true → length rs ≤ 25
 asks-few rs e = leb-true (length rs) 25 (every-to (leb 1 (length rs) ∷ leb (length rs) 25 ∷ all? (λ r. not (r .i)) rs ∷ []) e .1 .0)
@@ -86,24 +71,6 @@ named-once client from e (x ∷ xs) s =
     ))
     (λ (h : names? client x e ≡ false).
     omega (arith, ap length (those-no (λ x. names? client x e) x xs h), named-once client (end (prefixOf x)) e xs (s .1)))
-    (bool-cases (names? client x e))
-
--- The one that it names, at its place.
-pub named-one : (client from : ℕ) (e : Entry) (xs : List Lease) → Ascending prefixOf from xs → (i : ℕ) (d : Lease) → i < length xs → names? client (getD xs i d) e ≡ true
-    → those (λ x. names? client x e) xs ≡ getD xs i d ∷ []
-named-one client from e [] s i d l h = absurd (omega arith)
-named-one client from e (x ∷ xs) s zero d l h =
-    let up : All (λ y. x .network < y .network) xs =
-    all-map (λ y (k : end (prefixOf x) ≤ y .network). omega (arith, size-positive (x .length))) xs (ascending-low prefixOf (end (prefixOf x)) xs (s .1)) in
-    those-yes (λ x. names? client x e) x xs h
-    ∙ ap (λ (l : List Lease). x ∷ l) (not-named client (x .network) e xs (eqb-true (x .network) (e .network) (every-to (nameTests client x e) h .1 .0)) up)
-named-one client from e (x ∷ xs) s (suc i) d l h =
-    let low : end (prefixOf x) ≤ getD xs i d .network = all-at (λ y. end (prefixOf x) ≤ y .network) xs (ascending-low prefixOf (end (prefixOf x)) xs (s .1)) i d (omega arith) in
-    let there : getD xs i d .network ≡ e .network = eqb-true (getD xs i d .network) (e .network) (every-to (nameTests client (getD xs i d) e) h .1 .0) in
-    ⊎-elim
-    (λ (k : names? client x e ≡ true).
-    absurd (omega (arith, low, there, eqb-true (x .network) (e .network) (every-to (nameTests client x e) k .1 .0), size-positive (x .length))))
-    (λ (k : names? client x e ≡ false). those-no (λ x. names? client x e) x xs k ∙ named-one client (end (prefixOf x)) e xs (s .1) i d (omega arith) h)
     (bool-cases (names? client x e))
 
 found-few-in : (client : ℕ) (xs : List Lease) → Ascending prefixOf 0 xs → (es : List Entry) → length (found client xs es) ≤ length es

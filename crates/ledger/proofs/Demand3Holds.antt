@@ -1,34 +1,33 @@
 -- DEMAND 3 IS MET by the ledger's ask.
 -- Assumes nothing.
-use Prim.Native.Nat.{ℕ, zero, suc, _+_, _-_, _≤_, _<_}
+use Prim.Native.Nat.{ℕ, _+_, _-_, _≤_}
 use mathlib.Core.Path.{_≡_, refl, sym, ap, ap₂, subst, _∙_}
-use mathlib.Core.Logic.{_⊎_, _↔_, inl, inr, ⊎-elim, by-cases}
+use mathlib.Core.Logic.{_⊎_, ⊎-elim, by-cases}
 use native.Mathlib.Decide.{decLe}
-use mathlib.Core.Bool.{Bool, true, false, not, cond, true≢false}
+use mathlib.Core.Bool.{Bool, true, false, cond, true≢false}
 use mathlib.Core.List.{List, [], _∷_, _++_, map, map-append, append-assoc, nil≢cons, head-eq-of-cons-eq, tail-eq-of-cons-eq, List·Permᴰ, Permᴰ·refl, Permᴰ·symm, Permᴰ·append-nil, Permᴰ·append-right, Permᴰ·middle}
 use mathlib.Core.Option.{Option, none, some, Option·some-ne-none}
 use native.Mathlib.Omega.{arith}
 use lib.ListN.{length, length-append, length-map}
-use lib.Dec.{leb, eqb}
+use lib.Dec.{eqb}
 use Rattle.lists.specs.Lists.{All, Pairwise, those, gather, somes}
 use Rattle.lists.proofs.Tests.{bool-cases, cond-true, cond-false}
 use Rattle.lists.proofs.Permutations.{perm-length}
 use Rattle.prefix.specs.declared.Prefix.{Prefix}
-use Rattle.prefix.specs.Prefixes.{prefix, Apart}
+use Rattle.prefix.specs.Prefixes.{Apart}
 use Rattle.space.specs.Space.{Pools, Free, Packing, grant, withGrant, serve, after}
-use Rattle.space.proofs.ListTheorem.{list-theorem, serve-packing}
+use Rattle.space.proofs.ListTheorem.{list-theorem}
 use Rattle.option.specs.Values.{Entry}
 use Rattle.table.specs.declared.Lease.{Lease}
 use Rattle.table.specs.declared.LeaseTable.{LeaseTable}
-use Rattle.table.specs.Table.{leaseSlots, latest, prefixOf, prefixesOf, poolsOf, present, sound, insert}
-use Rattle.table.proofs.TableLaws.{sound-fewer}
-use Rattle.ledger.specs.Ledger.{Result, Request, entryOf, holdTime, askLength, offer, add, offers, addAll, ask, emptySlots}
-use Rattle.ledger.specs.Demand3.{Call, run, Received, received, afterAll, wellFormed, Accepts, asksOf, granted, entryPrefix, inUse, wellFormedCalls, wellFormedAsks, lengthsAsked, prefixesAt, CanBeChosen, leaseFor, made, AllGranted, Untouched, Demand3}
-use Rattle.ledger.proofs.ListFacts.{somes-some, split-some}
+use Rattle.table.specs.Table.{leaseSlots, latest, prefixOf, prefixesOf, poolsOf, present, sound}
+use Rattle.ledger.specs.Ledger.{Request, entryOf, holdTime, askLength, offer, add, offers, addAll, ask}
+use Rattle.ledger.specs.Demand3.{Call, run, Received, received, afterAll, wellFormed, Accepts, asksOf, granted, entryPrefix, inUse, wellFormedAsks, lengthsAsked, prefixesAt, CanBeChosen, leaseFor, made, AllGranted, Untouched, Demand3}
+use Rattle.lists.proofs.PartLaws.{somes-some, split-some}
 use Rattle.ledger.proofs.EmptySlots.{empty-slots}
-use Rattle.ledger.proofs.OfferLaws.{prefixes, prefix?, pools-good, insert-perm, Offered, Offer, offer-is, offers-serve, offers-after}
+use Rattle.ledger.proofs.OfferLaws.{prefixes, prefix?, pools-good, insert-perm, Offer, offer-is, offers-serve, offers-after, offers-length}
 use Rattle.ledger.proofs.AskLaws.{entry?}
-use Rattle.ledger.proofs.CallLaws.{WellFormed, well, run-not, well-same, Served, called, granted-is}
+use Rattle.ledger.proofs.CallLaws.{well, run-not, well-same, called, granted-is}
 use Rattle.ledger.proofs.FirstSentence.{first-sentence}
 
 -- LISTS
@@ -71,7 +70,7 @@ lengths-of : (ys : List Lease) → map (λ (z : Entry). z .length) (map entryOf 
 lengths-of [] = refl
 lengths-of (y ∷ ys) = ap (λ (l : List ℕ). y .length ∷ l) (lengths-of ys)
 
-prefixes-of : (ys : List Lease) → map entryPrefix (map entryOf ys) ≡ prefixes ys
+pub prefixes-of : (ys : List Lease) → map entryPrefix (map entryOf ys) ≡ prefixes ys
 prefixes-of [] = refl
 prefixes-of (y ∷ ys) = ap (λ (l : List Prefix). prefixOf y ∷ l) (prefixes-of ys)
 
@@ -220,11 +219,6 @@ module _ (t : LeaseTable) (now : ℕ) (st : sound t ≡ true) (ac : Accepts t no
 
   pub pools-same : (u : LeaseTable) → State t now u → poolsOf u ≡ poolsOf t
   pools-same u s = ap prefixesOf (s .pools)
-
-  pub offers-length : (u : LeaseTable) (now′ client : ℕ) (rs : List Request) (xs : List Lease) → length (offers u now′ client xs rs) ≡ length rs
-  unfolding offers
-  offers-length u now′ client [] xs = refl
-  offers-length u now′ client (r ∷ rs) xs = ap suc (offers-length u now′ client rs (add (offer u now′ client xs r) xs))
 
   abbrev Claim : List Call → Type 0
   Claim cs = (u : LeaseTable) (ls gs : List Prefix) → State t now u → List·Permᴰ (inUse now u) ls → serve (poolsOf t) ls (lengthsAsked now t cs) ≡ map some gs

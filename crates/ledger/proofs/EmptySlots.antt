@@ -3,8 +3,8 @@
 use Prim.Native.Nat.{ℕ, _+_, _-_, _≤_}
 use mathlib.Core.Path.{_≡_, refl, sym, ap, _∙_}
 use mathlib.Core.Logic.{inl, inr, ⊎-elim}
-use mathlib.Core.Bool.{Bool, true, false, cond}
-use mathlib.Core.List.{List, [], _∷_, map}
+use mathlib.Core.Bool.{true, false}
+use mathlib.Core.List.{List, [], _∷_}
 use native.Mathlib.Omega.{arith}
 use lib.ListN.{length, length-map}
 use lib.Dec.{leb, ltb}
@@ -17,7 +17,7 @@ use Rattle.table.specs.Table.{leaseSlots, prefixOf, empty?, present, sound}
 use Rattle.table.proofs.TableLaws.{empty-to, sound-slots, present-yes, present-no}
 use Rattle.ledger.specs.Ledger.{emptySlot?, emptySlots}
 use Rattle.ledger.specs.Demand3.{inUse}
-use Rattle.ledger.proofs.ListFacts.{Opposite, count-parts}
+use Rattle.lists.proofs.PartLaws.{Opposite, count-parts}
 
 -- An empty slot has ended at every time.
 pub empty-ended : (now : ℕ) (x : Lease) → emptySlot? now x ≡ leb (x .expires) now

@@ -1,43 +1,41 @@
 -- Arguments within the sizes of the code's types give results within them: tables, reply buffers and answers.
 -- Assumes nothing.
-use Prim.Native.Nat.{ℕ, zero, suc, _+_, _-_, _*_, _/_, _%_, _≤_, _<_}
-use mathlib.Core.Path.{_≡_, refl, sym, ap, subst, _∙_}
-use mathlib.Core.Logic.{_⊎_, inl, inr, ⊎-elim}
+use Prim.Native.Nat.{ℕ, _+_, _-_, _≤_, _<_}
+use mathlib.Core.Path.{_≡_, refl}
 use mathlib.Core.Bool.{Bool, true, false, not, cond}
 use mathlib.Core.List.{List, [], _∷_, _++_, map}
 use mathlib.Core.Option.{Option, none, some}
 use native.Mathlib.Omega.{arith}
-use lib.ListN.{length, drop, replicate, length-map, length-append}
+use lib.ListN.{length, drop, replicate, length-map}
 use lib.ListN.{take as upTo}
-use lib.Dec.{leb, ltb, eqb}
+use lib.Dec.{ltb}
 use borrow.Author.Tests.{ltb-false, eqb-false, not-false}
-use Rattle.lists.specs.Lists.{All, those, gather, somes}
-use Rattle.lists.proofs.Tests.{bool-cases}
-use Rattle.lists.proofs.ListLaws.{all-map, all-map₂, all-append, all-image, any-all}
+use Rattle.lists.specs.Lists.{All, those, somes}
+use Rattle.lists.proofs.TakeLaws.{take-short}
+use Rattle.lists.proofs.ListLaws.{all-map, all-append, all-image, any-all}
 use Rattle.lists.proofs.DropLaws.{all-drop}
 use Rattle.lists.proofs.ThoseLaws.{those-all, those-fewer, all-replicate}
 use Rattle.lists.proofs.SortingLaws.{insertBy-all, sortBy-all}
 use Rattle.prefix.specs.declared.Prefix.{Prefix}
-use Rattle.prefix.specs.Prefixes.{size, end, Inside}
+use Rattle.prefix.specs.Prefixes.{end}
 use Rattle.prefix.proofs.PrefixLaws.{size-positive}
-use Rattle.space.specs.Space.{Pools}
 use Rattle.option.specs.Values.{Entry, SuboptionValue, information}
-use Rattle.option.specs.Writing.{bit, flags, fourBytes, twoBytes, entryHead, entryBytes, entriesBytes, informationHead, suboptionBytes, suboptionsBytes, optionHead, optionBytes}
+use Rattle.option.specs.Writing.{flags, fourBytes, entryHead, entryBytes, entriesBytes, informationHead, suboptionBytes, suboptionsBytes, optionHead, optionBytes}
 use Rattle.option.proofs.WritingLaws.{option-length}
 use Rattle.option.proofs.Replies.{bare-entries-length}
 use Rattle.table.specs.declared.Lease.{Lease}
 use Rattle.table.specs.declared.LeaseTable.{LeaseTable}
-use Rattle.table.specs.Table.{leaseSlots, latest, addresses, noPool, noLease, networkOf, prefixOf, poolsOf, padded, present, sound, store}
+use Rattle.table.specs.Table.{leaseSlots, latest, addresses, noPool, noLease, networkOf, poolsOf, present, sound, store}
 use Rattle.opening.specs.Open.{poolNetwork}
 use Rattle.opening.specs.Open.{given, sortPools}
-use Rattle.table.proofs.TableLaws.{Good, sound-term, sound-fine, sound-fewer, fine-those, store-sound}
-use Rattle.ledger.specs.Ledger.{Answer, Result, Update, openRows, openTable, Row, firstOf, before, refuse, Request, requestsIn, entriesIn, entryOf, holdTime, informationFor, askOffers, add, offer, offers, addAll, forAsk, askRows, ask, names?, namedBy?, found, refusalPlace, renew, renewNamed, takeRows, take, listedIn, listRows, list, releaseRows, release, at?, withD, markRows, mark}
+use Rattle.table.proofs.TableLaws.{Good, sound-term, sound-fine, sound-fewer}
+use Rattle.ledger.specs.Ledger.{Result, Update, openRows, openTable, Row, refuse, Request, requestsIn, entriesIn, entryOf, informationFor, askOffers, add, offer, offers, addAll, forAsk, askRows, ask, names?, namedBy?, found, refusalPlace, renew, renewNamed, takeRows, take, listedIn, listRows, list, releaseRows, release, at?, withD, markRows, mark}
 use Rattle.ledger.specs.Sizes.{Word, Byte, Bytes, SizedPool, SizedLease, SizedTable, SizedAnswer}
 use Rattle.ledger.proofs.RowLaws.{first-none, by-numbers}
 use Rattle.ledger.proofs.ReadLaws.{requests-short, entries-few, option-short, place-short}
 use Rattle.ledger.proofs.ReplyLaws.{bare}
-use Rattle.ledger.proofs.Counts.{upTo-few, upTo-all, granted-few, ask-fits, found-few, information-fits}
-use Rattle.ledger.proofs.OfferLaws.{pools-good, pools-within, Offered, Offer, offer-is, Inv, offers-inv, offers-good, length-bounds}
+use Rattle.ledger.proofs.Counts.{upTo-all, granted-few, ask-fits, found-few, information-fits}
+use Rattle.ledger.proofs.OfferLaws.{pools-good, pools-within, Offered, Offer, offer-is, offers-good, length-bounds}
 
 -- BYTES OF A REPLY
 
@@ -236,7 +234,7 @@ module _ (t : LeaseTable) (now client : ℕ) (option reply : List ℕ) (st : Siz
       let s : sound t ≡ true = not-false (sound t) (r .1 .0) in
       let gs : List Lease = listedIn t now client option in
       let page : List Lease = upTo 35 gs in
-      let few : length page ≤ 35 = upTo-few 35 gs in
+      let few : length page ≤ 35 = take-short 35 gs in
       let told : All Told gs =
       those-all _ Told (present now (t .leases)) (all-map (λ x (g : Good (poolsOf t) now x). good-told (poolsOf t) now x (pools-within t s) g) (present now (t .leases)) (sound-fine t s now .0)) in
       record {

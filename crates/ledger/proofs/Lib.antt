@@ -1,5 +1,4 @@
 -- Laws of the definitions, and the theorems.
-pub mod ListFacts
 pub mod RowLaws
 pub mod ReadLaws
 pub mod OfferLaws
@@ -18,4 +17,3 @@ pub mod Resuming
 pub mod NothingBehind
 pub mod Counts
 pub mod InRange
-pub mod StepLaws

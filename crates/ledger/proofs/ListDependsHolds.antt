@@ -1,17 +1,19 @@
 -- A list's answer depends only on what document 01 says.
 -- Assumes nothing.
-use Prim.Native.Nat.{ℕ, zero, suc, _+_}
+use Prim.Native.Nat.{ℕ}
 use mathlib.Core.Path.{_≡_, refl, sym, ap, ap₂, _∙_}
-use mathlib.Core.Bool.{Bool, true, false, not, cond, _&&_, true≢false}
-use mathlib.Core.List.{List, [], _∷_, _++_, map}
+use mathlib.Core.Bool.{Bool, true, false, not, _&&_, true≢false}
+use mathlib.Core.List.{List, [], _∷_, map}
 use mathlib.Core.Option.{Option, none, some}
 use lib.ListN.{length, drop}
 use lib.ListN.{take as upTo}
 use lib.Seq.{take-append-seam}
-use lib.Dec.{leb, ltb, eqb}
+use lib.Dec.{ltb, eqb}
 use native.Mathlib.Omega.{arith}
 use borrow.Author.Tests.{ltb-true}
 use Rattle.lists.specs.Lists.{every, those}
+use Rattle.lists.proofs.MapLaws.{those-those}
+use Rattle.lists.proofs.ThoseLaws.{those-same}
 use Rattle.lists.proofs.Tests.{bool-cases, not-of}
 use mathlib.Core.Logic.{⊎-elim}
 use Rattle.option.specs.Values.{information}
@@ -21,9 +23,8 @@ use Rattle.table.specs.declared.Lease.{Lease}
 use Rattle.table.specs.declared.LeaseTable.{LeaseTable}
 use Rattle.table.specs.Table.{latest, empty?, present, sound}
 use Rattle.table.proofs.TableLaws.{empty-to}
-use Rattle.ledger.specs.Ledger.{Answer, Result, refuse, accept, Row, firstOf, orElse, nothing?, refuses?, refusalPlace, suboptions, requestsIn, entryOf, forList, position, above?, listed, listedIn, listRows, list}
-use Rattle.ledger.specs.ListDepends.{leasesFor, answered, DependsOnly}
-use Rattle.ledger.proofs.ListFacts.{those-those, those-same}
+use Rattle.ledger.specs.Ledger.{Result, refuse, accept, Row, firstOf, orElse, nothing?, refuses?, refusalPlace, suboptions, requestsIn, entryOf, forList, position, above?, listed, listedIn, listRows, list}
+use Rattle.ledger.specs.ListDepends.{answered, DependsOnly}
 
 -- What is listed is a part of this client's leases: a slot that expires after a time is not empty.
 not-empty : (now : ℕ) (x : Lease) → ltb now (x .expires) ≡ true → not (empty? x) ≡ true
@@ -49,11 +50,11 @@ listed-from : (now client : ℕ) (p : Option ℕ) (xs : List Lease)
     → listed client p (present now xs) ≡ those (λ x. ltb now (x .expires) && wanted p x) (those (λ x. every (not (empty? x) ∷ eqb (x .client) client ∷ [])) xs)
 unfolding present
 listed-from now client p xs =
-    those-those (λ x. every (eqb (x .client) client ∷ x .leased ∷ above? p (x .network) ∷ [])) (λ x. ltb now (x .expires)) xs
+    those-those (λ x. ltb now (x .expires)) (λ x. every (eqb (x .client) client ∷ x .leased ∷ above? p (x .network) ∷ [])) xs
     ∙ those-same (λ x. ltb now (x .expires) && every (eqb (x .client) client ∷ x .leased ∷ above? p (x .network) ∷ []))
     (λ x. every (not (empty? x) ∷ eqb (x .client) client ∷ []) && (ltb now (x .expires) && wanted p x))
     (λ x. regroup (ltb now (x .expires)) (not (empty? x)) (eqb (x .client) client) (wanted p x) (not-empty now x)) xs
-    ∙ sym (those-those (λ x. ltb now (x .expires) && wanted p x) (λ x. every (not (empty? x) ∷ eqb (x .client) client ∷ [])) xs)
+    ∙ sym (those-those (λ x. every (not (empty? x) ∷ eqb (x .client) client ∷ [])) (λ x. ltb now (x .expires) && wanted p x) xs)
 
 -- The rows as a function of what they depend on.
 abbrev rowsBy : ℕ → ℕ → List ℕ → Bool → ℕ → ℕ → List Lease → List Row

@@ -1,18 +1,17 @@
 -- A STRUCK LEASE LEAVES NOTHING BEHIND: two sound tables with the same pools, term, default length and present leases at a time that both accept get the
 -- same answer, the same buffer and, where the call is accepted, the same table from every call (list leaves each its own); and freed slots are zero.
 -- Assumes nothing.
-use Prim.Native.Nat.{ℕ, zero, suc, _-_, _≤_}
+use Prim.Native.Nat.{ℕ, _-_}
 use mathlib.Core.Path.{_≡_, refl, sym, ap, ap₂, subst, _∙_}
 use mathlib.Core.Bool.{Bool, true, false, not, cond, _&&_}
 use mathlib.Core.List.{List, [], _∷_, _++_, map}
-use mathlib.Core.Option.{Option, none, some, Option·some-ne-none}
-use native.Mathlib.Omega.{arith}
+use mathlib.Core.Option.{Option, none, some}
 use lib.ListN.{length, drop}
 use lib.ListN.{take as upTo}
 use lib.Dec.{ltb, eqb}
 use borrow.Author.Tests.{eq-eqb, le-ltb}
 use mathlib.Core.Bool.{true≢false}
-use Rattle.lists.specs.Lists.{All, somes, those, any?}
+use Rattle.lists.specs.Lists.{somes, those, any?}
 use Rattle.option.specs.Values.{information}
 use Rattle.option.specs.Reading.{readOption}
 use Rattle.option.specs.Writing.{optionBytes}
@@ -21,8 +20,8 @@ use Rattle.space.specs.Space.{grant}
 use Rattle.table.specs.declared.Lease.{Lease}
 use Rattle.table.specs.declared.LeaseTable.{LeaseTable}
 use Rattle.table.specs.Table.{latest, prefixOf, poolsOf, prefixesOf, padded, present, sound, store}
-use Rattle.table.proofs.TableLaws.{sound-whole, store-leases, store-last}
-use Rattle.ledger.specs.Ledger.{Answer, Result, Update, refuse, refuseUpdate, acceptance, accept, acceptUpdate, entryOf, offered, addAll, informationFor, renewNamed, position, listed, withD, Row, firstOf, orElse, refusalPlace, refuses?, nothing?, requestsIn, entriesIn, suboptions, full, Request, askLength, offer, offers, add, askOffers, forAsk, askRows, ask, namedBy?, found, forTake, takeRows, take, forList, listedIn, listRows, list, releaseRows, release, at?, markRows, mark}
+use Rattle.table.proofs.TableLaws.{sound-whole, store-last}
+use Rattle.ledger.specs.Ledger.{Result, Update, refuse, refuseUpdate, acceptance, accept, acceptUpdate, entryOf, offered, addAll, informationFor, renewNamed, position, listed, withD, Row, firstOf, orElse, refusalPlace, refuses?, nothing?, requestsIn, entriesIn, suboptions, full, Request, offer, offers, add, askOffers, forAsk, askRows, ask, namedBy?, found, forTake, takeRows, take, forList, listedIn, listRows, list, releaseRows, release, at?, markRows, mark}
 use Rattle.ledger.specs.Demand3.{Accepts}
 use Rattle.ledger.specs.Histories.{leasesOf}
 use Rattle.ledger.proofs.RowLaws.{Numbered, first-number, by-rows, numbered-ask, numbered-take, numbered-list, numbered-release, numbered-mark}
@@ -70,7 +69,7 @@ same-rows Q rows rows′ refusing refusing′ accepting accepting′ e k a b =
   where
     go : (o : Option ℕ) → firstOf rows ≡ o → Q (orElse o refusing accepting) (orElse o refusing′ accepting′)
     go none f = b
-    go (some n) f = a n (first-number (λ m. eqb m 0 ≡ false) rows n k f)
+    go (some n) f = a n (first-number (λ m. eqb m 0 ≡ false) rows k n f)
 
 module _ (now : ℕ) (t u : LeaseTable) (a : Alike now t u) where
   pools-same : poolsOf t ≡ poolsOf u

@@ -3,12 +3,12 @@
 use Prim.Native.Nat.{ℕ, zero, suc, _+_, _-_, _≤_, _<_}
 use mathlib.Core.Path.{_≡_, refl, sym, ap, subst, _∙_}
 use mathlib.Core.Logic.{_⊎_, inl, inr, ⊎-elim}
-use mathlib.Core.Bool.{Bool, true, false, not, cond}
+use mathlib.Core.Bool.{true, false}
 use mathlib.Core.List.{List, [], _∷_, _++_, map, List·Permᴰ}
 use mathlib.Core.Option.{Option, none, some}
 use native.Mathlib.Omega.{arith}
-use lib.ListN.{length, length-map}
-use lib.Dec.{leb, eqb}
+use lib.ListN.{length}
+use lib.Dec.{eqb}
 use borrow.Author.Tests.{leb-true, leb-false, le-leb, lt-leb, eqb-false}
 use Rattle.lists.specs.Lists.{All, Any, Pairwise, somes}
 use Rattle.lists.proofs.Tests.{bool-cases, cond-true, cond-false}
@@ -18,7 +18,7 @@ use Rattle.lists.proofs.SortingLaws.{insertBy-perm}
 use Rattle.prefix.specs.declared.Prefix.{Prefix}
 use Rattle.prefix.specs.Prefixes.{longest, end, Aligned, Inside, Apart}
 use Rattle.space.specs.Space.{Pools, Before, Ordered, Free, Takes, grant, withGrant, serve, after}
-use Rattle.space.proofs.ListTheorem.{refused⇔none-free, granted-free}
+use Rattle.space.proofs.ListTheorem.{granted-free}
 use Rattle.space.proofs.Rules.{grant-takes}
 use Rattle.space.proofs.Permuted.{grant-perm}
 use Rattle.table.specs.declared.Pool.{Pool}
@@ -26,7 +26,7 @@ use Rattle.table.specs.declared.Lease.{Lease}
 use Rattle.table.specs.declared.LeaseTable.{LeaseTable}
 use Rattle.table.specs.Table.{leaseSlots, addresses, poolPrefix, prefixOf, networkOf, unused?, prefixesOf, poolsOf, sound, insert}
 use Rattle.table.proofs.Ascending.{Ascending, used, ascending-low, ascending-apart}
-use Rattle.table.proofs.TableLaws.{GoodPool, Good, Fine, GoodPools, sound-pools, sound-default, insert-fine}
+use Rattle.table.proofs.TableLaws.{GoodPool, Good, Fine, sound-pools, sound-default, insert-fine}
 use Rattle.ledger.specs.Ledger.{Request, askLength, full, holdTime, offered, offer, add, offers, addAll}
 
 abbrev pub prefixes : List Lease → List Prefix
@@ -204,6 +204,11 @@ pub offer-full : (t : LeaseTable) (now client : ℕ) (xs : List Lease) (r : Requ
 unfolding offer
 offer-full t now client xs r h = cond-true (full xs) none _ (le-leb leaseSlots (length xs) h)
 
+pub offers-length : (t : LeaseTable) (now client : ℕ) (rs : List Request) (xs : List Lease) → length (offers t now client xs rs) ≡ length rs
+unfolding offers
+offers-length t now client [] xs = refl
+offers-length t now client (r ∷ rs) xs = ap suc (offers-length t now client rs (add (offer t now client xs r) xs))
+
 -- One more request of a list.
 
 pub offers-snoc : (t : LeaseTable) (now client : ℕ) (rs : List Request) (xs : List Lease) (r : Request)
@@ -216,11 +221,6 @@ pub addAll-snoc : (os : List (Option Lease)) (o : Option Lease) (xs : List Lease
 unfolding addAll
 addAll-snoc [] o xs = refl
 addAll-snoc (p ∷ os) o xs = addAll-snoc os o (add p xs)
-
-pub somes-append : {A : Type 0} (os ps : List (Option A)) → somes (os ++ ps) ≡ somes os ++ somes ps
-somes-append [] ps = refl
-somes-append (none ∷ os) ps = somes-append os ps
-somes-append (some x ∷ os) ps = ap (λ (l : List _). x ∷ l) (somes-append os ps)
 
 -- Pools and leases in order.
 

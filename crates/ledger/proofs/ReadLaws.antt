@@ -1,28 +1,27 @@
--- What the reader gives: the length of a request is at most 30, an entry is a block, and an option has at most 63 requests and 35 entries.
+-- What the reader gives: the length of a request is at most 30, an option has at most 35 entries, and the place of a bad suboption lies in it.
 -- Assumes nothing.
 use Prim.Native.Nat.{ℕ, zero, suc, _+_, _*_, _≤_, _<_}
-use mathlib.Core.Path.{_≡_, refl, sym, ap, subst, _∙_}
+use mathlib.Core.Path.{_≡_, refl, sym, ap, subst}
 use mathlib.Core.Bool.{Bool, true, false, cond, _&&_, true≢false}
 use mathlib.Core.Logic.{by-cases}
 use native.Mathlib.Decide.{decLe}
-use mathlib.Core.List.{List, [], _∷_, _++_}
+use mathlib.Core.List.{List, [], _∷_}
 use native.Mathlib.Omega.{arith}
 use lib.ListN.{length, getD, length-append}
-use lib.Dec.{leb, eqb, ltb}
+use lib.Dec.{leb, eqb}
 use borrow.Author.Tests.{leb-true, leb-false, eqb-true}
-use Rattle.lists.specs.Lists.{All, all?}
+use Rattle.lists.specs.Lists.{All}
 use Rattle.lists.specs.Walk.{Turn, more, stop, onTurn, walk}
-use Rattle.lists.proofs.Tests.{and-to, all?-to}
+use Rattle.lists.proofs.Tests.{and-to}
 use Rattle.lists.proofs.WalkLaws.{more-not-stop}
-use Rattle.lists.proofs.ListLaws.{all-append}
-use Rattle.lists.proofs.DropLaws.{all-at}
+use Rattle.lists.proofs.IndexLaws.{all-at}
 use Rattle.prefix.specs.Prefixes.{longest}
-use Rattle.option.specs.Values.{Entry, SuboptionValue, request, information, name, unknown, Outcome, refused, accepted}
-use Rattle.option.specs.Rules.{entryFields?, fields?}
+use Rattle.option.specs.Values.{Entry, SuboptionValue, request, information, name, unknown, refused}
+use Rattle.option.specs.Rules.{fields?}
 use Rattle.option.specs.Reading.{End, whole, badAt, subEnd, subInside?, whenGood, readRequest, readEntry, readEntries, readInformation, readName, readBody, readSuboption, readSuboptions, ended, option?, readOption}
 use Rattle.option.proofs.EntryLaws.{entry-read}
-use Rattle.option.proofs.SuboptionLaws.{good-read, SuboptionRead, suboption-read, suboption-moves, suboption-ends, information-entries}
-use Rattle.ledger.specs.Ledger.{Request, refuses?, placeIn, refusalPlace, suboptions, requests, entries, requestsIn, entriesIn}
+use Rattle.option.proofs.SuboptionLaws.{good-read, suboption-read, suboption-moves, information-entries}
+use Rattle.ledger.specs.Ledger.{refuses?, placeIn, refusalPlace, suboptions, requests, entries, requestsIn, entriesIn}
 
 -- WHAT HOLDS OF EACH PIECE OF A WALK
 
@@ -97,19 +96,6 @@ requests-fields (unknown ∷ subs) a = requests-fields subs (a .1)
 -- "prefix length 0 to 30"
 pub requests-short : (s : List ℕ) → All (λ r. r .length ≤ longest) (requestsIn s)
 requests-short s = requests-fields (suboptions (readOption s)) (fields-read s)
-
-entries-fields : (subs : List SuboptionValue) → All (λ x. fields? x ≡ true) subs → All (λ e. entryFields? e ≡ true) (entries subs)
-unfolding fields?
-entries-fields [] a = tt
-entries-fields (request h i len ∷ subs) a = entries-fields subs (a .1)
-entries-fields (information c s es ∷ subs) a =
-    all-append (λ e. entryFields? e ≡ true) es (entries subs) (all?-to entryFields? (λ e h. h) es (a .0)) (entries-fields subs (a .1))
-entries-fields (name octets ∷ subs) a = entries-fields subs (a .1)
-entries-fields (unknown ∷ subs) a = entries-fields subs (a .1)
-
--- "An entry's prefix is 1 to 30, and network bits past the prefix are 0."
-pub entries-blocks : (s : List ℕ) → All (λ e. entryFields? e ≡ true) (entriesIn s)
-entries-blocks s = entries-fields (suboptions (readOption s)) (fields-read s)
 
 -- HOW MANY
 
@@ -203,15 +189,12 @@ few s l = go (option? s) refl
         )
     go false e = omega arith
 
--- An option holds at most 35 entries and at most 63 requests.
+-- An option holds at most 35 entries.
 pub entries-few : (s : List ℕ) → length s ≤ 257 → length (entriesIn s) ≤ 35
 entries-few s l =
     by-cases (decLe 1 (length (entriesIn s)))
     (λ h. omega (arith, few s l, entries-head (suboptions (readOption s)) h))
     (λ h. omega arith)
-
-pub requests-few : (s : List ℕ) → length s ≤ 257 → length (requestsIn s) ≤ 63
-requests-few s l = omega (arith, few s l, entries-of-weight (suboptions (readOption s)))
 
 -- An option of bytes that is no refusal of row 6 has at most 257 bytes.
 pub option-short : (s : List ℕ) → All (λ b. b < 256) s → refuses? 6 (readOption s) ≡ false → length s ≤ 257

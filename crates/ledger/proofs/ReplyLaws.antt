@@ -1,22 +1,22 @@
 -- What a reply reads back as: the entries of the leases that it tells of; and that a reply fits any buffer that row 1 lets pass.
 -- Assumes nothing.
-use Prim.Native.Nat.{ℕ, zero, suc, _+_, _*_, _≤_, _<_}
-use mathlib.Core.Path.{_≡_, refl, sym, ap, subst, _∙_}
-use mathlib.Core.Bool.{Bool, true, false, not, cond, _&&_}
+use Prim.Native.Nat.{ℕ, _+_, _*_}
+use mathlib.Core.Path.{_≡_, refl, ap, _∙_}
+use mathlib.Core.Bool.{Bool, true, false, cond}
 use mathlib.Core.List.{List, [], _∷_, _++_, map}
 use native.Mathlib.Omega.{arith}
 use lib.ListN.{length, length-map}
 use lib.ListN.{take as upTo}
 use lib.Seq.{take-append-seam}
-use lib.Dec.{leb, eqb}
+use lib.Dec.{eqb}
 use borrow.Author.Tests.{le-leb}
-use Rattle.lists.specs.Lists.{All, all?}
-use Rattle.lists.proofs.Tests.{and-of, all?-of}
+use Rattle.lists.specs.Lists.{All}
+use Rattle.lists.proofs.Tests.{and-of}
 use Rattle.lists.proofs.ListLaws.{all-map, all-image}
 use Rattle.prefix.specs.declared.Prefix.{Prefix}
-use Rattle.prefix.specs.Prefixes.{prefix, checked}
+use Rattle.prefix.specs.Prefixes.{prefix}
 use Rattle.prefix.proofs.PrefixLaws.{aligned-of}
-use Rattle.option.specs.Values.{Entry, SuboptionValue, information, Outcome, accepted}
+use Rattle.option.specs.Values.{Entry, SuboptionValue, information, Outcome}
 use Rattle.option.specs.Rules.{entryFields?}
 use Rattle.option.specs.Reading.{option?, readOption}
 use Rattle.option.specs.Writing.{optionBytes, entryWritable?, writable?}
@@ -25,7 +25,7 @@ use Rattle.option.proofs.WrittenReadsBack.{bytes-read-back}
 use Rattle.table.specs.declared.Lease.{Lease}
 use Rattle.table.specs.declared.LeaseTable.{LeaseTable}
 use Rattle.table.proofs.TableLaws.{Good}
-use Rattle.ledger.specs.Ledger.{Answer, Result, refuse, suboptions, entries, entriesIn, entryOf, informationFor}
+use Rattle.ledger.specs.Ledger.{refuse, suboptions, entries, entriesIn, entryOf, informationFor}
 use Rattle.ledger.specs.Demand3.{replyEntries}
 
 -- A good lease is a block, so its entry can be written.
@@ -37,14 +37,6 @@ informations-writable : (ps : List Prefix) (now : ℕ) (xs : List Lease) → All
 unfolding writable?
 informations-writable ps now xs a =
     all-image informationFor (λ v. writable? v ≡ true) xs (all-map (λ x (g : Good ps now x). and-of (entryWritable? (entryOf x)) true (entry-writable ps now x g) refl) xs a)
-
-pub information-writable : (c s : Bool) (ps : List Prefix) (now : ℕ) (x : Lease) (xs : List Lease) → All (Good ps now) (x ∷ xs)
-    → writable? (information c s (map entryOf (x ∷ xs))) ≡ true
-unfolding writable?
-information-writable c s ps now x xs a =
-    and-of _ _ (le-leb 1 (length (map entryOf (x ∷ xs))) (omega arith))
-    (all?-of entryWritable? (λ e (h : entryWritable? e ≡ true). h) (map entryOf (x ∷ xs))
-    (all-image entryOf (λ e. entryWritable? e ≡ true) (x ∷ xs) (all-map (λ y (g : Good ps now y). entry-writable ps now y g) (x ∷ xs) a)))
 
 entries-of : (xs : List Lease) → entries (map informationFor xs) ≡ map entryOf xs
 entries-of [] = refl

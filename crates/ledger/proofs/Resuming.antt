@@ -1,11 +1,11 @@
 -- RESUMING A LIST by its position never skips or repeats a lease that is still there, whatever was returned in between. (Document 01's last mistake:
 -- "resuming a list by position in the table, which skips a line after a return".)
 -- Assumes nothing.
-use Prim.Native.Nat.{ℕ, zero, suc, _+_, _-_, _≤_, _<_}
+use Prim.Native.Nat.{ℕ, zero, suc, _-_, _≤_, _<_}
 use mathlib.Core.Path.{_≡_, refl, sym, ap, ap₂, subst, _∙_}
-use mathlib.Core.Logic.{_⊎_, inl, inr, ⊎-elim}
-use mathlib.Core.Bool.{Bool, true, false, not, cond, _&&_, and-true}
-use mathlib.Core.List.{List, [], _∷_, _++_, map, nil≢cons, head-eq-of-cons-eq, tail-eq-of-cons-eq}
+use mathlib.Core.Logic.{_⊎_, ⊎-elim}
+use mathlib.Core.Bool.{Bool, true, false, not, _&&_}
+use mathlib.Core.List.{List, [], _∷_, map, nil≢cons, head-eq-of-cons-eq, tail-eq-of-cons-eq}
 use mathlib.Core.Option.{Option, none, some}
 use native.Mathlib.Omega.{arith}
 use lib.ListN.{length, drop}
@@ -13,10 +13,12 @@ use lib.ListN.{take as upTo}
 use lib.Dec.{ltb, eqb}
 use borrow.Author.Tests.{ltb-true, lt-ltb, le-ltb}
 use Rattle.lists.specs.Lists.{All, every, those}
+use Rattle.lists.proofs.MapLaws.{those-those}
+use Rattle.lists.proofs.ThoseLaws.{those-same, those-same-on}
 use Rattle.lists.proofs.Tests.{bool-cases, and-to}
 use Rattle.lists.proofs.ListLaws.{all-map, all-every}
 use Rattle.lists.proofs.ThoseLaws.{those-yes, those-no, those-all, those-whole}
-use Rattle.prefix.specs.Prefixes.{size, end}
+use Rattle.prefix.specs.Prefixes.{end}
 use Rattle.prefix.proofs.PrefixLaws.{size-positive}
 use Rattle.option.specs.Values.{request, information}
 use Rattle.option.specs.Reading.{readOption}
@@ -27,7 +29,6 @@ use Rattle.table.proofs.Ascending.{Ascending, ascending-low}
 use Rattle.table.proofs.TableLaws.{sound-fine, present-padded}
 use Rattle.ledger.specs.Ledger.{Update, entryOf, suboptions, entriesIn, namedBy?, lastNetwork, position, above?, listed, listedIn, releaseRows, release}
 use Rattle.ledger.specs.Histories.{Event, returned, next, afterwards}
-use Rattle.ledger.proofs.ListFacts.{those-those, those-same}
 use Rattle.ledger.proofs.EmptySlots.{present-later}
 use Rattle.ledger.proofs.RowLaws.{served-or-not}
 
@@ -36,10 +37,6 @@ tests client p x = eqb (x .client) client ∷ x .leased ∷ above? p (x .network
 
 abbrev wanted : ℕ → Option ℕ → Lease → Bool
 wanted client p x = every (tests client p x)
-
-those-same-on : {A : Type 0} (p q : A → Bool) (xs : List A) → All (λ x. p x ≡ q x) xs → those p xs ≡ those q xs
-those-same-on p q [] a = refl
-those-same-on p q (x ∷ xs) a = ap₂ (λ (b : Bool) (l : List _). cond b (x ∷ l) l) (a .0) (those-same-on p q xs (a .1))
 
 -- What is above an address that passed is above it too.
 above-later : (p : Option ℕ) (a b : ℕ) → above? p a ≡ true → a < b → above? p b ≡ true
@@ -97,7 +94,7 @@ and-swap false true = refl
 and-swap false false = refl
 
 those-swap : (p q : Lease → Bool) (xs : List Lease) → those p (those q xs) ≡ those q (those p xs)
-those-swap p q xs = those-those p q xs ∙ those-same (λ x. q x && p x) (λ x. p x && q x) (λ x. and-swap (q x) (p x)) xs ∙ sym (those-those q p xs)
+those-swap p q xs = those-those q p xs ∙ those-same (λ x. q x && p x) (λ x. p x && q x) (λ x. and-swap (q x) (p x)) xs ∙ sym (those-those p q xs)
 
 -- A SECOND LIST, whose position is the last network of the first one's page, on a table that keeps some of the leases (those not returned and not
 -- ended): exactly those of the leases after the page that are still there, in order; so none is skipped and none is listed again.
@@ -128,7 +125,7 @@ ended-later : (now later : ℕ) (keep : Lease → Bool) (xs : List Lease)
 unfolding present
 ended-later now later keep xs =
     present-padded later (leaseSlots - length (those keep (present now xs))) (those keep (present now xs))
-    ∙ ap (those (λ x. ltb later (x .expires))) (those-those keep (λ x. ltb now (x .expires)) xs)
+    ∙ ap (those (λ x. ltb later (x .expires))) (those-those (λ x. ltb now (x .expires)) keep xs)
     ∙ those-swap (λ x. ltb later (x .expires)) (λ x. ltb now (x .expires) && keep x) xs
 
 -- What is still there at a later time, of what was there at an earlier one.
@@ -156,7 +153,7 @@ returns-keep (e ∷ es) a t later =
       rest .1
           ∙ ap (λ (v : Event). those (rest .0) (present later (next t v .leases))) (a .0 .3)
           ∙ ap (those (rest .0)) (first .1)
-          ∙ those-those (rest .0) (first .0) (present later (t .leases)),
+          ∙ those-those (first .0) (rest .0) (present later (t .leases)),
     )
 
 -- Whatever was returned in between: with `keep` the leases that are still there, the second list is those of the rest that are.
@@ -168,5 +165,5 @@ resumed-after-returns t now later client option resuming es s l a e =
     let r = returns-keep es a t later in
     let keep : Lease → Bool = λ x. ltb later (x .expires) && r .0 x in
     let k : present later (afterwards t es .leases) ≡ those keep (present now (t .leases)) =
-    r .1 ∙ ap (those (r .0)) (sym (present-later now later l (t .leases))) ∙ those-those (r .0) (λ x. ltb later (x .expires)) (present now (t .leases)) in
+    r .1 ∙ ap (those (r .0)) (sym (present-later now later l (t .leases))) ∙ those-those (λ x. ltb later (x .expires)) (r .0) (present now (t .leases)) in
     (keep, k, resumed t (afterwards t es) now later client option resuming keep s k e)

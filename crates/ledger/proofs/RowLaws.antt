@@ -2,21 +2,23 @@
 -- Assumes nothing.
 use Prim.Native.Nat.{ℕ}
 use mathlib.Core.Path.{_≡_, refl, sym, ap, subst, _∙_}
-use mathlib.Core.Logic.{_⊎_, inl, inr, ⊎-elim}
+use mathlib.Core.Logic.{_⊎_, ⊎-elim}
 use mathlib.Core.Bool.{Bool, true, false, not, cond, _&&_, true≢false, false≢true}
 use mathlib.Core.List.{List, [], _∷_, _++_, map}
 use mathlib.Core.Option.{Option, none, some, Option·some-ne-none}
 use native.Mathlib.Omega.{arith}
 use lib.ListN.{length}
-use lib.Dec.{ltb, eqb}
+use lib.Dec.{eqb}
 use Rattle.lists.specs.Lists.{All, somes}
 use Rattle.lists.proofs.Tests.{bool-cases, cond-true, cond-false}
-use Rattle.option.specs.Reading.{readOption}
+use Rattle.option.specs.Reading.{four}
+use Rattle.option.specs.Selection.{address, selection?, readSelection}
+use Rattle.option.specs.Selection.{refused as refusedSelection}
 use Rattle.option.specs.Writing.{optionBytes}
 use Rattle.table.specs.declared.Lease.{Lease}
 use Rattle.table.specs.declared.LeaseTable.{LeaseTable}
-use Rattle.table.specs.Table.{latest, present, sound, store}
-use Rattle.ledger.specs.Ledger.{Result, refuse, accept, Row, firstOf, orElse, before, nothing?, refuses?, refusalPlace, requestsIn, full, forAsk, informationFor, addAll, askOffers, askRows, ask, takeRows, listRows, releaseRows, markRows}
+use Rattle.table.specs.Table.{present, store}
+use Rattle.ledger.specs.Ledger.{read118, Result, refuse, accept, Row, firstOf, orElse, before, nothing?, refusalPlace, full, informationFor, addAll, askOffers, askRows, ask, takeRows, listRows, releaseRows, markRows}
 use Rattle.ledger.specs.Demand3.{none?}
 
 pub first-none : (rows : List Row) → firstOf rows ≡ none → All (λ (r : Row). r .1 ≡ false) rows
@@ -38,13 +40,13 @@ first-after (r ∷ rows) more e =
     let a = first-none (r ∷ rows) e in
     cond-false (r .1) (some (r .0)) (firstOf (rows ++ more)) (a .0) ∙ first-after rows more (none-first rows (a .1))
 
-pub first-kept : (rows more : List Row) (n : ℕ) → firstOf rows ≡ some n → firstOf (rows ++ more) ≡ some n
-first-kept [] more n e = absurd (Option·some-ne-none n (sym e))
-first-kept (r ∷ rows) more n e =
+pub first-before : (rows more : List Row) (n : ℕ) → firstOf rows ≡ some n → firstOf (rows ++ more) ≡ some n
+first-before [] more n e = absurd (Option·some-ne-none n (sym e))
+first-before (r ∷ rows) more n e =
     ⊎-elim
     (λ (b : r .1 ≡ true). cond-true (r .1) (some (r .0)) (firstOf (rows ++ more)) b ∙ sym (cond-true (r .1) (some (r .0)) (firstOf rows) b) ∙ e)
     (λ (b : r .1 ≡ false).
-    cond-false (r .1) (some (r .0)) (firstOf (rows ++ more)) b ∙ first-kept rows more n (sym (cond-false (r .1) (some (r .0)) (firstOf rows) b) ∙ e))
+    cond-false (r .1) (some (r .0)) (firstOf (rows ++ more)) b ∙ first-before rows more n (sym (cond-false (r .1) (some (r .0)) (firstOf rows) b) ∙ e))
     (bool-cases (r .1))
 
 pub none-to : {A : Type 0} (o : Option A) → none? o ≡ true → o ≡ none
@@ -69,20 +71,26 @@ pub refused-with : {R : Type 0} (P : R → Type 0) (rows : List Row) (refusing :
     → P (refusing n) → P (orElse (firstOf rows) refusing accepting)
 refused-with P rows refusing accepting n e p = subst (λ (o : Option ℕ). P (orElse o refusing accepting)) (sym e) p
 
-pub accepted-with : {R : Type 0} (P : R → Type 0) (rows : List Row) (refusing : ℕ → R) (accepting : R) → firstOf rows ≡ none
-    → P accepting → P (orElse (firstOf rows) refusing accepting)
-accepted-with P rows refusing accepting e p = subst (λ (o : Option ℕ). P (orElse o refusing accepting)) (sym e) p
+-- A row whose list has nothing, by the length of the list.
+pub nothing-none : {A : Type 0} (xs : List A) → length xs ≡ 0 → nothing? xs ≡ true
+nothing-none [] e = refl
+nothing-none (x ∷ xs) e = absurd (omega arith)
+
+pub nothing-some : {A : Type 0} (xs : List A) → (length xs ≡ 0 → ⊥) → nothing? xs ≡ false
+nothing-some [] e = absurd (e refl)
+nothing-some (x ∷ xs) e = refl
 
 -- The rows have no number 0, so a refusal is not accepted.
 abbrev pub Numbered : List Row → Type 0
 Numbered rows = All (λ (r : Row). eqb (r .0) 0 ≡ false) rows
 
-pub first-number : (P : ℕ → Type 0) (rows : List Row) (n : ℕ) → All (λ (r : Row). P (r .0)) rows → firstOf rows ≡ some n → P n
-first-number P [] n a e = absurd (Option·some-ne-none n (sym e))
-first-number P (r ∷ rows) n a e =
+-- What holds of the numbers of all rows holds of the first that applies.
+pub first-number : (P : ℕ → Type 0) (rows : List Row) → All (λ (r : Row). P (r .0)) rows → (n : ℕ) → firstOf rows ≡ some n → P n
+first-number P [] a n e = absurd (Option·some-ne-none n (sym e))
+first-number P (r ∷ rows) a n e =
     ⊎-elim
     (λ (b : r .1 ≡ true). let q : some (r .0) ≡ some n = sym (cond-true (r .1) (some (r .0)) (firstOf rows) b) ∙ e in let z : r .0 ≡ n = cc in subst P z (a .0))
-    (λ (b : r .1 ≡ false). first-number P rows n (a .1) (sym (cond-false (r .1) (some (r .0)) (firstOf rows) b) ∙ e))
+    (λ (b : r .1 ≡ false). first-number P rows (a .1) n (sym (cond-false (r .1) (some (r .0)) (firstOf rows) b) ∙ e))
     (bool-cases (r .1))
 
 pub by-numbers : {R : Type 0} (Q : ℕ → Type 0) (P : R → Type 0) (rows : List Row) (refusing : ℕ → R) (accepting : R) → All (λ (r : Row). Q (r .0)) rows
@@ -91,7 +99,7 @@ by-numbers Q P rows refusing accepting k a b = go (firstOf rows) refl
   where
     go : (o : Option ℕ) → firstOf rows ≡ o → P (orElse o refusing accepting)
     go none e = b e
-    go (some n) e = a n (first-number Q rows n k e)
+    go (some n) e = a n (first-number Q rows k n e)
 
 pub by-rows : {R : Type 0} (P : R → Type 0) (rows : List Row) (refusing : ℕ → R) (accepting : R) → Numbered rows
     → ((n : ℕ) → eqb n 0 ≡ false → P (refusing n)) → (firstOf rows ≡ none → P accepting) → P (orElse (firstOf rows) refusing accepting)
@@ -165,4 +173,13 @@ module _ (t : LeaseTable) (now client : ℕ) (option reply : List ℕ) where
   unfolding ask xs os
   ask-refused n e =
       ap (λ (o : Option ℕ). orElse o (λ number. refuse number (refusalPlace option number) t reply) (accept (store t now (addAll os xs)) (optionBytes (map informationFor (somes os))) (length (somes os)) reply))
-      (ap firstOf rows-split ∙ first-kept (before 9 (askRows t now client option reply)) (ownRows (somes os)) n e)
+      (ap firstOf rows-split ∙ first-before (before 9 (askRows t now client option reply)) (ownRows (somes os)) n e)
+
+-- OPTION 118: the ledger's reading is that of crate `option`.
+pub read118-is : (s : List ℕ) → read118 s ≡ readSelection s
+unfolding read118 readSelection
+read118-is s = go (selection? s)
+  where
+    go : (b : Bool) → orElse (cond (not b) (some 6) none) refusedSelection (address (four s 2)) ≡ cond b (address (four s 2)) (refusedSelection 6)
+    go true = refl
+    go false = refl

@@ -1,26 +1,24 @@
 -- EVERY CALL LEAVES A SOUND TABLE SOUND, and refuses an unsound one with 5 (or 1) untouched; after a refusal table and buffer are what they were; list
 -- changes no table.
 -- Assumes nothing.
-use Prim.Native.Nat.{ℕ, zero, suc, _+_, _-_, _≤_, _<_}
-use mathlib.Core.Path.{_≡_, refl, sym, ap, subst, _∙_}
-use mathlib.Core.Logic.{_⊎_, inl, inr, ⊎-elim}
-use mathlib.Core.Bool.{Bool, true, false, not, cond, true≢false, false≢true}
-use mathlib.Core.List.{List, [], _∷_, _++_, map}
-use mathlib.Core.Option.{Option, none, some}
+use Prim.Native.Nat.{ℕ, _-_, _≤_}
+use mathlib.Core.Path.{_≡_, refl, sym, ap, subst}
+use mathlib.Core.Logic.{_⊎_, ⊎-elim}
+use mathlib.Core.Bool.{Bool, true, false, not, cond}
+use mathlib.Core.List.{List, _∷_, map}
+use mathlib.Core.Option.{some}
 use native.Mathlib.Omega.{arith}
-use lib.ListN.{length, drop}
-use lib.Dec.{leb, ltb, eqb}
-use borrow.Author.Tests.{ltb-false, not-false}
-use Rattle.lists.specs.Lists.{All, Pairwise, those, any?}
+use lib.ListN.{drop}
+use borrow.Author.Tests.{ltb-false}
+use Rattle.lists.specs.Lists.{Pairwise}
 use Rattle.lists.proofs.Tests.{bool-cases, cond-true}
 use Rattle.prefix.specs.declared.Prefix.{Prefix}
 use Rattle.prefix.specs.Prefixes.{Apart}
-use Rattle.option.specs.Values.{Entry}
 use Rattle.table.specs.declared.Lease.{Lease}
 use Rattle.table.specs.declared.LeaseTable.{LeaseTable}
 use Rattle.table.specs.Table.{latest, prefixOf, poolsOf, present, sound, store}
 use Rattle.table.proofs.TableLaws.{Good, sound-term, sound-fine, fine-apart, map-sound, those-sound}
-use Rattle.ledger.specs.Ledger.{Answer, Result, Update, Row, firstOf, orElse, refuse, refuseUpdate, refusalPlace, entriesIn, askRows, ask, namedBy?, renew, renewNamed, takeRows, take, listRows, list, releaseRows, release, at?, withD, markRows, mark}
+use Rattle.ledger.specs.Ledger.{Result, Update, Row, firstOf, refuse, refuseUpdate, refusalPlace, entriesIn, askRows, ask, namedBy?, renew, takeRows, take, listRows, list, releaseRows, release, at?, withD, markRows, mark}
 use Rattle.ledger.specs.Demand3.{Call, wellFormed}
 use Rattle.ledger.proofs.RowLaws.{first-none, served-or-not, refused-with}
 use Rattle.ledger.proofs.CallLaws.{run-not, called}
@@ -92,62 +90,15 @@ mark-keeps t now network len d s =
     served-or-not (λ (r : Update). sound (r .table) ≡ true) (markRows t now network len) _ _ (λ n. s)
     (λ e. let r = first-none (markRows t now network len) e in map-keeps t now s (ltb-false latest now (r .1 .1 .0)) (at? network len) (withD d) (withD-mild t now s d))
 
--- AN UNSOUND TABLE IS REFUSED WITH 5, with 1 if the reply buffer is too short, and stays as it is.
-
-rows-two : (b s : Bool) (rows : List Row) → s ≡ false → firstOf ((1, b) ∷ (5, not s) ∷ rows) ≡ some (cond b 1 5)
-rows-two true s rows e = refl
-rows-two false s rows e = cond-true (not s) (some 5) (firstOf rows) (ap not e)
+-- MARK REFUSES AN UNSOUND TABLE with 5, whatever it is to mark, and the table stays as it is.
 
 rows-one : (s : Bool) (rows : List Row) → s ≡ false → firstOf ((5, not s) ∷ rows) ≡ some 5
 rows-one s rows e = cond-true (not s) (some 5) (firstOf rows) (ap not e)
 
 module _ (t : LeaseTable) (u : sound t ≡ false) where
-  refused-two : (option reply : List ℕ) (b : Bool) → refuse (cond b 1 5) (refusalPlace option (cond b 1 5)) t reply ≡ refuse (cond b 1 5) 0 t reply
-  refused-two option reply true = refl
-  refused-two option reply false = refl
-
-  ask-five : (now client : ℕ) (option reply : List ℕ) → firstOf (askRows t now client option reply) ≡ some (cond (ltb (length reply) 257) 1 5)
-  unfolding askRows
-  ask-five now client option reply = rows-two (ltb (length reply) 257) (sound t) (drop 2 (askRows t now client option reply)) u
-
-  take-five : (now client : ℕ) (option reply : List ℕ) → firstOf (takeRows t now client option reply) ≡ some (cond (ltb (length reply) 257) 1 5)
-  unfolding takeRows
-  take-five now client option reply = rows-two (ltb (length reply) 257) (sound t) (drop 2 (takeRows t now client option reply)) u
-
-  list-five : (now client : ℕ) (option reply : List ℕ) → firstOf (listRows t now client option reply) ≡ some (cond (ltb (length reply) 257) 1 5)
-  unfolding listRows
-  list-five now client option reply = rows-two (ltb (length reply) 257) (sound t) (drop 2 (listRows t now client option reply)) u
-
-  release-five : (now client : ℕ) (option : List ℕ) → firstOf (releaseRows t now client option) ≡ some 5
-  unfolding releaseRows
-  release-five now client option = rows-one (sound t) (drop 1 (releaseRows t now client option)) u
-
   mark-five : (now network len : ℕ) → firstOf (markRows t now network len) ≡ some 5
   unfolding markRows
   mark-five now network len = rows-one (sound t) (drop 1 (markRows t now network len)) u
-
-  pub ask-unsound : (now client : ℕ) (option reply : List ℕ) → ask t now client option reply ≡ refuse (cond (ltb (length reply) 257) 1 5) 0 t reply
-  unfolding ask
-  ask-unsound now client option reply =
-      refused-with (λ (r : Result). r ≡ refuse (cond (ltb (length reply) 257) 1 5) 0 t reply) (askRows t now client option reply) _ _ (cond (ltb (length reply) 257) 1 5)
-      (ask-five now client option reply) (refused-two option reply (ltb (length reply) 257))
-
-  pub take-unsound : (now client : ℕ) (option reply : List ℕ) → take t now client option reply ≡ refuse (cond (ltb (length reply) 257) 1 5) 0 t reply
-  unfolding take
-  take-unsound now client option reply =
-      refused-with (λ (r : Result). r ≡ refuse (cond (ltb (length reply) 257) 1 5) 0 t reply) (takeRows t now client option reply) _ _ (cond (ltb (length reply) 257) 1 5)
-      (take-five now client option reply) (refused-two option reply (ltb (length reply) 257))
-
-  pub list-unsound : (now client : ℕ) (option reply : List ℕ) → list t now client option reply ≡ refuse (cond (ltb (length reply) 257) 1 5) 0 t reply
-  unfolding list
-  list-unsound now client option reply =
-      refused-with (λ (r : Result). r ≡ refuse (cond (ltb (length reply) 257) 1 5) 0 t reply) (listRows t now client option reply) _ _ (cond (ltb (length reply) 257) 1 5)
-      (list-five now client option reply) (refused-two option reply (ltb (length reply) 257))
-
-  pub release-unsound : (now client : ℕ) (option : List ℕ) → release t now client option ≡ refuseUpdate 5 0 t
-  unfolding release
-  release-unsound now client option =
-      refused-with (λ (r : Update). r ≡ refuseUpdate 5 0 t) (releaseRows t now client option) _ _ 5 (release-five now client option) refl
 
   pub mark-unsound : (now network len : ℕ) (d : Bool) → mark t now network len d ≡ refuseUpdate 5 0 t
   unfolding mark

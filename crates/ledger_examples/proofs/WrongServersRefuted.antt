@@ -1,9 +1,9 @@
 -- Document 01: "Try these against it". The wrong servers do not meet demand 3.
 -- Assumes nothing.
-use Prim.Native.Nat.{ℕ, zero, suc, _+_, _≤_, _<_}
+use Prim.Native.Nat.{ℕ, suc, _<_}
 use mathlib.Core.Path.{_≡_, refl, sym, ap, subst, _∙_}
 use mathlib.Core.Logic.{_↔_}
-use mathlib.Core.Bool.{Bool, true, false}
+use mathlib.Core.Bool.{true, false}
 use mathlib.Core.List.{List, [], _∷_, map, nil≢cons, head-eq-of-cons-eq, tail-eq-of-cons-eq}
 use mathlib.Core.Option.{Option, none, some}
 use native.Mathlib.Omega.{arith}
@@ -19,16 +19,15 @@ use Rattle.option.specs.Values.{Entry}
 use Rattle.option.specs.Rules.{entryFields?, fields?}
 use Rattle.option.specs.Reading.{option?, subInside?, whenGood, readRequest, figuresAt, entryAt, entryFramed?, readEntry, readEntries, readInformation, readName, readBody, readSuboption, readSuboptions, readOption}
 use Rattle.option.specs.Writing.{twoBytes, fourBytes, requestBytes, entryHead, entryBytes, entriesBytes, informationHead, suboptionBytes, suboptionsBytes, optionHead, optionBytes}
-use Rattle.table.specs.declared.Lease.{Lease}
 use Rattle.table.specs.declared.LeaseTable.{LeaseTable}
 use Rattle.table.specs.Table.{leaseSlots, poolsOf, unused?, empty?, prefixesOf, present, headOk, poolOk, leaseOk, ascends?, sound, store}
 use Rattle.ledger.specs.Ledger.{Request, askLength, emptySlots, offer, offers, addAll, askRows, ask}
-use Rattle.ledger.specs.Demand3.{Server, Call, wellFormed, asksOf, entryPrefix, inUse, meets, Fate, wantsSpace, fate, NoneFree, RefusedRightly, granted, received, wellFormedCalls, AllGranted, Demand3}
+use Rattle.ledger.specs.Demand3.{Server, wellFormed, asksOf, entryPrefix, inUse, meets, wantsSpace, fate, NoneFree, RefusedRightly, granted, received, wellFormedCalls, AllGranted, Demand3}
 use Rattle.ledger_examples.specs.Examples.{buffer}
 use Rattle.ledger_examples.specs.SampleLists.{tableWith, lease, leasesFrom, call, two, three, Sample, crowded}
 use Rattle.ledger_examples.specs.WrongServers.{refusesAll, samePrefix, leavesTable, firstOnly, answersTen, writesTwice}
-use Rattle.ledger.proofs.ListFacts.{somes-some}
-use Rattle.ledger_examples.proofs.Premises.{free?, free-to, chosen}
+use Rattle.lists.proofs.PartLaws.{somes-some}
+use Rattle.ledger_examples.proofs.Premises.{free-to, chosen}
 
 -- Pool 10.0.1.0/24, and one call with two requests for 26.
 unfoldable pair : Sample

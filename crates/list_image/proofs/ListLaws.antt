@@ -14,7 +14,7 @@ use Rattle.lists.specs.Put.{put}
 use Rattle.lists.proofs.Tests.{cond-true, cond-false, not-of, not-to}
 use Rattle.lists.proofs.TakeLaws.{take-short, short-none, short-of}
 use Rattle.lists.proofs.MapLaws.{all?-count}
-use Rattle.lists.proofs.PutLaws.{put-nothing, put-more, put-before}
+use Rattle.lists.proofs.PutLaws.{put-front}
 use Rattle.option.specs.Values.{SuboptionValue, Outcome, information}
 use Rattle.option.specs.Writing.{optionHead, informationHead, entriesBytes, optionBytes}
 use Rattle.table.specs.declared.Lease.{Lease}
@@ -24,9 +24,10 @@ use Rattle.image.specs.Image.{usedLeases}
 use Rattle.ledger.specs.Ledger.{Request, Answer, Result, Row, firstOf, refusal, acceptance, accept, nothing?, suboptions, requests, requestsIn, entryOf, forList, refusalPlace, position, listed, listedIn, listRows, list}
 use Rattle.ledger.specs.Sizes.{Bytes}
 use Rattle.answers.specs.Answers.{answerOf, checkedAnswer, commonRows}
+use Rattle.ledger.proofs.RowLaws.{nothing-none, nothing-some}
 use Rattle.answers.proofs.CommonRows.{Passed}
 use Rattle.reply.specs.Reply.{replyBytes}
-use Rattle.reply.proofs.ReplyLaws.{reply-parts, heads-length, reply-length, reply-fits}
+use Rattle.reply.proofs.ReplyLaws.{entries-none, heads-last, reply-length}
 use Rattle.pieces.specs.declared.Pieces.{Pieces}
 use Rattle.pieces.specs.Held.{Columns, positionOf, HoldsOf, Reads}
 use Rattle.image_check.specs.declared.Book.{Book}
@@ -42,14 +43,6 @@ use Rattle.list_image.specs.Page.{shown?, startOf, PageOf}
 use Rattle.list_image.proofs.PlaceInList.{listed-from}
 
 -- ROW 8: the tests of the code, on counts, and the ledger's, on the pieces of an option.
-
-nothing-none : {A : Type 0} (xs : List A) → length xs ≡ 0 → nothing? xs ≡ true
-nothing-none [] e = refl
-nothing-none (x ∷ xs) e = absurd (omega arith)
-
-nothing-some : {A : Type 0} (xs : List A) → (length xs ≡ 0 → ⊥) → nothing? xs ≡ false
-nothing-some [] e = absurd (e refl)
-nothing-some (x ∷ xs) e = refl
 
 abbrev listing : Request → Bool
 listing r = r .i
@@ -74,29 +67,6 @@ module _ (m : Pieces) (c : Columns) (subs : List SuboptionValue) (h : HoldsOf m 
 
 -- THE REPLY
 
--- An empty page writes nothing.
-nothing-written : (xs : List Lease) (l : List ℕ) → length xs ≡ 0 → put l 6 (entriesBytes (map entryOf xs)) ≡ l
-unfolding entriesBytes
-nothing-written [] l e = put-nothing l 6
-nothing-written (x ∷ xs) l e = absurd (omega arith)
-
-head-length : (n : ℕ) → length (optionHead n) ≡ 3
-unfolding optionHead
-head-length n = refl
-
--- The entries first, and then the heads before them.
-heads-last : (c s : Bool) (xs : List Lease) (n : ℕ) → n ≡ length xs → (l l₁ l₂ : List ℕ) → l₁ ≡ put l 6 (entriesBytes (map entryOf xs))
-    → l₂ ≡ put (put l₁ 0 (optionHead (7 * n + 4))) 3 (informationHead (7 * n + 1) c s) → l₂ ≡ put l 0 (replyBytes c s xs)
-heads-last c s xs n k l l₁ l₂ e₁ e₂ =
-    let heads : List ℕ = optionHead (7 * n + 4) ++ informationHead (7 * n + 1) c s in
-    let es : List ℕ = entriesBytes (map entryOf xs) in
-    let three : 3 ≡ 0 + length (optionHead (7 * n + 4)) = omega (arith, head-length (7 * n + 4)) in
-    let six : 6 ≡ 0 + length heads = omega (arith, heads-length (7 * n + 4) (7 * n + 1) c s) in
-    put-more l₁ (put l₁ 0 (optionHead (7 * n + 4))) l₂ 0 (optionHead (7 * n + 4)) 3 (informationHead (7 * n + 1) c s) refl three e₂
-    ∙ ap (λ (k : List ℕ). put k 0 heads) (e₁ ∙ ap (λ (at : ℕ). put l at es) six)
-    ∙ put-before heads l 0 es
-    ∙ ap (put l 0) (ap (λ (m : ℕ). (optionHead (7 * m + 4) ++ informationHead (7 * m + 1) c s) ++ es) k ∙ sym (reply-parts c s xs))
-
 -- THE CALL
 
 abbrev own : LeaseTable → ℕ → ℕ → List ℕ → List Row
@@ -120,7 +90,7 @@ outcome-is t gs reply room =
     let w : List ℕ = replyBytes true (ltb 35 (length gs)) (take 35 gs) in
     let size : length w ≡ 7 * length (take 35 gs) + 6 = reply-length true (ltb 35 (length gs)) (take 35 gs) in
     let fits : length w ≤ length reply = omega (arith, size, take-short 35 gs) in
-    ap₂ (λ (k : ℕ) (l : List ℕ). record { answer = acceptance k (length (take 35 gs)); table = t; buffer = l }) size (sym (reply-fits w reply fits))
+    ap₂ (λ (k : ℕ) (l : List ℕ). record { answer = acceptance k (length (take 35 gs)); table = t; buffer = l }) size (sym (put-front w reply fits))
 
 -- "List changes nothing": the image is stored in its own place.
 image-stays : (buffer : List ℕ) (bytes : ℕ) → sound (tableIn buffer bytes) ≡ true → Bytes buffer → (a : Answer) → a .number ≡ 0
@@ -223,7 +193,7 @@ module _ (buffer : List ℕ) (bytes now client : ℕ) (option reply : List ℕ) 
               unfolding gs
               list-nothing k =
                   let empty : length (take 35 gs) ≡ 0 = sym count-is ∙ k in
-                  ap (λ (l : List ℕ). (answerWith (refusal 11 0) 0, buffer, l)) (entries-are ∙ nothing-written (take 35 gs) reply empty)
+                  ap (λ (l : List ℕ). (answerWith (refusal 11 0) 0, buffer, l)) (entries-are ∙ entries-none (take 35 gs) reply empty)
                   ∙ own-refused buffer bytes now client option first rows keep result by-row off book i row e z (m .checked) (r .checked) a g good 11 (λ w. omega arith) refl
                   (eight-passed ∙ cond-true (nothing? gs) (some 11) none (nothing-none gs (short-none 35 gs (omega arith) empty)))
 

@@ -10,6 +10,7 @@ use lib.ListN.{length, drop}
 use lib.Dec.{leb, ltb, eqb}
 use borrow.Author.Tests.{lt-ltb, le-ltb, lt-leb, leb-true, leb-false}
 use Rattle.lists.specs.Lists.{All, every, those}
+use Rattle.lists.proofs.ThoseLaws.{those-same-on}
 use Rattle.lists.proofs.ListLaws.{all-map, all-every}
 use Rattle.lists.proofs.Tests.{bool-cases}
 use Rattle.lists.proofs.ThoseLaws.{those-yes, those-no, those-none}
@@ -50,13 +51,9 @@ shown-meant now client p x e = rw e (same-test (ltb now (x .expires)) (eqb (x .c
 not-meant : (now client : ℕ) (p : Option ℕ) (x : Lease) → above? p (x .network) ≡ false → meant? now client p x ≡ false
 not-meant now client p x e = rw e (never (ltb now (x .expires)) (eqb (x .client) client) (x .leased))
 
-those-when : {A : Type 0} (f g : A → Bool) (xs : List A) → All (λ x. f x ≡ g x) xs → those f xs ≡ those g xs
-those-when f g [] a = refl
-those-when f g (x ∷ xs) a = rw (a .0, those-when f g xs (a .1))
-
 -- Where all of them are above the position.
 all-shown : (now client : ℕ) (p : Option ℕ) (xs : List Lease) → All (λ x. above? p (x .network) ≡ true) xs → those (shown? now client) xs ≡ those (meant? now client p) xs
-all-shown now client p xs a = those-when (shown? now client) (meant? now client p) xs (all-map (shown-meant now client p) xs a)
+all-shown now client p xs a = those-same-on (shown? now client) (meant? now client p) xs (all-map (shown-meant now client p) xs a)
 
 from-position : (now client p : ℕ) (xs : List Lease) → Ascending xs
     → those (shown? now client) (drop (length (those (λ x. leb (x .network) p) xs)) xs) ≡ those (meant? now client (some p)) xs

@@ -8,6 +8,7 @@ use native.Mathlib.Numerals.{add-one}
 use native.Mathlib.Omega.{arith}
 use lib.ListN.{length, drop, getD, drop-of-length-le}
 use lib.Seq.{drop-cons}
+pub use Rattle.lists.proofs.IndexLaws.{all-at}
 use Rattle.lists.specs.Lists.{All, all?, those}
 
 module _ {A : Type 0} (xs : List A) (i : ℕ) (d : A) (lt : i < length xs) where
@@ -37,12 +38,6 @@ module _ {A : Type 0} (xs : List A) (i : ℕ) (past : length xs ≤ i) where
 
   pub those-end : (f : A → Bool) → those f (drop i xs) ≡ []
   those-end f = rw drop-end
-
--- What holds of all holds at each place.
-pub all-at : {A : Type 0} (P : A → Type 0) (xs : List A) → All P xs → (i : ℕ) (d : A) → i < length xs → P (getD xs i d)
-all-at P [] a i d h = absurd (omega arith)
-all-at P (x ∷ xs) a zero d h = a .0
-all-at P (x ∷ xs) a (suc i) d h = all-at P xs (a .1) i d (omega arith)
 
 pub all-drop : {A : Type 0} (P : A → Type 0) (i : ℕ) (xs : List A) → All P xs → All P (drop i xs)
 all-drop P zero xs a = a

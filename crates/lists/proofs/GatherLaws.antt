@@ -3,7 +3,7 @@
 use Prim.Native.Nat.{ℕ, zero, suc, _+_, _*_, _≤_, _<_}
 use native.Mathlib.Omega.{arith}
 use mathlib.Core.Path.{_≡_, refl, sym, ap, _∙_}
-use mathlib.Core.List.{List, [], _∷_, _++_, map, append-assoc, append-nil}
+use mathlib.Core.List.{List, [], _∷_, _++_, append-assoc, append-nil}
 use lib.ListN.{length, getD, length-append}
 use Rattle.lists.specs.Lists.{All, gather}
 
@@ -19,10 +19,6 @@ module _ {A B : Type 0} (f : A → List B) where
   pub length-gather : (n : ℕ) (xs : List A) → All (λ x. length (f x) ≡ n) xs → length (gather f xs) ≡ n * length xs
   length-gather n [] a = omega arith
   length-gather n (x ∷ xs) a = length-append (f x) (gather f xs) ∙ omega (arith, a .0, length-gather n xs (a .1))
-
-pub gather-map : {A B C : Type 0} (g : A → B) (f : B → List C) (xs : List A) → gather f (map g xs) ≡ gather (λ x. f (g x)) xs
-gather-map g f [] = refl
-gather-map g f (x ∷ xs) = ap (λ l. f (g x) ++ l) (gather-map g f xs)
 
 -- The list of one element is no longer than all.
 pub length-gather-at : {A B : Type 0} (f : A → List B) (l : List A) (i : ℕ) (d : A) → i < length l → length (f (getD l i d)) ≤ length (gather f l)

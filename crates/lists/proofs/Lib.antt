@@ -8,10 +8,10 @@ pub mod WalkLaws
 pub mod PutLaws
 pub mod GatherLaws
 pub mod ShiftLaws
-pub mod FillLaws
 pub mod SortingLaws
+pub mod InsertionLaws
 pub mod ImageLaws
 pub mod IndexLaws
 pub mod MapLaws
-pub mod CopyLaws
 pub mod TakeLaws
+pub mod PartLaws

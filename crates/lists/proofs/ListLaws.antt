@@ -1,6 +1,5 @@
 -- Laws of All, Any, Pairwise and Holds.
 -- Assumes nothing.
-use Prim.Native.Nat.{ℕ}
 use mathlib.Core.Path.{_≡_, refl}
 use mathlib.Core.Logic.{_⊎_, inl, inr, ⊎-elim}
 use mathlib.Core.List.{List, [], _∷_, _++_, map}
@@ -63,16 +62,6 @@ pub any-append : {A : Type 0} (P : A → Type 0) (xs ys : List A) → Any P (xs 
 any-append P [] ys a = inr a
 any-append P (x ∷ xs) ys (inl a) = inl (inl a)
 any-append P (x ∷ xs) ys (inr a) = ⊎-elim (λ b. inl (inr b)) inr (any-append P xs ys a)
-
-pub any-image : {A B : Type 0} (f : A → B) (P : B → Type 0) (xs : List A) → Any (λ x. P (f x)) xs → Any P (map f xs)
-any-image f P [] a = absurd a
-any-image f P (x ∷ xs) (inl a) = inl a
-any-image f P (x ∷ xs) (inr a) = inr (any-image f P xs a)
-
-pub any-preimage : {A B : Type 0} (f : A → B) (P : B → Type 0) (xs : List A) → Any P (map f xs) → Any (λ x. P (f x)) xs
-any-preimage f P [] a = absurd a
-any-preimage f P (x ∷ xs) (inl a) = inl a
-any-preimage f P (x ∷ xs) (inr a) = inr (any-preimage f P xs a)
 
 -- An element of which both hold.
 pub any-all : {A : Type 0} {P Q : A → Type 0} (xs : List A) → Any P xs → All Q xs → (x : A) × P x × Q x

@@ -1,11 +1,11 @@
--- What a permutation keeps: what holds of each or of some element, the images, the length.
+-- What a permutation keeps: what holds of each, of some, or of each two elements, the images, the length.
 -- Assumes nothing.
-use Prim.Native.Nat.{ℕ, suc}
+use Prim.Native.Nat.{suc}
 use mathlib.Core.Path.{_≡_, refl, ap, subst, _∙_}
-use mathlib.Core.Logic.{_⊎_, inl, inr}
-use mathlib.Core.List.{List, [], _∷_, map, List·Permᴰ}
+use mathlib.Core.Logic.{inl, inr}
+use mathlib.Core.List.{List, map, List·Permᴰ}
 use lib.ListN.{length}
-use Rattle.lists.specs.Lists.{All, Any}
+use Rattle.lists.specs.Lists.{All, Any, Pairwise}
 
 pub perm-all : {A : Type 0} (P : A → Type 0) {xs ys : List A} → List·Permᴰ xs ys → All P xs → All P ys
 perm-all P List·Permᴰ.List·Permᴰ·nil a = tt
@@ -33,3 +33,13 @@ perm-length List·Permᴰ.List·Permᴰ·nil = refl
 perm-length (List·Permᴰ.List·Permᴰ·cons e d) = ap suc (perm-length d)
 perm-length (List·Permᴰ.List·Permᴰ·swap e₁ e₂) = refl
 perm-length (List·Permᴰ.List·Permᴰ·trans d₁ d₂) = perm-length d₁ ∙ perm-length d₂
+
+-- What holds of each two, whichever comes first, holds in every order.
+pub perm-pairwise : {A : Type 0} (R : A → A → Type 0) → ((x y : A) → R x y → R y x) → {xs ys : List A} → List·Permᴰ xs ys → Pairwise R xs → Pairwise R ys
+perm-pairwise R turn List·Permᴰ.List·Permᴰ·nil a = tt
+perm-pairwise R turn (List·Permᴰ.List·Permᴰ·cons {a = x} {l₂ = ys} e d) p = (subst (λ z. All (R z) ys) e (perm-all (R x) d (p .0)), perm-pairwise R turn d (p .1))
+perm-pairwise R turn (List·Permᴰ.List·Permᴰ·swap {a = x} {b = y} {a′ = y′} {l = l} e₁ e₂) p = (
+  (subst (R y′) e₁ (subst (λ z. R z x) e₂ (turn x y (p .0 .0))), subst (λ z. All (R z) l) e₂ (p .1 .0)),
+  (subst (λ z. All (R z) l) e₁ (p .0 .1), p .1 .1),
+)
+perm-pairwise R turn (List·Permᴰ.List·Permᴰ·trans d₁ d₂) a = perm-pairwise R turn d₂ (perm-pairwise R turn d₁ a)

@@ -48,6 +48,10 @@ module _ {A : Type 0} where
   pub put-fits : (xs : List A) (l : List A) (at : ℕ) → at + length xs ≤ length l → put l at xs ≡ take at l ++ xs ++ drop (at + length xs) l
   put-fits xs l at h = put-sets xs l at ∙ sets-eq xs l at h
 
+  -- Put at the front, and what stays behind it.
+  pub put-front : (xs l : List A) → length xs ≤ length l → put l 0 xs ≡ xs ++ drop (length xs) l
+  put-front xs l h = let z : 0 + length xs ≡ length xs = omega arith in put-fits xs l 0 (omega arith) ∙ ap (λ (k : ℕ). xs ++ drop k l) z
+
   -- A further part, or one element more, put after what is put already: how a writer goes on.
   pub put-more : (l l₁ l₂ : List A) (at : ℕ) (xs : List A) (p : ℕ) (ys : List A) → l₁ ≡ put l at xs → p ≡ at + length xs → l₂ ≡ put l₁ p ys → l₂ ≡ put l at (xs ++ ys)
   put-more l l₁ l₂ at xs p ys e₁ ep e₂ = e₂ ∙ ap₂ (λ (k : List A) (n : ℕ). put k n ys) e₁ ep ∙ put-append xs l at ys

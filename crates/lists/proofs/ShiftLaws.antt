@@ -6,7 +6,7 @@ use Prim.Native.Nat.{ℕ, suc, _+_, _-_, _<_, _≤_}
 use native.Mathlib.Nat.{sub-self}
 use native.Mathlib.Numerals.{add-one}
 use native.Mathlib.Omega.{arith}
-use lib.ListN.{length, take, drop, set, getD, length-drop, length-append, take-append-drop, List·getD-append, drop-of-length-le}
+use lib.ListN.{length, take, drop, set, getD, length-drop, length-append, take-append-drop, List·getD-append}
 use lib.Seq.{take-all, take-suc, drop-cons, set-at, length-take-le, take-append-add, append-snoc, getD-take, getD-append-add, getD-drop}
 
 -- The elements from k on one place up, with the one at k kept in its place too, of a list of n + 1.
@@ -84,9 +84,3 @@ module _ {A : Type 0} (l : List A) (i : ℕ) where
       ap (set (lowered l i k) k) there
       ∙ lowered-set k x h (omega arith)
       ∙ sym (rw (less, take-suc rest (k - i) d inside, last, ← append-assoc (take i l) (take (k - i) rest) (x ∷ []), append-snoc))
-
-  pub lowered-all : (x : A) (k : ℕ) → i ≤ k → length l ≡ k + 1 → set (lowered l i k) k x ≡ (take i l ++ drop (i + 1) l) ++ (x ∷ [])
-  lowered-all x k h full =
-      let all : length (drop (i + 1) l) ≤ k - i = rw length-drop (omega arith) in
-      let none : length l ≤ k + 1 = omega arith in
-      lowered-set k x h (omega arith) ∙ rw (take-all (k - i) (drop (i + 1) l) all, drop-of-length-le l none)

@@ -26,11 +26,3 @@ short-none n xs p e =
 
 pub short-of : {A : Type 0} (n : ℕ) (xs : List A) → length xs ≡ 0 → length (take n xs) ≡ 0
 short-of n xs e = omega (arith, ap length (take-all n xs (omega arith)))
-
-pub long-enough : {A : Type 0} (n : ℕ) (xs : List A) → length (take n xs) ≡ n → n ≤ length xs
-long-enough n xs e =
-    ⊎-elim (λ (b : leb n (length xs) ≡ true). leb-true n (length xs) b)
-    (λ (b : leb n (length xs) ≡ false).
-    let lt = leb-false n (length xs) b in
-    absurd (omega (arith, ap length (take-all n xs (omega arith)))))
-    (bool-cases (leb n (length xs)))

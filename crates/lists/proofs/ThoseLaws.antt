@@ -1,13 +1,14 @@
 -- Laws of `those`: the elements that pass a test.
 -- Assumes nothing.
-use Prim.Native.Nat.{ℕ, zero, suc, _≤_}
-use mathlib.Core.Path.{_≡_, refl, sym, ap, subst, _∙_}
+use Prim.Native.Nat.{ℕ, zero, suc, _≤_, _+_}
+use mathlib.Core.Path.{_≡_, refl, sym, ap, ap₂, subst, _∙_}
 use mathlib.Core.Logic.{⊎-elim}
-use mathlib.Core.Bool.{Bool, true, false}
+use mathlib.Core.Bool.{Bool, true, false, cond}
 use mathlib.Core.List.{List, [], _∷_, _++_}
 use native.Mathlib.Omega.{arith}
 use lib.ListN.{length, replicate}
 use Rattle.lists.specs.Lists.{All, those}
+use Rattle.lists.proofs.ListLaws.{all-every}
 use Rattle.lists.proofs.Tests.{bool-cases, cond-true, cond-false}
 
 module _ {A : Type 0} (f : A → Bool) where
@@ -65,3 +66,27 @@ all-replicate P (suc n) x p = (p, all-replicate P n x p)
 
 pub those-replicate : {A : Type 0} (f : A → Bool) (n : ℕ) (x : A) → f x ≡ false → those f (replicate n x) ≡ []
 those-replicate f n x e = those-none f (replicate n x) (all-replicate (λ y. f y ≡ false) n x e)
+
+-- Two tests that agree.
+pub those-same-on : {A : Type 0} (f g : A → Bool) (xs : List A) → All (λ x. f x ≡ g x) xs → those f xs ≡ those g xs
+those-same-on f g [] a = refl
+those-same-on f g (x ∷ xs) a = ap₂ (λ (b : Bool) (l : List _). cond b (x ∷ l) l) (a .0) (those-same-on f g xs (a .1))
+
+pub those-same : {A : Type 0} (f g : A → Bool) → ((x : A) → f x ≡ g x) → (xs : List A) → those f xs ≡ those g xs
+those-same f g e xs = those-same-on f g xs (all-every e xs)
+
+-- How many pass, with one element more at the front; and where none does.
+pub count-first : {A : Type 0} (f : A → Bool) (x : A) (xs : List A) → length (those f (x ∷ xs)) ≡ cond (f x) 1 0 + length (those f xs)
+count-first f x xs =
+    ⊎-elim
+    (λ (t : f x ≡ true). ap length (those-yes f x xs t) ∙ omega (arith, cond-true {A = ℕ} (f x) 1 0 t))
+    (λ (t : f x ≡ false). ap length (those-no f x xs t) ∙ omega (arith, cond-false {A = ℕ} (f x) 1 0 t))
+    (bool-cases (f x))
+
+pub none-of : {A : Type 0} (g : A → Bool) (ys : List A) → length (those g ys) ≡ 0 → All (λ y. g y ≡ false) ys
+none-of g [] z = tt
+none-of g (y ∷ ys) z =
+    ⊎-elim
+    (λ (t : g y ≡ true). absurd (omega (arith, ap length (those-yes g y ys t))))
+    (λ (t : g y ≡ false). (t, none-of g ys (sym (ap length (those-no g y ys t)) ∙ z)))
+    (bool-cases (g y))

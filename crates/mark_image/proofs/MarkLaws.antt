@@ -21,7 +21,7 @@ use Rattle.records.specs.Records.{Records}
 use Rattle.records.proofs.RecordLaws.{lease-in-place, edit-is, edit-holds}
 use Rattle.records.proofs.FindLaws.{none-any, found-within, found-none, found-other, found-any, found-map}
 use Rattle.ledger.specs.Ledger.{Row, firstOf, refusal, acceptance, acceptUpdate, at?, withD, markRows, mark}
-use Rattle.answers.proofs.CommonRows.{first-before, first-after}
+use Rattle.ledger.proofs.RowLaws.{first-before, first-after}
 use Rattle.image_check.specs.declared.Book.{Book}
 use Rattle.image_calls.specs.declared.ImageAnswer.{ImageAnswer}
 use Rattle.image_calls.specs.ImageCalls.{fullImage, tableIn, small?, answerWith, updateImage}

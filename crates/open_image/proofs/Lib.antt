@@ -1,5 +1,4 @@
 pub mod ColumnLaws
-pub mod SortLaws
 pub mod MoveLaws
 pub mod OrderLaws
 pub mod OpenImageLaws

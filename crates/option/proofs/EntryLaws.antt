@@ -1,6 +1,6 @@
 -- Laws of the entries of an information, and what an answer of the entry cursor tells.
 -- Assumes nothing.
-use Prim.Native.Nat.{ℕ, suc, _+_, _%_, _≤_, _<_}
+use Prim.Native.Nat.{ℕ, _+_, _%_, _≤_, _<_}
 use native.Mathlib.Omega.{arith}
 use mathlib.Core.Path.{_≡_, refl, sym, ap, ap₂, _∙_}
 use mathlib.Core.List.{List, [], _∷_}
@@ -11,7 +11,7 @@ use borrow.Author.Tests.{leb-true, eqb-true}
 use Rattle.lists.specs.Lists.{all?}
 use Rattle.lists.specs.Walk.{Turn, more, stop}
 use Rattle.lists.proofs.Tests.{and-to}
-use Rattle.lists.proofs.WalkLaws.{unroll-more, unroll-stop, walk-count}
+use Rattle.lists.proofs.WalkLaws.{unroll-more, unroll-stop}
 use Rattle.option.specs.Values.{Entry}
 use Rattle.prefix.specs.Prefixes.{checked}
 use Rattle.option.specs.Rules.{block?, entryFields?}
@@ -73,11 +73,6 @@ module _ (s : List ℕ) (end at : ℕ) (le : at ≤ end) where
   pub entries-stop : (b : Bool) → readEntry s end at ≡ stop b → readEntries s end at ≡ ([], b)
   unfolding readEntries
   entries-stop b h = unroll-stop (readEntry s end) false end (entry-moves s end) at b le h
-
-  -- An information has no more entries than bytes.
-  pub entries-count : at + length (readEntries s end at .0) ≤ end
-  unfolding readEntries
-  entries-count = walk-count (readEntry s end) false end (entry-moves s end) (suc end) at le
 
 -- What an answer of the entry cursor tells.
 pub told-entry : (end : ℕ) (t : Turn Entry Bool) (f : EntryFields) (c : EntryCursor) → entry-step.Entry f c ≡ entryStepOf end t

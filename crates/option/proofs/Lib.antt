@@ -2,7 +2,6 @@
 pub mod RuleLaws
 pub mod EntryLaws
 pub mod SuboptionLaws
-pub mod PieceLaws
 pub mod WritingLaws
 pub mod WrittenReadsBack
 pub mod Replies

@@ -14,13 +14,11 @@ use Rattle.prefix.specs.declared.Prefix.{Prefix}
 use Rattle.prefix.specs.declared.Checked.the-variants.{Good, BadLength, Misaligned}
 use Rattle.prefix.specs.Prefixes.{prefix, Aligned, aligned?, shortest, longest}
 use Rattle.prefix.proofs.PrefixLaws.{aligned-to, aligned-of}
-use Rattle.option.specs.Values.{Entry, SuboptionValue, request, information, name, unknown, accepted, refused}
+use Rattle.option.specs.Values.{Entry, SuboptionValue, request, information, name, unknown}
 use Rattle.option.specs.Rules.{block?, final, entryFields?, fields?}
-use Rattle.option.specs.Reading.{End, whole, badAt, option?, readSuboptions, ended, readOption}
+use Rattle.option.specs.Reading.{option?}
 use Rattle.option.specs.Writing.{entryWritable?, writable?}
 use Rattle.option.specs.Selection.{selection?}
-use Rattle.option.specs.Answers.{checkedOf}
-use Rattle.option.specs.declared.Checked.the-variants as check
 
 -- Rule 4: a block.
 pub record Block (network length′ : ℕ) : Type 0 where
@@ -132,32 +130,3 @@ selection-to s h =
 pub selection-of : (s : List ℕ) → Framed 118 s → getD s 1 0 ≡ 4 → selection? s ≡ true
 unfolding selection?
 selection-of s f four = simp (le-leb _ _ (f .two-bytes), eq-eqb _ _ (f .code-byte), eq-eqb _ _ (f .len), eq-eqb _ _ four)
-
--- What an answer of the check tells of the reading.
-module _ (s : List ℕ) where
-  pub told-good : check.Good ≡ checkedOf (readOption s) → readOption s ≡ accepted (readSuboptions s 3 .0)
-  unfolding readOption
-  told-good h = go (option? s) (readSuboptions s 3 .0) (readSuboptions s 3 .1) h
-    where
-      go : (ok : Bool) (xs : List SuboptionValue) (e : End) → check.Good ≡ checkedOf (cond ok (ended xs e) (refused 6 0)) → cond ok (ended xs e) (refused 6 0) ≡ accepted xs
-      go true xs whole k = refl
-      go true xs (badAt p) k = let z : _≡_ {A = ℕ} 0 1 = cc in absurd (omega arith)
-      go false xs e k = let z : _≡_ {A = ℕ} 0 1 = cc in absurd (omega arith)
-
-  pub told-not-the-option : check.NotTheOption ≡ checkedOf (readOption s) → readOption s ≡ refused 6 0
-  unfolding readOption
-  told-not-the-option h = go (option? s) (readSuboptions s 3 .0) (readSuboptions s 3 .1) h
-    where
-      go : (ok : Bool) (xs : List SuboptionValue) (e : End) → check.NotTheOption ≡ checkedOf (cond ok (ended xs e) (refused 6 0)) → cond ok (ended xs e) (refused 6 0) ≡ refused 6 0
-      go true xs whole k = let z : _≡_ {A = ℕ} 0 1 = cc in absurd (omega arith)
-      go true xs (badAt p) k = let z : _≡_ {A = ℕ} 0 1 = cc in absurd (omega arith)
-      go false xs e k = refl
-
-  pub told-bad-suboption : (place : ℕ) → check.BadSuboption place ≡ checkedOf (readOption s) → readOption s ≡ refused 7 place
-  unfolding readOption
-  told-bad-suboption place h = go (option? s) (readSuboptions s 3 .0) (readSuboptions s 3 .1) h
-    where
-      go : (ok : Bool) (xs : List SuboptionValue) (e : End) → check.BadSuboption place ≡ checkedOf (cond ok (ended xs e) (refused 6 0)) → cond ok (ended xs e) (refused 6 0) ≡ refused 7 place
-      go true xs whole k = let z : _≡_ {A = ℕ} 0 1 = cc in absurd (omega arith)
-      go true xs (badAt p) k = cc
-      go false xs e k = let z : _≡_ {A = ℕ} 0 1 = cc in absurd (omega arith)

@@ -31,10 +31,6 @@ pub entries-none : entriesBytes [] ≡ []
 unfolding entriesBytes
 entries-none = refl
 
-pub entries-first : (e : Entry) (es : List Entry) → entriesBytes (e ∷ es) ≡ entryBytes e ++ entriesBytes es
-unfolding entriesBytes
-entries-first e es = refl
-
 pub entries-append : (xs ys : List Entry) → entriesBytes (xs ++ ys) ≡ entriesBytes xs ++ entriesBytes ys
 unfolding entriesBytes
 entries-append xs ys = gather-append entryBytes xs ys
@@ -46,10 +42,6 @@ entries-one e = gather-one entryBytes e
 pub suboptions-none : suboptionsBytes [] ≡ []
 unfolding suboptionsBytes
 suboptions-none = refl
-
-pub suboptions-first : (x : SuboptionValue) (xs : List SuboptionValue) → suboptionsBytes (x ∷ xs) ≡ suboptionBytes x ++ suboptionsBytes xs
-unfolding suboptionsBytes
-suboptions-first x xs = refl
 
 -- "Repeated suboptions are never joined": what is written of a list is what is written of its parts, one after the other.
 pub suboptions-append : (xs ys : List SuboptionValue) → suboptionsBytes (xs ++ ys) ≡ suboptionsBytes xs ++ suboptionsBytes ys

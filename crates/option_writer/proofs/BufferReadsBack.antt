@@ -2,15 +2,13 @@
 -- Assumes nothing.
 use Prim.Native.Nat.{ℕ, _+_, _≤_}
 use native.Mathlib.Omega.{arith}
-use native.Mathlib.Nat.{zero-add}
 use mathlib.Core.Path.{_≡_, refl, sym, ap, _∙_}
 use mathlib.Core.Bool.{Bool, true, false, cond}
 use mathlib.Core.List.{List, _++_}
 use lib.ListN.{length, take, drop}
 use lib.Seq.{take-at, drop-at}
 use lib.Dec.{eqb}
-use Rattle.lists.specs.Put.{put}
-use Rattle.lists.proofs.PutLaws.{put-fits}
+use Rattle.lists.proofs.PutLaws.{put-front}
 use Rattle.option.specs.Values.{SuboptionValue, accepted}
 use Rattle.option.specs.Reading.{readOption}
 use Rattle.option.specs.Writing.{Writing, refusedWith, written, writeOption}
@@ -23,12 +21,6 @@ refused-not-bytes : (b : Bool) (n : ℕ) → cond b OutsideRules TooLong ≡ Byt
 refused-not-bytes true n h = let z : _≡_ {A = ℕ} 0 1 = cc in omega arith
 refused-not-bytes false n h = let z : _≡_ {A = ℕ} 0 1 = cc in omega arith
 
--- What is put at the start of a list that has room for it.
-front : (bytes buffer : List ℕ) → length bytes ≤ length buffer → put buffer 0 bytes ≡ bytes ++ drop (length bytes) buffer
-front bytes buffer h =
-    let room : 0 + length bytes ≤ length buffer = omega arith in
-    put-fits bytes buffer 0 room ∙ ap (λ (n : ℕ). bytes ++ drop n buffer) (zero-add (length bytes))
-
 module _ (subs : List SuboptionValue) (buffer after : List ℕ) (n : ℕ) where
   abbrev Claim : Type 0
   Claim = (readOption (take n after) ≡ accepted subs) × (drop n after ≡ drop n buffer)
@@ -40,7 +32,7 @@ module _ (subs : List SuboptionValue) (buffer after : List ℕ) (n : ℕ) where
       let size : length bytes ≡ n = cc in
       let w = wrote (length buffer) subs bytes e in
       let fits : length bytes ≤ length buffer = omega (arith, w .fits, ap length (w .same)) in
-      let list : after ≡ bytes ++ drop (length bytes) buffer = sym (ap (λ (r : Written × List ℕ). r .1) h) ∙ front bytes buffer fits in (
+      let list : after ≡ bytes ++ drop (length bytes) buffer = sym (ap (λ (r : Written × List ℕ). r .1) h) ∙ put-front bytes buffer fits in (
         ap (λ (l : List ℕ). readOption (take n l)) list
             ∙ ap readOption (take-at bytes (drop (length bytes) buffer) n size)
             ∙ written-reads-back (length buffer) subs bytes e,

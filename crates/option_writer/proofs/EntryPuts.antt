@@ -18,7 +18,8 @@ use Rattle.entries.specs.declared.EntryFields.{EntryFields}
 use Rattle.entries.specs.declared.Figures.{Figures}
 use Rattle.option.proofs.WritingLaws.{entry-head-length, entries-append, entries-one}
 use Rattle.suboption_list.specs.Lists.{figuresIn, entryOf, part}
-use Rattle.lists.proofs.IndexLaws.{map-append, all?-at}
+use Rattle.lists.proofs.IndexLaws.{all?-at}
+use Rattle.lists.proofs.MapLaws.{map-append}
 use Rattle.suboption_list.proofs.PartLaws.{part-more, map-part-at, length-map-part}
 use Rattle.suboption_list.proofs.EntryLengths.{figures-count, entry-next}
 

@@ -29,7 +29,8 @@ use Rattle.suboption_list.specs.declared.Slot.{Slot}
 use Rattle.option_pieces.specs.declared.Written.{Written}
 use Rattle.option_pieces.specs.declared.Written.the-variants as written-as
 use Rattle.suboption_list.specs.declared.Measured.the-variants.{Bytes, Outside}
-use Rattle.lists.proofs.IndexLaws.{map-append, all?-at}
+use Rattle.lists.proofs.IndexLaws.{all?-at}
+use Rattle.lists.proofs.MapLaws.{map-append}
 use Rattle.option_pieces.proofs.StoreLaws.{two-stores}
 use Rattle.suboption_list.proofs.PartLaws.{length-part}
 use Rattle.suboption_list.proofs.MeasureLaws.{bytes-picked, outside-left}

@@ -1,17 +1,17 @@
 -- The bytes of a reply: an option with one information, head by head and entry by entry.
 -- Assumes nothing.
-use Prim.Native.Nat.{ℕ, _+_, _*_, _≤_}
+use Prim.Native.Nat.{ℕ, _+_, _*_}
 use mathlib.Core.Path.{_≡_, refl, sym, ap, ap₂, _∙_}
 use mathlib.Core.Bool.{Bool}
 use mathlib.Core.List.{List, [], _∷_, _++_, map, append-nil, append-assoc}
 use native.Mathlib.Omega.{arith}
-use lib.ListN.{length, drop, length-append, length-map}
+use lib.ListN.{length, length-append, length-map}
 use Rattle.lists.specs.Lists.{gather}
 use Rattle.lists.specs.Put.{put}
 use Rattle.lists.proofs.ListLaws.{all-every, all-image}
 use Rattle.lists.proofs.GatherLaws.{gather-append, gather-one, length-gather}
 use Rattle.lists.proofs.MapLaws.{map-append}
-use Rattle.lists.proofs.PutLaws.{put-nothing, put-more, put-before, put-fits}
+use Rattle.lists.proofs.PutLaws.{put-nothing, put-more, put-before}
 use Rattle.option.specs.Values.{Entry, information}
 use Rattle.option.specs.Writing.{fourBytes, entryHead, entryBytes, entriesBytes, informationHead, suboptionBytes, suboptionsBytes, optionHead, optionBytes}
 use Rattle.table.specs.declared.Lease.{Lease}
@@ -97,9 +97,3 @@ heads-last c s xs n k l l₁ l₂ e₁ e₂ =
     ∙ ap (λ (m : List ℕ). put m 0 heads) (e₁ ∙ ap (λ (at : ℕ). put l at es) six)
     ∙ put-before heads l 0 es
     ∙ ap (put l 0) (ap (λ (m : ℕ). (optionHead (7 * m + 4) ++ informationHead (7 * m + 1) c s) ++ es) k ∙ sym (reply-parts c s xs))
-
--- "Bytes of the reply buffer after those written keep their content."
-pub reply-fits : (bytes l : List ℕ) → length bytes ≤ length l → put l 0 bytes ≡ bytes ++ drop (length bytes) l
-reply-fits bytes l h =
-    let z : 0 + length bytes ≡ length bytes = omega arith in
-    put-fits bytes l 0 (omega arith) ∙ ap (λ (n : ℕ). bytes ++ drop n l) z

@@ -1,21 +1,21 @@
 -- What the sheet of an image answers: how many rows are free, whether the buffer is too small, and what is written.
 -- Assumes nothing.
-use Prim.Native.Nat.{ℕ, suc, _+_, _*_, _≤_, _<_}
+use Prim.Native.Nat.{ℕ, _+_, _*_, _≤_, _<_}
 use mathlib.Core.Path.{_≡_, refl, sym, ap, subst, _∙_}
 use mathlib.Core.Logic.{inl, inr}
 use mathlib.Core.Bool.{Bool, true, false}
-use mathlib.Core.List.{List, [], _∷_, _++_}
+use mathlib.Core.List.{List, _++_}
 use mathlib.Core.Option.{Option, none, some}
 use native.Mathlib.Omega.{arith}
 use lib.ListN.{length, getD, length-append}
 use lib.Dec.{ltb}
 use borrow.Author.Tests.{le-ltb, ltb-true, ltb-false}
-use Rattle.lists.specs.Lists.{All}
 use Rattle.lists.proofs.PutLaws.{put-more}
 use Rattle.lists.specs.Put.{put}
 use Rattle.table.specs.declared.LeaseTable.{LeaseTable}
 use Rattle.table.specs.Table.{poolSlots, leaseSlots}
 use Rattle.image.specs.Image.{loadImage}
+use Rattle.image.proofs.FieldLaws.{bytes-all}
 use Rattle.image.proofs.ImageLaws.{image-loaded}
 use Rattle.image_check.specs.declared.Book.{Book}
 use Rattle.image_check.specs.Book.{bookOf}
@@ -105,10 +105,6 @@ module _ (image : List ℕ) (k n : ℕ) (s : Sound image k n) where
             ∙ image-sound image out (s .table) (s .loads)
 
 -- WHAT THE CHECK OF THE BYTES TELLS
-
-bytes-all : (s : List ℕ) → ((i : ℕ) → getD s i 0 < 256) → All (λ b. b < 256) s
-bytes-all [] b = tt
-bytes-all (x ∷ s) b = (b 0, bytes-all s (λ i. b (suc i)))
 
 module _ (image : List ℕ) (book : Book) (eb : book ≡ bookOf 0 (loadImage image)) where
   pub told-none : book .sound ≡ false → loadImage image ≡ none

@@ -16,7 +16,7 @@ use Rattle.lists.specs.Lists.{All, Any, every, gather}
 use Rattle.lists.specs.Put.{put}
 use Rattle.lists.proofs.Tests.{bool-cases, cond-true, cond-false, every-to}
 use Rattle.lists.proofs.ListLaws.{all-map, all-image}
-use Rattle.lists.proofs.DropLaws.{all-at}
+use Rattle.lists.proofs.IndexLaws.{all-at}
 use Rattle.lists.proofs.ThoseLaws.{those-fewer}
 use Rattle.lists.proofs.PutLaws.{put-fits}
 use Rattle.prefix.specs.declared.Prefix.{Prefix}
@@ -25,7 +25,7 @@ use Rattle.table.specs.declared.Pool.{Pool}
 use Rattle.table.specs.declared.Lease.{Lease}
 use Rattle.table.specs.declared.LeaseTable.{LeaseTable}
 use Rattle.table.specs.Table.{poolSlots, leaseSlots, addresses, poolPrefix, prefixOf, noPool, noLease, empty?, unused?, prefixesOf, poolsOf, sound}
-use Rattle.table.proofs.Ascending.{Ascending, ascending-low}
+use Rattle.table.proofs.Ascending.{Ascending, ascending-low, ascending-image}
 use Rattle.table.proofs.TableLaws.{GoodPool, Good, Fine, sound-pool-slots, sound-slots, sound-pools, sound-used, sound-fine}
 use Rattle.image.specs.Fields.{le16, le32, number32, Run}
 use Rattle.image.specs.declared.Head.{Head}
@@ -53,10 +53,6 @@ ascending-at pre d from [] s j k h l = absurd (omega arith)
 ascending-at pre d from (x ∷ xs) s j zero h l = absurd (omega arith)
 ascending-at pre d from (x ∷ xs) s zero (suc k) h l = all-at (λ y. end (pre x) ≤ pre y .network) xs (ascending-low pre (end (pre x)) xs (s .1)) k d (omega arith)
 ascending-at pre d from (x ∷ xs) s (suc j) (suc k) h l = ascending-at pre d (end (pre x)) xs (s .1) j k (omega arith) (omega arith)
-
-ascending-image : {A : Type 0} (pre : A → Prefix) (from : ℕ) (xs : List A) → Ascending pre from xs → Ascending (λ p. p) from (map pre xs)
-ascending-image pre from [] s = tt
-ascending-image pre from (x ∷ xs) s = (s .0, ascending-image pre (end (pre x)) xs (s .1))
 
 -- A POOL IN PLACE
 

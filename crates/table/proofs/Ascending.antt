@@ -3,7 +3,7 @@
 use Prim.Native.Nat.{ℕ, zero, suc, _+_, _-_, _≤_, _<_}
 use mathlib.Core.Path.{_≡_, refl, sym, ap, ap₂, subst, _∙_}
 use mathlib.Core.Logic.{_⊎_, inl, inr, ⊎-elim}
-use mathlib.Core.Bool.{Bool, true, false, not, cond, _&&_}
+use mathlib.Core.Bool.{Bool, true, false, not, _&&_}
 use mathlib.Core.List.{List, [], _∷_, _++_, map}
 use native.Mathlib.Omega.{arith}
 use lib.ListN.{length, replicate}
@@ -52,6 +52,10 @@ module _ {A : Type 0} (pre : A → Prefix) where
   pub ascending-apart : (from : ℕ) (xs : List A) → Ascending pre from xs → Pairwise (λ x y. Apart (pre x) (pre y)) xs
   ascending-apart from [] s = tt
   ascending-apart from (x ∷ xs) s = (all-map (λ y h. inl h) xs (ascending-low (end (pre x)) xs (s .1)), ascending-apart (end (pre x)) xs (s .1))
+
+  pub ascending-image : (from : ℕ) (xs : List A) → Ascending pre from xs → Ascending (λ p. p) from (map pre xs)
+  ascending-image from [] s = tt
+  ascending-image from (x ∷ xs) s = (s .0, ascending-image (end (pre x)) xs (s .1))
 
   -- Changing them without changing their prefixes.
   pub ascending-map : (f : A → A) → ((x : A) → pre (f x) ≡ pre x) → (from : ℕ) (xs : List A) → Ascending pre from xs → Ascending pre from (map f xs)

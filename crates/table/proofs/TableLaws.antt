@@ -1,27 +1,27 @@
 -- Laws of the lease table: what each test decides, what is present, and that storing good leases makes a sound table.
 -- Assumes nothing.
-use Prim.Native.Nat.{ℕ, zero, suc, _+_, _-_, _%_, _≤_, _<_}
+use Prim.Native.Nat.{ℕ, _+_, _-_, _≤_, _<_}
 use mathlib.Core.Path.{_≡_, refl, sym, ap, ap₂, subst, _∙_}
-use mathlib.Core.Logic.{_⊎_, inl, inr, ⊎-elim}
-use mathlib.Core.Bool.{Bool, true, false, not, cond, _&&_, and-true}
-use mathlib.Core.List.{List, [], _∷_, _++_, map, append-nil}
+use mathlib.Core.Logic.{_⊎_, ⊎-elim}
+use mathlib.Core.Bool.{Bool, true, false, _&&_, and-true}
+use mathlib.Core.List.{List, _∷_, _++_, map, append-nil}
 use native.Mathlib.Omega.{arith}
 use lib.ListN.{length, replicate, length-append, length-replicate, length-map}
-use lib.Dec.{leb, ltb, eqb}
-use borrow.Author.Tests.{leb-true, le-leb, ltb-true, ltb-false, lt-ltb, le-ltb, eqb-true, eqb-false, eq-eqb, ne-eqb, not-true}
-use Rattle.lists.specs.Lists.{All, Any, Pairwise, every, all?, any?, those}
-use Rattle.lists.proofs.Tests.{bool-cases, and-to, and-of, cond-true, cond-false, not-of, not-to, every-to, every-of, any?-to, any?-of}
+use lib.Dec.{ltb, eqb}
+use borrow.Author.Tests.{leb-true, le-leb, ltb-true, lt-ltb, le-ltb, eqb-true, eqb-false, eq-eqb, ne-eqb, not-true}
+use Rattle.lists.specs.Lists.{All, Any, Pairwise, those}
+use Rattle.lists.proofs.Tests.{bool-cases, not-of, every-to, every-of, any?-to, any?-of}
 use Rattle.lists.proofs.ListLaws.{all-map, all-map₂, all-image, all-preimage, pairwise-image}
 use Rattle.prefix.specs.declared.Prefix.{Prefix}
-use Rattle.prefix.specs.Prefixes.{size, end, Aligned, Inside, inside?, Apart}
-use Rattle.prefix.proofs.PrefixLaws.{size-positive, aligned-to, aligned-of, inside-to, inside-of}
+use Rattle.prefix.specs.Prefixes.{end, Aligned, Inside, inside?, Apart}
+use Rattle.prefix.proofs.PrefixLaws.{aligned-to, aligned-of, inside-to, inside-of}
 use Rattle.table.specs.declared.Pool.{Pool}
 use Rattle.table.specs.declared.Lease.{Lease}
 use Rattle.table.specs.declared.LeaseTable.{LeaseTable}
-use Rattle.table.specs.Table.{poolSlots, leaseSlots, latest, addresses, poolPrefix, prefixOf, noPool, noLease, poolZeros, unused?, leaseZeros, empty?, prefixesOf, poolsOf, present, headRules, headOk, poolRules, poolOk, leaseRules, leaseOk, ascends?, poolsAscend?, leasesAscend?, tableRules, sound, padded, store, networkOf, insert}
-use Rattle.lists.proofs.SortingLaws.{insertBy-all, insertBy-longer}
+use Rattle.table.specs.Table.{poolSlots, leaseSlots, latest, addresses, poolPrefix, prefixOf, noPool, noLease, poolZeros, unused?, leaseZeros, empty?, poolsOf, present, headRules, headOk, poolRules, poolOk, leaseRules, leaseOk, poolsAscend?, leasesAscend?, tableRules, sound, padded, store, networkOf, insert}
+use Rattle.lists.proofs.SortingLaws.{insertBy-all}
 use Rattle.lists.proofs.ThoseLaws.{those-yes, those-no, those-all, those-fewer, those-append, those-whole, those-replicate, those-pass}
-use Rattle.table.proofs.Ascending.{Ascending, used, ascending-weaken, ascending-those, ascending-apart, ascending-map, ascending-insert, Slots, ascends-to, ascends-of}
+use Rattle.table.proofs.Ascending.{Ascending, used, ascending-those, ascending-apart, ascending-map, ascending-insert, Slots, ascends-to, ascends-of}
 
 -- EMPTY SLOTS
 
@@ -228,12 +228,6 @@ module _ (t : LeaseTable) (e : sound t ≡ true) where
   pub sound-default : (1 ≤ t .«default_length») × (t .«default_length» ≤ 30)
   sound-default = (leb-true 1 (t .«default_length») (headed .1 .1 .0), leb-true (t .«default_length») 30 (headed .1 .1 .1 .0))
 
-  pub sound-last : t .last ≤ latest
-  sound-last = leb-true (t .last) latest (headed .1 .1 .1 .1 .0)
-
-  pub sound-some-pool : 0 < length (poolsOf t)
-  sound-some-pool = ltb-true 0 (length (poolsOf t)) (rules .1 .1 .1 .0)
-
   poolSlotsOf : Slots unused? poolOk poolPrefix noPool 0 (t .pools)
   poolSlotsOf = ascends-to unused? poolOk poolPrefix noPool unused-to 0 (t .pools) (rules .1 .1 .1 .1 .0)
 
@@ -314,21 +308,11 @@ pub insert-fine : (pools : List Prefix) (now : ℕ) (x : Lease) (ys : List Lease
 insert-fine pools now x ys g a f =
     (insertBy-all networkOf (Good pools now) x ys g (f .0), ascending-insert prefixOf 0 x ys (omega arith) (all-preimage prefixOf (Apart (prefixOf x)) ys a) (f .1))
 
--- It keeps a sound table sound, where there is room.
-pub insert-sound : (t : LeaseTable) (now : ℕ) (x : Lease) → sound t ≡ true → now ≤ latest → length (present now (t .leases)) < leaseSlots → Good (poolsOf t) now x
-    → All (Apart (prefixOf x)) (map prefixOf (present now (t .leases))) → sound (store t now (insert x (present now (t .leases)))) ≡ true
-insert-sound t now x e l room g a =
-    let xs : List Lease = present now (t .leases) in
-    store-sound t now (insert x xs) e l (omega (arith, insertBy-longer networkOf x xs)) (insert-fine (poolsOf t) now x xs g a (sound-fine t e now))
-
 -- Removing expired leases keeps a sound table sound, and so does leaving out any others.
 pub those-sound : (t : LeaseTable) (now : ℕ) (f : Lease → Bool) → sound t ≡ true → now ≤ latest → sound (store t now (those f (present now (t .leases)))) ≡ true
 those-sound t now f e l =
     let xs : List Lease = present now (t .leases) in
     store-sound t now (those f xs) e l (omega (arith, those-fewer f xs, sound-fewer t e now)) (fine-those (poolsOf t) now 0 f xs (sound-fine t e now))
-
-pub expired-sound : (t : LeaseTable) (now : ℕ) → sound t ≡ true → now ≤ latest → sound (store t now (present now (t .leases))) ≡ true
-expired-sound t now e l = store-sound t now (present now (t .leases)) e l (sound-fewer t e now) (sound-fine t e now)
 
 -- Changing leases in what does not belong to their place, if each stays good.
 pub map-sound : (t : LeaseTable) (now : ℕ) (f : Lease → Lease) → ((x : Lease) → prefixOf (f x) ≡ prefixOf x) → ((x : Lease) → Good (poolsOf t) now x → Good (poolsOf t) now (f x))
@@ -340,22 +324,6 @@ map-sound t now f same good e l =
 -- WHAT STORING TOUCHES: the leases and the last time, and nothing else.
 
 module _ (t : LeaseTable) (now : ℕ) (xs : List Lease) where
-  pub store-pools : store t now xs .pools ≡ t .pools
-  unfolding store
-  store-pools = refl
-
-  pub store-term : store t now xs .term ≡ t .term
-  unfolding store
-  store-term = refl
-
-  pub store-default : store t now xs .«default_length» ≡ t .«default_length»
-  unfolding store
-  store-default = refl
-
   pub store-last : store t now xs .last ≡ now
   unfolding store
   store-last = refl
-
-  pub store-leases : store t now xs .leases ≡ padded xs
-  unfolding store
-  store-leases = refl

@@ -137,10 +137,6 @@ paddedPools ps = ps ++ replicate (poolSlots - length ps) noPool
 abbrev pub blank : LeaseTable
 blank = record { pools = replicate poolSlots noPool; leases = replicate leaseSlots noLease; term = 0; «default_length» = 0; last = 0 }
 
--- The table with other leases.
-abbrev pub withLeases : LeaseTable → List Lease → LeaseTable
-withLeases t xs = record { pools = t .pools; leases = xs; term = t .term; «default_length» = t .«default_length»; last = t .last }
-
 -- The table that an accepted call leaves: these leases, every other slot empty, and the time as the last time.
 unfoldable pub store : LeaseTable → ℕ → List Lease → LeaseTable
 store t now xs = record { pools = t .pools; leases = padded xs; term = t .term; «default_length» = t .«default_length»; last = now }

@@ -10,6 +10,7 @@ use lib.ListN.{length, take, length-map}
 use lib.Dec.{ltb}
 use borrow.Author.Tests.{ltb-false}
 use Rattle.lists.specs.Put.{put}
+use Rattle.lists.proofs.PutLaws.{put-front}
 use Rattle.lists.proofs.Tests.{cond-true, cond-false}
 use Rattle.option.specs.Values.{Entry, information}
 use Rattle.option.specs.Writing.{optionHead, informationHead, entriesBytes, optionBytes}
@@ -24,7 +25,7 @@ use Rattle.ledger.specs.Ledger.{take as takeOf}
 use Rattle.ledger.proofs.RowLaws.{first-none}
 use Rattle.answers.specs.Answers.{commonRows}
 use Rattle.reply.specs.Reply.{mostEntries, replyBytes}
-use Rattle.reply.proofs.ReplyLaws.{entries-none, reply-length, heads-last, reply-fits}
+use Rattle.reply.proofs.ReplyLaws.{entries-none, reply-length, heads-last}
 use Rattle.image_check.specs.declared.Book.{Book}
 use Rattle.image_calls.specs.declared.ImageAnswer.{ImageAnswer}
 use Rattle.image_calls.specs.ImageCalls.{fullImage, tableIn, small?, answerWith, takeImage}
@@ -37,7 +38,7 @@ use Rattle.entry_leases.specs.EntryLeases.{Hold, changedBy}
 use Rattle.entry_leases.specs.EntryRows.{eight, ReadsEntries}
 use Rattle.entry_leases.proofs.ManyLaws.{renewed-present, renewed-all, found-nothing}
 use Rattle.entry_leases.proofs.EntriesLaws.{unchanged, changed-holds}
-use Rattle.entry_leases.proofs.RowLaws.{nothing-none, nothing-some}
+use Rattle.ledger.proofs.RowLaws.{nothing-none, nothing-some}
 use Rattle.entry_leases.proofs.CallLaws.{entries-refused, entries-left, rest-refused}
 use Rattle.take_image.specs.Renewed.{Renewed}
 
@@ -71,7 +72,7 @@ outcome-is t now zs gs reply few room =
     let w : List ℕ = replyBytes false false gs in
     let size : length w ≡ 7 * length gs + 6 = reply-length false false gs in
     let fits : length w ≤ length reply = omega (arith, size) in
-    ap₂ (λ (k : ℕ) (l : List ℕ). record { answer = acceptance k (length gs); table = store t now zs; buffer = l }) size (sym (reply-fits w reply fits))
+    ap₂ (λ (k : ℕ) (l : List ℕ). record { answer = acceptance k (length gs); table = store t now zs; buffer = l }) size (sym (put-front w reply fits))
 
 -- THE TIME THAT A LEASE GETS
 

@@ -1,6 +1,6 @@
 -- `flockdrift_sheet` meets its contract, answer by answer.
 -- Assumes nothing.
-use mathlib.Core.Path.{_≡_, sym, ap, _∙_}
+use mathlib.Core.Path.{sym, ap, _∙_}
 use mathlib.Core.List.{List}
 use native.Mathlib.Omega.{arith}
 use Prim.Native.Nat.{ℕ, _≤_}
@@ -9,7 +9,7 @@ use borrow.Author.Needs.{needs}
 use Rattle.sheet_text.specs.declared.SheetAnswer.{SheetAnswer}
 use Rattle.sheet_text.specs.Sheet.{sheetSize}
 use Rattle.image_calls.specs.ImageCalls.{fullImage, sheetAnswer}
-use Rattle.image_calls.proofs.TableLaws.{bytes-all}
+use Rattle.image.proofs.FieldLaws.{bytes-all}
 use Rattle.image_calls.proofs.SheetLaws.{sheet-small, sheet-answered}
 use Rattle.capi.proofs.flockdrift_sheet.Statement.{statement}
 use Rattle.capi.proofs.flockdrift_sheet.Tie as tie

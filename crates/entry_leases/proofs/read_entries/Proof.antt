@@ -2,7 +2,7 @@
 -- Assumes nothing.
 use native.Mathlib.Omega.{arith}
 use borrow.Author.Needs.{needs}
-use Rattle.image_calls.proofs.TableLaws.{bytes-all}
+use Rattle.image.proofs.FieldLaws.{bytes-all}
 use Rattle.image_rows.proofs.CallRows.{place-small}
 use Rattle.entry_leases.proofs.RowLaws.{read-bad, read-asks, read-nothing, read-good}
 use Rattle.entry_leases.proofs.read_entries.Statement.{statement}

@@ -16,7 +16,7 @@ use Rattle.reply.specs.Reply.{mostEntries}
 use Rattle.pieces.specs.Held.{positionOf}
 use Rattle.image_calls.specs.declared.ImageAnswer.{ImageAnswer}
 use Rattle.image_calls.specs.ImageCalls.{tableIn, small?}
-use Rattle.image_calls.proofs.TableLaws.{bytes-all}
+use Rattle.image.proofs.FieldLaws.{bytes-all}
 use Rattle.image_calls.proofs.CallLaws.{reply-small}
 use Rattle.image_rows.specs.Opened.{Opened}
 use Rattle.image_rows.proofs.RowLaws.{book-opens}
