@@ -2,7 +2,7 @@
 -- Assumes nothing.
 use Prim.Native.Nat.{ℕ, _+_, _*_, _≤_}
 use native.Mathlib.Omega.{arith}
-use mathlib.Core.Path.{_≡_, refl, sym, ap, ap₂, _∙_}
+use mathlib.Core.Path.{_≡_, refl, sym, ap, ap₂, subst, _∙_}
 use mathlib.Core.Bool.{Bool, true, false, not}
 use mathlib.Core.List.{List, [], _∷_, _++_, map}
 use mathlib.Core.Option.{Option, none, some}
@@ -14,6 +14,7 @@ use Rattle.lists.specs.Put.{put}
 use Rattle.lists.proofs.Tests.{cond-true, cond-false, not-of, not-to}
 use Rattle.lists.proofs.TakeLaws.{take-short, short-none, short-of}
 use Rattle.lists.proofs.MapLaws.{all?-count}
+use Rattle.lists.proofs.DropLaws.{drop-end}
 use Rattle.lists.proofs.PutLaws.{put-front}
 use Rattle.option.specs.Values.{SuboptionValue, Outcome, information}
 use Rattle.option.specs.Writing.{optionHead, informationHead, entriesBytes, optionBytes}
@@ -91,6 +92,14 @@ outcome-is t gs reply room =
     let size : length w ≡ 7 * length (take 35 gs) + 6 = reply-length true (ltb 35 (length gs)) (take 35 gs) in
     let fits : length w ≤ length reply = omega (arith, size, take-short 35 gs) in
     ap₂ (λ (k : ℕ) (l : List ℕ). record { answer = acceptance k (length (take 35 gs)); table = t; buffer = l }) size (sym (put-front w reply fits))
+
+-- The page of no leases.
+page-none : (now client : ℕ) (reply : List ℕ) (xs : List Lease) → length xs ≡ 0 → (from : ℕ) → PageOf (those (shown? now client) (drop from xs)) reply reply (record { count = 0; more = false })
+page-none now client reply [] e from =
+    let none : drop from [] ≡ [] = drop-end {A = Lease} [] from (omega arith) in
+    subst (λ (ys : List Lease). PageOf (those (shown? now client) ys) reply reply (record { count = 0; more = false })) (sym none)
+    (record { count = refl; more = refl; bytes = sym (entries-none [] reply refl) })
+page-none now client reply (x ∷ xs) e from = absurd (omega arith)
 
 -- "List changes nothing": the image is stored in its own place.
 image-stays : (buffer : List ℕ) (bytes : ℕ) → sound (tableIn buffer bytes) ≡ true → Bytes buffer → (a : Answer) → a .number ≡ 0
@@ -220,3 +229,10 @@ module _ (buffer : List ℕ) (bytes now client : ℕ) (option reply : List ℕ) 
                   reply-accepted buffer bytes now client option holds rows reply (λ x. list x now client option reply) left
                   (shape t now client option reply ∙ ap (replyCall t now client option reply rows) (sym left-is)) passes
                   (answerWith (acceptance n (page .count)) bytes, buffer) (image-stays buffer bytes (o .sound) b (acceptance n (page .count)) refl)
+
+            -- Row 11 of a table without leases.
+            pub list-empty : book .leases ≡ 0 → (answerWith (refusal 11 0) 0, buffer, reply) ≡ listImage buffer bytes client now option reply
+            list-empty k =
+                let xs : List Lease = usedLeases (tableIn buffer bytes) in
+                let opened = book-opens buffer bytes now book i row z client e in
+                list-nothing (startOf (positionOf m) xs) refl (record { count = 0; more = false }) reply (page-none now client reply xs (sym (opened .leases) ∙ k) (startOf (positionOf m) xs)) refl

@@ -113,8 +113,11 @@ pub fn list(
     if m.listing != m.requests {
         return image_calls::refused(8, 0);
     }
-    let from = 13 + 9 * book.pools;
     let n = book.leases;
+    if n == 0 {
+        return image_calls::refused(11, 0);
+    }
+    let from = 13 + 9 * book.pools;
     let first = first_above(image, from, n, m.resumes, m.position);
     let page = show_page(image, from, first, n, time, client, reply);
     let shown = page.count;

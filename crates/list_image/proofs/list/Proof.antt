@@ -22,14 +22,11 @@ use Rattle.image_rows.specs.Opened.{Opened}
 use Rattle.image_rows.proofs.RowLaws.{book-opens}
 use Rattle.image_rows.proofs.CallRows.{place-small}
 use Rattle.list_image.specs.Page.{shown?, startOf, PageOf}
-use Rattle.list_image.proofs.ListLaws.{list-short, list-closed, list-unread, list-no-request, list-other-request, list-nothing, list-found}
+use Rattle.list_image.proofs.ListLaws.{list-short, list-closed, list-unread, list-no-request, list-other-request, list-nothing, list-empty, list-found}
 use Rattle.list_image.proofs.list.Statement.{statement}
 use Rattle.list_image.proofs.list.Tie as tie
 
--- Places further back in the code: where the page is shown, where the option is heard, where it is read, and where the book has passed.
-abbrev heard-at : tie.After-show-page → tie.Else4
-heard-at c = c .before .before .before .before .before .before .before .before
-
+-- Places further back in the code: where the option is read, and where the book has passed.
 abbrev read-at : tie.After-of-option → tie.After-read
 read-at c = c .before .before .before .before .before
 
@@ -167,53 +164,14 @@ returns-6 c =
 opened-later : (c : tie.Else6) → let a = c .before .before .before .before .before .before .before .before .before .before .before .before .before .before .before .before .before .before .before .before .before .before .before .before .before .args in Opened (a .image .now) (a .image-bytes) (a .time) (c .before .before .before .before .before .before .before .before .before .before .before .before .before .before .before .before .before .before .book-in .result)
 opened-later c = opened (begun-at (read-at (c .before .before .before .before .before .before)))
 
-mul-from : tie.Need-mul-from
-mul-from c = let o = opened-later (c .before) in omega (arith, o .few-pools)
-
-add-from : tie.Need-add-from
-add-from c = let o = opened-later (c .before) in omega (arith, o .few-pools)
-
-first-above-requires : tie.Need-first-above-requires
-first-above-requires c κs = let o = opened-later (c .before) in omega (arith, o .size, o .within)
-
-show-page-requires : tie.Need-show-page-requires
-show-page-requires c κs =
-    let o = opened-later (c .before .before .before) in
-    let enough = c .before .before .before .before .before .before .before .before .before .before .before .before .before .before .before .before .before .before .before .before .before .before .if2 .left in
-    (omega (arith, o .size, o .within), c .before .first-above .ensures .0, enough)
-
--- The first lease above the position, and the page from there on.
-placed : (c : tie.After-show-page) → let a = c .before .before .before .before .before .before .before .before .before .before .before .before .before .before .before .before .before .before .before .before .before .before .before .before .before .before .before .before .before .args in
-    c .before .before .first-above .result ≡ startOf (positionOf (c .before .before .before .before .before .before .before .before .before .before .before .before .before .before .before .read .result)) (usedLeases (tableIn (a .image .now) (a .image-bytes)))
-placed c =
-    let a = c .before .before .before .before .before .before .before .before .before .before .before .before .before .before .before .before .before .before .before .before .before .before .before .before .before .before .before .before .before .args in
-    let o = opened-later (c .before .before .before .before) in
-    c .before .before .first-above .ensures .1 (usedLeases (tableIn (a .image .now) (a .image-bytes))) (o .records) (o .leases) (o .ascending)
-
-shown : (c : tie.After-show-page) → let a = c .before .before .before .before .before .before .before .before .before .before .before .before .before .before .before .before .before .before .before .before .before .before .before .before .before .before .before .before .before .args in
-    PageOf (those (shown? (a .time) (a .client)) (drop (c .before .before .first-above .result) (usedLeases (tableIn (a .image .now) (a .image-bytes))))) (a .reply .now) (c .show-page .last .1 .1 .1 .1 .1 .1 .0) (c .show-page .result)
-shown c =
-    let a = c .before .before .before .before .before .before .before .before .before .before .before .before .before .before .before .before .before .before .before .before .before .before .before .before .before .before .before .before .before .args in
-    let o = opened-later (c .before .before .before .before) in
-    c .show-page .ensures (usedLeases (tableIn (a .image .now) (a .image-bytes))) (o .records) (o .leases)
-
-few : (c : tie.After-show-page) → c .show-page .result .count ≤ mostEntries
-few c =
-    let a = c .before .before .before .before .before .before .before .before .before .before .before .before .before .before .before .before .before .before .before .before .before .before .before .before .before .before .before .before .before .args in
-    let p = shown c in
-    omega (arith, p .count, take-short mostEntries (those (shown? (a .time) (a .client)) (drop (c .before .before .first-above .result) (usedLeases (tableIn (a .image .now) (a .image-bytes))))))
-
 refused-requires-6 : tie.Need-refused-requires-6
 refused-requires-6 c κs = search needs
 
-same-length : tie.Need-same-length
-same-length c = search needs
-
+-- No lease at all.
 returns-7 : tie.Need-returns-7
 returns-7 c =
     let then = c .before in
-    let page = then .before .before .before in
-    let right = page .before .before .before .before in
+    let right = then .before in
     let asked = right .before .before in
     let heard = asked .before .before in
     let answer = heard .before .before in
@@ -223,8 +181,67 @@ returns-7 c =
     let booked = checked .before in
     let roomy = booked .before in
     let a = roomy .before .before .before .before .before .before .args in
-    ap (λ (r : ImageAnswer). (r, a .image .now, page .show-page .last .1 .1 .1 .1 .1 .1 .0)) (c .refused6 .ensures)
-    ∙ list-nothing (a .image .now) (a .image-bytes) (a .time) (a .client) (a .option .now) (a .reply .now) (holds (roomy .before)) (room roomy) (booked .book-in .result) (booked .book-in .ensures) (checked .check-book .result) (checked .check-book .ensures) (begun .if3 .left) (read .read .result) _ (read .read .ensures) (answer .of-option .result) (answer .of-option .ensures) (heard .if4 .left) (asked .if5 .left) (right .if6 .left) (page .before .before .first-above .result) (placed page) (page .show-page .result) _ (shown page) (then .if7 .taken)
+    ap (λ (r : ImageAnswer). (r, a .image .now, a .reply .now)) (c .refused6 .ensures)
+    ∙ list-empty (a .image .now) (a .image-bytes) (a .time) (a .client) (a .option .now) (a .reply .now) (holds (roomy .before)) (room roomy) (booked .book-in .result) (booked .book-in .ensures) (checked .check-book .result) (checked .check-book .ensures) (begun .if3 .left) (read .read .result) _ (read .read .ensures) (answer .of-option .result) (answer .of-option .ensures) (heard .if4 .left) (asked .if5 .left) (right .if6 .left) (then .if7 .taken)
+
+mul-from : tie.Need-mul-from
+mul-from c = let o = opened-later (c .before .before) in omega (arith, o .few-pools)
+
+add-from : tie.Need-add-from
+add-from c = let o = opened-later (c .before .before) in omega (arith, o .few-pools)
+
+first-above-requires : tie.Need-first-above-requires
+first-above-requires c κs = let o = opened-later (c .before .before) in omega (arith, o .size, o .within)
+
+show-page-requires : tie.Need-show-page-requires
+show-page-requires c κs =
+    let o = opened-later (c .before .before .before .before) in
+    let enough = c .before .before .before .before .before .before .before .before .before .before .before .before .before .before .before .before .before .before .before .before .before .before .before .if2 .left in
+    (omega (arith, o .size, o .within), c .before .first-above .ensures .0, enough)
+
+-- The first lease above the position, and the page from there on.
+placed : (c : tie.After-show-page) → let a = c .before .before .before .before .before .before .before .before .before .before .before .before .before .before .before .before .before .before .before .before .before .before .before .before .before .before .before .before .before .before .args in
+    c .before .before .first-above .result ≡ startOf (positionOf (c .before .before .before .before .before .before .before .before .before .before .before .before .before .before .before .before .read .result)) (usedLeases (tableIn (a .image .now) (a .image-bytes)))
+placed c =
+    let a = c .before .before .before .before .before .before .before .before .before .before .before .before .before .before .before .before .before .before .before .before .before .before .before .before .before .before .before .before .before .before .args in
+    let o = opened-later (c .before .before .before .before .before) in
+    c .before .before .first-above .ensures .1 (usedLeases (tableIn (a .image .now) (a .image-bytes))) (o .records) (o .leases) (o .ascending)
+
+shown : (c : tie.After-show-page) → let a = c .before .before .before .before .before .before .before .before .before .before .before .before .before .before .before .before .before .before .before .before .before .before .before .before .before .before .before .before .before .before .args in
+    PageOf (those (shown? (a .time) (a .client)) (drop (c .before .before .first-above .result) (usedLeases (tableIn (a .image .now) (a .image-bytes))))) (a .reply .now) (c .show-page .last .1 .1 .1 .1 .1 .1 .0) (c .show-page .result)
+shown c =
+    let a = c .before .before .before .before .before .before .before .before .before .before .before .before .before .before .before .before .before .before .before .before .before .before .before .before .before .before .before .before .before .before .args in
+    let o = opened-later (c .before .before .before .before .before) in
+    c .show-page .ensures (usedLeases (tableIn (a .image .now) (a .image-bytes))) (o .records) (o .leases)
+
+few : (c : tie.After-show-page) → c .show-page .result .count ≤ mostEntries
+few c =
+    let a = c .before .before .before .before .before .before .before .before .before .before .before .before .before .before .before .before .before .before .before .before .before .before .before .before .before .before .before .before .before .before .args in
+    let p = shown c in
+    omega (arith, p .count, take-short mostEntries (those (shown? (a .time) (a .client)) (drop (c .before .before .first-above .result) (usedLeases (tableIn (a .image .now) (a .image-bytes))))))
+
+refused-requires-7 : tie.Need-refused-requires-7
+refused-requires-7 c κs = search needs
+
+same-length : tie.Need-same-length
+same-length c = search needs
+
+returns-8 : tie.Need-returns-8
+returns-8 c =
+    let then = c .before in
+    let page = then .before .before .before in
+    let right = page .before .before .before .before .before in
+    let asked = right .before .before in
+    let heard = asked .before .before in
+    let answer = heard .before .before in
+    let read = read-at answer in
+    let begun = begun-at read in
+    let checked = begun .before in
+    let booked = checked .before in
+    let roomy = booked .before in
+    let a = roomy .before .before .before .before .before .before .args in
+    ap (λ (r : ImageAnswer). (r, a .image .now, page .show-page .last .1 .1 .1 .1 .1 .1 .0)) (c .refused7 .ensures)
+    ∙ list-nothing (a .image .now) (a .image-bytes) (a .time) (a .client) (a .option .now) (a .reply .now) (holds (roomy .before)) (room roomy) (booked .book-in .result) (booked .book-in .ensures) (checked .check-book .result) (checked .check-book .ensures) (begun .if3 .left) (read .read .result) _ (read .read .ensures) (answer .of-option .result) (answer .of-option .ensures) (heard .if4 .left) (asked .if5 .left) (right .if6 .left) (page .before .before .first-above .result) (placed page) (page .show-page .result) _ (shown page) (then .if8 .taken)
 
 put-heads-requires : tie.Need-put-heads-requires
 put-heads-requires c κs = few (c .before .before .before .before)
@@ -236,17 +253,17 @@ cast-accepted-2 : tie.Need-cast-accepted-2
 cast-accepted-2 c = let h = c .before .before in omega (arith, few (h .before .before .before .before .before))
 
 accepted-requires : tie.Need-accepted-requires
-accepted-requires c κs = let o = opened-later (c .before .before .before .before .before .before .before .before .before .before .before) in o .full
+accepted-requires c κs = let o = opened-later (c .before .before .before .before .before .before .before .before .before .before .before .before) in o .full
 
 same-length-2 : tie.Need-same-length-2
 same-length-2 c = search needs
 
-returns-8 : tie.Need-returns-8
-returns-8 c =
+returns-9 : tie.Need-returns-9
+returns-9 c =
     let end = c .before .before .before in
     let some = end .before .before in
     let page = some .before .before .before in
-    let right = page .before .before .before .before in
+    let right = page .before .before .before .before .before in
     let asked = right .before .before in
     let heard = asked .before .before in
     let answer = heard .before .before in
@@ -258,7 +275,7 @@ returns-8 c =
     let a = roomy .before .before .before .before .before .before .args in
     let b = bytes-all (a .image .now) (λ i. omega (arith, roomy .before .before .before .before .before .shared-slice-known .given i)) in
     ap (λ (r : ImageAnswer). (r, a .image .now, end .put-heads .last .0)) (c .accepted .ensures)
-    ∙ list-found (a .image .now) (a .image-bytes) (a .time) (a .client) (a .option .now) (a .reply .now) (holds (roomy .before)) (room roomy) (booked .book-in .result) (booked .book-in .ensures) (checked .check-book .result) (checked .check-book .ensures) (begun .if3 .left) (read .read .result) _ (read .read .ensures) (answer .of-option .result) (answer .of-option .ensures) (heard .if4 .left) (asked .if5 .left) (right .if6 .left) (page .before .before .first-above .result) (placed page) (page .show-page .result) _ (shown page) b (some .if7 .left) _ _ (end .put-heads .ensures .0) (end .put-heads .ensures .1)
+    ∙ list-found (a .image .now) (a .image-bytes) (a .time) (a .client) (a .option .now) (a .reply .now) (holds (roomy .before)) (room roomy) (booked .book-in .result) (booked .book-in .ensures) (checked .check-book .result) (checked .check-book .ensures) (begun .if3 .left) (read .read .result) _ (read .read .ensures) (answer .of-option .result) (answer .of-option .ensures) (heard .if4 .left) (asked .if5 .left) (right .if6 .left) (page .before .before .first-above .result) (placed page) (page .show-page .result) _ (shown page) b (some .if8 .left) _ _ (end .put-heads .ensures .0) (end .put-heads .ensures .1)
 
 pub list-spec : {M : Type 1} → statement M
 list-spec =
@@ -284,16 +301,18 @@ list-spec =
     returns-5
     refused-requires-5
     returns-6
+    refused-requires-6
+    returns-7
     mul-from
     add-from
     first-above-requires
     show-page-requires
-    refused-requires-6
+    refused-requires-7
     same-length
-    returns-7
+    returns-8
     put-heads-requires
     cast-accepted
     cast-accepted-2
     accepted-requires
     same-length-2
-    returns-8)
+    returns-9)
