@@ -1,7 +1,6 @@
 // The calls as functions for C and Rust: include/flockdrift.h documents them. Each is one equation with load, the
 // ledger and save. A slice is a pointer and a length; nothing is allocated and nothing is kept between two calls.
 use image_calls::ImageAnswer;
-use sheet_text::SheetAnswer;
 ghost use mathlib.Core.Path.{_≡_};
 ghost use Rattle.image_calls.specs.ImageCalls.{
   openImage,
@@ -10,8 +9,8 @@ ghost use Rattle.image_calls.specs.ImageCalls.{
   listImage,
   releaseImage,
   markImage,
-  sheetImage,
 };
+ghost use Rattle.sheet_image.specs.SheetImage.{sheetImage};
 
 #[no_mangle]
 pub extern "C" fn flockdrift_open(
@@ -101,10 +100,5 @@ pub extern "C" fn flockdrift_mark(
 pub extern "C" fn flockdrift_sheet(image: &[u8], text: &mut [u8]) -> ImageAnswer
     ensures { λ r. ⌜ (r, now (text .exit)) ≡ sheetImage (now (image .entry)) (now (text .entry)) ⌝ }
 {
-    let written = sheet_text::sheet_of_image(image, text);
-    match written {
-        SheetAnswer::Written(bytes) => image_calls::accepted(bytes as u32, 0, image.len()),
-        SheetAnswer::NotSound => image_calls::refused(5, 0),
-        SheetAnswer::TooSmall => image_calls::refused(14, 0),
-    }
+    sheet_image::sheet(image, text)
 }

@@ -2,5 +2,4 @@ pub mod StoreLaws
 pub mod TableLaws
 pub mod CallLaws
 pub mod Images
-pub mod SheetLaws
 pub mod InPlace

@@ -8,9 +8,6 @@ use lib.ListN.{length, take, drop, replicate}
 use lib.Dec.{ltb, eqb}
 use Rattle.table.specs.declared.LeaseTable.{LeaseTable}
 use Rattle.image.specs.Image.{imageOf, loadImage, loadedOf}
-use Rattle.sheet_text.specs.declared.SheetAnswer.{SheetAnswer}
-use Rattle.sheet_text.specs.declared.SheetAnswer.the-variants.{Written, NotSound, TooSmall}
-use Rattle.sheet_text.specs.Sheet.{sheetOfImage}
 use Rattle.ledger.specs.Ledger as ledger
 use Rattle.ledger.specs.Ledger.{Answer, Result, Update}
 use Rattle.image_calls.specs.declared.ImageAnswer.{ImageAnswer}
@@ -95,12 +92,3 @@ releaseImage buffer bytes client now option = updateImage (λ t. ledger.release 
 -- d is cleared where `deprecated` is 0, and set otherwise.
 abbrev pub markImage : List ℕ → ℕ → ℕ → ℕ → ℕ → ℕ → ImageAnswer × List ℕ
 markImage buffer bytes network len deprecated now = updateImage (λ t. ledger.mark t now network len (not (eqb deprecated 0))) buffer bytes
-
--- Sheet: the image is not changed, so its buffer needs no room, and 14 is that the text has none. Answer and text buffer after it.
-abbrev pub sheetAnswer : SheetAnswer → ℕ → ImageAnswer
-sheetAnswer (Written bytes) imageBytes = answerWith (ledger.acceptance bytes 0) imageBytes
-sheetAnswer NotSound imageBytes = answerWith (ledger.refusal 5 0) 0
-sheetAnswer TooSmall imageBytes = answerWith (ledger.refusal 14 0) 0
-
-unfoldable pub sheetImage : List ℕ → List ℕ → ImageAnswer × List ℕ
-sheetImage image text = let after = sheetOfImage image text in (sheetAnswer (after .0) (length image), after .1)

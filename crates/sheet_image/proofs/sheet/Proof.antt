@@ -1,4 +1,4 @@
--- `flockdrift_sheet` meets its contract, answer by answer.
+-- `sheet` meets its contract, answer by answer.
 -- Assumes nothing.
 use mathlib.Core.Path.{sym, ap, _∙_}
 use mathlib.Core.List.{List}
@@ -8,11 +8,12 @@ use lib.ListN.{length}
 use borrow.Author.Needs.{needs}
 use Rattle.sheet_text.specs.declared.SheetAnswer.{SheetAnswer}
 use Rattle.sheet_text.specs.Sheet.{sheetSize}
-use Rattle.image_calls.specs.ImageCalls.{fullImage, sheetAnswer}
+use Rattle.image_calls.specs.ImageCalls.{fullImage}
+use Rattle.sheet_image.specs.SheetImage.{sheetAnswer}
 use Rattle.image.proofs.FieldLaws.{bytes-all}
-use Rattle.image_calls.proofs.SheetLaws.{sheet-small, sheet-answered}
-use Rattle.capi.proofs.flockdrift_sheet.Statement.{statement}
-use Rattle.capi.proofs.flockdrift_sheet.Tie as tie
+use Rattle.sheet_image.proofs.SheetLaws.{sheet-small, sheet-answered}
+use Rattle.sheet_image.proofs.sheet.Statement.{statement}
+use Rattle.sheet_image.proofs.sheet.Tie as tie
 
 sheet-of-image-requires : tie.Need-sheet-of-image-requires
 sheet-of-image-requires c κs = search needs
@@ -76,8 +77,8 @@ returns-3 c =
     sheet-answered (a .image .now) (a .text .now) (called .sheet-of-image .result) _ (called .sheet-of-image .ensures) _
     (c .refused2 .ensures ∙ ap (λ (x : SheetAnswer). sheetAnswer x (length (a .image .now))) (sym (c .before .enum-told2 .given .1)))
 
-pub flockdrift-sheet-spec : {M : Type 1} → statement M
-flockdrift-sheet-spec =
+pub sheet-spec : {M : Type 1} → statement M
+sheet-spec =
     tie.close
     (tie.spec
     sheet-of-image-requires

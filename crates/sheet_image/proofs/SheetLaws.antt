@@ -17,8 +17,9 @@ use Rattle.sheet_text.specs.Sheet.{sheetText, sheetSize, sheetBytes, into, shee
 use Rattle.sheet_text.proofs.SheetLaws.{sheet-sound}
 use Rattle.sheet_text.proofs.SheetHolds.{sheet-fits}
 use Rattle.ledger.specs.Sizes.{Bytes}
 use Rattle.image_calls.specs.declared.ImageAnswer.{ImageAnswer}
-use Rattle.image_calls.specs.ImageCalls.{fullImage, sheetAnswer, sheetImage}
+use Rattle.image_calls.specs.ImageCalls.{fullImage}
+use Rattle.sheet_image.specs.SheetImage.{sheetAnswer, sheetImage}
 
 into-bytes : (text l : List ℕ) → sheetBytes (into text l .0) ≤ length text
 into-bytes text l = go (ltb (length l) (length text)) refl
