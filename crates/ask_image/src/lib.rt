@@ -3,10 +3,10 @@ use image_calls::ImageAnswer;
 use table::LEASES;
 use table::Lease;
 ghost use mathlib.Core.Path.{_≡_};
-ghost use mathlib.Core.List.{List, [], _∷_, map};
+ghost use mathlib.Core.List.{List, [], _∷_, _++_, map};
 ghost use mathlib.Core.Option.{some};
 ghost use Prim.Native.Nat.{ℕ, _+_, _-_, _*_, _≤_};
-ghost use lib.ListN.{length as lengthOf};
+ghost use lib.ListN.{length as lengthOf, replicate};
 ghost use lib.Dec.{leb, eqb};
 ghost use Rattle.lists.specs.Lists.{every, gather};
 ghost use Rattle.lists.specs.Put.{put};
@@ -78,14 +78,14 @@ fn put_offers(reply: &mut [u8], networks: &[u32], lengths: &[u8], flags: &[u8], 
 
 // THE IMAGE
 
-// Removes the leases that have expired, if there are any.
+// Removes the leases that have expired, if there are any, with zeros up to where the n leases ended.
 fn drop_expired(image: &mut [u8], from: usize, n: usize, expired: usize, time: u32)
     requires { ⌜ from + 19 * n ≤ lengthOf (now image) ⌝ }
     ensures { λ _. ⌜ ((xs : List Lease) → Records (now (image .entry)) from xs → n ≡ lengthOf xs → (expired ≡ 0 → present time xs ≡ xs)
-        → now (image .exit) ≡ put (now (image .entry)) from (gather leaseRecord (present time xs))) ⌝ }
+        → now (image .exit) ≡ put (now (image .entry)) from (gather leaseRecord (present time xs) ++ replicate (19 * (n - lengthOf (present time xs))) 0)) ⌝ }
 {
     if expired != 0 {
-        records::remove_expired(image, from, n, time);
+        records::remove_expired(image, from, n, 0, n, time);
     }
 }
 
@@ -123,10 +123,8 @@ fn keep(
         client,
         time + HOLD,
     );
-    let end = from + 19 * (present + count);
-    records::clear(image, end, from + 19 * n);
     records::put32(image, 9, time);
-    end
+    from + 19 * (present + count)
 }
 
 // Nothing is written before a request is granted.

@@ -2,11 +2,11 @@
 -- Assumes nothing.
 use Prim.Native.Nat.{ℕ, _+_, _-_, _*_, _≤_, _<_}
 use native.Mathlib.Omega.{arith}
-use mathlib.Core.Path.{_≡_, sym, ap, subst, _∙_}
+use mathlib.Core.Path.{_≡_, refl, sym, ap, ap₂, subst, _∙_}
 use mathlib.Core.Bool.{Bool, true, false}
-use mathlib.Core.List.{List, [], _∷_, map}
-use lib.ListN.{length, getD, drop, length-map}
-use lib.Seq.{getD-set-same}
+use mathlib.Core.List.{List, [], _∷_, _++_, map}
+use lib.ListN.{length, set, getD, take, drop, length-map, take-append-drop}
+use lib.Seq.{getD-set-same, length-take-le}
 use lib.Dec.{leb, ltb, eqb}
 use borrow.Author.Tests.{ltb-true, lt-ltb, eqb-true, eq-eqb}
 use Rattle.lists.specs.Lists.{All, every, those, gather}
@@ -14,9 +14,12 @@ use Rattle.lists.specs.Put.{put}
 use Rattle.lists.proofs.Tests.{and-to, and-of, not-true⇒false, every-to, every-of}
 use Rattle.table.specs.declared.Lease.{Lease}
 use Rattle.table.specs.Table.{noLease}
-use Rattle.image.specs.Image.{leaseRecord, leaseIn}
+use Rattle.image.specs.Fields.{le16, le32}
+use Rattle.image.specs.Image.{leaseRecord, leaseIn, stateByte}
+use Rattle.image.proofs.ImageLaws.{length-lease}
 use Rattle.records.specs.Records.{Records, Ascending}
-use Rattle.records.proofs.RecordLaws.{lease-in-place, records-room, put-records, put-leases-same, edit-is}
+use Rattle.records.proofs.PutForms.{set-behind, put-behind, put-inside}
+use Rattle.records.proofs.RecordLaws.{record-at, record-within, lease-in-place, records-room, put-records, put-leases-same, edit-is}
 use Rattle.records.proofs.FindLaws.{none-map, found-within, found-none, found-other, found-those, found-map}
 use Rattle.entry_leases.specs.EntryLeases.{named?, Found, leasedUntil, changedIf, Changed}
 
@@ -83,6 +86,24 @@ module _ (now client network len : ℕ) (l : List ℕ) (from n r : ℕ)
 
 -- CHANGING IT
 
+written : (x : Lease) (q : List ℕ) (expires : ℕ) → put (set (leaseRecord x ++ q) 9 (stateByte true)) 15 (le32 expires) ≡ leaseRecord (leasedUntil expires x) ++ q
+unfolding leaseRecord le16 le32 put
+written x q expires = refl
+
+leased-in-place : (l : List ℕ) (at : ℕ) (x : Lease) (q : List ℕ) (expires : ℕ) → at ≤ length l → drop at l ≡ leaseRecord x ++ q
+    → put (set l (at + 9) (stateByte true)) (at + 15) (le32 expires) ≡ put l at (leaseRecord (leasedUntil expires x))
+leased-in-place l at x q expires within e =
+    let p : List ℕ = take at l in
+    let size : length p ≡ at = length-take-le at l within in
+    let r : List ℕ = leaseRecord x ++ q in
+    let here : l ≡ p ++ r = sym (take-append-drop at l) ∙ ap (λ (s : List ℕ). p ++ s) e in
+    ap₂ (λ (m : List ℕ) (k : ℕ). put (set m (k + 9) (stateByte true)) (k + 15) (le32 expires)) here (sym size)
+    ∙ ap (λ (m : List ℕ). put m (length p + 15) (le32 expires)) (set-behind p r 9 (stateByte true))
+    ∙ put-behind (le32 expires) p (set r 9 (stateByte true)) 15
+    ∙ ap (λ (s : List ℕ). p ++ s) (written x q expires)
+    ∙ sym (put-inside at (leaseRecord (leasedUntil expires x)) p (leaseRecord x) q size (length-lease x ∙ sym (length-lease (leasedUntil expires x))))
+    ∙ ap (λ (m : List ℕ). put m at (leaseRecord (leasedUntil expires x))) (sym here)
+
 module _ (g : Lease → Bool) (expires : ℕ) (l : List ℕ) (from : ℕ) (xs : List Lease) (held : Records l from xs) (r : ℕ) (f : Found g xs r) where
   -- There is none.
   pub change-none : r ≡ length xs → (after : List ℕ) → after ≡ l → Changed g expires l from xs after r
@@ -93,14 +114,13 @@ module _ (g : Lease → Bool) (expires : ℕ) (l : List ℕ) (from : ℕ) (xs : 
         ∙ sym (ap (λ (ys : List Lease). put l from (gather leaseRecord ys)) (none-map g (leasedUntil expires) xs (f .none z)) ∙ put-leases-same l from xs held);
   }
 
-  -- Its record is edited.
-  pub change-here : r < length xs → (x : Lease) → x ≡ leaseIn (drop (from + 19 * r) l) → (after : List ℕ)
-      → after ≡ put l (from + 19 * r) (leaseRecord (leasedUntil expires x)) → Changed g expires l from xs after r
-  change-here h x read after e = record {
+  -- Of its record the state and the end are written.
+  pub change-here : r < length xs → (after : List ℕ) → after ≡ put (set l (from + 19 * r + 9) (stateByte true)) (from + 19 * r + 15) (le32 expires) → Changed g expires l from xs after r
+  change-here h after e = record {
     found = f;
     after-is =
         e
-        ∙ ap (λ (y : Lease). put l (from + 19 * r) (leaseRecord (leasedUntil expires y))) (read ∙ lease-in-place l from xs held r h)
+        ∙ leased-in-place l (from + 19 * r) (getD xs r noLease) (drop (from + 19 * r + 19) l) expires (omega (arith, record-within l from xs held r h)) (record-at l from xs held r h)
         ∙ edit-is l from xs held r h (leasedUntil expires (getD xs r noLease))
         ∙ ap (λ (ys : List Lease). put l from (gather leaseRecord ys)) (sym (f .edited h (leasedUntil expires)));
   }

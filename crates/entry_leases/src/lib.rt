@@ -82,7 +82,7 @@ pub fn find(
     place - 1
 }
 
-// That lease, leased until `expires`; its place, or n.
+// That lease, leased until `expires`; its place, or n. Of its record only the state and the end are written.
 pub fn change(
     image: &mut [u8],
     from: usize,
@@ -101,10 +101,8 @@ pub fn change(
     let i = find(image, from, n, time, client, network, length);
     if i < n {
         let at = from + 19 * i;
-        let mut x = records::lease_at(image, at);
-        x.leased = true;
-        x.expires = expires;
-        records::put_lease(image, at, x);
+        image[at + 9] = records::state_byte(true);
+        records::put32(image, at + 15, expires);
     }
     i
 }

@@ -12,7 +12,6 @@ use Rattle.lists.specs.Put.{put}
 use Rattle.lists.proofs.Tests.{not-true⇒false}
 use Rattle.lists.proofs.ListLaws.{all-map}
 use Rattle.lists.proofs.ThoseLaws.{those-pass}
-use Rattle.lists.proofs.PutLaws.{put-more}
 use Rattle.table.specs.declared.Lease.{Lease}
 use Rattle.table.specs.declared.LeaseTable.{LeaseTable}
 use Rattle.table.specs.Table.{leaseSlots, present, empty?, store}
@@ -47,17 +46,15 @@ module _ (l : List ℕ) (from n now : ℕ) (xs : List Lease) (counted : n ≡ le
       }
 
   -- Those that have are removed, with zeros in their place.
-  pub finished-some : (kept : ℕ) (l₁ l₂ l₃ : List ℕ) → kept ≡ length (present now xs) → l₁ ≡ put l from (gather leaseRecord (present now xs))
-      → l₂ ≡ put l₁ (from + 19 * kept) (replicate (from + 19 * n - (from + 19 * kept)) 0) → l₃ ≡ put l₂ 9 (le32 now) → Finished l from xs now l₃ (from + 19 * kept)
-  finished-some kept l₁ l₂ l₃ k e₁ e₂ e₃ =
-      let size : from + 19 * n - (from + 19 * kept) ≡ 19 * (length xs - length (present now xs)) = omega arith in
+  pub finished-some : (kept : ℕ) (l₁ l₂ : List ℕ) → kept ≡ length (present now xs) → l₁ ≡ put l from (gather leaseRecord (present now xs) ++ replicate (19 * (n - kept)) 0)
+      → l₂ ≡ put l₁ 9 (le32 now) → Finished l from xs now l₂ (from + 19 * kept)
+  finished-some kept l₁ l₂ k e₁ e₂ =
+      let size : 19 * (n - kept) ≡ 19 * (length xs - length (present now xs)) = omega arith in
       record {
         bytes-are = ap (λ (m : ℕ). from + 19 * m) k;
         after-is =
-            e₃
-            ∙ ap (λ (m : List ℕ). put m 9 (le32 now))
-            (put-more l l₁ l₂ from (gather leaseRecord (present now xs)) (from + 19 * kept) (replicate (from + 19 * n - (from + 19 * kept)) 0) e₁ (omega (arith, length-leases (present now xs))) e₂
-            ∙ ap (λ (m : ℕ). put l from (gather leaseRecord (present now xs) ++ replicate m 0)) size);
+            e₂
+            ∙ ap (λ (m : List ℕ). put m 9 (le32 now)) (e₁ ∙ ap (λ (m : ℕ). put l from (gather leaseRecord (present now xs) ++ replicate m 0)) size);
       }
 
 -- The image that is left is no longer than a full one.

@@ -10,7 +10,7 @@ ghost use lib.ListN.{length};
 ghost use Rattle.table.specs.declared.Lease.{Lease};
 ghost use Rattle.table.specs.Table.{present};
 ghost use Rattle.option.specs.Answers.{placeOf};
-ghost use Rattle.records.specs.Records.{Records};
+ghost use Rattle.records.specs.Records.{Records, ExpiredIn};
 ghost use Rattle.ledger.specs.Ledger.{firstOf};
 ghost use Rattle.answers.specs.Answers.{answerOf, checkedAnswer};
 ghost use Rattle.image_calls.specs.ImageCalls.{answerWith};
@@ -77,8 +77,26 @@ pub fn of_option(c: Checked) -> ImageAnswer
 
 // WHAT AN ACCEPTED CALL LEAVES
 
-// Removes the leases that have expired, if there are any, with zeros up to where the n leases ended; the time becomes
-// the last time. Answers the length of the image.
+// Removes the leases that have expired, all of which stand from the place `first` up to `last`, with zeros up to where the n
+// leases ended; the time becomes the last time. Answers the length of the image.
+pub fn finish_between(
+    image: &mut [u8],
+    from: usize,
+    n: usize,
+    first: usize,
+    last: usize,
+    time: u32,
+) -> usize
+    requires { ⌜ (13 ≤ from) × (first ≤ last) × (last ≤ n) × (from + 19 * n ≤ length (now image)) ⌝ }
+    ensures { λ r. ⌜ ((xs : List Lease) → Records (now (image .entry)) from xs → n ≡ length xs → ExpiredIn time first last xs
+        → Finished (now (image .entry)) from xs time (now (image .exit)) r) ⌝ }
+{
+    let kept = records::remove_expired(image, from, n, first, last, time);
+    records::put32(image, 9, time);
+    from + 19 * kept
+}
+
+// The same where they can stand anywhere, if there are any.
 pub fn finish(image: &mut [u8], from: usize, n: usize, expired: usize, time: u32) -> usize
     requires { ⌜ (13 ≤ from) × (from + 19 * n ≤ length (now image)) ⌝ }
     ensures { λ r. ⌜ ((xs : List Lease) → Records (now (image .entry)) from xs → n ≡ length xs → (expired ≡ 0 → present time xs ≡ xs)
@@ -88,8 +106,5 @@ pub fn finish(image: &mut [u8], from: usize, n: usize, expired: usize, time: u32
         records::put32(image, 9, time);
         return from + 19 * n;
     }
-    let kept = records::remove_expired(image, from, n, time);
-    records::clear(image, from + 19 * kept, from + 19 * n);
-    records::put32(image, 9, time);
-    from + 19 * kept
+    finish_between(image, from, n, 0, n, time)
 }

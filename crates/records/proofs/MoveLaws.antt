@@ -1,15 +1,15 @@
--- Laws of elements copied one after another: out of a list, into a list.
+-- Laws of elements copied one after another: out of a list, into a list, and down in a list.
 -- Assumes nothing.
-use Prim.Native.Nat.{ℕ, _+_, _<_}
+use Prim.Native.Nat.{ℕ, _+_, _≤_, _<_}
 use native.Mathlib.Omega.{arith}
 use native.Mathlib.Numerals.{add-one}
 use mathlib.Core.Path.{_≡_, refl, sym, ap, _∙_}
 use mathlib.Core.List.{List, [], _∷_, _++_}
-use lib.ListN.{length, set, getD, take, drop, length-drop, take-append-drop}
-use lib.Seq.{take-suc, take-suc-set, getD-drop, length-take-le}
+use lib.ListN.{length, set, getD, take, drop, length-drop}
+use lib.Seq.{take-suc, take-suc-set, take-add, drop-drop, getD-drop, length-take-le}
 use Rattle.lists.specs.Put.{put}
-use Rattle.lists.proofs.PutLaws.{set-more}
-use Rattle.records.proofs.PutForms.{put-same}
+use Rattle.lists.proofs.PutLaws.{set-more, put-more}
+use Rattle.records.proofs.PutForms.{drop-put}
 
 module _ {A : Type 0} where
   pub taken-more : (d : A) (l out : List A) (at k : ℕ) → at + k < length l → k < length out → take k out ≡ take k (drop at l)
@@ -30,7 +30,14 @@ module _ {A : Type 0} where
       set-more l l₁ (set l₁ (at + k) (getD s k d)) at (take k s) (at + k) (getD s k d) e (omega arith) refl
       ∙ ap (put l at) (sym (take-suc s k d h) ∙ ap (λ (n : ℕ). take n s) (sym (add-one k)))
 
-  -- Put where it stands already.
-  pub moved-none : (l : List A) (to at : ℕ) → to ≡ at → l ≡ put l to (take 19 (drop at l))
-  moved-none l to at e =
-      sym (ap (λ (k : ℕ). put l k (take 19 (drop at l))) e ∙ put-same (take 19 (drop at l)) l at (drop 19 (drop at l)) (sym (take-append-drop 19 (drop at l))))
+  -- The first k elements from `at` on have been moved down to `to`; the next w are next.
+  pub lowered-more : (l : List A) (to at w k : ℕ) (l₁ s : List A) → to ≤ at → at + k + w ≤ length l → l₁ ≡ put l to (take k (drop at l)) → s ≡ take w (drop (at + k) l₁)
+      → put l₁ (to + k) s ≡ put l to (take (k + w) (drop at l))
+  lowered-more l to at w k l₁ s h within e read =
+      let low : List A = take k (drop at l) in
+      let size : length low ≡ k = length-take-le k (drop at l) (omega (arith, length-drop at l)) in
+      let next : s ≡ take w (drop k (drop at l)) =
+      read
+      ∙ ap (take w) (ap (drop (at + k)) e ∙ drop-put low l to (at + k) (omega arith) ∙ sym (drop-drop k at l)) in
+      put-more l l₁ (put l₁ (to + k) s) to low (to + k) s e (omega arith) refl
+      ∙ ap (put l to) (ap (λ (z : List A). low ++ z) next ∙ sym (take-add k w (drop at l)))

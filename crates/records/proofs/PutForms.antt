@@ -1,18 +1,18 @@
 -- Laws of what is put into a list: what stays before and after it, and what is put over it.
 -- Assumes nothing.
-use Prim.Native.Nat.{ℕ, suc, _+_, _≤_}
+use Prim.Native.Nat.{ℕ, zero, suc, _+_, _≤_}
 use native.Mathlib.Omega.{arith}
 use mathlib.Core.Path.{_≡_, refl, sym, ap, ap₂, _∙_}
 use mathlib.Core.Logic.{⊎-elim}
 use mathlib.Core.Bool.{true, false}
-use mathlib.Core.List.{List, [], _∷_, _++_, append-assoc}
+use mathlib.Core.List.{List, [], _∷_, _++_, append-assoc, append-nil}
 use lib.ListN.{length, set, take, drop, length-append, take-append-drop}
 use lib.Dec.{leb}
-use lib.Seq.{take-set-le, drop-set-lt, drop-at, take-add, length-take-le, set-set}
+use lib.Seq.{take-set-le, drop-set-lt, take-at, drop-at, take-add, length-take-le, set-set}
 use borrow.Author.Tests.{leb-true, leb-false}
 use Rattle.lists.specs.Put.{put}
 use Rattle.lists.proofs.Tests.{bool-cases}
-use Rattle.lists.proofs.PutLaws.{put-fits, put-past, put-before}
+use Rattle.lists.proofs.PutLaws.{put-fits, put-past, put-before, put-append}
 
 module _ {A : Type 0} where
   pub drop-take : (k w : ℕ) (l : List A) → k ≤ length l → drop k (take (k + w) l) ≡ take w (drop k l)
@@ -35,8 +35,13 @@ module _ {A : Type 0} where
       ap (drop at) (put-fits zs l at h) ∙ ap (drop at) (append-assoc (take at l) zs (drop (at + length zs) l))
       ∙ drop-at (take at l) (zs ++ drop (at + length zs) l) at (length-take-le at l (omega arith))
 
+  pub take-put-at : (zs : List A) (l : List A) (at : ℕ) → at + length zs ≤ length l → take (at + length zs) (put l at zs) ≡ take at l ++ zs
+  take-put-at zs l at h =
+      ap (take (at + length zs)) (put-fits zs l at h)
+      ∙ take-at (take at l ++ zs) (drop (at + length zs) l) (at + length zs) (omega (arith, length-append (take at l) zs, length-take-le at l (omega arith)))
+
   -- Put into the second of two lists, and over the front of a list.
-  set-behind : (p r : List A) (a : ℕ) (z : A) → set (p ++ r) (length p + a) z ≡ p ++ set r a z
+  pub set-behind : (p r : List A) (a : ℕ) (z : A) → set (p ++ r) (length p + a) z ≡ p ++ set r a z
   set-behind [] r a z = let e : 0 + a ≡ a = omega arith in ap (λ (k : ℕ). set r k z) e
   set-behind (x ∷ p) r a z =
       let e : suc (length p) + a ≡ suc (length p + a) = omega arith in
@@ -71,11 +76,26 @@ module _ {A : Type 0} where
       (λ (b : leb at (length l) ≡ false). let past = leb-false at (length l) b in put-past zs l at (omega arith))
       (bool-cases (leb at (length l)))
 
-  -- What is put over all that was put before is alone there.
-  pub put-over : (xs ys : List A) (l : List A) (at : ℕ) → length xs ≤ length ys → put (put l at xs) at ys ≡ put l at ys
+  -- Of what was put before, that stays which reaches behind what is put over it.
+  pub put-upon : (xs ys : List A) (l : List A) (at : ℕ) → put (put l at xs) at ys ≡ put l at (ys ++ drop (length ys) xs)
   unfolding put
-  put-over [] ys l at h = refl
-  put-over (x ∷ xs) [] l at h = absurd (omega arith)
-  put-over (x ∷ xs) (y ∷ ys) l at h =
+  put-upon xs [] l at = refl
+  put-upon [] (y ∷ ys) l at = sym (ap (put l at) (append-nil (y ∷ ys)))
+  put-upon (x ∷ xs) (y ∷ ys) l at =
       ap (λ (m : List A). put m (at + 1) ys) (put-before (y ∷ []) (set l at x) at xs ∙ ap (λ (m : List A). put m (at + 1) xs) (set-set l at x y))
-      ∙ put-over xs ys (set l at y) (at + 1) (omega arith)
+      ∙ put-upon xs ys (set l at y) (at + 1)
+
+  drop-past : (k : ℕ) (s : List A) → length s ≤ k → drop k s ≡ []
+  drop-past zero [] h = refl
+  drop-past (suc k) [] h = refl
+  drop-past zero (z ∷ s) h = absurd (omega arith)
+  drop-past (suc k) (z ∷ s) h = drop-past k s (omega arith)
+
+  -- Over all of it, it is alone there.
+  pub put-over : (xs ys : List A) (l : List A) (at : ℕ) → length xs ≤ length ys → put (put l at xs) at ys ≡ put l at ys
+  put-over xs ys l at h = put-upon xs ys l at ∙ ap (put l at) (ap (λ (s : List A). ys ++ s) (drop-past (length ys) xs h) ∙ append-nil ys)
+
+  -- What is put over the last of it.
+  pub put-over-last : (p q r : List A) (l : List A) (at : ℕ) → length q ≤ length r → put (put l at (p ++ q)) (at + length p) r ≡ put l at (p ++ r)
+  put-over-last p q r l at h =
+      ap (λ (m : List A). put m (at + length p) r) (sym (put-append p l at q)) ∙ put-over q r (put l at p) (at + length p) h ∙ put-append p l at r

@@ -7,14 +7,14 @@ use mathlib.Core.Logic.{⊎-elim}
 use mathlib.Core.Bool.{Bool, true, false, cond}
 use mathlib.Core.List.{List, [], _∷_, _++_, append-assoc}
 use mathlib.Core.Option.{none, some}
-use lib.ListN.{length, set, getD, take, drop, length-append, length-drop, length-set, length-replicate, replicate, take-append-drop}
-use lib.Seq.{drop-drop, drop-at, take-add, take-at, length-take-le}
+use lib.ListN.{length, set, getD, take, drop, length-append, length-drop, length-set, replicate, take-append-drop}
+use lib.Seq.{drop-drop, drop-at, take-add, take-at, take-all, length-take-le}
 use Rattle.lists.specs.Lists.{every, gather}
 use Rattle.lists.specs.Put.{put}
 use Rattle.lists.proofs.Tests.{bool-cases}
 use Rattle.lists.proofs.DropLaws.{drop-at as list-at}
 use Rattle.lists.proofs.GatherLaws.{gather-append}
-use Rattle.lists.proofs.PutLaws.{put-more, put-append}
+use Rattle.lists.proofs.PutLaws.{put-append, length-put}
 use Rattle.table.specs.declared.Lease.{Lease}
 use Rattle.table.specs.Table.{noLease, empty?}
 use Rattle.table.proofs.TableLaws.{empty-to}
@@ -22,7 +22,7 @@ use Rattle.image.specs.Fields.{le16, le32, number32}
 use Rattle.image.specs.Image.{leaseRecord, leaseIn, leaseTests, leaseAt}
 use Rattle.image.proofs.ImageLaws.{lease-reads, length-lease, length-gather}
 use Rattle.records.specs.Records.{Records}
-use Rattle.records.proofs.PutForms.{take-put, drop-put, drop-put-at, put-behind, put-front, put-inside, put-same, put-over}
+use Rattle.records.proofs.PutForms.{take-put, drop-put, drop-put-at, put-behind, put-front, put-inside, put-same, put-upon}
 
 -- A RECORD READS BACK
 
@@ -113,6 +113,13 @@ module _ (l : List ℕ) (from : ℕ) (xs : List Lease) (r : Records l from xs) (
       ∙ ap (λ (b : List ℕ). b ++ q) (gather-append leaseRecord (take m xs) (drop m xs))
       ∙ append-assoc (gather leaseRecord (take m xs)) (gather leaseRecord (drop m xs)) q
 
+  pub first-are : take (from + 19 * m) l ≡ take from l ++ gather leaseRecord (take m xs)
+  first-are =
+      let low : List ℕ = gather leaseRecord (take m xs) in
+      take-add from (19 * m) l
+      ∙ ap (λ (s : List ℕ). take from l ++ take (19 * m) s) records-split
+      ∙ ap (λ (s : List ℕ). take from l ++ s) (take-at low (gather leaseRecord (drop m xs) ++ drop (from + 19 * length xs) l) (19 * m) size-first)
+
   -- What is put behind the first m is put behind these.
   pub put-after-first : (bs : List ℕ) → put l (from + 19 * m) bs ≡ put l from (gather leaseRecord (take m xs) ++ bs)
   put-after-first bs =
@@ -128,10 +135,7 @@ module _ (l : List ℕ) (from : ℕ) (xs : List Lease) (r : Records l from xs) (
       let low : List ℕ = gather leaseRecord (take m xs) in
       let l₁ : List ℕ = put l at bs in
       let end : ℕ = from + 19 * m in
-      let front : take end l₁ ≡ take from l ++ low =
-      take-put bs l at end behind ∙ take-add from (19 * m) l
-      ∙ ap (λ (s : List ℕ). take from l ++ take (19 * m) s) records-split
-      ∙ ap (λ (s : List ℕ). take from l ++ s) (take-at low (gather leaseRecord (drop m xs) ++ drop (from + 19 * length xs) l) (19 * m) size-first) in
+      let front : take end l₁ ≡ take from l ++ low = take-put bs l at end behind ∙ first-are in
       let place : end ≡ from + 19 * length (take m xs) = omega (arith, length-take-le m xs h) in
       ap (drop from) (sym (take-append-drop end l₁) ∙ ap (λ (s : List ℕ). s ++ drop end l₁) front ∙ append-assoc (take from l) low (drop end l₁))
       ∙ drop-at (take from l) (low ++ drop end l₁) from (length-take-le from l within)
@@ -191,16 +195,41 @@ module _ (l : List ℕ) (from : ℕ) (xs : List Lease) (r : Records l from xs) (
       subst (λ (s : List ℕ). Records s from (set xs i y)) (sym edit-is)
       (put-records l from (set xs i y) (omega (arith, records-room l from xs r (omega arith), length-set xs i y)))
 
--- CLEARED BEHIND THEM
+-- ZEROS BEHIND THEM
 
--- Leases written over others, and zeros over what is left of the n that stood there.
-pub cleared : (l l₁ l₂ : List ℕ) (from n k : ℕ) (ys zs : List Lease) → length ys ≤ n → k ≡ length zs
-    → l₁ ≡ put (put l from (gather leaseRecord ys)) from (gather leaseRecord zs) → l₂ ≡ put l₁ (from + 19 * k) (replicate (from + 19 * n - (from + 19 * k)) 0)
-    → l₂ ≡ put l from (gather leaseRecord zs ++ replicate (from + 19 * n - (from + 19 * length zs)) 0)
-cleared l l₁ l₂ from n k ys zs few e e₁ e₂ =
+drop-zeros : (k m : ℕ) → drop {A = ℕ} k (replicate m 0) ≡ replicate (m - k) 0
+drop-zeros zero m = let e : m ≡ m - 0 = omega arith in ap (λ (j : ℕ). replicate {A = ℕ} j 0) e
+drop-zeros (suc k) zero = let e : 0 ≡ 0 - suc k = omega arith in ap (λ (j : ℕ). replicate {A = ℕ} j 0) e
+drop-zeros (suc k) (suc m) = let e : m - k ≡ suc m - suc k = omega arith in drop-zeros k m ∙ ap (λ (j : ℕ). replicate {A = ℕ} j 0) e
+
+-- More leases written over the first of n records, of which the others are zeros.
+pub written-over : (l l₁ l₂ : List ℕ) (from n : ℕ) (ys zs : List Lease) → length ys ≤ length zs
+    → l₁ ≡ put l from (gather leaseRecord ys ++ replicate (19 * (n - length ys)) 0) → l₂ ≡ put l₁ from (gather leaseRecord zs)
+    → l₂ ≡ put l from (gather leaseRecord zs ++ replicate (19 * (n - length zs)) 0)
+written-over l l₁ l₂ from n ys zs fewer e₁ e₂ =
     let old : List ℕ = gather leaseRecord ys in
     let new : List ℕ = gather leaseRecord zs in
-    let zeros : List ℕ = replicate (from + 19 * n - (from + 19 * length zs)) 0 in
-    let count : length zeros ≡ from + 19 * n - (from + 19 * length zs) = length-replicate (from + 19 * n - (from + 19 * length zs)) 0 in
-    put-more (put l from old) l₁ l₂ from new (from + 19 * length zs) zeros e₁ (omega (arith, length-leases zs)) (e₂ ∙ ap (λ (j : ℕ). put l₁ (from + 19 * j) (replicate (from + 19 * n - (from + 19 * j)) 0)) e)
-    ∙ put-over old (new ++ zeros) l from (omega (arith, length-append new zeros, length-leases ys, length-leases zs, count))
+    let zeros : List ℕ = replicate (19 * (n - length ys)) 0 in
+    let more : length new ≡ length old + 19 * (length zs - length ys) = omega (arith, length-leases ys, length-leases zs) in
+    let left : 19 * (n - length ys) - 19 * (length zs - length ys) ≡ 19 * (n - length zs) = omega arith in
+    let behind : drop (length new) (old ++ zeros) ≡ replicate (19 * (n - length zs)) 0 =
+    ap (λ (k : ℕ). drop k (old ++ zeros)) more
+    ∙ sym (drop-drop (19 * (length zs - length ys)) (length old) (old ++ zeros))
+    ∙ ap (drop (19 * (length zs - length ys))) (drop-at old zeros (length old) refl)
+    ∙ drop-zeros (19 * (length zs - length ys)) (19 * (n - length ys))
+    ∙ ap (λ (k : ℕ). replicate k 0) left in
+    e₂
+    ∙ ap (λ (m : List ℕ). put m from new) e₁
+    ∙ put-upon (old ++ zeros) new l from
+    ∙ ap (λ (s : List ℕ). put l from (new ++ s)) behind
+
+-- Leases put there, with what is put behind them, stand there.
+pub put-records-and : (l : List ℕ) (from : ℕ) (ys : List Lease) (s : List ℕ) → from + 19 * length ys ≤ length l → Records (put l from (gather leaseRecord ys ++ s)) from ys
+unfolding Records
+put-records-and l from ys s h =
+    let zs : List ℕ = gather leaseRecord ys in
+    let l₁ : List ℕ = put l from zs in
+    let behind : from + length zs ≡ from + 19 * length ys = omega (arith, length-leases ys) in
+    let whole : put l from (zs ++ s) ≡ put l₁ (from + 19 * length ys) s = sym (put-append zs l from s) ∙ ap (λ (k : ℕ). put l₁ k s) behind in
+    let stand = first-stay l₁ from ys (put-records l from ys h) (length ys) (omega arith) (omega (arith, length-put zs l from)) (from + 19 * length ys) s (omega arith) in
+    subst (λ (m : List ℕ). Records m from ys) (sym whole) (subst (Records (put l₁ (from + 19 * length ys) s) from) (take-all (length ys) ys (omega arith)) stand)

@@ -4,7 +4,7 @@ use table::Lease;
 use table::Pool;
 ghost use mathlib.Core.Path.{_≡_};
 ghost use mathlib.Core.List.{List, _∷_, _++_};
-ghost use Prim.Native.Nat.{_+_, _-_, _*_, _≤_};
+ghost use Prim.Native.Nat.{_+_, _-_, _*_, _≤_, _<_};
 ghost use lib.ListN.{length, take, drop, replicate};
 ghost use lib.Dec.{leb};
 ghost use Rattle.lists.specs.Lists.{those, gather};
@@ -20,7 +20,7 @@ ghost use Rattle.image.specs.Image.{
   stateByte,
   flagsByte,
 };
-ghost use Rattle.records.specs.Records.{Records, Ascending};
+ghost use Rattle.records.specs.Records.{Records, Ascending, ExpiredIn, Closed};
 
 // WRITING RECORDS
 
@@ -140,37 +140,137 @@ fn put_record(image: &mut [u8], at: usize, bytes: [u8; 19])
     }
 }
 
-// The record at `at` also at `to`. Nothing is written where it stands there already.
-fn move_record(image: &mut [u8], to: usize, at: usize)
-    requires { ⌜ (to + 19 ≤ length (now image)) × (at + 19 ≤ length (now image)) ⌝ }
-    ensures { λ _. ⌜ now (image .exit) ≡ put (now (image .entry)) to (take 19 (drop at (now (image .entry)))) ⌝ }
+// Six records at once, as many as the processor's registers hold.
+fn six_at(image: &[u8], at: usize) -> [u8; 114]
+    requires { ⌜ at + 114 ≤ length (now image) ⌝ }
+    ensures { λ r. ⌜ r ≡ take 114 (drop at (now (image .entry))) ⌝ }
 {
-    if to != at {
-        let bytes = record_at(image, at);
-        put_record(image, to, bytes);
+    let mut bytes = [0u8; 114];
+    let mut k: usize = 0;
+    while k < 114 {
+        bytes[k] = image[at + k];
+        k = k + 1;
+    }
+    bytes
+}
+
+fn put_six(image: &mut [u8], at: usize, bytes: [u8; 114])
+    requires { ⌜ at + 114 ≤ length (now image) ⌝ }
+    ensures { λ _. ⌜ now (image .exit) ≡ put (now (image .entry)) at bytes ⌝ }
+{
+    let mut k: usize = 0;
+    while k < 114 {
+        image[at + k] = bytes[k];
+        k = k + 1;
     }
 }
 
-// Removes the leases that have expired, each later one moved down in place; how many are left. The bytes after those stay.
-pub fn remove_expired(image: &mut [u8], from: usize, n: usize, time: u32) -> usize
-    requires { ⌜ from + 19 * n ≤ length (now image) ⌝ }
-    ensures { λ r. ⌜ r ≤ n ⌝ }
-    ensures { λ r. ⌜ ((xs : List Lease) → Records (now (image .entry)) from xs → n ≡ length xs
-        → (r ≡ length (present time xs)) × (now (image .exit) ≡ put (now (image .entry)) from (gather leaseRecord (present time xs)))) ⌝ }
+// The bytes of a record up to the first of its end.
+fn front_at(image: &[u8], at: usize) -> [u8; 16]
+    requires { ⌜ at + 16 ≤ length (now image) ⌝ }
+    ensures { λ r. ⌜ r ≡ take 16 (drop at (now (image .entry))) ⌝ }
 {
-    let mut kept: usize = 0;
-    let mut i: usize = 0;
-    while i < n {
+    let mut bytes = [0u8; 16];
+    let mut k: usize = 0;
+    while k < 16 {
+        bytes[k] = image[at + k];
+        k = k + 1;
+    }
+    bytes
+}
+
+fn put_front(image: &mut [u8], at: usize, bytes: [u8; 16])
+    requires { ⌜ at + 16 ≤ length (now image) ⌝ }
+    ensures { λ _. ⌜ now (image .exit) ≡ put (now (image .entry)) at bytes ⌝ }
+{
+    let mut k: usize = 0;
+    while k < 16 {
+        image[at + k] = bytes[k];
+        k = k + 1;
+    }
+}
+
+// REMOVING
+
+// 1 for a lease that is present.
+fn stays(expires: u32, time: u32) -> usize
+    ensures { λ r. ⌜ (r ≤ 1) × (time < expires → r ≡ 1) × (expires ≤ time → r ≡ 0) ⌝ }
+{
+    if time < expires { 1 } else { 0 }
+}
+
+// Of the leases from `first` up to `last` those present, each moved down to the one before; the place after them. Each record
+// is moved, and the next one over it if it has expired: so there is no branch that the processor cannot foresee.
+fn close_up(image: &mut [u8], from: usize, first: usize, last: usize, time: u32) -> usize
+    requires { ⌜ (first ≤ last) × (from + 19 * last ≤ length (now image)) ⌝ }
+    ensures { λ r. ⌜ (r ≤ last) × (drop (from + 19 * last) (now (image .exit)) ≡ drop (from + 19 * last) (now (image .entry))) ⌝ }
+    ensures { λ r. ⌜ Closed (now (image .entry)) from first time (now (image .exit)) r last ⌝ }
+{
+    let mut kept: usize = first;
+    let mut i: usize = first;
+    while i < last {
         let at = from + 19 * i;
+        let to = from + 19 * kept;
         let x = lease_at(image, at);
-        if time < x.expires {
-            move_record(image, from + 19 * kept, at);
-            kept = kept + 1;
-        }
+        let front = front_at(image, at);
+        put_front(image, to, front);
+        put32(image, to + 15, x.expires);
+        kept = kept + stays(x.expires, time);
         i = i + 1;
     }
     kept
 }
+
+// n records from `at` on also from `to` on, which is no later, from the first up.
+fn lower_each(image: &mut [u8], to: usize, at: usize, n: usize)
+    requires { ⌜ (to ≤ at) × (at + 19 * n ≤ length (now image)) ⌝ }
+    ensures { λ _. ⌜ now (image .exit) ≡ put (now (image .entry)) to (take (19 * n) (drop at (now (image .entry)))) ⌝ }
+{
+    let mut k: usize = 0;
+    while k < n {
+        let bytes = record_at(image, at + 19 * k);
+        put_record(image, to + 19 * k, bytes);
+        k = k + 1;
+    }
+}
+
+// The same, six records at a time.
+fn lower(image: &mut [u8], to: usize, at: usize, n: usize)
+    requires { ⌜ (to ≤ at) × (at + 19 * n ≤ length (now image)) ⌝ }
+    ensures { λ _. ⌜ now (image .exit) ≡ put (now (image .entry)) to (take (19 * n) (drop at (now (image .entry)))) ⌝ }
+{
+    let mut k: usize = 0;
+    while k + 6 <= n {
+        let bytes = six_at(image, at + 19 * k);
+        put_six(image, to + 19 * k, bytes);
+        k = k + 6;
+    }
+    lower_each(image, to + 19 * k, at + 19 * k, n - k);
+}
+
+// Removes the leases that have expired, all of which stand from the place `first` up to `last`: each later one is moved down in
+// place, with zeros up to where the n ended; how many are left.
+pub fn remove_expired(
+    image: &mut [u8],
+    from: usize,
+    n: usize,
+    first: usize,
+    last: usize,
+    time: u32,
+) -> usize
+    requires { ⌜ (first ≤ last) × (last ≤ n) × (from + 19 * n ≤ length (now image)) ⌝ }
+    ensures { λ r. ⌜ r ≤ n ⌝ }
+    ensures { λ r. ⌜ ((xs : List Lease) → Records (now (image .entry)) from xs → n ≡ length xs → ExpiredIn time first last xs
+        → (r ≡ length (present time xs)) × (now (image .exit) ≡ put (now (image .entry)) from (gather leaseRecord (present time xs) ++ replicate (19 * (n - r)) 0))) ⌝ }
+{
+    let kept = close_up(image, from, first, last, time);
+    lower(image, from + 19 * kept, from + 19 * last, n - last);
+    let left = kept + (n - last);
+    clear(image, from + 19 * left, from + 19 * n);
+    left
+}
+
+// FINDING AND INSERTING
 
 // How many of n leases that ascend have a network up to this one: the place after them, found by halving. The test in the loop only
 // chooses a number, so it costs no branch that the processor cannot foresee.
@@ -201,7 +301,7 @@ pub fn place_after(image: &[u8], from: usize, n: usize, network: u32) -> usize
 }
 
 // The records from `place` up to n also `room` places up, from the last down.
-fn raise(image: &mut [u8], from: usize, place: usize, n: usize, room: usize)
+fn raise_each(image: &mut [u8], from: usize, place: usize, n: usize, room: usize)
     requires { ⌜ (place ≤ n) × (from + 19 * (n + room) ≤ length (now image)) ⌝ }
     ensures { λ _. ⌜ now (image .exit) ≡ put (now (image .entry)) (from + 19 * place + 19 * room) (take (from + 19 * n - (from + 19 * place)) (drop (from + 19 * place) (now (image .entry)))) ⌝ }
 {
@@ -211,6 +311,20 @@ fn raise(image: &mut [u8], from: usize, place: usize, n: usize, room: usize)
         let bytes = record_at(image, from + 19 * k);
         put_record(image, from + 19 * (k + room), bytes);
     }
+}
+
+// The same, six records at a time.
+fn raise(image: &mut [u8], from: usize, place: usize, n: usize, room: usize)
+    requires { ⌜ (place ≤ n) × (from + 19 * (n + room) ≤ length (now image)) ⌝ }
+    ensures { λ _. ⌜ now (image .exit) ≡ put (now (image .entry)) (from + 19 * place + 19 * room) (take (from + 19 * n - (from + 19 * place)) (drop (from + 19 * place) (now (image .entry)))) ⌝ }
+{
+    let mut k: usize = n;
+    while place + 6 <= k {
+        k = k - 6;
+        let bytes = six_at(image, from + 19 * k);
+        put_six(image, from + 19 * (k + room), bytes);
+    }
+    raise_each(image, from, place, k, room);
 }
 
 // A lease among n that ascend: those after it moved up by `room` records, its own right before them; how many stand before it.

@@ -14,7 +14,7 @@ use Rattle.table.specs.declared.Lease.{Lease}
 use Rattle.table.specs.declared.LeaseTable.{LeaseTable}
 use Rattle.table.specs.Table.{present, store}
 use Rattle.image.specs.Image.{usedLeases}
-use Rattle.records.specs.Records.{Records, Ascending}
+use Rattle.records.specs.Records.{Records, Ascending, ExpiredIn}
 use Rattle.ledger.specs.Ledger.{Update, Row, firstOf, refusal, acceptance, acceptUpdate, refusalPlace, nothing?, entriesIn, namedBy?, releaseRows, release}
 use Rattle.answers.specs.Answers.{commonRows}
 use Rattle.image_check.specs.declared.Book.{Book}
@@ -31,6 +31,7 @@ use Rattle.entry_leases.proofs.ManyLaws.{namedByPresent?, none-of, struck-all, 
 use Rattle.entry_leases.proofs.EntriesLaws.{unchanged, changed-holds}
 use Rattle.entry_leases.proofs.RowLaws.{nothing-none, nothing-some}
 use Rattle.entry_leases.proofs.CallLaws.{entries-refused, entries-left, rest-refused}
+use Rattle.release_image.specs.declared.Strikes.{Strikes}
 use Rattle.release_image.specs.Struck.{Struck}
 
 -- THE CALL AS THE LEDGER HAS IT
@@ -90,19 +91,19 @@ module _ (buffer : List ℕ) (bytes now client : ℕ) (option : List ℕ) (holds
         es = entriesIn option
 
         -- The leases that the entries name are struck.
-        module _ (l₁ : List ℕ) (struck : ℕ)
+        module _ (l₁ : List ℕ) (strikes : Strikes)
             (strike : (zs : List Lease) → Records buffer (leasesFrom book) zs → book .leases ≡ length zs → Ascending zs → (ns : List Entry) → Hold (take (r .count) networks) (take (r .count) lengths) ns
-            → Struck buffer (leasesFrom book) zs now client ns l₁ struck) where
-          done : Struck buffer (leasesFrom book) xs now client es l₁ struck
+            → Struck buffer (leasesFrom book) zs now client ns l₁ strikes) where
+          done : Struck buffer (leasesFrom book) xs now client es l₁ strikes
           unfolding xs es
           done = strike xs (o .records) (o .leases) (o .ascending) es (reads .hold good .0)
 
-          struck-is : struck ≡ length (named (tableIn buffer bytes) now client option)
+          struck-is : strikes .count ≡ length (named (tableIn buffer bytes) now client option)
           unfolding xs es
           struck-is = done .counted ∙ ap (λ (l : List Lease). length (those (namedBy? client es) l)) (sym (o .present-used))
 
           -- Row 11: there are none, so nothing was written.
-          pub release-nothing : struck ≡ 0 → (answerWith (refusal 11 0) 0, l₁) ≡ releaseImage buffer bytes client now option
+          pub release-nothing : strikes .count ≡ 0 → (answerWith (refusal 11 0) 0, l₁) ≡ releaseImage buffer bytes client now option
           unfolding xs es
           release-nothing k =
               let no-one : All (λ x. namedByPresent? now client es x ≡ false) xs =
@@ -113,7 +114,7 @@ module _ (buffer : List ℕ) (bytes now client : ℕ) (option : List ℕ) (holds
 
           -- Accepted: they are removed with the expired ones.
           module _ (l₂ : List ℕ) (n : ℕ)
-              (finish : (zs : List Lease) → Records l₁ (leasesFrom book) zs → book .leases ≡ length zs → (_≡_ {A = ℕ} 1 0 → present now zs ≡ zs) → Finished l₁ (leasesFrom book) zs now l₂ n) where
+              (finish : (zs : List Lease) → Records l₁ (leasesFrom book) zs → book .leases ≡ length zs → (book .expired ≡ 0 → ExpiredIn now (strikes .first) (strikes .last) zs) → Finished l₁ (leasesFrom book) zs now l₂ n) where
             ys : List Lease
             ys = map (changedBy now client 0 es) xs
 
@@ -124,22 +125,22 @@ module _ (buffer : List ℕ) (bytes now client : ℕ) (option : List ℕ) (holds
             finished : Finished l₁ (leasesFrom book) ys now l₂ n
             unfolding xs es ys
             finished =
-                finish ys (changed-holds now client 0 buffer (leasesFrom book) xs (o .records) (omega (arith, o .size, o .within, o .leases)) es l₁ (done .after-is)) (sym counted) (λ w. absurd (omega (arith, w)))
+                finish ys (changed-holds now client 0 buffer (leasesFrom book) xs (o .records) (omega (arith, o .size, o .within, o .leases)) es l₁ (done .after-is)) (sym counted) (λ w. done .between (o .none-expired w))
 
             pub release-fits : n ≤ fullImage
             release-fits = finished-full buffer bytes now book o ys counted l₁ l₂ n finished
 
-            pub release-found : (struck ≡ 0 → ⊥) → fullImage ≤ length buffer → (answerWith (acceptance 0 struck) n, l₂) ≡ releaseImage buffer bytes client now option
+            pub release-found : (strikes .count ≡ 0 → ⊥) → fullImage ≤ length buffer → (answerWith (acceptance 0 (strikes .count)) n, l₂) ≡ releaseImage buffer bytes client now option
             unfolding xs es ys
             release-found k room =
                 let t : LeaseTable = tableIn buffer bytes in
                 let left-are : present now ys ≡ others t now client option =
                 struck-left now client 0 (omega arith) es xs ∙ ap (those (λ (x : Lease). not (namedBy? client es x))) (sym (o .present-used)) in
-                let outcome-is : acceptUpdate (store t now (present now ys)) struck ≡ outcome t now client option =
+                let outcome-is : acceptUpdate (store t now (present now ys)) (strikes .count) ≡ outcome t now client option =
                 ap₂ (λ (l : List Lease) (m : ℕ). acceptUpdate (store t now l) m) left-are struck-is in
                 let passes : firstOf (commonRows t now client option ++ (eight option ∷ rest)) ≡ none =
                 entries-left buffer bytes now client option [] rest keep result by-row refl book i row e z (r .answer) (reads .answer) good
                 ∙ cond-false (nothing? (named t now client option)) (some 11) none (nothing-some (named t now client option) (λ w. k (struck-is ∙ w))) in
                 update-accepted buffer bytes now client option holds (eight option ∷ rest) (λ x. release x now client option) (outcome t now client option) (shape t now client option) passes _
-                (finished-in-place buffer bytes now book o room ys counted l₁ (done .after-is) l₂ n finished (acceptance 0 struck) refl
+                (finished-in-place buffer bytes now book o room ys counted l₁ (done .after-is) l₂ n finished (acceptance 0 (strikes .count)) refl
                 ∙ ap (λ (u : Update). settled u bytes buffer) outcome-is)

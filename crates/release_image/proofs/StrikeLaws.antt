@@ -11,28 +11,32 @@ use Rattle.lists.proofs.ListLaws.{all-every}
 use Rattle.lists.proofs.ThoseLaws.{those-none}
 use Rattle.option.specs.Values.{Entry}
 use Rattle.table.specs.declared.Lease.{Lease}
-use Rattle.table.specs.Table.{present}
-use Rattle.records.specs.Records.{Records, Ascending}
+use Rattle.table.specs.Table.{noLease, present}
+use Rattle.records.specs.Records.{Records, Ascending, ExpiredIn}
+use Rattle.records.proofs.FindLaws.{none-map}
+use Rattle.records.proofs.RemoveLaws.{whole-stays, expired-more}
 use Rattle.ledger.specs.Ledger.{namedBy?}
-use Rattle.entry_leases.specs.EntryLeases.{named?, Hold, changedBy, Changed}
-use Rattle.entry_leases.proofs.ManyLaws.{struck-more, struck-all}
+use Rattle.entry_leases.specs.EntryLeases.{named?, Hold, leasedUntil, changedIf, changedBy, Changed}
+use Rattle.entry_leases.proofs.ManyLaws.{changed-none, changed-more, struck-more, struck-all}
 use Rattle.entry_leases.proofs.EntriesLaws.{noEntry, hold-long, next-entry, found-one, found-no, changed-by-none, turn-changed, turn-after}
+use Rattle.release_image.specs.declared.Strikes.{Strikes}
 use Rattle.release_image.specs.Struck.{Struck}
 
 -- What has become of the buffer `l` with its n leases after k entries.
-pub Striking : List ℕ → ℕ → ℕ → ℕ → ℕ → List ℕ → List ℕ → List ℕ → ℕ → ℕ → Type 0
-Striking l from n now client networks lengths image struck k =
-    (xs : List Lease) → Records l from xs → n ≡ length xs → Ascending xs → (es : List Entry) → Hold networks lengths es → Struck l from xs now client (take k es) image struck
+pub Striking : List ℕ → ℕ → ℕ → ℕ → ℕ → List ℕ → List ℕ → List ℕ → Strikes → ℕ → Type 0
+Striking l from n now client networks lengths image s k =
+    (xs : List Lease) → Records l from xs → n ≡ length xs → Ascending xs → (es : List Entry) → Hold networks lengths es → Struck l from xs now client (take k es) image s
 
 module _ (l : List ℕ) (from n now client : ℕ) (networks lengths : List ℕ) where
-  pub striking-none : Striking l from n now client networks lengths l 0 0
+  pub striking-none : Striking l from n now client networks lengths l (record { count = 0; first = n; last = 0 }) 0
   unfolding Striking
   striking-none xs held counted ascending es p = record {
     counted = sym (ap length (those-none (namedBy? client []) (present now xs) (all-every (λ x. refl) (present now xs))));
     after-is = changed-by-none now client 0 l from xs held;
+    between = λ all. subst (ExpiredIn now n 0) (sym (changed-none now client 0 xs)) (λ k h gone. absurd (omega (arith, whole-stays now xs all k h)));
   }
 
-  module _ (room : from + 19 * n ≤ length l) (image : List ℕ) (struck k : ℕ) (s : Striking l from n now client networks lengths image struck k) (lt : k < length networks) (after : List ℕ) (r : ℕ)
+  module _ (room : from + 19 * n ≤ length l) (image : List ℕ) (before : Strikes) (k : ℕ) (s : Striking l from n now client networks lengths image before k) (lt : k < length networks) (after : List ℕ) (r : ℕ)
       (change : (ys : List Lease) → Records image from ys → n ≡ length ys → Ascending ys → Changed (named? now client (getD networks k 0) (getD lengths k 0)) 0 image from ys after r) where
     module _ (xs : List Lease) (held : Records l from xs) (counted : n ≡ length xs) (ascending : Ascending xs) (es : List Entry) (p : Hold networks lengths es) where
       -- The lease that the next entry names, if there is one.
@@ -45,42 +49,63 @@ module _ (l : List ℕ) (from n now client : ℕ) (networks lengths : List ℕ) 
           turn-changed now client 0 l from xs held (omega arith) ascending networks lengths es p k lt image (s xs held counted ascending es p .after-is) after r
           (λ ys h c a. change ys h (counted ∙ c) a)
 
-      counted-next : length (those (namedBy? client (take (k + 1) es)) (present now xs)) ≡ struck + length next
+      counted-next : length (those (namedBy? client (take (k + 1) es)) (present now xs)) ≡ before .count + length next
       unfolding Striking next
       counted-next =
-          let before = s xs held counted ascending es p .counted in
+          let so-far = s xs held counted ascending es p .counted in
           ap (λ (a : List Entry). length (those (namedBy? client a) (present now xs))) (next-entry es k (omega (arith, hold-long networks lengths es p)))
           ∙ ap length (sym (struck-all now client 0 (omega arith) (take k es ++ (getD es k noEntry ∷ [])) xs))
           ∙ struck-more now client 0 (omega arith) (take k es) (getD es k noEntry) xs
-          ∙ ap (λ (m : ℕ). m + length next) (ap length (struck-all now client 0 (omega arith) (take k es) xs) ∙ sym before)
+          ∙ ap (λ (m : ℕ). m + length next) (ap length (struck-all now client 0 (omega arith) (take k es) xs) ∙ sym so-far)
 
-      goes-on : (struck₁ : ℕ) → struck₁ ≡ struck + length next → Struck l from xs now client (take (k + 1) es) after struck₁
+      -- The leases as the next entry leaves them.
+      leases-next : map (changedBy now client 0 (take (k + 1) es)) xs ≡ map (changedIf (named? now client (getD es k noEntry .network) (getD es k noEntry .length)) 0) (map (changedBy now client 0 (take k es)) xs)
+      leases-next =
+          ap (λ (a : List Entry). map (changedBy now client 0 a) xs) (next-entry es k (omega (arith, hold-long networks lengths es p)))
+          ∙ sym (changed-more now client 0 (take k es) (getD es k noEntry) xs)
+
+      goes-on : (s₁ : Strikes) → s₁ .count ≡ before .count + length next
+          → (present now xs ≡ xs → ExpiredIn now (s₁ .first) (s₁ .last) (map (changedIf (named? now client (getD es k noEntry .network) (getD es k noEntry .length)) 0) (map (changedBy now client 0 (take k es)) xs)))
+          → Struck l from xs now client (take (k + 1) es) after s₁
       unfolding Striking next
-      goes-on struck₁ e = record {
+      goes-on s₁ e stand = record {
         counted = e ∙ sym counted-next;
         after-is =
             turn-after now client 0 l from xs held (omega arith) ascending networks lengths es p k lt image (s xs held counted ascending es p .after-is) after r
             (λ ys h c a. change ys h (counted ∙ c) a);
+        between = λ all. subst (ExpiredIn now (s₁ .first) (s₁ .last)) (sym leases-next) (stand all);
       }
 
     -- One is struck,
-    pub striking-more : (struck₁ : ℕ) → struck₁ ≡ struck + 1 → r < n → Striking l from n now client networks lengths after struck₁ (k + 1)
+    pub striking-more : (s₁ : Strikes) → s₁ .count ≡ before .count + 1 → s₁ .first ≤ before .first → s₁ .first ≤ r → before .last ≤ s₁ .last → r + 1 ≤ s₁ .last → r < n
+        → Striking l from n now client networks lengths after s₁ (k + 1)
     unfolding Striking next
-    striking-more struck₁ q h xs held counted ascending es p =
+    striking-more s₁ q a b c d h xs held counted ascending es p =
         let ys : List Lease = map (changedBy now client 0 (take k es)) xs in
-        let one = found-one (named? now client (getD es k noEntry .network) (getD es k noEntry .length)) ys r (changed xs held counted ascending es p .found) (omega (arith, length-map xs (changedBy now client 0 (take k es)))) in
-        goes-on xs held counted ascending es p struck₁ (omega (arith, q, one))
+        let found = changed xs held counted ascending es p .found in
+        let within : r < length ys = omega (arith, length-map xs (changedBy now client 0 (take k es))) in
+        let one = found-one (named? now client (getD es k noEntry .network) (getD es k noEntry .length)) ys r found within in
+        goes-on xs held counted ascending es p s₁ (omega (arith, q, one))
+        (λ all.
+        subst (ExpiredIn now (s₁ .first) (s₁ .last)) (sym (found .edited within (leasedUntil 0)))
+        (expired-more now (before .first) (before .last) ys (s xs held counted ascending es p .between all) (s₁ .first) (s₁ .last) r a c b (omega arith) (leasedUntil 0 (getD ys r noLease))))
 
     -- or none is.
-    pub striking-skip : (struck₁ : ℕ) → struck₁ ≡ struck → r ≡ n → Striking l from n now client networks lengths after struck₁ (k + 1)
+    pub striking-skip : (s₁ : Strikes) → s₁ .count ≡ before .count → s₁ .first ≡ before .first → s₁ .last ≡ before .last → r ≡ n → Striking l from n now client networks lengths after s₁ (k + 1)
     unfolding Striking next
-    striking-skip struck₁ q z xs held counted ascending es p =
+    striking-skip s₁ q a b z xs held counted ascending es p =
         let ys : List Lease = map (changedBy now client 0 (take k es)) xs in
-        let no = found-no (named? now client (getD es k noEntry .network) (getD es k noEntry .length)) ys r (changed xs held counted ascending es p .found) (omega (arith, length-map xs (changedBy now client 0 (take k es)))) in
-        goes-on xs held counted ascending es p struck₁ (omega (arith, q, ap length no))
+        let g = named? now client (getD es k noEntry .network) (getD es k noEntry .length) in
+        let found = changed xs held counted ascending es p .found in
+        let past : r ≡ length ys = omega (arith, length-map xs (changedBy now client 0 (take k es))) in
+        goes-on xs held counted ascending es p s₁ (omega (arith, q, ap length (found-no g ys r found past)))
+        (λ all i h gone.
+        let same = none-map g (leasedUntil 0) ys (found .none past) in
+        let before-it = s xs held counted ascending es p .between all i (omega (arith, ap length same)) (omega (arith, ap (λ (zs : List Lease). getD zs i noLease .expires) same)) in
+        (omega (arith, a), omega (arith, b)))
 
-  pub striking-all : (image : List ℕ) (struck k : ℕ) → Striking l from n now client networks lengths image struck k → length networks ≤ k
-      → (xs : List Lease) → Records l from xs → n ≡ length xs → Ascending xs → (es : List Entry) → Hold networks lengths es → Struck l from xs now client es image struck
+  pub striking-all : (image : List ℕ) (after : Strikes) (k : ℕ) → Striking l from n now client networks lengths image after k → length networks ≤ k
+      → (xs : List Lease) → Records l from xs → n ≡ length xs → Ascending xs → (es : List Entry) → Hold networks lengths es → Struck l from xs now client es image after
   unfolding Striking
-  striking-all image struck k s past xs held counted ascending es p =
-      subst (λ (a : List Entry). Struck l from xs now client a image struck) (take-all k es (omega (arith, hold-long networks lengths es p))) (s xs held counted ascending es p)
+  striking-all image after k s past xs held counted ascending es p =
+      subst (λ (a : List Entry). Struck l from xs now client a image after) (take-all k es (omega (arith, hold-long networks lengths es p))) (s xs held counted ascending es p)

@@ -1,8 +1,12 @@
 -- `change` meets its contract.
 -- Assumes nothing.
+use Prim.Native.Nat.{_+_, _*_}
 use native.Mathlib.Omega.{arith}
-use mathlib.Core.Path.{refl}
+use mathlib.Core.Path.{refl, ap, _∙_}
+use lib.ListN.{length-set, set}
 use borrow.Author.Needs.{needs}
+use Rattle.lists.specs.Put.{put}
+use Rattle.image.specs.Fields.{le32}
 use Rattle.entry_leases.specs.EntryLeases.{named?}
 use Rattle.entry_leases.proofs.NamedLaws.{change-none, change-here}
 use Rattle.entry_leases.proofs.change.Statement.{statement}
@@ -17,25 +21,36 @@ mul-at c = search needs
 add-at : tie.Need-add-at
 add-at c = search needs
 
-lease-at-requires : tie.Need-lease-at-requires
-lease-at-requires c κs = search needs
+state-byte-requires : tie.Need-state-byte-requires
+state-byte-requires c κs = search needs
 
-put-lease-requires : tie.Need-put-lease-requires
-put-lease-requires c κs = search needs
+add-image : tie.Need-add-image
+add-image c = search needs
+
+slice-write-image : tie.Need-slice-write-image
+slice-write-image c = search needs
+
+add-put32 : tie.Need-add-put32
+add-put32 c = search needs
+
+put32-requires : tie.Need-put32-requires
+put32-requires c κs = simp length-set (omega arith)
 
 same-length : tie.Need-same-length
-same-length c = search needs
+same-length c = c .before .before .put32 .kept .0 ∙ simp length-set
 
 returns : tie.Need-returns
 returns c =
-    let put = c .before .before in
-    let read = put .before .before in
-    let then = read .before .before in
+    let put-end = c .before .before in
+    let state = put-end .before .before in
+    let then = state .before in
     let found = then .before in
-    let a = found .before .before .before .args in (
+    let a = found .before .before .before .args in
+    let at = a .from + 19 * found .find .result in (
       found .find .ensures .0,
       λ xs held counted ascending.
-          change-here (named? (a .time) (a .client) (a .network) (a .length)) (a .expires) (a .image .now) (a .from) xs held (found .find .result) (found .find .ensures .1 xs held counted ascending) (omega (arith, then .if1 .taken)) (read .lease-at .result) (read .lease-at .ensures) _ (put .put-lease .ensures),
+          change-here (named? (a .time) (a .client) (a .network) (a .length)) (a .expires) (a .image .now) (a .from) xs held (found .find .result) (found .find .ensures .1 xs held counted ascending) (omega (arith, then .if1 .taken)) _
+          (put-end .put32 .ensures ∙ ap (λ s. put (set (a .image .now) (at + 9) s) (at + 15) (le32 (a .expires))) (state .state-byte .ensures)),
     )
 
 same-length-2 : tie.Need-same-length-2
@@ -57,8 +72,11 @@ change-spec =
     find-requires
     mul-at
     add-at
-    lease-at-requires
-    put-lease-requires
+    state-byte-requires
+    add-image
+    slice-write-image
+    add-put32
+    put32-requires
     same-length
     returns
     same-length-2

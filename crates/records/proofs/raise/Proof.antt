@@ -22,61 +22,72 @@ loop-holds c =
     let a = c .before .args in
     (omega arith, omega arith, raised-none (a .image .now) (a .from + 19 * a .n) (19 * a .room), refl)
 
+add-loop : tie.Need-add-loop Inv-loop μ-loop
+add-loop c = search needs
+
 sub-k : tie.Need-sub-k Inv-loop μ-loop
 sub-k c = search needs
 
-mul-record-at : tie.Need-mul-record-at Inv-loop μ-loop
-mul-record-at c = search needs
+mul-six-at : tie.Need-mul-six-at Inv-loop μ-loop
+mul-six-at c = search needs
 
-add-record-at : tie.Need-add-record-at Inv-loop μ-loop
-add-record-at c = search needs
+add-six-at : tie.Need-add-six-at Inv-loop μ-loop
+add-six-at c = search needs
 
-record-at-requires : tie.Need-record-at-requires Inv-loop μ-loop
-record-at-requires c κs = search needs
+six-at-requires : tie.Need-six-at-requires Inv-loop μ-loop
+six-at-requires c κs = search needs
 
-add-put-record : tie.Need-add-put-record Inv-loop μ-loop
-add-put-record c = search needs
+add-put-six : tie.Need-add-put-six Inv-loop μ-loop
+add-put-six c = search needs
 
-mul-put-record : tie.Need-mul-put-record Inv-loop μ-loop
-mul-put-record c = search needs
+mul-put-six : tie.Need-mul-put-six Inv-loop μ-loop
+mul-put-six c = search needs
 
-add-put-record-2 : tie.Need-add-put-record-2 Inv-loop μ-loop
-add-put-record-2 c = search needs
+add-put-six-2 : tie.Need-add-put-six-2 Inv-loop μ-loop
+add-put-six-2 c = search needs
 
-put-record-requires : tie.Need-put-record-requires Inv-loop μ-loop
-put-record-requires c κs = search needs
+put-six-requires : tie.Need-put-six-requires Inv-loop μ-loop
+put-six-requires c κs = search needs
 
 loop-less : tie.Need-loop-less Inv-loop μ-loop
 loop-less c = search needs
 
 loop-again : tie.Need-loop-again Inv-loop μ-loop
 loop-again c =
-    let a = c .before .before .before .before .before .before .before .before .before .args in
-    let loop = c .before .before .before .before .before .before .before .loop in
+    let written = c .before .before in
+    let read = written .before .before in
+    let loop = read .before .before .before .loop in
+    let a = read .before .before .before .before .before .args in
     let l = a .image .now in
     let to = a .from + 19 * a .n in
-    let at = a .from + 19 * (loop .k - 1) in
-    let read = c .before .before .before .before .record-at in
-    let written = c .before .before .put-record in
-    let here : a .from + 19 * loop .k ≡ at + 19 = omega arith in
-    let place : a .from + 19 * (loop .k - 1 + a .room) ≡ at + 19 * a .room = omega arith in (
+    let at = a .from + 19 * (loop .k - 6) in
+    let here : a .from + 19 * loop .k ≡ at + 114 = omega arith in
+    let place : a .from + 19 * (loop .k - 6 + a .room) ≡ at + 19 * a .room = omega arith in (
       omega arith,
       omega arith,
-      written .ensures
-          ∙ ap (λ p. put (loop .image) p (read .result)) place
-          ∙ raised-more l to (19 * a .room) 19 at (loop .image) (read .result) (omega arith) (omega arith) (loop .inv .2 ∙ ap (raised l to (19 * a .room)) here) (read .ensures),
-      written .kept .0 ∙ loop .inv .3,
+      written .put-six .ensures
+          ∙ ap (λ p. put (loop .image) p (read .six-at .result)) place
+          ∙ raised-more l to (19 * a .room) 114 at (loop .image) (read .six-at .result) (omega arith) (omega arith) (loop .inv .2 ∙ ap (raised l to (19 * a .room)) here) (read .six-at .ensures),
+      written .put-six .kept .0 ∙ loop .inv .3,
     )
 
+raise-each-requires : tie.Need-raise-each-requires Inv-loop μ-loop
+raise-each-requires c κs = search needs
+
 same-length : tie.Need-same-length Inv-loop μ-loop
-same-length c = c .before .loop .inv .3
+same-length c = c .before .before .raise-each .kept .0 ∙ c .before .before .before .before .before .loop .inv .3
 
 returns : tie.Need-returns Inv-loop μ-loop
 returns c =
-    let a = c .before .before .before .args in
-    let loop = c .before .loop in
-    let all : loop .k ≡ a .place = omega arith in
-    loop .inv .2 ∙ ap (λ k. raised (a .image .now) (a .from + 19 * a .n) (19 * a .room) (a .from + 19 * k)) all
+    let rest = c .before .before in
+    let loop = rest .before .before .before .loop in
+    let a = rest .before .before .before .before .before .args in
+    let l = a .image .now in
+    let to = a .from + 19 * a .n in
+    let at = a .from + 19 * a .place in
+    let w = a .from + 19 * loop .k - at in
+    let here : a .from + 19 * loop .k ≡ at + w = omega arith in
+    rest .raise-each .ensures ∙ raised-more l to (19 * a .room) w at (loop .image) _ (omega arith) (omega arith) (loop .inv .2 ∙ ap (raised l to (19 * a .room)) here) refl
 
 pub raise-spec : {M : Type 1} → statement M
 raise-spec =
@@ -85,15 +96,17 @@ raise-spec =
     Inv-loop
     μ-loop
     loop-holds
+    add-loop
     sub-k
-    mul-record-at
-    add-record-at
-    record-at-requires
-    add-put-record
-    mul-put-record
-    add-put-record-2
-    put-record-requires
+    mul-six-at
+    add-six-at
+    six-at-requires
+    add-put-six
+    mul-put-six
+    add-put-six-2
+    put-six-requires
     loop-less
     loop-again
+    raise-each-requires
     same-length
     returns)

@@ -18,7 +18,7 @@ use Rattle.release_image.proofs.release.Statement.{statement}
 use Rattle.release_image.proofs.release.Tie as tie
 
 -- Places further back in the code: where the leases are struck, where the option is heard, where it is read, and where the book has passed.
-abbrev struck-at : tie.After-finish → tie.After-strike-named
+abbrev struck-at : tie.After-finish-struck → tie.After-strike-named
 struck-at c = c .before .before .before .before .before
 
 abbrev heard-at : tie.After-strike-named → tie.Else3
@@ -150,18 +150,19 @@ returns-4 c =
     ap (λ (r : ImageAnswer). (r, struck .strike-named .last .0)) (c .refused3 .ensures)
     ∙ release-nothing (a .image .now) (a .image-bytes) (a .time) (a .client) (a .option .now) (holds else) (booked .book-in .result) (booked .book-in .ensures) (checked .check-book .result) (checked .check-book .ensures) (begun .if2 .left) (read .read-entries .result) _ _ (read .read-entries .ensures) (heard .if3 .left) (struck .strike-named .last .0) (struck .strike-named .result) (struck .strike-named .ensures .1) (c .before .if4 .taken)
 
-finish-requires : tie.Need-finish-requires
-finish-requires c κs =
+finish-struck-requires : tie.Need-finish-struck-requires
+finish-struck-requires c κs =
     let struck = c .before .before .before .before in
     let o = opened (begun-at (read-at (heard-at struck .before))) in
-    (omega arith, omega (arith, o .size, o .within, struck .strike-named .kept .0))
+    let here = struck .strike-named .ensures .0 in
+    (omega arith, here .2 (omega (arith, c .before .if4 .left)), here .1, omega (arith, o .size, o .within, struck .strike-named .kept .0))
 
 cast-accepted : tie.Need-cast-accepted
 cast-accepted c =
     let struck = struck-at (c .before .before) in
     let heard = heard-at struck in
     let read = read-at (heard .before) in
-    omega (arith, struck .strike-named .ensures .0, networks-count _ (read .read-entries .result) _ _ (read .read-entries .ensures) (heard .if3 .left), read .read-entries .ensures .few)
+    omega (arith, struck .strike-named .ensures .0 .0, networks-count _ (read .read-entries .result) _ _ (read .read-entries .ensures) (heard .if3 .left), read .read-entries .ensures .few)
 
 accepted-requires : tie.Need-accepted-requires
 accepted-requires c κs =
@@ -174,7 +175,7 @@ accepted-requires c κs =
     let booked = checked .before in
     let else = booked .before .before in
     let a = else .before .before .before .before .args in
-    release-fits (a .image .now) (a .image-bytes) (a .time) (a .client) (a .option .now) (holds else) (booked .book-in .result) (booked .book-in .ensures) (checked .check-book .result) (checked .check-book .ensures) (begun .if2 .left) (read .read-entries .result) _ _ (read .read-entries .ensures) (heard .if3 .left) (struck .strike-named .last .0) (struck .strike-named .result) (struck .strike-named .ensures .1) (end .finish .last .0) (end .finish .result) (end .finish .ensures)
+    release-fits (a .image .now) (a .image-bytes) (a .time) (a .client) (a .option .now) (holds else) (booked .book-in .result) (booked .book-in .ensures) (checked .check-book .result) (checked .check-book .ensures) (begun .if2 .left) (read .read-entries .result) _ _ (read .read-entries .ensures) (heard .if3 .left) (struck .strike-named .last .0) (struck .strike-named .result) (struck .strike-named .ensures .1) (end .finish-struck .last .0) (end .finish-struck .result) (end .finish-struck .ensures)
 
 same-length-4 : tie.Need-same-length-4
 same-length-4 c = search needs
@@ -191,8 +192,8 @@ returns-5 c =
     let booked = checked .before in
     let else = booked .before .before in
     let a = else .before .before .before .before .args in
-    ap (λ (r : ImageAnswer). (r, end .finish .last .0)) (c .accepted .ensures)
-    ∙ release-found (a .image .now) (a .image-bytes) (a .time) (a .client) (a .option .now) (holds else) (booked .book-in .result) (booked .book-in .ensures) (checked .check-book .result) (checked .check-book .ensures) (begun .if2 .left) (read .read-entries .result) _ _ (read .read-entries .ensures) (heard .if3 .left) (struck .strike-named .last .0) (struck .strike-named .result) (struck .strike-named .ensures .1) (end .finish .last .0) (end .finish .result) (end .finish .ensures) (some .if4 .left)
+    ap (λ (r : ImageAnswer). (r, end .finish-struck .last .0)) (c .accepted .ensures)
+    ∙ release-found (a .image .now) (a .image-bytes) (a .time) (a .client) (a .option .now) (holds else) (booked .book-in .result) (booked .book-in .ensures) (checked .check-book .result) (checked .check-book .ensures) (begun .if2 .left) (read .read-entries .result) _ _ (read .read-entries .ensures) (heard .if3 .left) (struck .strike-named .last .0) (struck .strike-named .result) (struck .strike-named .ensures .1) (end .finish-struck .last .0) (end .finish-struck .result) (end .finish-struck .ensures) (some .if4 .left)
     (ltb-false (length (a .image .now)) fullImage (holds else))
 
 pub release-spec : {M : Type 1} → statement M
@@ -222,7 +223,7 @@ release-spec =
     refused-requires-3
     same-length-3
     returns-4
-    finish-requires
+    finish-struck-requires
     cast-accepted
     accepted-requires
     same-length-4

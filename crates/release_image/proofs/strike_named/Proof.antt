@@ -6,21 +6,23 @@ use mathlib.Core.Path.{_≡_, refl, _∙_}
 use mathlib.Core.Logic.{⊎-elim}
 use lib.ListN.{length}
 use borrow.Author.Needs.{needs}
+use Rattle.release_image.specs.declared.Strikes.{Strikes}
 use Rattle.release_image.proofs.StrikeLaws.{Striking, striking-none, striking-more, striking-skip, striking-all}
 use Rattle.release_image.proofs.strike_named.Statement.{statement}
 use Rattle.release_image.proofs.strike_named.Tie as tie
 
 abbrev Inv-loop : tie.InvT-loop
-Inv-loop image₀ from n time client networks lengths struck₀ k₀ image struck k =
-    (struck ≤ k) × (k ≤ length networks) × (length image ≡ length image₀) × Striking image₀ from n time client networks lengths image struck k
+Inv-loop image₀ from n time client networks lengths count₀ first₀ last₀ k₀ image count first last k =
+    (count ≤ k) × (k ≤ length networks) × (length image ≡ length image₀) × (last ≤ n) × (1 ≤ count → first ≤ last)
+    × Striking image₀ from n time client networks lengths image (record { count = count; first = first; last = last }) k
 
 abbrev μ-loop : tie.MeasureT-loop
-μ-loop image₀ from n time client networks lengths struck₀ k₀ image struck k = length networks - k
+μ-loop image₀ from n time client networks lengths count₀ first₀ last₀ k₀ image count first last k = length networks - k
 
 loop-holds : tie.Need-loop-holds Inv-loop μ-loop
 loop-holds c =
     let a = c .before .before .before .args in
-    (omega arith, omega arith, refl, striking-none (a .image .now) (a .from) (a .n) (a .time) (a .client) (a .networks .now) (a .lengths .now))
+    (omega arith, omega arith, refl, omega arith, (λ h. absurd (omega arith)), striking-none (a .image .now) (a .from) (a .n) (a .time) (a .client) (a .networks .now) (a .lengths .now))
 
 mul-change : tie.Need-mul-change Inv-loop μ-loop
 mul-change c = search needs
@@ -34,8 +36,17 @@ shared-slice-read-change-2 c = search needs
 change-requires : tie.Need-change-requires Inv-loop μ-loop
 change-requires c κs = search needs
 
-add-struck : tie.Need-add-struck Inv-loop μ-loop
-add-struck c = search needs
+add-count : tie.Need-add-count Inv-loop μ-loop
+add-count c = search needs
+
+smaller-requires : tie.Need-smaller-requires Inv-loop μ-loop
+smaller-requires c κs = search needs
+
+add-larger : tie.Need-add-larger Inv-loop μ-loop
+add-larger c = search needs
+
+larger-requires : tie.Need-larger-requires Inv-loop μ-loop
+larger-requires c κs = search needs
 
 add-k : tie.Need-add-k Inv-loop μ-loop
 add-k c = search needs
@@ -51,19 +62,28 @@ loop-again c =
     let start = in-loop .before .before .before .before .before in
     let a = start .args in
     let j = c .if1 in
+    let r = changed .change .result in
+    let so-far : Strikes = record { count = loop .count; first = loop .first; last = loop .last } in
+    let now : Strikes = record { count = j .count; first = j .first; last = j .last } in
     let same : length (changed .change .last .0) ≡ length (a .image .now) = changed .change .kept .0 ∙ loop .inv .2 in
     ⊎-elim
     (λ w. (
-      omega (arith, w .1),
+      omega (arith, w .3),
       omega arith,
       same,
-      striking-more (a .image .now) (a .from) (a .n) (a .time) (a .client) (a .networks .now) (a .lengths .now) (start .pre .0) (loop .image) (loop .struck) (loop .k) (loop .inv .3) (in-loop .loop-test .taken) _ (changed .change .result) (changed .change .ensures .1) (j .struck) (w .1) (w .0 .taken),
+      omega (arith, w .5, w .2 .ensures .2 (a .n) (loop .inv .3) (omega (arith, w .0 .taken))),
+      λ h. omega (arith, w .4, w .5, w .1 .ensures, w .2 .ensures .1),
+      striking-more (a .image .now) (a .from) (a .n) (a .time) (a .client) (a .networks .now) (a .lengths .now) (start .pre .0) (loop .image) so-far (loop .k) (loop .inv .5) (in-loop .loop-test .taken) _ r (changed .change .ensures .1) now (w .3)
+          (omega (arith, w .4, w .1 .ensures)) (omega (arith, w .4, w .1 .ensures)) (omega (arith, w .5, w .2 .ensures .0)) (omega (arith, w .5, w .2 .ensures .1)) (w .0 .taken),
     ))
     (λ w. (
       omega (arith, w .1),
       omega arith,
       same,
-      striking-skip (a .image .now) (a .from) (a .n) (a .time) (a .client) (a .networks .now) (a .lengths .now) (start .pre .0) (loop .image) (loop .struck) (loop .k) (loop .inv .3) (in-loop .loop-test .taken) _ (changed .change .result) (changed .change .ensures .1) (j .struck) (w .1) (omega (arith, w .0 .left, changed .change .ensures .0)),
+      omega (arith, w .3),
+      λ h. omega (arith, w .1, w .2, w .3, loop .inv .4 (omega (arith, w .1))),
+      striking-skip (a .image .now) (a .from) (a .n) (a .time) (a .client) (a .networks .now) (a .lengths .now) (start .pre .0) (loop .image) so-far (loop .k) (loop .inv .5) (in-loop .loop-test .taken) _ r (changed .change .ensures .1) now (w .1) (w .2) (w .3)
+          (omega (arith, w .0 .left, changed .change .ensures .0)),
     ))
     (j .came)
 
@@ -73,8 +93,10 @@ same-length c = c .before .loop .inv .2
 returns : tie.Need-returns Inv-loop μ-loop
 returns c =
     let loop = c .before .loop in
-    let a = c .before .before .before .before .before .args in
-    (omega arith, striking-all (a .image .now) (a .from) (a .n) (a .time) (a .client) (a .networks .now) (a .lengths .now) (loop .image) (loop .struck) (loop .k) (loop .inv .3) (c .loop-test .left))
+    let a = c .before .before .before .before .before .args in (
+      (omega arith, loop .inv .3, loop .inv .4),
+      striking-all (a .image .now) (a .from) (a .n) (a .time) (a .client) (a .networks .now) (a .lengths .now) (loop .image) _ (loop .k) (loop .inv .5) (c .loop-test .left),
+    )
 
 pub strike-named-spec : {M : Type 1} → statement M
 strike-named-spec =
@@ -87,7 +109,10 @@ strike-named-spec =
     shared-slice-read-change
     shared-slice-read-change-2
     change-requires
-    add-struck
+    add-count
+    smaller-requires
+    add-larger
+    larger-requires
     add-k
     loop-less
     loop-again
