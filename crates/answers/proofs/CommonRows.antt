@@ -1,4 +1,4 @@
--- Laws of the common rows: what the reader's answer says of rows 6 and 7, and how a call goes on after the common rows.
+-- Laws of the common rows: what the reader's answer says of rows 6 and 7, and what holds where none of them applies.
 -- Assumes nothing.
 use Prim.Native.Nat.{ℕ}
 use mathlib.Core.Path.{_≡_, refl}

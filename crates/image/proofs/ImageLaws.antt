@@ -2,32 +2,32 @@
 -- Assumes nothing.
 use Prim.Native.Nat.{ℕ, zero, suc, _+_, _-_, _*_, _/_, _%_, _≤_, _<_}
 use mathlib.Core.Path.{_≡_, refl, sym, ap, ap₂, subst, _∙_}
-use mathlib.Core.Logic.{_⊎_, _↔_, inl, inr, ⊎-elim}
+use mathlib.Core.Logic.{_↔_}
 use mathlib.Core.Bool.{Bool, true, false, not, cond, _&&_}
-use mathlib.Core.List.{List, [], _∷_, _++_, append-assoc, append-nil}
+use mathlib.Core.List.{List, [], _∷_, _++_, append-nil}
 use mathlib.Core.Option.{Option, none, some}
-use native.Mathlib.Nat.{mul-suc}
 use native.Mathlib.Omega.{arith}
-use lib.ListN.{length, take, drop, getD, replicate, length-append, length-drop}
-use lib.Dec.{leb, ltb, eqb}
-use borrow.Author.Tests.{leb-true, le-leb, lt-leb, eqb-true, eq-eqb, ne-eqb, not-true}
+use lib.ListN.{length, drop, getD, replicate, length-append, length-drop}
+use lib.Dec.{leb, eqb}
+use borrow.Author.Tests.{leb-true, le-leb, eqb-true, eq-eqb, ne-eqb, not-true}
 use Rattle.lists.specs.Lists.{All, every, those, gather}
-use Rattle.lists.proofs.Tests.{bool-cases, and-to, and-of, not-of, cond-true, cond-false, every-to, every-of}
-use Rattle.lists.proofs.ListLaws.{all-map, all-right}
+use Rattle.lists.proofs.GatherLaws as gather-laws
+use Rattle.lists.proofs.Tests.{not-of, cond-true, cond-false, every-to, every-of}
+use Rattle.lists.proofs.ListLaws.{all-map, all-right, all-every}
 use Rattle.lists.proofs.DropLaws.{all-drop}
 use Rattle.lists.proofs.ThoseLaws.{those-whole, those-append, those-replicate, those-fewer, those-pass}
 use Rattle.table.specs.declared.Pool.{Pool}
 use Rattle.table.specs.declared.Lease.{Lease}
 use Rattle.table.specs.declared.LeaseTable.{LeaseTable}
-use Rattle.table.specs.Table.{poolSlots, leaseSlots, noPool, noLease, unused?, empty?, sound, padded, paddedPools, poolsOf, prefixesOf, poolPrefix, present}
+use Rattle.table.specs.Table.{poolSlots, leaseSlots, noPool, noLease, unused?, empty?, sound, padded, paddedPools}
 use Rattle.table.proofs.TableLaws.{unused-of, empty-of, sound-slots, sound-pool-slots, sound-pools-whole, sound-used, sound-whole}
 use Rattle.image.specs.declared.Head.{Head}
 use Rattle.image.specs.declared.HeadRead.{HeadRead}
 use Rattle.image.specs.declared.PoolRead.{PoolRead}
 use Rattle.image.specs.declared.LeaseRead.{LeaseRead}
-use Rattle.image.specs.Fields.{le16, le32, number16, number32, Run, records}
-use Rattle.image.specs.Image.{headRecord, poolRecord, leaseRecord, stateByte, bit, flagsByte, usedPools, usedLeases, headOf, imageOf, headSize, poolSize, leaseSize, headIn, headTests, headAt, poolIn, poolTests, poolAt, leaseIn, leaseTests, leaseAt, headRead, poolRead, leaseRead, poolsAt, leasesAt, tableWith, whole, afterHead, loadImage}
-use Rattle.image.proofs.FieldLaws.{Bytes, bytes-of, bytes-drop, spell32, le16-number, le32-number, spelled, front-spelled, records-gather, Readings, readings}
+use Rattle.image.specs.Fields.{le16, le32, number16, number32, Run}
+use Rattle.image.specs.Image.{headRecord, poolRecord, leaseRecord, stateByte, flagsByte, usedPools, usedLeases, headOf, imageOf, headSize, poolSize, leaseSize, headIn, headTests, headAt, poolIn, poolTests, poolAt, leaseIn, leaseTests, leaseAt, headRead, poolRead, leaseRead, poolsAt, leasesAt, tableWith, whole, afterHead, loadImage}
+use Rattle.image.proofs.FieldLaws.{Bytes, bytes-of, spell32, le16-number, le32-number, spelled, front-spelled, records-gather, readings}
 
 -- EACH RECORD READS BACK
 
@@ -304,10 +304,7 @@ unfolding leaseRecord le16 le32
 length-lease x = refl
 
 pub length-gather : {A : Type 0} (rec : A → List ℕ) (n : ℕ) → ((x : A) → length (rec x) ≡ n) → (xs : List A) → length (gather rec xs) ≡ n * length xs
-length-gather rec n h [] = omega arith
-length-gather rec n h (x ∷ xs) =
-    let e : n * length (x ∷ xs) ≡ n + n * length xs = mul-suc n (length xs) ∙ omega arith in
-    length-append (rec x) (gather rec xs) ∙ omega (arith, h x, length-gather rec n h xs)
+length-gather rec n h xs = gather-laws.length-gather rec n xs (all-every h xs)
 
 pub length-image : (t : LeaseTable) → length (imageOf t) ≡ 13 + 9 * length (usedPools t) + 19 * length (usedLeases t)
 unfolding imageOf

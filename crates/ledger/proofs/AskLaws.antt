@@ -1,20 +1,19 @@
 -- One ask call: what a reader of its reply and of the table after it finds is what was offered.
 -- Assumes nothing.
-use Prim.Native.Nat.{ℕ, zero, suc, _+_, _-_, _≤_, _<_}
+use Prim.Native.Nat.{ℕ, _+_, _-_, _≤_}
 use mathlib.Core.Path.{_≡_, refl, sym, ap, ap₂, subst, _∙_}
-use mathlib.Core.Logic.{_⊎_, _↔_, inl, inr, ⊎-elim}
-use mathlib.Core.Bool.{Bool, true, false, not, cond, _&&_, _||_, Bool·beq}
+use mathlib.Core.Logic.{_⊎_, inl, inr}
+use mathlib.Core.Bool.{Bool, true, false, not, _&&_, Bool·beq}
 use mathlib.Core.List.{List, [], _∷_, _++_, map}
 use mathlib.Core.Option.{Option, none, some}
 use native.Mathlib.Omega.{arith}
 use lib.ListN.{length, replicate}
-use lib.Dec.{leb, ltb, eqb}
+use lib.Dec.{eqb}
 use borrow.Author.Tests.{eq-eqb, ne-eqb}
-use Rattle.lists.specs.Lists.{All, Any, every, any?, somes}
-use Rattle.lists.proofs.Tests.{bool-cases, cond-true, cond-false, every-of, not-of, any?-of}
+use Rattle.lists.specs.Lists.{All, Any, any?, somes}
+use Rattle.lists.proofs.Tests.{cond-true, cond-false, every-of, not-of, any?-of}
 use Rattle.lists.proofs.ListLaws.{all-image, all-preimage, any-left}
 use Rattle.lists.proofs.Permutations.{perm-all, perm-any, perm-length}
-use Rattle.prefix.specs.declared.Prefix.{Prefix}
 use Rattle.prefix.specs.Prefixes.{prefix, Apart}
 use Rattle.space.specs.Space.{Pools, Free}
 use Rattle.space.proofs.ListTheorem.{refused⇔none-free}
@@ -25,7 +24,7 @@ use Rattle.table.specs.Table.{leaseSlots, prefixOf, noLease, poolsOf, insert}
 use Rattle.ledger.specs.Ledger.{Request, entryOf, holdTime, askLength, offer, add, offers, addAll}
 use Rattle.ledger.specs.Demand3.{answers?, pairOff, isHeld?, confirmed}
 use Rattle.ledger.proofs.OfferLaws.{prefixes, insert-perm, Offered, Offer, offer-is}
-use mathlib.Core.List.{List·Permᴰ, Permᴰ·symm}
+use mathlib.Core.List.{Permᴰ·symm}
 
 abbrev pub entry? : Option Lease → Option Entry
 entry? none = none

@@ -1,27 +1,24 @@
 -- One well-formed ask call, whole; and a call that is not well-formed.
 -- Assumes nothing.
-use Prim.Native.Nat.{ℕ, zero, suc, _+_, _-_, _≤_, _<_}
+use Prim.Native.Nat.{ℕ, _-_, _≤_}
 use mathlib.Core.Path.{_≡_, refl, sym, ap, ap₂, subst, _∙_}
-use mathlib.Core.Logic.{_⊎_, inl, inr, ⊎-elim}
-use mathlib.Core.Bool.{Bool, true, false, not, cond, true≢false, false≢true}
-use mathlib.Core.List.{List, [], _∷_, _++_, map, nil≢cons}
+use mathlib.Core.Bool.{Bool, true, false, not, cond}
+use mathlib.Core.List.{List, [], _∷_, map, nil≢cons}
 use mathlib.Core.Option.{Option, none, some}
 use native.Mathlib.Omega.{arith}
-use lib.ListN.{length, drop, replicate, length-map}
+use lib.ListN.{length, drop, length-map}
 use lib.Dec.{leb, ltb, eqb}
 use borrow.Author.Tests.{ltb-false, le-ltb, eqb-false, not-false}
 use Rattle.lists.specs.Lists.{All, somes}
-use Rattle.lists.proofs.Tests.{bool-cases, cond-true, cond-false}
-use Rattle.prefix.specs.declared.Prefix.{Prefix}
 use Rattle.space.specs.Space.{Pools}
 use Rattle.option.specs.Values.{Entry}
 use Rattle.option.specs.Reading.{readOption}
 use Rattle.option.specs.Writing.{optionBytes}
 use Rattle.table.specs.declared.Lease.{Lease}
 use Rattle.table.specs.declared.LeaseTable.{LeaseTable}
-use Rattle.table.specs.Table.{leaseSlots, latest, noLease, prefixOf, poolsOf, present, sound, store}
+use Rattle.table.specs.Table.{leaseSlots, latest, prefixOf, poolsOf, present, sound, store}
 use Rattle.table.proofs.TableLaws.{Good, sound-fine, sound-fewer, store-sound, present-stored}
-use Rattle.ledger.specs.Ledger.{full, Answer, Result, Row, firstOf, before, refuse, Request, refuses?, requestsIn, entryOf, refusalPlace, forAsk, askRows, offers, addAll, askOffers, informationFor, ask}
+use Rattle.ledger.specs.Ledger.{full, Result, Row, firstOf, before, refuse, Request, refuses?, entryOf, refusalPlace, forAsk, askRows, offers, addAll, askOffers, informationFor, ask}
 use Rattle.ledger.specs.Demand3.{Call, run, none?, wellFormed, Accepts, asksOf, replyEntries, pairOff, confirmed, granted, inUse, Fate, isGranted, wantsSlot, wantsSpace, fate}
 use Rattle.ledger.proofs.RowLaws.{first-none, none-to, none-not, answerAsk, ask-served, ask-refused}
 use Rattle.ledger.proofs.ReadLaws.{requests-short}

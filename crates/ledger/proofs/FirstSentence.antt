@@ -2,7 +2,7 @@
 -- no free aligned block of its length lies inside a root"; and for want of lines exactly when the table that it meets has no empty slot. And what is
 -- granted is document 01's choice.
 -- Assumes nothing.
-use Prim.Native.Nat.{ℕ, zero, suc, _+_, _-_, _≤_, _<_}
+use Prim.Native.Nat.{ℕ, _-_, _≤_, _<_}
 use mathlib.Core.Path.{_≡_, refl, sym, ap, subst, _∙_}
 use mathlib.Core.Logic.{_⊎_, _↔_, inl, inr, ⊎-elim}
 use mathlib.Core.Bool.{Bool, true, false, cond, _||_}
@@ -11,13 +11,12 @@ use mathlib.Core.Option.{Option, none, some}
 use native.Mathlib.Omega.{arith}
 use lib.ListN.{length, length-map}
 use lib.Dec.{leb, eqb}
-use borrow.Author.Tests.{leb-true, leb-false, le-leb, lt-leb, eqb-true}
+use borrow.Author.Tests.{leb-true, le-leb, lt-leb, eqb-true}
 use Rattle.lists.specs.Lists.{All, Holds, any?}
 use Rattle.lists.proofs.Tests.{bool-cases, cond-true, cond-false, every-to}
 use Rattle.lists.proofs.Permutations.{perm-length}
 use Rattle.prefix.specs.declared.Prefix.{Prefix}
-use Rattle.prefix.specs.Prefixes.{size, prefix, end, Apart}
-use Rattle.prefix.proofs.PrefixLaws.{size-positive}
+use Rattle.prefix.specs.Prefixes.{prefix, Apart}
 use Rattle.prefix.proofs.Nesting.{prefix-path, inside-refl, apart-absurd}
 use Rattle.space.specs.Space.{Pools, Free, Takes}
 use Rattle.space.proofs.ListTheorem.{refused⇔none-free}
@@ -28,11 +27,11 @@ use Rattle.table.specs.declared.Lease.{Lease}
 use Rattle.table.specs.declared.LeaseTable.{LeaseTable}
 use Rattle.table.specs.Table.{leaseSlots, prefixOf, poolsOf, present}
 use Rattle.ledger.specs.Ledger.{Request, askLength, offer, add, offers, ask}
-use Rattle.ledger.specs.Demand3.{Call, wellFormed, asksOf, granted, entryPrefix, inUse, same?, meets, Fate, isGranted, wantsSlot, wantsSpace, fate, NoneFree, RefusedRightly}
+use Rattle.ledger.specs.Demand3.{Call, wellFormed, asksOf, granted, entryPrefix, inUse, same?, meets, wantsSlot, wantsSpace, fate, NoneFree, RefusedRightly}
 use Rattle.ledger.specs.Choice.{ChosenRightly}
-use Rattle.ledger.proofs.OfferLaws.{prefixes, pools-good, Offered, Offer, offer-is, add-perm}
+use Rattle.ledger.proofs.OfferLaws.{prefixes, pools-good, Offer, offer-is, add-perm}
 use Rattle.ledger.proofs.AskLaws.{entry?}
-use Rattle.ledger.proofs.CallLaws.{WellFormed, well, granted-is}
+use Rattle.ledger.proofs.CallLaws.{well, granted-is}
 
 -- Fates are told apart.
 wants-slot : (b : Bool) → cond b wantsSlot wantsSpace ≡ wantsSlot → b ≡ true

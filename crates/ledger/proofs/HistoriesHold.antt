@@ -1,24 +1,21 @@
 -- Every table that a history can reach is sound, and no two of its leases share an address.
 -- Assumes nothing.
-use Prim.Native.Nat.{ℕ, zero, suc}
-use mathlib.Core.Path.{_≡_, refl, sym, ap, subst, _∙_}
-use mathlib.Core.Logic.{⊎-elim}
+use Prim.Native.Nat.{ℕ}
+use mathlib.Core.Path.{_≡_, refl, sym, subst}
 use mathlib.Core.Bool.{Bool, true, false, not, cond}
-use mathlib.Core.List.{List, [], _∷_, map}
-use mathlib.Core.Option.{Option, none, some}
+use mathlib.Core.List.{List, map}
+use mathlib.Core.Option.{none, some}
 use native.Mathlib.Omega.{arith}
 use Rattle.lists.specs.Lists.{Pairwise}
-use Rattle.lists.proofs.Tests.{bool-cases}
 use Rattle.prefix.specs.Prefixes.{Apart}
 use Rattle.table.specs.declared.LeaseTable.{LeaseTable}
-use Rattle.opening.specs.declared.OpenAnswer.{OpenAnswer}
 use Rattle.opening.specs.declared.OpenAnswer.the-variants.{Accepted, OutsideRules}
 use Rattle.opening.specs.declared.Opened.{Opened}
 use Rattle.table.specs.Table.{blank, prefixOf, present, sound}
 use Rattle.opening.specs.Open.{given, openOk, fresh, openNumber, opened as openedTable}
 use Rattle.opening.proofs.OpenLaws.{open-sound}
-use Rattle.ledger.specs.Ledger.{Answer, Update, orElse, refusal, refuseUpdate, acceptUpdate, openRows, openTable}
-use Rattle.ledger.specs.Histories.{Event, asked, taken, wasListed, returned, marked, saved, next, afterwards, Reachable, opened, loaded, called, leasesOf}
+use Rattle.ledger.specs.Ledger.{orElse, refusal, refuseUpdate, acceptUpdate, openTable}
+use Rattle.ledger.specs.Histories.{Event, asked, taken, wasListed, returned, marked, saved, next, Reachable, opened, loaded, called, leasesOf}
 use Rattle.ledger.proofs.SoundKept.{ask-keeps, take-keeps, list-keeps, release-keeps, mark-keeps, no-overlap}
 
 -- OPEN

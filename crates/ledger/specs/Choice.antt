@@ -1,7 +1,6 @@
 -- The choice: "An ask of length p takes, among whole free blocks of length at most p, the smallest, the lowest network among equals, and of that the
 -- lowest part of length p", of each ask of a call that is granted, on the table that it meets.
 -- Assumes nothing: these are definitions.
-use Prim.Native.Nat.{ℕ}
 use mathlib.Core.List.{List, [], _∷_}
 use mathlib.Core.Option.{Option}
 use Rattle.lists.specs.Lists.{Holds}

@@ -3,7 +3,7 @@
 -- Assumes nothing: these are definitions.
 use Prim.Native.Nat.{ℕ, _+_}
 use mathlib.Core.Path.{_≡_}
-use mathlib.Core.Bool.{Bool, true, cond}
+use mathlib.Core.Bool.{true, cond}
 use mathlib.Core.List.{List, [], _∷_}
 use lib.Dec.{leb, eqb}
 use Rattle.lists.specs.Lists.{those}
@@ -12,7 +12,7 @@ use Rattle.option.specs.Values.{Entry}
 use Rattle.table.specs.declared.Lease.{Lease}
 use Rattle.table.specs.declared.LeaseTable.{LeaseTable}
 use Rattle.table.specs.Table.{present, sound}
-use Rattle.ledger.specs.Ledger.{Answer, Result, Update, openTable, entriesIn, namedBy?, ask, take, list, release, mark}
+use Rattle.ledger.specs.Ledger.{Answer, openTable, entriesIn, namedBy?, ask, take, release, mark}
 use Rattle.ledger.specs.Demand3.{replyEntries}
 use Rattle.ledger.specs.Histories.{Event, asked, taken, wasListed, returned, marked, saved, next, afterwards, leasesOf}
 

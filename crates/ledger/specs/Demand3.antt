@@ -18,7 +18,7 @@ use Rattle.option.specs.Values.{Entry}
 use Rattle.table.specs.declared.Lease.{Lease}
 use Rattle.table.specs.declared.LeaseTable.{LeaseTable}
 use Rattle.table.specs.Table.{leaseSlots, latest, prefixOf, poolsOf, present, sound}
-use Rattle.ledger.specs.Ledger.{Answer, Result, Row, firstOf, before, Request, requestsIn, entriesIn, emptySlots, askRows, askLength, holdTime}
+use Rattle.ledger.specs.Ledger.{Result, firstOf, before, Request, requestsIn, entriesIn, emptySlots, askRows, askLength, holdTime}
 
 -- A CALL, AND WHEN IT IS WELL-FORMED
 

@@ -1,14 +1,12 @@
 -- Demand 3 is not empty: lists that meet its premise, by computation, and what it says of each; asks refused for want of ground and for want of lines.
 -- Assumes nothing.
-use Prim.Native.Nat.{ℕ, zero, suc, _+_, _≤_}
 use mathlib.Core.Path.{_≡_, refl}
-use mathlib.Core.Bool.{Bool, true, false, _&&_}
-use mathlib.Core.List.{List, [], _∷_, _++_, map}
-use mathlib.Core.Option.{Option, none, some}
+use mathlib.Core.Bool.{Bool, true, _&&_}
+use mathlib.Core.List.{List, [], _∷_, map}
 use lib.ListN.{length}
 use lib.Dec.{leb, eqb}
 use borrow.Author.Tests.{leb-true, eqb-true}
-use Rattle.lists.specs.Lists.{All, Pairwise, every, all?, any?, somes, gather}
+use Rattle.lists.specs.Lists.{All, Pairwise, every, all?, any?}
 use Rattle.lists.specs.Walk.{walk}
 use Rattle.lists.specs.Sorting.{insertBy}
 use Rattle.lists.proofs.Tests.{and-to, every-to, all?-to, any?-to}
@@ -19,11 +17,9 @@ use Rattle.space.specs.Space.{Free}
 use Rattle.option.specs.Rules.{entryFields?, fields?}
 use Rattle.option.specs.Reading.{option?, subInside?, whenGood, readRequest, figuresAt, entryAt, entryFramed?, readEntry, readEntries, readInformation, readName, readBody, readSuboption, readSuboptions, readOption}
 use Rattle.option.specs.Writing.{twoBytes, fourBytes, requestBytes, entryHead, entryBytes, entriesBytes, informationHead, suboptionBytes, suboptionsBytes, optionHead, optionBytes}
-use Rattle.table.specs.declared.Lease.{Lease}
-use Rattle.table.specs.declared.LeaseTable.{LeaseTable}
 use Rattle.table.specs.Table.{latest, poolsOf, unused?, empty?, prefixesOf, present, headOk, poolOk, leaseOk, ascends?, sound, store}
 use Rattle.ledger.specs.Ledger.{emptySlots, offer, offers, addAll, askRows, ask}
-use Rattle.ledger.specs.Demand3.{Call, Accepts, wellFormed, inUse, Fate, isGranted, wantsSlot, wantsSpace, wellFormedAsks, lengthsAsked, prefixesAt, CanBeChosen, granted, AllGranted}
+use Rattle.ledger.specs.Demand3.{Accepts, wellFormed, inUse, isGranted, wantsSlot, wantsSpace, wellFormedAsks, lengthsAsked, prefixesAt, CanBeChosen, granted, AllGranted}
 use Rattle.ledger_examples.specs.Examples.{buffer, requesting}
 use Rattle.ledger_examples.specs.SampleLists.{tableWith, lease, leasesFrom, call, three, Sample, malformedBetween, endedGround, prefixZero, lastSlots, filledExactly, samples, fates, narrow, crowded}
 use Rattle.ledger.proofs.Demand3Holds.{demand3}

@@ -1,16 +1,16 @@
 -- The marked examples P1 to P12 of document 01's shift log, as rows of one list: what the definitions give, and what the log says.
 -- Assumes nothing: these are definitions.
 use Prim.Native.Nat.{ℕ}
-use mathlib.Core.Bool.{Bool, true, false}
+use mathlib.Core.Bool.{false}
 use mathlib.Core.List.{List, [], _∷_}
 use lib.ListN.{replicate}
 use lib.ListN.{take as upTo}
-use Rattle.option.specs.Values.{Entry, SuboptionValue, request, information, Outcome, refused, accepted}
+use Rattle.option.specs.Values.{Entry, request, information, Outcome, refused, accepted}
 use Rattle.option.specs.Reading.{readOption}
 use Rattle.option.specs.Writing.{optionBytes}
 use Rattle.option.specs.Selection as selection
 use Rattle.table.specs.declared.LeaseTable.{LeaseTable}
-use Rattle.ledger.specs.Ledger.{Answer, Result, Update, read118, openTable, ask, take, list, release, mark}
+use Rattle.ledger.specs.Ledger.{Result, Update, read118, openTable, ask, take, list, release, mark}
 use Rattle.ledger.specs.Histories.{Event, asked, taken, wasListed, returned, marked, saved, next}
 
 -- A table opened at 1000 with these pools, term 3600 and default length 28.

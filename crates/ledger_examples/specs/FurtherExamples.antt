@@ -2,14 +2,14 @@
 -- the order of the rows.
 -- Assumes nothing: these are definitions.
 use Prim.Native.Nat.{ℕ, zero, suc, _+_, _*_}
-use mathlib.Core.Bool.{Bool, true, false}
+use mathlib.Core.Bool.{true, false}
 use mathlib.Core.List.{List, [], _∷_, _++_}
 use lib.ListN.{getD, replicate}
 use Rattle.option.specs.Values.{Entry, request, information}
 use Rattle.option.specs.Writing.{optionBytes}
 use Rattle.table.specs.declared.Lease.{Lease}
 use Rattle.table.specs.declared.LeaseTable.{LeaseTable}
-use Rattle.ledger.specs.Ledger.{Answer, Result, Update, ask, take, list, release, mark}
+use Rattle.ledger.specs.Ledger.{Answer, Result, ask, take, list, release, mark}
 use Rattle.ledger_examples.specs.Examples.{newTable, buffer, entry}
 use Rattle.ledger_examples.specs.SampleLists.{tableWith, leasesFrom}
 

@@ -1,17 +1,14 @@
 -- Servers of ask calls that are wrong: document 01's "Try these against it", and two more. Demand 3 is refuted of each. (Of an invented count demand 3
 -- says nothing: the equation of the code with the ledger rules it out.)
 -- Assumes nothing: these are definitions.
-use Prim.Native.Nat.{ℕ}
-use mathlib.Core.List.{List, [], _∷_, _++_, map}
-use mathlib.Core.Option.{Option, some}
+use mathlib.Core.List.{[], _++_, map}
+use mathlib.Core.Option.{some}
 use lib.ListN.{length}
 use lib.ListN.{take as upTo}
 use Rattle.lists.specs.Lists.{somes}
 use Rattle.option.specs.Writing.{optionBytes}
-use Rattle.table.specs.declared.Lease.{Lease}
-use Rattle.table.specs.declared.LeaseTable.{LeaseTable}
 use Rattle.table.specs.Table.{present, store}
-use Rattle.ledger.specs.Ledger.{Answer, Result, refuse, accept, requestsIn, offer, offers, addAll, informationFor, ask}
+use Rattle.ledger.specs.Ledger.{refuse, accept, requestsIn, offer, offers, addAll, informationFor, ask}
 use Rattle.ledger.specs.Demand3.{Server}
 
 -- "a desk that refuses everything"

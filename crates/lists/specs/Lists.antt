@@ -1,6 +1,5 @@
 -- What holds of all elements of a list, of some, of each two; tests of these; those elements that pass a test.
 -- Assumes nothing: these are definitions.
-use Prim.Native.Nat.{ℕ}
 use mathlib.Core.Bool.{Bool, true, false, cond, _&&_, _||_}
 use mathlib.Core.Logic.{_⊎_}
 use mathlib.Core.List.{List, [], _∷_, _++_}

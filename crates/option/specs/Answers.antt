@@ -1,13 +1,12 @@
 -- The code's answers, from what the definitions of Reading say, and document 01's number and place for each.
 -- Assumes nothing: these are definitions.
 use Prim.Native.Nat.{ℕ, _+_}
-use mathlib.Core.List.{List}
-use mathlib.Core.Bool.{Bool, true, false, cond}
-use lib.ListN.{length, getD}
+use mathlib.Core.Bool.{cond}
+use lib.ListN.{length}
 use lib.Dec.{eqb}
 use Rattle.lists.specs.Walk.{Turn, more, stop}
 pub use Rattle.entries.specs.Entries.{figuresOf, fieldsOf, entriesFrom, entryStepOf}
-use Rattle.option.specs.Values.{Entry, SuboptionValue, request, information, name, unknown, Outcome, refused, accepted}
+use Rattle.option.specs.Values.{SuboptionValue, request, information, name, unknown, Outcome, refused, accepted}
 use Rattle.option.specs.Reading.{End, whole, badAt}
 use Rattle.option.specs.Selection as selection
 use Rattle.option.specs.declared.Selection.{Selection}

@@ -1,14 +1,14 @@
 -- How prefixes lie to one another: inside, apart, in a half; and which networks are aligned. Each over every length.
 -- Assumes nothing.
-use Prim.Native.Nat.{ℕ, zero, suc, _+_, _-_, _*_, _^_, _%_, _/_, _≤_, _<_, _∣_}
-use mathlib.Core.Path.{_≡_, refl, sym, ap, subst, _∙_}
-use mathlib.Core.Logic.{_⊎_, inl, inr, ⊎-elim}
+use Prim.Native.Nat.{ℕ, _+_, _-_, _*_, _^_, _%_, _/_, _≤_, _<_, _∣_}
+use mathlib.Core.Path.{_≡_, ap, subst}
+use mathlib.Core.Logic.{_⊎_, inl, inr}
 use mathlib.Core.List.{List}
-use native.Mathlib.Nat.{le-refl, le-dest, pow-suc, dvd-of-mod-eq-zero, mod-eq-zero-of-dvd, dvd-trans, dvd-mul-right, dvd-add, dvd-refl, div-add-mod', lt-of-mul-lt-mul-right, mul-le-mul-right}
+use native.Mathlib.Nat.{le-refl, le-dest, dvd-of-mod-eq-zero, mod-eq-zero-of-dvd, dvd-trans, dvd-mul-right, dvd-add, div-add-mod', lt-of-mul-lt-mul-right, mul-le-mul-right}
 use native.Mathlib.Decide.{decLt, decLe}
 use native.Mathlib.Omega.{arith}
-use lib.Pow.{pow-pos, pow-mono, pow-lt, pow-add}
-use Rattle.lists.specs.Lists.{All, Any}
+use lib.Pow.{pow-lt, pow-add}
+use Rattle.lists.specs.Lists.{All}
 use Rattle.lists.proofs.ListLaws.{all-map}
 use Rattle.prefix.specs.declared.Prefix.{Prefix}
 use Rattle.prefix.specs.Prefixes.{size, prefix, end, Aligned, Inside, Apart, lower, upper}

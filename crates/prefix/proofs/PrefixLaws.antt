@@ -1,18 +1,18 @@
 -- Laws of prefixes, each over every length: what the tests decide, and that they speak of addresses.
 -- Assumes nothing.
-use Prim.Native.Nat.{ℕ, zero, suc, _+_, _-_, _*_, _^_, _%_, _≤_, _<_}
-use mathlib.Core.Path.{_≡_, refl, sym, ap, subst, _∙_}
+use Prim.Native.Nat.{ℕ, suc, _+_, _-_, _^_, _≤_, _<_}
+use mathlib.Core.Path.{_≡_, refl, ap, _∙_}
 use mathlib.Core.Logic.{_⊎_, _↔_, inl, inr, ⊎-elim}
-use mathlib.Core.Bool.{Bool, true, false, _&&_, _||_}
+use mathlib.Core.Bool.{true, false}
 use native.Mathlib.Nat.{le-refl, pow-suc}
 use native.Mathlib.Decide.{decLe}
 use native.Mathlib.Omega.{arith}
-use lib.Dec.{leb, eqb}
+use lib.Dec.{leb}
 use lib.Pow.{pow-pos, pow-mono}
 use borrow.Author.Tests.{leb-true, le-leb, eqb-true, eq-eqb}
 use Rattle.lists.proofs.Tests.{and-to, and-of, or-to, or-left, or-right, not-true⇒false}
 use Rattle.prefix.specs.declared.Prefix.{Prefix}
-use Rattle.prefix.specs.Prefixes.{size, prefix, end, Aligned, aligned?, Inside, inside?, Apart, apart?, lower, upper, In}
+use Rattle.prefix.specs.Prefixes.{size, end, Aligned, aligned?, Inside, inside?, Apart, apart?, lower, upper, In}
 
 pub size-positive : (l : ℕ) → 0 < size l
 size-positive l = pow-pos (32 - l)

@@ -1,7 +1,7 @@
 -- `gaps::fit` meets its contract. The loop's invariant: the best fit in the rest is the best fit in all. The measure is the number of gaps left.
 -- Assumes nothing.
 use Prim.Native.Nat.{ℕ, _+_, _-_, _<_}
-use mathlib.Core.Path.{_≡_, ap, sym, subst, _∙_}
+use mathlib.Core.Path.{ap, sym, subst, _∙_}
 use mathlib.Core.Logic.{⊎-elim}
 use mathlib.Core.Bool.{false≢true}
 use native.Mathlib.Omega.{arith}

@@ -1,10 +1,9 @@
 -- `gaps::move_down` meets its contract. The loop's invariant: the elements between `index` and k stand one place down, with the one at k kept in its
 -- place too. The measure is what is left up to n.
 -- Assumes nothing.
-use Prim.Native.Nat.{ℕ, _+_, _-_, _≤_, _<_}
+use Prim.Native.Nat.{_+_, _-_, _≤_}
 use native.Mathlib.Nat.{le-refl}
 use native.Mathlib.Omega.{arith}
-use lib.ListN.{length}
 use borrow.Author.Needs.{needs}
 use Rattle.gaps.proofs.MoveLaws.{Down, down-none, down-more, down-done}
 use Rattle.gaps.proofs.move_down.Statement.{statement}

@@ -1,10 +1,9 @@
 -- `gaps::move_up` meets its contract. The loop's invariant: the elements from k on stand one place up, with the one at k kept in its place too.
 -- The measure is k.
 -- Assumes nothing.
-use Prim.Native.Nat.{ℕ, _+_, _-_, _≤_, _<_}
+use Prim.Native.Nat.{_-_, _≤_}
 use native.Mathlib.Nat.{le-refl}
 use native.Mathlib.Omega.{arith}
-use lib.ListN.{length}
 use borrow.Author.Needs.{needs}
 use Rattle.gaps.proofs.MoveLaws.{Up, up-none, up-more, up-done}
 use Rattle.gaps.proofs.move_up.Statement.{statement}

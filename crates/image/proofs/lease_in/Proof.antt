@@ -1,11 +1,7 @@
 -- `image::lease_in` meets its contract.
 -- Assumes nothing.
-use Prim.Native.Nat.{ℕ, _/_, _%_}
-use mathlib.Core.Path.{_≡_, refl, ap, ap₂, _∙_}
-use mathlib.Core.Bool.{Bool}
-use lib.ListN.{getD}
-use lib.Dec.{eqb}
-use Rattle.table.specs.declared.Lease.{Lease}
+use Prim.Native.Nat.{ℕ}
+use mathlib.Core.Path.{ap, ap₂, _∙_}
 use Rattle.image.specs.Fields.{number32}
 use Rattle.image.proofs.ImageLaws.{leaseRaw}
 use borrow.Author.Needs.{needs}

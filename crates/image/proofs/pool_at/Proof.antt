@@ -1,17 +1,14 @@
 -- `image::pool_at` meets its contract: each answer is that of the first test that fails.
 -- Assumes nothing.
-use Prim.Native.Nat.{ℕ, _/_, _%_}
-use mathlib.Core.Path.{_≡_, refl, sym, ap, ap₂, _∙_}
-use mathlib.Core.Bool.{Bool, true, false, not}
+use Prim.Native.Nat.{ℕ}
+use mathlib.Core.Path.{_≡_, sym, ap, _∙_}
+use mathlib.Core.Bool.{true, false}
 use lib.ListN.{length, getD}
-use lib.Dec.{eqb}
 use borrow.Author.Tests.{le-leb, lt-leb, eq-eqb, ne-eqb}
 use Rattle.lists.specs.Lists.{every}
-use Rattle.lists.proofs.Tests.{not-of, not-to}
-use Rattle.table.specs.declared.Pool.{Pool}
 use Rattle.table.specs.Table.{unused?}
 use Rattle.image.specs.declared.PoolRead.{PoolRead}
-use Rattle.image.specs.Fields.{number16, number32}
+use Rattle.image.specs.Fields.{number16}
 use Rattle.image.specs.Image.{poolIn, poolTests}
 use Rattle.image.proofs.ImageLaws.{pool-other, pool-found, poolRaw}
 use borrow.Author.Needs.{needs}

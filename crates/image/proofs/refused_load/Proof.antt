@@ -1,12 +1,11 @@
 -- `image::refused_load` meets its contract.
 -- Assumes nothing.
-use mathlib.Core.Path.{_≡_, ap₂}
+use mathlib.Core.Path.{ap₂}
 use mathlib.Core.List.{List}
 use lib.ListN.{replicate}
 use Rattle.table.specs.declared.Pool.{Pool}
 use Rattle.table.specs.declared.Lease.{Lease}
 use Rattle.table.specs.Table.{poolSlots}
-use Rattle.image.specs.declared.Loaded.{Loaded}
 use Rattle.image.specs.declared.LoadAnswer.the-variants.{Unsound}
 use borrow.Author.Needs.{needs}
 use Rattle.image.proofs.refused_load.Statement.{statement}

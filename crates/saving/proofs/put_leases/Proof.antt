@@ -1,12 +1,11 @@
 -- `saving::put_leases` meets its contract: the first i records stand one after another.
 -- Assumes nothing.
-use Prim.Native.Nat.{ℕ, _+_, _-_, _*_, _≤_, _<_}
+use Prim.Native.Nat.{ℕ, _-_, _≤_}
 use mathlib.Core.Path.{_≡_, refl, ap, _∙_}
 use lib.ListN.{length, take}
 use Rattle.lists.specs.Lists.{gather}
 use Rattle.lists.specs.Put.{put}
-use Rattle.lists.proofs.PutLaws.{put-nothing}
-use Rattle.table.specs.Table.{leaseSlots, noLease}
+use Rattle.table.specs.Table.{noLease}
 use Rattle.image.specs.Image.{leaseRecord}
 use Rattle.image.proofs.ImageLaws.{length-lease}
 use Rattle.image.proofs.WriteLaws.{more-put}

@@ -1,12 +1,11 @@
 -- `saving::put_pools` meets its contract: the first i records stand one after another.
 -- Assumes nothing.
-use Prim.Native.Nat.{ℕ, _+_, _-_, _*_, _≤_, _<_}
+use Prim.Native.Nat.{ℕ, _-_, _≤_}
 use mathlib.Core.Path.{_≡_, refl, ap, _∙_}
 use lib.ListN.{length, take}
 use Rattle.lists.specs.Lists.{gather}
 use Rattle.lists.specs.Put.{put}
-use Rattle.lists.proofs.PutLaws.{put-nothing}
-use Rattle.table.specs.Table.{poolSlots, noPool}
+use Rattle.table.specs.Table.{noPool}
 use Rattle.image.specs.Image.{poolRecord}
 use Rattle.image.proofs.ImageLaws.{length-pool}
 use Rattle.image.proofs.WriteLaws.{more-put}

@@ -1,16 +1,12 @@
 -- `saving::save` meets its contract: head, pools and leases are put one after another.
 -- Assumes nothing.
-use Prim.Native.Nat.{ℕ, _+_, _*_, _≤_}
-use mathlib.Core.Path.{_≡_, refl, sym, ap, ap₂, _∙_}
+use Prim.Native.Nat.{ℕ}
+use mathlib.Core.Path.{_≡_, sym, ap₂, _∙_}
 use mathlib.Core.Bool.{true}
 use mathlib.Core.List.{List}
-use lib.ListN.{length}
 use borrow.Author.Tests.{not-true, not-false}
-use Rattle.lists.specs.Put.{put}
 use Rattle.table.specs.Table.{sound}
-use Rattle.image.specs.declared.SaveAnswer.{SaveAnswer}
 use Rattle.image.specs.declared.SaveAnswer.the-variants.{Written}
-use Rattle.image.specs.Image.{imageOf}
 use Rattle.image.proofs.WriteLaws.{saved-unsound, saved-small, saved-written, pools-few, image-size, image-put}
 use borrow.Author.Needs.{needs}
 use native.Mathlib.Omega.{arith}

@@ -1,6 +1,6 @@
 -- `show::octets` meets its contract: the first i octets stand where they belong.
 -- Assumes nothing.
-use Prim.Native.Nat.{ℕ, _-_, _≤_, _/_, _%_}
+use Prim.Native.Nat.{ℕ, _-_, _≤_}
 use mathlib.Core.Path.{_≡_, refl, ap, ap₂, _∙_}
 use mathlib.Core.List.{List, [], _∷_}
 use native.Mathlib.Omega.{arith}

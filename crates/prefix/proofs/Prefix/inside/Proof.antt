@@ -1,7 +1,5 @@
 -- `Prefix::inside` meets its contract.
 -- Assumes nothing.
-use Prim.Native.Nat.{ℕ}
-use mathlib.Core.Path.{_≡_, sym}
 use borrow.Author.Needs.{needs}
 use borrow.Author.Tests.{le-leb, lt-leb}
 use Rattle.prefix.proofs.Prefix.inside.Statement.{statement}

@@ -1,7 +1,7 @@
 -- `Prefix::upper` meets its contract: the upper half of a prefix in the address space starts in it.
 -- Assumes nothing.
 use Prim.Native.Nat.{ℕ, _+_}
-use mathlib.Core.Path.{_≡_, ap}
+use mathlib.Core.Path.{ap}
 use native.Mathlib.Omega.{arith}
 use borrow.Author.Needs.{needs}
 use Rattle.prefix.specs.declared.Prefix.{Prefix}
