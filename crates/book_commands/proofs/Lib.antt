@@ -1,1 +1,2 @@
 mod LoadLaws
+mod OpenLaws

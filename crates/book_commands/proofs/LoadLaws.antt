@@ -1,19 +1,24 @@
--- What loads: its answer, and that every buffer of a book holds it.
+-- What loads: its answer, that every buffer of a book holds it, and what a load comes to.
 -- Assumes nothing.
 use Prim.Native.Nat.{ℕ, _≤_, _<_}
-use mathlib.Core.Path.{_≡_, refl, sym, ap}
-use mathlib.Core.Bool.{true, false}
+use mathlib.Core.Path.{_≡_, refl, sym, ap, ap₂, _∙_}
+use mathlib.Core.Bool.{Bool, true, false, cond}
 use mathlib.Core.Option.{Option, none, some}
 use mathlib.Core.List.{List}
 use native.Mathlib.Omega.{arith}
 use lib.ListN.{length}
 use Rattle.lists.specs.Lists.{All}
+use Rattle.lists.specs.Put.{put}
+use Rattle.ledger.specs.Ledger.{refusal, acceptance}
 use Rattle.table.specs.declared.LeaseTable.{LeaseTable}
 use Rattle.image.specs.declared.LoadAnswer.the-variants.{Accepted, Unsound}
 use Rattle.image.specs.Image.{loadImage, loadedOf}
 use Rattle.image.proofs.ImageLaws.{loads⇔image, longest-image}
-use Rattle.image_calls.specs.ImageCalls.{fullImage}
-use Rattle.book_commands.specs.Load.{some?, loads?}
+use Rattle.image_calls.specs.declared.ImageAnswer.{ImageAnswer}
+use Rattle.image_calls.specs.ImageCalls.{fullImage, answerWith}
+use Rattle.session.specs.declared.Outcome.{Outcome}
+use Rattle.session.specs.declared.Outcome.the-variants.{Done}
+use Rattle.book_commands.specs.Load.{some?, loads?, loadInto}
 
 pub accepted-some : (o : Option LeaseTable) → loadedOf o .answer ≡ Accepted → true ≡ some? o
 accepted-some none e = cc e
@@ -29,3 +34,12 @@ image-fits s bytes = at (loadImage s) refl
     at : (o : Option LeaseTable) → loadImage s ≡ o → some? o ≡ true → length s ≤ fullImage
     at none e h = let z : _≡_ {A = ℕ} 0 1 = cc h in omega arith
     at (some t) e h = let p = loads⇔image s t bytes .0 e in omega (arith, longest-image t (p .0), ap length (p .1))
+
+-- What a load comes to, by whether the bytes load.
+pub load-refused : (image book : List ℕ) (r : ImageAnswer) → loads? image ≡ false → r ≡ answerWith (refusal 5 0) 0 → _≡_ {A = Outcome × List ℕ} (Done r, book) (loadInto image book)
+load-refused image book r h e = ap (λ (a : ImageAnswer). (Done a, book)) e ∙ ap (λ (b : Bool). cond b (Done (answerWith (acceptance 0 0) (length image)), put book 0 image) (Done (answerWith (refusal 5 0) 0), book)) (sym h)
+
+pub load-accepted : (image book after : List ℕ) (r : ImageAnswer) → loads? image ≡ true → r ≡ answerWith (acceptance 0 0) (length image) → after ≡ put book 0 image → _≡_ {A = Outcome × List ℕ} (Done r, after) (loadInto image book)
+load-accepted image book after r h e bytes =
+    ap₂ (λ (a : ImageAnswer) (l : List ℕ). (Done a, l)) e bytes
+    ∙ ap (λ (b : Bool). cond b (Done (answerWith (acceptance 0 0) (length image)), put book 0 image) (Done (answerWith (refusal 5 0) 0), book)) (sym h)

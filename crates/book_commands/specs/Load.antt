@@ -4,9 +4,14 @@ use Prim.Native.Nat.{ℕ}
 use mathlib.Core.Bool.{Bool, true, false, cond}
 use mathlib.Core.Option.{Option, none, some}
 use mathlib.Core.List.{List}
+use lib.ListN.{length}
 use Rattle.lists.specs.Put.{put}
 use Rattle.table.specs.declared.LeaseTable.{LeaseTable}
 use Rattle.image.specs.Image.{loadImage}
+use Rattle.ledger.specs.Ledger.{refusal, acceptance}
+use Rattle.image_calls.specs.ImageCalls.{answerWith}
+use Rattle.session.specs.declared.Outcome.{Outcome}
+use Rattle.session.specs.declared.Outcome.the-variants.{Done}
 
 -- Whether bytes are the image of a sound table.
 abbrev pub some? : Option LeaseTable → Bool
@@ -16,6 +21,6 @@ some? (some t) = true
 abbrev pub loads? : List ℕ → Bool
 loads? image = some? (loadImage image)
 
--- Whether bytes load, and the book's buffer afterwards: "on acceptance this is the book"; otherwise the old one stays.
-abbrev pub loadInto : List ℕ → List ℕ → Bool × List ℕ
-loadInto image book = cond (loads? image) (true, put book 0 image) (false, book)
+-- What a load comes to, and the book's buffer afterwards: "on acceptance this is the book"; otherwise the old one stays.
+abbrev pub loadInto : List ℕ → List ℕ → Outcome × List ℕ
+loadInto image book = cond (loads? image) (Done (answerWith (acceptance 0 0) (length image)), put book 0 image) (Done (answerWith (refusal 5 0) 0), book)

@@ -1,129 +1,41 @@
-// The commands that are calls on the book: ask, take, list, return and mark. Each takes the words after its own, and checks all of them before the call.
+// The commands that are calls on the book: ask, take, list, return and mark.
 use script::CallCommand;
-use session::State;
-ghost use Prim.Native.Nat.{_≤_};
-ghost use lib.ListN.{length};
-ghost use Rattle.session.specs.Room.{Room};
+use script::Line;
+use session::Outcome;
+ghost use mathlib.Core.Path.{_≡_};
+ghost use Rattle.session.specs.Books.{Kept};
+ghost use Rattle.call_commands.specs.Calls.{callOf};
 
-fn ask(s: State, words: &mut [u8], book: &mut [u8], reply: &mut [u8], out: &mut [u8]) -> State
-    requires { ⌜ Room (s .at) (now out) ⌝ }
-    requires { ⌜ length (now reply) ≤ 1024 ⌝ }
-    ensures { λ r. ⌜ r .at ≤ length (now (out .entry)) ⌝ }
-{
-    let c = script::read_call(words);
-    if !c.good {
-        return session::bad_line(s, out);
-    }
-    let start = c.start;
-    let end = c.end;
-    let room = session::least(s.room, reply.len());
-    let a = ask_image::ask(
-        book,
-        s.bytes,
-        c.client,
-        c.time,
-        &words[start..end],
-        &mut reply[0..room],
-    );
-    session::replied(s, a, reply, out)
-}
-
-fn take(s: State, words: &mut [u8], book: &mut [u8], reply: &mut [u8], out: &mut [u8]) -> State
-    requires { ⌜ Room (s .at) (now out) ⌝ }
-    requires { ⌜ length (now reply) ≤ 1024 ⌝ }
-    ensures { λ r. ⌜ r .at ≤ length (now (out .entry)) ⌝ }
-{
-    let c = script::read_call(words);
-    if !c.good {
-        return session::bad_line(s, out);
-    }
-    let start = c.start;
-    let end = c.end;
-    let room = session::least(s.room, reply.len());
-    let a = take_image::take(
-        book,
-        s.bytes,
-        c.client,
-        c.time,
-        &words[start..end],
-        &mut reply[0..room],
-    );
-    session::replied(s, a, reply, out)
-}
-
-fn list(s: State, words: &mut [u8], book: &[u8], reply: &mut [u8], out: &mut [u8]) -> State
-    requires { ⌜ Room (s .at) (now out) ⌝ }
-    requires { ⌜ length (now reply) ≤ 1024 ⌝ }
-    ensures { λ r. ⌜ r .at ≤ length (now (out .entry)) ⌝ }
-{
-    let c = script::read_call(words);
-    if !c.good {
-        return session::bad_line(s, out);
-    }
-    let start = c.start;
-    let end = c.end;
-    let room = session::least(s.room, reply.len());
-    let a = list_image::list(
-        book,
-        s.bytes,
-        c.client,
-        c.time,
-        &words[start..end],
-        &mut reply[0..room],
-    );
-    session::replied(s, a, reply, out)
-}
-
-fn release(s: State, words: &mut [u8], book: &mut [u8], out: &mut [u8]) -> State
-    requires { ⌜ Room (s .at) (now out) ⌝ }
-    ensures { λ r. ⌜ r .at ≤ length (now (out .entry)) ⌝ }
-{
-    let c = script::read_call(words);
-    if !c.good {
-        return session::bad_line(s, out);
-    }
-    let start = c.start;
-    let end = c.end;
-    let a = release_image::release(book, s.bytes, c.client, c.time, &words[start..end]);
-    session::released(s, a, out)
-}
-
-fn mark(s: State, words: &[u8], book: &mut [u8], out: &mut [u8]) -> State
-    requires { ⌜ Room (s .at) (now out) ⌝ }
-    ensures { λ r. ⌜ r .at ≤ length (now (out .entry)) ⌝ }
-{
-    let m = script::read_mark(words);
-    if !m.good {
-        return session::bad_line(s, out);
-    }
-    let a = mark_image::mark(
-        book,
-        s.bytes,
-        m.network,
-        m.length as u32,
-        m.d as u32,
-        m.time,
-    );
-    session::done(s, a, out)
-}
-
+// Makes the call that a command names, with the numbers of its line, the octets of an option, and the book at the front of its buffer. A refused call leaves the
+// book's bytes.
 pub fn run(
-    s: State,
     command: CallCommand,
-    words: &mut [u8],
+    line: Line,
+    option: &[u8],
     book: &mut [u8],
+    bytes: usize,
     reply: &mut [u8],
-    out: &mut [u8],
-) -> State
-    requires { ⌜ Room (s .at) (now out) ⌝ }
-    requires { ⌜ length (now reply) ≤ 1024 ⌝ }
-    ensures { λ r. ⌜ r .at ≤ length (now (out .entry)) ⌝ }
+) -> Outcome
+    ensures { λ r. ⌜ (r, now (book .exit), now (reply .exit)) ≡ callOf command line (now (option .entry)) (now (book .entry)) bytes (now (reply .entry)) ⌝ }
+    ensures { λ r. ⌜ Kept r (now (book .entry)) (now (book .exit)) ⌝ }
 {
+    let first = line.first;
+    let second = line.second;
     match command {
-        CallCommand::Ask => ask(s, words, book, reply, out),
-        CallCommand::Take => take(s, words, book, reply, out),
-        CallCommand::List => list(s, words, book, reply, out),
-        CallCommand::Return => release(s, words, book, out),
-        CallCommand::Mark => mark(s, words, book, out),
+        CallCommand::Ask => {
+            Outcome::Replied(ask_image::ask(book, bytes, first, second, option, reply))
+        }
+        CallCommand::Take => {
+            Outcome::Replied(take_image::take(book, bytes, first, second, option, reply))
+        }
+        CallCommand::List => {
+            Outcome::Replied(list_image::list(book, bytes, first, second, option, reply))
+        }
+        CallCommand::Return => {
+            Outcome::Counted(release_image::release(book, bytes, first, second, option))
+        }
+        CallCommand::Mark => {
+            Outcome::Done(mark_image::mark(book, bytes, second, line.third, line.fourth, first))
+        }
     }
 }
