@@ -4,30 +4,15 @@ use image_calls::FULL_IMAGE;
 use line_input::Reader;
 use script::Command;
 use script::Line;
-use session::Outcome;
 use session::State;
 ghost use mathlib.Core.Path.{_≡_};
 ghost use Prim.Native.Nat.{_≤_, _<_};
 ghost use lib.ListN.{length};
-ghost use Rattle.session.specs.Room.{Room, Whole, Holds};
-ghost use Rattle.session.specs.Books.{Kept};
+ghost use Rattle.session.specs.Room.{Room, Whole};
+ghost use Rattle.commands.specs.Load.{Holds};
 
 // The longest reply buffer.
 const REPLY: usize = 1024;
-
-// What the commands that may change the book come to. A refused one leaves the book's bytes.
-fn change(line: Line, words: &[u8], book: &mut [u8], bytes: usize, reply: &mut [u8]) -> Outcome
-    requires { ⌜ Holds (now book) ⌝ }
-    ensures { λ r. ⌜ Kept r (now (book .entry)) (now (book .exit)) ⌝ }
-{
-    let command = line.command;
-    match command {
-        Command::Call(c) => call_commands::run(c, line, words, book, bytes, reply),
-        Command::Open => book_commands::open(line, words, book),
-        Command::Load => book_commands::load(words, book),
-        Command::Show(_) => Outcome::Bad,
-    }
-}
 
 // Runs a command, and tells what it came to.
 fn run(
@@ -45,10 +30,10 @@ fn run(
 {
     let command = line.command;
     if let Command::Show(c) = command {
-        return book_commands::show(s, c, line, words, book, out);
+        return commands::show(s, c, line, words, book, out);
     }
     let room = session::least(s.room, reply.len());
-    let o = change(line, words, book, s.bytes, &mut reply[0..room]);
+    let o = commands::change(line, words, book, s.bytes, &mut reply[0..room]);
     session::tell(s, o, reply, out)
 }
 

@@ -3,12 +3,12 @@
 use Prim.Native.Nat.{ℕ}
 use mathlib.Core.Path.{_≡_, refl}
 use borrow.Author.Tests.{ne-eqb}
-use Rattle.image_calls.specs.declared.ImageAnswer.{ImageAnswer}
+use Rattle.session.specs.declared.CallAnswer.{CallAnswer}
 use Rattle.session.specs.declared.Outcome.{Outcome}
 use Rattle.session.specs.declared.Outcome.the-variants.{Bad, Done, Counted, Replied}
 use Rattle.session.specs.Books.{bookOf, bookAfter, Refused}
 
-refused-of : (a : ImageAnswer) (old : ℕ) → (a .number ≡ 0 → ⊥) → bookOf a old ≡ old
+refused-of : (a : CallAnswer) (old : ℕ) → (a .number ≡ 0 → ⊥) → bookOf a old ≡ old
 refused-of a old k = rw (ne-eqb (a .number) 0 k) refl
 
 pub refused-keeps : (o : Outcome) (old : ℕ) → Refused o → bookAfter o old ≡ old

@@ -5,7 +5,7 @@ use mathlib.Core.Path.{_≡_}
 use mathlib.Core.Bool.{cond}
 use mathlib.Core.List.{List}
 use lib.Dec.{eqb}
-use Rattle.image_calls.specs.declared.ImageAnswer.{ImageAnswer}
+use Rattle.session.specs.declared.CallAnswer.{CallAnswer}
 use Rattle.session.specs.declared.State.{State}
 use Rattle.session.specs.declared.Outcome.{Outcome}
 use Rattle.session.specs.declared.Outcome.the-variants.{Bad, Done, Counted, Replied}
@@ -19,8 +19,8 @@ abbrev pub Same : State → State → Type 0
 Same s r = With (s .bytes) s r
 
 -- The length of the book after a call: "on acceptance this is the book"; otherwise the old one stays.
-abbrev pub bookOf : ImageAnswer → ℕ → ℕ
-bookOf a old = cond (eqb (a .number) 0) (a .«image_bytes») old
+abbrev pub bookOf : CallAnswer → ℕ → ℕ
+bookOf a old = cond (eqb (a .number) 0) (a .book) old
 
 -- The same after a command.
 abbrev pub bookAfter : Outcome → ℕ → ℕ

@@ -1,5 +1,4 @@
 // What goes from line to line of a script, the answers of calls as lines of the output, and the output written out.
-use image_calls::ImageAnswer;
 ghost use mathlib.Core.Path.{_≡_};
 ghost use Prim.Native.Nat.{_+_, _*_, _≤_};
 ghost use lib.ListN.{length};
@@ -25,12 +24,21 @@ pub struct State {
     pub failed: bool,
 }
 
+// What a call answers: the number of its refusal or 0, and the values that document 01 gives it; the length of the book after an accepted one.
+pub struct CallAnswer {
+    pub number: u32,
+    pub place: u32,
+    pub bytes: u32,
+    pub count: u32,
+    pub book: u32,
+}
+
 // What a command comes to: a line that is no command, or a call's answer and which of its values are told where it is accepted. "On acceptance this is the book."
 pub enum Outcome {
     Bad,
-    Done(ImageAnswer),
-    Counted(ImageAnswer),
-    Replied(ImageAnswer),
+    Done(CallAnswer),
+    Counted(CallAnswer),
+    Replied(CallAnswer),
 }
 
 // At first the book is no bytes, which are no image.
@@ -97,7 +105,7 @@ pub fn buffered(s: State, room: u32, at: usize) -> State
 
 // ANSWERS
 
-fn done_line(out: &mut [u8], at: usize, a: ImageAnswer) -> usize
+fn done_line(out: &mut [u8], at: usize, a: CallAnswer) -> usize
     requires { ⌜ at + 37 ≤ length (now out) ⌝ }
     ensures { λ r. ⌜ r ≤ at + 37 ⌝ }
 {
@@ -107,7 +115,7 @@ fn done_line(out: &mut [u8], at: usize, a: ImageAnswer) -> usize
     lines::ok(out, at)
 }
 
-fn counted_line(out: &mut [u8], at: usize, a: ImageAnswer) -> usize
+fn counted_line(out: &mut [u8], at: usize, a: CallAnswer) -> usize
     requires { ⌜ at + 37 ≤ length (now out) ⌝ }
     ensures { λ r. ⌜ r ≤ at + 37 ⌝ }
 {
@@ -117,7 +125,7 @@ fn counted_line(out: &mut [u8], at: usize, a: ImageAnswer) -> usize
     lines::count(out, at, a.count)
 }
 
-fn replied_line(out: &mut [u8], at: usize, a: ImageAnswer, reply: &[u8]) -> usize
+fn replied_line(out: &mut [u8], at: usize, a: CallAnswer, reply: &[u8]) -> usize
     requires { ⌜ at + 2 * length (now reply) + 58 ≤ length (now out) ⌝ }
     ensures { λ r. ⌜ r ≤ at + 2 * length (now (reply .entry)) + 58 ⌝ }
 {
@@ -146,18 +154,18 @@ pub fn refused(s: State, number: u32, place: u32, out: &mut [u8]) -> State
 }
 
 // The state after a call's answer: a refused one leaves the book as it was.
-fn answered(s: State, a: ImageAnswer, at: usize) -> State
+fn answered(s: State, a: CallAnswer, at: usize) -> State
     ensures { λ r. ⌜ r .at ≡ at ⌝ }
     ensures { λ r. ⌜ With (bookOf a (s .bytes)) s r ⌝ }
 {
     if a.number != 0 {
         return wrote(s, at);
     }
-    became(s, a.image_bytes as usize, at)
+    became(s, a.book as usize, at)
 }
 
 // The answer of an open or a mark.
-fn done(s: State, a: ImageAnswer, out: &mut [u8]) -> State
+fn done(s: State, a: CallAnswer, out: &mut [u8]) -> State
     requires { ⌜ Room (s .at) (now out) ⌝ }
     ensures { λ r. ⌜ r .at ≤ length (now (out .entry)) ⌝ }
     ensures { λ r. ⌜ With (bookOf a (s .bytes)) s r ⌝ }
@@ -166,7 +174,7 @@ fn done(s: State, a: ImageAnswer, out: &mut [u8]) -> State
 }
 
 // The answer of a return.
-fn counted(s: State, a: ImageAnswer, out: &mut [u8]) -> State
+fn counted(s: State, a: CallAnswer, out: &mut [u8]) -> State
     requires { ⌜ Room (s .at) (now out) ⌝ }
     ensures { λ r. ⌜ r .at ≤ length (now (out .entry)) ⌝ }
     ensures { λ r. ⌜ With (bookOf a (s .bytes)) s r ⌝ }
@@ -175,7 +183,7 @@ fn counted(s: State, a: ImageAnswer, out: &mut [u8]) -> State
 }
 
 // The answer of an ask, a take or a list.
-fn replied(s: State, a: ImageAnswer, reply: &[u8], out: &mut [u8]) -> State
+fn replied(s: State, a: CallAnswer, reply: &[u8], out: &mut [u8]) -> State
     requires { ⌜ Room (s .at) (now out) ⌝ }
     requires { ⌜ length (now reply) ≤ 1024 ⌝ }
     ensures { λ r. ⌜ r .at ≤ length (now (out .entry)) ⌝ }

@@ -16,9 +16,11 @@ use Rattle.image.specs.Image.{loadImage, loadedOf}
 use Rattle.image.proofs.ImageLaws.{loads⇔image, longest-image}
 use Rattle.image_calls.specs.declared.ImageAnswer.{ImageAnswer}
 use Rattle.image_calls.specs.ImageCalls.{fullImage, answerWith}
+use Rattle.session.specs.declared.CallAnswer.{CallAnswer}
 use Rattle.session.specs.declared.Outcome.{Outcome}
+use Rattle.commands.specs.Calls.{answerTold}
 use Rattle.session.specs.declared.Outcome.the-variants.{Done}
-use Rattle.book_commands.specs.Load.{some?, loads?, loadInto}
+use Rattle.commands.specs.Load.{some?, loads?, loadInto}
 
 pub accepted-some : (o : Option LeaseTable) → loadedOf o .answer ≡ Accepted → true ≡ some? o
 accepted-some none e = cc e
@@ -36,10 +38,12 @@ image-fits s bytes = at (loadImage s) refl
     at (some t) e h = let p = loads⇔image s t bytes .0 e in omega (arith, longest-image t (p .0), ap length (p .1))
 
 -- What a load comes to, by whether the bytes load.
-pub load-refused : (image book : List ℕ) (r : ImageAnswer) → loads? image ≡ false → r ≡ answerWith (refusal 5 0) 0 → _≡_ {A = Outcome × List ℕ} (Done r, book) (loadInto image book)
-load-refused image book r h e = ap (λ (a : ImageAnswer). (Done a, book)) e ∙ ap (λ (b : Bool). cond b (Done (answerWith (acceptance 0 0) (length image)), put book 0 image) (Done (answerWith (refusal 5 0) 0), book)) (sym h)
+abbrev by : Bool → List ℕ → List ℕ → Outcome × List ℕ
+by b image book = cond b (Done (answerTold (answerWith (acceptance 0 0) (length image))), put book 0 image) (Done (answerTold (answerWith (refusal 5 0) 0)), book)
 
-pub load-accepted : (image book after : List ℕ) (r : ImageAnswer) → loads? image ≡ true → r ≡ answerWith (acceptance 0 0) (length image) → after ≡ put book 0 image → _≡_ {A = Outcome × List ℕ} (Done r, after) (loadInto image book)
-load-accepted image book after r h e bytes =
-    ap₂ (λ (a : ImageAnswer) (l : List ℕ). (Done a, l)) e bytes
-    ∙ ap (λ (b : Bool). cond b (Done (answerWith (acceptance 0 0) (length image)), put book 0 image) (Done (answerWith (refusal 5 0) 0), book)) (sym h)
+pub load-refused : (image book : List ℕ) (a : ImageAnswer) (t : CallAnswer) → loads? image ≡ false → a ≡ answerWith (refusal 5 0) 0 → t ≡ answerTold a → _≡_ {A = Outcome × List ℕ} (Done t, book) (loadInto image book)
+load-refused image book a t h e told = ap (λ (x : CallAnswer). (Done x, book)) (told ∙ ap answerTold e) ∙ ap (λ (b : Bool). by b image book) (sym h)
+
+pub load-accepted : (image book after : List ℕ) (a : ImageAnswer) (t : CallAnswer) → loads? image ≡ true → a ≡ answerWith (acceptance 0 0) (length image) → t ≡ answerTold a → after ≡ put book 0 image → _≡_ {A = Outcome × List ℕ} (Done t, after) (loadInto image book)
+load-accepted image book after a t h e told bytes =
+    ap₂ (λ (x : CallAnswer) (l : List ℕ). (Done x, l)) (told ∙ ap answerTold e) bytes ∙ ap (λ (b : Bool). by b image book) (sym h)

@@ -5,13 +5,18 @@ use mathlib.Core.List.{List}
 use Rattle.script.specs.declared.Line.{Line}
 use Rattle.script.specs.declared.CallCommand.{CallCommand}
 use Rattle.script.specs.declared.CallCommand.the-variants as command
+use Rattle.session.specs.declared.CallAnswer.{CallAnswer}
 use Rattle.session.specs.declared.Outcome.{Outcome}
 use Rattle.session.specs.declared.Outcome.the-variants.{Done, Counted, Replied}
 use Rattle.image_calls.specs.declared.ImageAnswer.{ImageAnswer}
 use Rattle.image_calls.specs.ImageCalls.{askImage, takeImage, listImage, releaseImage, markImage, withReply}
 
-abbrev pub told : (ImageAnswer → Outcome) → ImageAnswer × List ℕ × List ℕ → Outcome × List ℕ × List ℕ
-told f p = (f (p .0), p .1, p .2)
+-- A call's answer, as the script tells it.
+abbrev pub answerTold : ImageAnswer → CallAnswer
+answerTold a = record { number = a .number; place = a .place; bytes = a .bytes; count = a .count; book = a .«image_bytes» }
+
+abbrev pub told : (CallAnswer → Outcome) → ImageAnswer × List ℕ × List ℕ → Outcome × List ℕ × List ℕ
+told f p = (f (answerTold (p .0)), p .1, p .2)
 
 -- "ask STATION NOW OPTION", and so take, list and return; "mark NOW PREFIX D".
 abbrev pub callOf : CallCommand → Line → List ℕ → List ℕ → ℕ → List ℕ → Outcome × List ℕ × List ℕ

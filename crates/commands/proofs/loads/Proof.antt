@@ -1,12 +1,12 @@
--- `book_commands::loads` meets its contract.
+-- `commands::loads` meets its contract.
 -- Assumes nothing.
 use mathlib.Core.Path.{sym, ap, _∙_}
 use Rattle.image.specs.declared.Loaded.{Loaded}
 use Rattle.image.specs.Image.{loadImage}
 use borrow.Author.Needs.{needs}
-use Rattle.book_commands.proofs.LoadLaws.{accepted-some, unsound-none}
-use Rattle.book_commands.proofs.loads.Statement.{statement}
-use Rattle.book_commands.proofs.loads.Tie as tie
+use Rattle.commands.proofs.LoadLaws.{accepted-some, unsound-none}
+use Rattle.commands.proofs.loads.Statement.{statement}
+use Rattle.commands.proofs.loads.Tie as tie
 
 load-requires : tie.Need-load-requires
 load-requires c κs = search needs

@@ -1,9 +1,11 @@
--- `book_commands::open` meets its contract: a refused open changes no byte.
+-- `commands::open` meets its contract: a refused open changes no byte.
 -- Assumes nothing.
+use mathlib.Core.Path.{ap, _∙_}
 use borrow.Author.Needs.{needs}
-use Rattle.book_commands.proofs.OpenLaws.{open-keeps}
-use Rattle.book_commands.proofs.open.Statement.{statement}
-use Rattle.book_commands.proofs.open.Tie as tie
+use Rattle.session.specs.declared.CallAnswer.{CallAnswer}
+use Rattle.commands.proofs.OpenLaws.{open-keeps}
+use Rattle.commands.proofs.open.Statement.{statement}
+use Rattle.commands.proofs.open.Tie as tie
 
 slice-aggregate-read-prefixes : tie.Need-slice-aggregate-read-prefixes
 slice-aggregate-read-prefixes c = search needs
@@ -38,11 +40,14 @@ part-open-end-2 c = search needs
 open-requires : tie.Need-open-requires
 open-requires c κs = search needs
 
+told-requires : tie.Need-told-requires
+told-requires c κs = search needs
+
 same-length : tie.Need-same-length
 same-length c = search needs
 
 returns-2 : tie.Need-returns-2
-returns-2 c = λ k. open-keeps _ _ _ k _ _ _ _ _ (c .before .before .«open» .ensures)
+returns-2 c = λ k. open-keeps _ _ _ (λ z. k (ap (λ (t : CallAnswer). t .number) (c .told .ensures) ∙ z)) _ _ _ _ _ (c .before .before .before .«open» .ensures)
 
 pub open-spec : {M : Type 1} → statement M
 open-spec =
@@ -59,5 +64,6 @@ open-spec =
     part-open-start-2
     part-open-end-2
     open-requires
+    told-requires
     same-length
     returns-2)
