@@ -7,8 +7,8 @@ use Rattle.option.specs.declared.Suboption.{Suboption}
 use Rattle.option.specs.declared.Suboption.the-variants.{Request, Information, Name, Unknown}
 
 abbrev pub most : Suboption → ℕ
-most (Request r) = 44
-most (Information f) = 20 + 28 * (f .entries .end - f .entries .at)
+most (Request r) = 52
+most (Information f) = 38 + 28 * (f .entries .end - f .entries .at)
 most (Name n) = 6 + 2 * (n .end - n .start)
 most (Unknown u) = 8
 

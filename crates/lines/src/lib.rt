@@ -2,7 +2,6 @@
 use entries::EntryCursor;
 use entries::EntryFields;
 use entries::EntryStep;
-use entries::Figures;
 use option::Checked;
 use option::Cursor;
 use option::InformationFields;
@@ -36,23 +35,19 @@ pub fn error(out: &mut [u8], at: usize, line: u64) -> usize
     show::text(out, b, b"\n")
 }
 
-pub fn refused(out: &mut [u8], at: usize, number: u64) -> usize
+fn refused(out: &mut [u8], at: usize, number: u32) -> usize
     requires { ⌜ at + 29 ≤ length (now out) ⌝ }
     ensures { λ r. ⌜ r ≤ at + 29 ⌝ }
 {
-    let a = show::text(out, at, b"refused ");
-    let b = show::number(out, a, number);
-    show::text(out, b, b"\n")
+    show::fill(out, at, b"refused %\n", &[number])
 }
 
 // The refusal that has a place.
-fn refused_at(out: &mut [u8], at: usize, place: u64) -> usize
+fn refused_at(out: &mut [u8], at: usize, place: u32) -> usize
     requires { ⌜ at + 37 ≤ length (now out) ⌝ }
     ensures { λ r. ⌜ r ≤ at + 37 ⌝ }
 {
-    let a = show::text(out, at, b"refused 7 place=");
-    let b = show::number(out, a, place);
-    show::text(out, b, b"\n")
+    show::fill(out, at, b"refused 7 place=%\n", &[place])
 }
 
 // A refusal by its number, with its place if it is the one that has a place.
@@ -61,9 +56,9 @@ pub fn refusal(out: &mut [u8], at: usize, number: u32, place: u32) -> usize
     ensures { λ r. ⌜ r ≤ at + 37 ⌝ }
 {
     if number == 7 {
-        return refused_at(out, at, place as u64);
+        return refused_at(out, at, place);
     }
-    refused(out, at, number as u64)
+    refused(out, at, number)
 }
 
 fn least(a: usize, b: usize) -> usize
@@ -72,14 +67,13 @@ fn least(a: usize, b: usize) -> usize
     if a < b { a } else { b }
 }
 
-// Octets that were written to the front of a buffer, after their count.
-fn written(out: &mut [u8], at: usize, n: usize, buffer: &[u8]) -> usize
-    requires { ⌜ at + 2 * length (now buffer) + 2 ≤ length (now out) ⌝ }
-    ensures { λ r. ⌜ r ≤ at + 2 * length (now (buffer .entry)) + 2 ⌝ }
+// Octets after a word, to the end of the line.
+fn octets(out: &mut [u8], at: usize, word: &[u8], s: &[u8]) -> usize
+    requires { ⌜ at + length (now word) + 2 * length (now s) + 1 ≤ length (now out) ⌝ }
+    ensures { λ r. ⌜ r ≤ at + length (now (word .entry)) + 2 * length (now (s .entry)) + 1 ⌝ }
 {
-    let k = least(n, buffer.len());
-    let a = show::text(out, at, b" ");
-    let b = show::octets(out, a, &buffer[0..k]);
+    let a = show::text(out, at, word);
+    let b = show::octets(out, a, s);
     show::text(out, b, b"\n")
 }
 
@@ -88,11 +82,9 @@ pub fn reply(out: &mut [u8], at: usize, bytes: u32, entries: u32, reply: &[u8]) 
     requires { ⌜ at + 2 * length (now reply) + 58 ≤ length (now out) ⌝ }
     ensures { λ r. ⌜ r ≤ at + 2 * length (now (reply .entry)) + 58 ⌝ }
 {
-    let a = show::text(out, at, b"ok bytes=");
-    let b = show::number(out, a, bytes as u64);
-    let c = show::text(out, b, b" count=");
-    let d = show::number(out, c, entries as u64);
-    written(out, d, bytes as usize, reply)
+    let k = least(bytes as usize, reply.len());
+    let a = show::fill(out, at, b"ok bytes=% count=%", &[bytes, entries]);
+    octets(out, a, b" ", &reply[0..k])
 }
 
 // The answer of a return that was accepted.
@@ -100,9 +92,7 @@ pub fn count(out: &mut [u8], at: usize, n: u32) -> usize
     requires { ⌜ at + 30 ≤ length (now out) ⌝ }
     ensures { λ r. ⌜ r ≤ at + 30 ⌝ }
 {
-    let a = show::text(out, at, b"ok count=");
-    let b = show::number(out, a, n as u64);
-    show::text(out, b, b"\n")
+    show::fill(out, at, b"ok count=%\n", &[n])
 }
 
 // The answer of a save that was accepted.
@@ -112,91 +102,54 @@ pub fn image(out: &mut [u8], at: usize, image: &[u8]) -> usize
 {
     let a = show::text(out, at, b"ok bytes=");
     let b = show::number(out, a, image.len() as u64);
-    written(out, b, image.len(), image)
+    octets(out, b, b" ", image)
 }
 
 // OPTIONS
 
-// A flag, after its name.
-fn flag(out: &mut [u8], at: usize, name: &[u8], on: bool) -> usize
-    requires { ⌜ at + length (now name) + 1 ≤ length (now out) ⌝ }
-    ensures { λ r. ⌜ r ≡ at + length (now (name .entry)) + 1 ⌝ }
+// The figures that an entry has, to the end of its line.
+fn figures(out: &mut [u8], at: usize, count: usize, numbers: &[u32]) -> usize
+    requires { ⌜ (length (now numbers) ≤ 3) × (at + 33 ≤ length (now out)) ⌝ }
+    ensures { λ r. ⌜ r ≤ at + 33 ⌝ }
 {
-    let a = show::text(out, at, name);
-    if on {
-        return show::text(out, a, b"1");
+    if count == 0 {
+        return show::text(out, at, b"-\n");
     }
-    show::text(out, a, b"0")
-}
-
-// A number below 256 of an address, with its dot.
-fn part(out: &mut [u8], at: usize, n: u32) -> usize
-    requires { ⌜ at + 21 ≤ length (now out) ⌝ }
-    ensures { λ r. ⌜ r ≤ at + 21 ⌝ }
-{
-    let a = show::number(out, at, n as u64);
-    show::text(out, a, b".")
-}
-
-// An address with its dots.
-fn network(out: &mut [u8], at: usize, n: u32) -> usize
-    requires { ⌜ at + 83 ≤ length (now out) ⌝ }
-    ensures { λ r. ⌜ r ≤ at + 83 ⌝ }
-{
-    let a = part(out, at, n / 16777216);
-    let b = part(out, a, n / 65536 % 256);
-    let c = part(out, b, n / 256 % 256);
-    show::number(out, c, (n % 256) as u64)
-}
-
-fn prefix(out: &mut [u8], at: usize, n: u32, bits: u8) -> usize
-    requires { ⌜ at + 104 ≤ length (now out) ⌝ }
-    ensures { λ r. ⌜ r ≤ at + 104 ⌝ }
-{
-    let a = network(out, at, n);
-    let b = show::text(out, a, b"/");
-    show::number(out, b, bits as u64)
-}
-
-// A further figure.
-fn figure(out: &mut [u8], at: usize, n: u16) -> usize
-    requires { ⌜ at + 21 ≤ length (now out) ⌝ }
-    ensures { λ r. ⌜ r ≤ at + 21 ⌝ }
-{
-    let a = show::text(out, at, b",");
-    show::number(out, a, n as u64)
-}
-
-fn figures(out: &mut [u8], at: usize, f: Figures) -> usize
-    requires { ⌜ at + 71 ≤ length (now out) ⌝ }
-    ensures { λ r. ⌜ r ≤ at + 71 ⌝ }
-{
-    let a = show::text(out, at, b" figures=");
-    if f.count == 0 {
-        return show::text(out, a, b"-");
+    if count == 1 {
+        return show::fill(out, at, b"%\n", numbers);
     }
-    let b = show::number(out, a, f.high_water as u64);
-    if f.count == 1 {
-        return b;
+    if count == 2 {
+        return show::fill(out, at, b"%,%\n", numbers);
     }
-    let c = figure(out, b, f.in_use);
-    if f.count == 2 {
-        return c;
-    }
-    figure(out, c, f.unusable)
+    show::fill(out, at, b"%,%,%\n", numbers)
+}
+
+// An entry's line up to its figures.
+fn entry_head(out: &mut [u8], at: usize, e: EntryFields) -> usize
+    requires { ⌜ at + 95 ≤ length (now out) ⌝ }
+    ensures { λ r. ⌜ r ≤ at + 95 ⌝ }
+{
+    let n = e.network;
+    let numbers = [
+        n / 16777216,
+        n / 65536 % 256,
+        n / 256 % 256,
+        n % 256,
+        e.length as u32,
+        e.h as u32,
+        e.d as u32,
+    ];
+    show::fill(out, at, b"entry %.%.%.%/% h=% d=% figures=", &numbers)
 }
 
 fn entry(out: &mut [u8], at: usize, e: EntryFields) -> usize
     requires { ⌜ at + 190 ≤ length (now out) ⌝ }
     ensures { λ r. ⌜ r ≤ at + 190 ⌝ }
 {
-    let a = show::text(out, at, b"entry ");
-    let b = prefix(out, a, e.network, e.length);
-    let c = flag(out, b, b" h=", e.h);
-    let d = flag(out, c, b" d=", e.d);
     let f = e.figures;
-    let end = figures(out, d, f);
-    show::text(out, end, b"\n")
+    let a = entry_head(out, at, e);
+    let numbers = [f.high_water as u32, f.in_use as u32, f.unusable as u32];
+    figures(out, a, f.count, &numbers)
 }
 
 // The entries of an information. An entry takes 7 bytes or more, so that 28 for each byte hold the text.
@@ -223,25 +176,20 @@ fn entries(out: &mut [u8], at: usize, s: &[u8], first: EntryCursor) -> usize
 }
 
 fn request(out: &mut [u8], at: usize, r: RequestFields) -> usize
-    requires { ⌜ at + 44 ≤ length (now out) ⌝ }
-    ensures { λ r. ⌜ r ≤ at + 44 ⌝ }
+    requires { ⌜ at + 52 ≤ length (now out) ⌝ }
+    ensures { λ r. ⌜ r ≤ at + 52 ⌝ }
 {
-    let a = flag(out, at, b"request h=", r.h);
-    let b = flag(out, a, b" i=", r.i);
-    let c = show::text(out, b, b" prefix=");
-    let d = show::number(out, c, r.length as u64);
-    show::text(out, d, b"\n")
+    let numbers = [r.h as u32, r.i as u32, r.length as u32];
+    show::fill(out, at, b"request h=% i=% prefix=%\n", &numbers)
 }
 
 fn information(out: &mut [u8], at: usize, s: &[u8], f: InformationFields) -> usize
     requires { ⌜ at + most (Suboption.Information f) ≤ length (now out) ⌝ }
     ensures { λ r. ⌜ r ≤ at + most (Suboption.Information f) ⌝ }
 {
-    let a = flag(out, at, b"information c=", f.c);
-    let b = flag(out, a, b" s=", f.s);
-    let c = show::text(out, b, b"\n");
     let first = f.entries;
-    entries(out, c, s, first)
+    let a = show::fill(out, at, b"information c=% s=%\n", &[f.c as u32, f.s as u32]);
+    entries(out, a, s, first)
 }
 
 fn name(out: &mut [u8], at: usize, s: &[u8], n: NameFields) -> usize
@@ -251,9 +199,7 @@ fn name(out: &mut [u8], at: usize, s: &[u8], n: NameFields) -> usize
 {
     let start = n.start;
     let end = n.end;
-    let a = show::text(out, at, b"name ");
-    let b = show::octets(out, a, &s[start..end]);
-    show::text(out, b, b"\n")
+    octets(out, at, b"name ", &s[start..end])
 }
 
 fn suboption(out: &mut [u8], at: usize, s: &[u8], x: Suboption) -> usize
@@ -293,7 +239,7 @@ fn suboptions(out: &mut [u8], at: usize, s: &[u8]) -> usize
 }
 
 // What the reader of option 220 finds. No option is longer than 257 bytes.
-pub fn option(out: &mut [u8], at: usize, s: &[u8]) -> usize
+fn option(out: &mut [u8], at: usize, s: &[u8]) -> usize
     requires { ⌜ at + 7199 ≤ length (now out) ⌝ }
     ensures { λ r. ⌜ r ≤ at + 7199 ⌝ }
 {
@@ -303,7 +249,8 @@ pub fn option(out: &mut [u8], at: usize, s: &[u8]) -> usize
     match option::check_option(s) {
         Checked::Good => suboptions(out, at, s),
         Checked::NotTheOption => refused(out, at, 6),
-        Checked::BadSuboption(place) => refused_at(out, at, place as u64),
+        // No place is past the end.
+        Checked::BadSuboption(place) => refused_at(out, at, least(place, s.len()) as u32),
     }
 }
 
@@ -311,14 +258,12 @@ fn address(out: &mut [u8], at: usize, n: u32) -> usize
     requires { ⌜ at + 95 ≤ length (now out) ⌝ }
     ensures { λ r. ⌜ r ≤ at + 95 ⌝ }
 {
-    let a = show::text(out, at, b"address ");
-    let b = network(out, a, n);
-    let c = show::text(out, b, b"\n");
-    ok(out, c)
+    let numbers = [n / 16777216, n / 65536 % 256, n / 256 % 256, n % 256];
+    show::fill(out, at, b"address %.%.%.%\nok\n", &numbers)
 }
 
 // What the reader of option 118 finds.
-pub fn selection(out: &mut [u8], at: usize, s: &[u8]) -> usize
+fn selection(out: &mut [u8], at: usize, s: &[u8]) -> usize
     requires { ⌜ at + 95 ≤ length (now out) ⌝ }
     ensures { λ r. ⌜ r ≤ at + 95 ⌝ }
 {
@@ -326,4 +271,17 @@ pub fn selection(out: &mut [u8], at: usize, s: &[u8]) -> usize
         Selection::Address(n) => address(out, at, n),
         Selection::NotTheOption => refused(out, at, 6),
     }
+}
+
+// What the reader finds: of option 118 if the first byte is 118, otherwise of option 220.
+pub fn read(out: &mut [u8], at: usize, s: &[u8]) -> usize
+    requires { ⌜ at + 7199 ≤ length (now out) ⌝ }
+    ensures { λ r. ⌜ r ≤ at + 7199 ⌝ }
+{
+    if 0 < s.len() {
+        if s[0] == 118 {
+            return selection(out, at, s);
+        }
+    }
+    option(out, at, s)
 }

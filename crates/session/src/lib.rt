@@ -1,10 +1,12 @@
-// What goes from line to line of a script, and the answers of calls as lines of the output.
-use image_calls::ImageAnswer;
+// What goes from line to line of a script, the answers of calls as lines of the output, and the output written out.
 ghost use mathlib.Core.Path.{_≡_};
 ghost use Prim.Native.Nat.{_+_, _*_, _≤_};
 ghost use lib.ListN.{length};
-ghost use Rattle.session.specs.Room.{Room};
-ghost use Rattle.session.specs.Books.{Same, With, bookAfter};
+ghost use Rattle.session.specs.Room.{Room, Whole};
+ghost use Rattle.session.specs.Books.{Same, With, bookOf, bookAfter};
+
+// The output is written out once it has more than this: what is left holds any answer.
+const FULL: usize = 65536;
 
 // The reply buffer's length at first.
 const REPLY_AT_FIRST: usize = 257;
@@ -20,6 +22,23 @@ pub struct State {
     pub at: usize,
     // The output cannot be written.
     pub failed: bool,
+}
+
+// What a call answers: the number of its refusal or 0, and the values that document 01 gives it; the length of the book after an accepted one.
+pub struct CallAnswer {
+    pub number: u32,
+    pub place: u32,
+    pub bytes: u32,
+    pub count: u32,
+    pub book: u32,
+}
+
+// What a command comes to: a line that is no command, or a call's answer and which of its values are told where it is accepted. "On acceptance this is the book."
+pub enum Outcome {
+    Bad,
+    Done(CallAnswer),
+    Counted(CallAnswer),
+    Replied(CallAnswer),
 }
 
 // At first the book is no bytes, which are no image.
@@ -64,7 +83,7 @@ pub fn wrote(s: State, at: usize) -> State
 }
 
 // The state with another book and more output.
-pub fn became(s: State, bytes: usize, at: usize) -> State
+fn became(s: State, bytes: usize, at: usize) -> State
     ensures { λ r. ⌜ r .at ≡ at ⌝ }
     ensures { λ r. ⌜ With bytes s r ⌝ }
 {
@@ -74,9 +93,19 @@ pub fn became(s: State, bytes: usize, at: usize) -> State
     next
 }
 
+// The state with another length of the reply buffer.
+pub fn buffered(s: State, room: u32, at: usize) -> State
+    ensures { λ r. ⌜ (r .at ≡ at) × (r .bytes ≡ s .bytes) × (r .room ≡ room) ⌝ }
+{
+    let mut next = s;
+    next.room = room as usize;
+    next.at = at;
+    next
+}
+
 // ANSWERS
 
-fn done_line(out: &mut [u8], at: usize, a: ImageAnswer) -> usize
+fn done_line(out: &mut [u8], at: usize, a: CallAnswer) -> usize
     requires { ⌜ at + 37 ≤ length (now out) ⌝ }
     ensures { λ r. ⌜ r ≤ at + 37 ⌝ }
 {
@@ -86,7 +115,7 @@ fn done_line(out: &mut [u8], at: usize, a: ImageAnswer) -> usize
     lines::ok(out, at)
 }
 
-fn released_line(out: &mut [u8], at: usize, a: ImageAnswer) -> usize
+fn counted_line(out: &mut [u8], at: usize, a: CallAnswer) -> usize
     requires { ⌜ at + 37 ≤ length (now out) ⌝ }
     ensures { λ r. ⌜ r ≤ at + 37 ⌝ }
 {
@@ -96,7 +125,7 @@ fn released_line(out: &mut [u8], at: usize, a: ImageAnswer) -> usize
     lines::count(out, at, a.count)
 }
 
-fn replied_line(out: &mut [u8], at: usize, a: ImageAnswer, reply: &[u8]) -> usize
+fn replied_line(out: &mut [u8], at: usize, a: CallAnswer, reply: &[u8]) -> usize
     requires { ⌜ at + 2 * length (now reply) + 58 ≤ length (now out) ⌝ }
     ensures { λ r. ⌜ r ≤ at + 2 * length (now (reply .entry)) + 58 ⌝ }
 {
@@ -125,40 +154,94 @@ pub fn refused(s: State, number: u32, place: u32, out: &mut [u8]) -> State
 }
 
 // The state after a call's answer: a refused one leaves the book as it was.
-pub fn answered(s: State, a: ImageAnswer, at: usize) -> State
+fn answered(s: State, a: CallAnswer, at: usize) -> State
     ensures { λ r. ⌜ r .at ≡ at ⌝ }
-    ensures { λ r. ⌜ With (bookAfter a (s .bytes)) s r ⌝ }
+    ensures { λ r. ⌜ With (bookOf a (s .bytes)) s r ⌝ }
 {
     if a.number != 0 {
         return wrote(s, at);
     }
-    became(s, a.image_bytes as usize, at)
+    became(s, a.book as usize, at)
 }
 
 // The answer of an open or a mark.
-pub fn done(s: State, a: ImageAnswer, out: &mut [u8]) -> State
+fn done(s: State, a: CallAnswer, out: &mut [u8]) -> State
     requires { ⌜ Room (s .at) (now out) ⌝ }
     ensures { λ r. ⌜ r .at ≤ length (now (out .entry)) ⌝ }
-    ensures { λ r. ⌜ With (bookAfter a (s .bytes)) s r ⌝ }
+    ensures { λ r. ⌜ With (bookOf a (s .bytes)) s r ⌝ }
 {
     answered(s, a, done_line(out, s.at, a))
 }
 
 // The answer of a return.
-pub fn released(s: State, a: ImageAnswer, out: &mut [u8]) -> State
+fn counted(s: State, a: CallAnswer, out: &mut [u8]) -> State
     requires { ⌜ Room (s .at) (now out) ⌝ }
     ensures { λ r. ⌜ r .at ≤ length (now (out .entry)) ⌝ }
-    ensures { λ r. ⌜ With (bookAfter a (s .bytes)) s r ⌝ }
+    ensures { λ r. ⌜ With (bookOf a (s .bytes)) s r ⌝ }
 {
-    answered(s, a, released_line(out, s.at, a))
+    answered(s, a, counted_line(out, s.at, a))
 }
 
 // The answer of an ask, a take or a list.
-pub fn replied(s: State, a: ImageAnswer, reply: &[u8], out: &mut [u8]) -> State
+fn replied(s: State, a: CallAnswer, reply: &[u8], out: &mut [u8]) -> State
     requires { ⌜ Room (s .at) (now out) ⌝ }
     requires { ⌜ length (now reply) ≤ 1024 ⌝ }
     ensures { λ r. ⌜ r .at ≤ length (now (out .entry)) ⌝ }
-    ensures { λ r. ⌜ With (bookAfter a (s .bytes)) s r ⌝ }
+    ensures { λ r. ⌜ With (bookOf a (s .bytes)) s r ⌝ }
 {
     answered(s, a, replied_line(out, s.at, a, reply))
+}
+
+// Tells what a command came to.
+pub fn tell(s: State, o: Outcome, reply: &[u8], out: &mut [u8]) -> State
+    requires { ⌜ Room (s .at) (now out) ⌝ }
+    requires { ⌜ length (now reply) ≤ 1024 ⌝ }
+    ensures { λ r. ⌜ r .at ≤ length (now (out .entry)) ⌝ }
+    ensures { λ r. ⌜ With (bookAfter o (s .bytes)) s r ⌝ }
+{
+    match o {
+        Outcome::Bad => bad_line(s, out),
+        Outcome::Done(a) => done(s, a, out),
+        Outcome::Counted(a) => counted(s, a, out),
+        Outcome::Replied(a) => replied(s, a, reply, out),
+    }
+}
+
+// OUTPUT
+
+// Space for the output: what may wait and one answer more.
+pub fn output() -> [u8; 262144]
+    ensures { λ r. ⌜ 262144 ≡ length r ⌝ }
+{
+    [0; 262144]
+}
+
+// Writes the output out.
+pub fn flush(s: State, out: &[u8]) -> State
+    requires { ⌜ s .at ≤ length (now out) ⌝ }
+    ensures { λ r. ⌜ r .at ≡ 0 ⌝ }
+    ensures { λ r. ⌜ Same s r ⌝ }
+{
+    let n = s.at;
+    let mut next = wrote(s, 0);
+    if !io::write_all(1, &out[0..n]) {
+        io::write_all(2, b"console: the output cannot be written\n");
+        next.failed = true;
+    }
+    next
+}
+
+// Writes the output out before more is read, so that whoever types sees each answer at once, and before it has less room than any answer takes.
+pub fn make_room(s: State, reads: bool, out: &[u8]) -> State
+    requires { ⌜ (s .at ≤ length (now out)) × Whole (now out) ⌝ }
+    ensures { λ r. ⌜ Room (r .at) (now (out .entry)) ⌝ }
+    ensures { λ r. ⌜ Same s r ⌝ }
+{
+    if reads {
+        return flush(s, out);
+    }
+    if FULL < s.at {
+        return flush(s, out);
+    }
+    s
 }

@@ -1,22 +1,23 @@
--- What a loop that writes text has done after one turn more.
+-- What loops that write text have done after one turn more.
 -- Assumes nothing.
-use Prim.Native.Nat.{ℕ, _+_, _-_, _*_, _^_, _≤_, _<_}
+use Prim.Native.Nat.{ℕ, zero, suc, _+_, _-_, _*_, _/_, _%_, _^_, _≤_, _<_}
 use native.Mathlib.Nat.{pow-le-pow-right}
 use native.Mathlib.Omega.{arith}
 use native.Mathlib.Numerals.{add-one}
 use mathlib.Core.Path.{_≡_, refl, sym, ap, subst, _∙_}
 use mathlib.Core.Bool.{Bool, true, false}
-use mathlib.Core.List.{List, [], _∷_, _++_}
-use lib.ListN.{length, take, getD, set}
+use mathlib.Core.List.{List, [], _∷_, _++_, append-nil, append-assoc}
+use lib.ListN.{length, take, drop, getD, set, length-append}
 use lib.Seq.{length-take-le, take-suc}
-use lib.Dec.{leb}
-use borrow.Author.Tests.{leb-true, leb-false}
+use lib.Dec.{leb, eqb}
+use borrow.Author.Tests.{leb-true, leb-false, eqb-true, eq-eqb}
 use Rattle.lists.specs.Lists.{All, gather}
 use Rattle.lists.specs.Put.{put}
-use Rattle.lists.proofs.PutLaws.{put-more, put-one}
+use Rattle.lists.proofs.PutLaws.{put-more, put-one, set-more}
+use Rattle.lists.proofs.DropLaws.{drop-at, drop-end}
 use Rattle.lists.proofs.GatherLaws.{gather-append, length-gather}
-use Rattle.io.specs.Digits.{digits, Fewest}
-use Rattle.show.specs.Text.{hexOf, Decimal}
+use Rattle.io.specs.Digits.{glyph, digits, Fewest}
+use Rattle.show.specs.Text.{hexOf, Decimal, Spelt, Piece, Spells, Filled}
 
 -- One byte more of a text.
 pub text-more : (l l₁ : List ℕ) (at i : ℕ) (s : List ℕ) → i < length s → l₁ ≡ put l at (take i s) → set l₁ (at + i) (getD s i 0) ≡ put l at (take (i + 1) s)
@@ -38,19 +39,84 @@ octets-more l l₁ at i s high low lt digits e =
     let size : at + 2 * i ≡ at + length done = omega (arith, length-gather hexOf 2 (take i s) (sized (take i s)), length-take-le i s (omega arith)) in
     put-more l l₁ _ at done (at + 2 * i) (high ∷ low ∷ []) e size refl ∙ ap (λ (r : List ℕ). put l at (done ++ r)) digits ∙ ap (put l at) (sym more)
 
--- No 64-bit number has more than 20 digits.
-few-by : (n k : ℕ) → n < 18446744073709551616 → Fewest 10 1 n k → (b : Bool) → leb k 20 ≡ b → k ≤ 20
-few-by n k small f true e = leb-true k 20 e
-few-by n k small f false e =
-    let past : 20 < k = leb-false k 20 e in
-    let large : 100000000000000000000 ≤ 10 ^ (k - 1) = pow-le-pow-right {n = 10} (omega arith) {i = 20} {j = k - 1} (omega arith) in
+-- A number below 10^most has no more than that many digits.
+few-by : (n k most : ℕ) → 0 < most → n < 10 ^ most → Fewest 10 1 n k → (b : Bool) → leb k most ≡ b → k ≤ most
+few-by n k most pos small f true e = leb-true k most e
+few-by n k most pos small f false e =
+    let past : most < k = leb-false k most e in
+    let large : 10 ^ most ≤ 10 ^ (k - 1) = pow-le-pow-right {n = 10} (omega arith) {i = most} {j = k - 1} (omega arith) in
     absurd (omega (arith, f .2 (omega arith)))
 
-pub few : (n k : ℕ) → n < 18446744073709551616 → Fewest 10 1 n k → k ≤ 20
-few n k small f = few-by n k small f (leb k 20) refl
+pub few : (n k most : ℕ) → 0 < most → n < 10 ^ most → Fewest 10 1 n k → k ≤ most
+few n k most pos small f = few-by n k most pos small f (leb k most) refl
+
+length-digits : (b k n : ℕ) → length (digits b k n) ≡ k
+length-digits b zero n = refl
+length-digits b (suc k) n = omega (arith, length-append (digits b k (n / b)) (glyph (n % b) ∷ []), length-digits b k (n / b))
 
 -- The digits of a number, written as text.
 pub decimal-put : (n k at r : ℕ) (before after l : List ℕ) → k ≤ length l → Fewest 10 1 n k → take k l ≡ digits 10 k n → r ≡ at + length (take k l) → after ≡ put before at (take k l) → Decimal n before at after (r - at)
 decimal-put n k at r before after l le fewest spelled next bytes =
     let e : k ≡ r - at = omega (arith, length-take-le k l le) in
     subst (Decimal n before at after) e (record { fewest = fewest; bytes = bytes ∙ ap (put before at) spelled })
+
+-- What a loop that fills a pattern has done: what it wrote, and how the text may go on from there.
+pub record Filling (pattern numbers before : List ℕ) (at i j : ℕ) (now : List ℕ) (end : ℕ) : Type 0 where
+  pub text : List ℕ
+  pub goes-on : (rest : List ℕ) → Spells (drop i pattern) (drop j numbers) rest → Spells pattern numbers (text ++ rest)
+  pub bytes : now ≡ put before at text
+  pub ends : end ≡ at + length text
+
+pub filling-none : (pattern numbers before : List ℕ) (at : ℕ) → Filling pattern numbers before at 0 0 before at
+unfolding put
+filling-none pattern numbers before at = record { text = []; goes-on = λ rest h. h; bytes = refl; ends = omega arith }
+
+-- A byte that stands as it is.
+byte-of : (c : ℕ) (cs ns rest : List ℕ) (b : Bool) → (b ≡ true → ns ≡ []) → Spells cs ns rest → Piece b c ns (Spells cs) (c ∷ rest)
+byte-of c cs [] rest true e h = record { rest = rest; same = refl; goes-on = h }
+byte-of c cs (n ∷ ns) rest true e h = absurd (omega (arith, ap length (e refl)))
+byte-of c cs ns rest false e h = record { rest = rest; same = refl; goes-on = h }
+
+module _ (pattern numbers before : List ℕ) (at i j : ℕ) (now : List ℕ) (end : ℕ) (f : Filling pattern numbers before at i j now end) (lt : i < length pattern) where
+  pub filling-byte : (getD pattern i 0 ≡ 37 → length numbers ≤ j) → Filling pattern numbers before at (i + 1) j (set now end (getD pattern i 0)) (end + 1)
+  filling-byte none =
+      let c : ℕ = getD pattern i 0 in
+      record {
+        text = f .text ++ (c ∷ []);
+        goes-on = λ rest h.
+            subst (Spells pattern numbers) (sym (append-assoc (f .text) (c ∷ []) rest))
+            (f .goes-on (c ∷ rest)
+            (subst (λ (p : List ℕ). Spells p (drop j numbers) (c ∷ rest)) (sym (drop-at pattern i 0 lt))
+            (byte-of c (drop (i + 1) pattern) (drop j numbers) rest (eqb c 37) (λ e. drop-end numbers j (none (eqb-true c 37 e))) h)));
+        bytes = set-more before now _ at (f .text) end c (f .bytes) (f .ends) refl;
+        ends = omega (arith, f .ends, length-append (f .text) (c ∷ []));
+      }
+
+  -- A number in the place of a `%`.
+  pub filling-number : (n : ℕ) (after : List ℕ) (r : ℕ) → getD pattern i 0 ≡ 37 → j < length numbers → n ≡ getD numbers j 0 → end ≤ r → Decimal n now end after (r - end)
+      → Filling pattern numbers before at (i + 1) (j + 1) after r
+  filling-number n after r hole left e le d =
+      let k : ℕ = r - end in
+      let xs : List ℕ = digits 10 k n in
+      record {
+        text = f .text ++ xs;
+        goes-on = λ rest h.
+            subst (Spells pattern numbers) (sym (append-assoc (f .text) xs rest))
+            (f .goes-on (xs ++ rest)
+            (subst (λ (p : List ℕ). Spells p (drop j numbers) (xs ++ rest)) (sym (drop-at pattern i 0 lt))
+            (subst (λ (ns : List ℕ). Piece (eqb (getD pattern i 0) 37) (getD pattern i 0) ns (Spells (drop (i + 1) pattern)) (xs ++ rest)) (sym (drop-at numbers j 0 left))
+            (subst (λ (b : Bool). Piece b (getD pattern i 0) (getD numbers j 0 ∷ drop (j + 1) numbers) (Spells (drop (i + 1) pattern)) (xs ++ rest)) (sym (eq-eqb (getD pattern i 0) 37 hole))
+            (subst (λ (m : ℕ). Spelt m (Spells (drop (i + 1) pattern) (drop (j + 1) numbers)) (xs ++ rest)) e
+            (record { k = k; fewest = d .fewest; rest = rest; same = refl; goes-on = h }))))));
+        bytes = put-more before now after at (f .text) end xs (f .bytes) (f .ends) (d .bytes);
+        ends = omega (arith, f .ends, length-append (f .text) xs, length-digits 10 k n);
+      }
+
+pub filling-all : (pattern numbers before : List ℕ) (at i j : ℕ) (now : List ℕ) (end : ℕ) → Filling pattern numbers before at i j now end → length pattern ≤ i → Filled pattern numbers before at now end
+filling-all pattern numbers before at i j now end f past =
+    record {
+      text = f .text;
+      spells = subst (Spells pattern numbers) (append-nil (f .text)) (f .goes-on [] (subst (λ (p : List ℕ). Spells p (drop j numbers) []) (sym (drop-end pattern i past)) refl));
+      bytes = f .bytes;
+      ends = f .ends;
+    }

@@ -35,8 +35,8 @@ end-line-requires : tie.Need-end-line-requires Inv-loop μ-loop
 end-line-requires c κs =
     let go = c .before .before .before .before .before .before .before .before .go-on in
     let made = c .before .before .before .before .before .before .before .before .before .before .before .make-room in
-    let inv = c .before .before .before .before .before .before .before .before .before .before .before .before .before .before .loop .inv in
-    let pre = c .before .before .before .before .before .before .before .before .before .before .before .before .before .before .before .before .before .before .before .before .before .before .pre in
+    let inv = c .before .before .before .before .before .before .before .before .before .before .before .before .before .before .before .loop .inv in
+    let pre = c .before .before .before .before .before .before .before .before .before .before .before .before .before .before .before .before .before .before .before .before .before .before .before .pre in
     (omega (arith, go .ensures, go .kept .1 .1 .0, inv), (omega (arith, inv, pre), (omega (arith, made .ensures, inv), omega (arith, inv, pre))))
 
 turns-left-requires : tie.Need-turns-left-requires Inv-loop μ-loop
@@ -49,7 +49,7 @@ loop-again : tie.Need-loop-again Inv-loop μ-loop
 loop-again c =
     let ran = c .before .before .before .before .before .before .before .before .before .end-line in
     let go = c .before .before .before .before .before .before .before .before .before .before .before .before .before .before .before .before .before .before .go-on in
-    let inv = c .before .before .before .before .before .before .before .before .before .before .before .before .before .before .before .before .before .before .before .before .before .before .before .before .loop .inv in (
+    let inv = c .before .before .before .before .before .before .before .before .before .before .before .before .before .before .before .before .before .before .before .before .before .before .before .before .before .loop .inv in (
       omega (arith, ran .ensures, inv),
       omega (arith, go .ensures),
       omega (arith, go .ensures, inv),

@@ -14,7 +14,7 @@ returns : tie.Need-returns
 returns c =
     let a = c .before .before .before .args in
     let w = c .wrote .ensures in
-    (w .0, (w .1 .0 ∙ sym (ap (λ (b : Bool). cond b (a .a .«image_bytes») (a .s .bytes)) (ne-eqb (a .a .number) 0 (c .before .if1 .taken))), w .1 .1))
+    (w .0, (w .1 .0 ∙ sym (ap (λ (b : Bool). cond b (a .a .book) (a .s .bytes)) (ne-eqb (a .a .number) 0 (c .before .if1 .taken))), w .1 .1))
 
 cast-became : tie.Need-cast-became
 cast-became c = search needs
@@ -26,7 +26,7 @@ returns-2 : tie.Need-returns-2
 returns-2 c =
     let a = c .before .before .before .before .args in
     let w = c .became .ensures in
-    (w .0, (w .1 .0 ∙ sym (ap (λ (b : Bool). cond b (a .a .«image_bytes») (a .s .bytes)) (eq-eqb (a .a .number) 0 (c .before .before .if1 .left))), w .1 .1))
+    (w .0, (w .1 .0 ∙ sym (ap (λ (b : Bool). cond b (a .a .book) (a .s .bytes)) (eq-eqb (a .a .number) 0 (c .before .before .if1 .left))), w .1 .1))
 
 pub answered-spec : {M : Type 1} → statement M
 answered-spec = tie.close (tie.spec wrote-requires returns cast-became became-requires returns-2)

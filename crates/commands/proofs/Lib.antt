@@ -1,0 +1,3 @@
+mod CallLaws
+mod LoadLaws
+mod OpenLaws
