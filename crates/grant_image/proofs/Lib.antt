@@ -1,0 +1,3 @@
+pub mod ReplyPuts
+pub mod KeepLaws
+pub mod GrantLaws
