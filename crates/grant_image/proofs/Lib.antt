@@ -1,3 +1,2 @@
 pub mod ReplyPuts
-pub mod KeepLaws
 pub mod GrantLaws
