@@ -1,3 +1,1 @@
-pub mod ReplyPuts
-pub mod KeepLaws
 pub mod AskLaws

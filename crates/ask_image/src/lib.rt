@@ -1,27 +1,10 @@
-// Ask as a call on an image, in place: its requests are served on the gaps of the image, and what is granted becomes records.
+// Ask as a call on an image, in place.
 use image_calls::ImageAnswer;
-use table::LEASES;
-use table::Lease;
 ghost use mathlib.Core.Path.{_≡_};
-ghost use mathlib.Core.List.{List, [], _∷_, _++_, map};
-ghost use mathlib.Core.Option.{some};
-ghost use Prim.Native.Nat.{ℕ, _+_, _-_, _*_, _≤_};
-ghost use lib.ListN.{length as lengthOf, replicate};
+ghost use mathlib.Core.List.{[], _∷_};
 ghost use lib.Dec.{leb, eqb};
-ghost use Rattle.lists.specs.Lists.{every, gather};
-ghost use Rattle.lists.specs.Put.{put};
-ghost use Rattle.option.specs.Writing.{suboptionBytes, optionBytes};
-ghost use Rattle.table.specs.declared.Lease.{Lease};
-ghost use Rattle.table.specs.Table.{latest, present};
-ghost use Rattle.image.specs.Image.{leaseRecord};
-ghost use Rattle.records.specs.Records.{Records, Ascending};
-ghost use Rattle.ledger.specs.Ledger.{holdTime, addAll, informationFor};
-ghost use Rattle.granting.specs.Granting.{grantedIn};
+ghost use Rattle.lists.specs.Lists.{every};
 ghost use Rattle.image_calls.specs.ImageCalls.{askImage};
-ghost use Rattle.image_rows.specs.Opened.{left};
-
-// "a line held until now + 120"
-const HOLD: u32 = 120;
 
 // Row 8: "the option has 1 to 25 requests, none with i".
 fn for_ask(requests: usize, listing: usize) -> bool
@@ -39,95 +22,6 @@ fn for_ask(requests: usize, listing: usize) -> bool
     true
 }
 
-// THE REPLY
-
-// One information with one entry. The reply has room for it, so no byte is tested.
-fn put_offer(reply: &mut [u8], at: usize, x: Lease)
-    requires { ⌜ at + 10 ≤ lengthOf (now reply) ⌝ }
-    ensures { λ _. ⌜ now (reply .exit) ≡ put (now (reply .entry)) at (suboptionBytes (informationFor x)) ⌝ }
-{
-    reply[at] = 2;
-    reply[at + 1] = 8;
-    reply[at + 2] = 0;
-    reply::put_lease(reply, at + 3, x);
-}
-
-// An information for each lease in the first `count` places of the columns, in order. An entry shows neither the client
-// nor the end.
-fn put_offers(reply: &mut [u8], networks: &[u32], lengths: &[u8], flags: &[u8], count: usize)
-    requires { ⌜ (count ≤ 25) × (3 + 10 * count ≤ lengthOf (now reply)) × (count ≤ lengthOf (now networks)) × (count ≤ lengthOf (now lengths)) × (count ≤ lengthOf (now flags)) ⌝ }
-    ensures { λ _. ⌜ ((client expires : ℕ)
-        → now (reply .exit) ≡ put (now (reply .entry)) 0 (optionBytes (map informationFor (grantedIn client expires (now (networks .entry)) (now (lengths .entry)) (now (flags .entry)) count)))) ⌝ }
-{
-    option_pieces::put_option_head(reply, (10 * count + 1) as u8);
-    let mut k: usize = 0;
-    while k < count {
-        let x = Lease {
-            network: networks[k],
-            length: lengths[k],
-            client: 0,
-            leased: false,
-            h: flags[k] == 1,
-            d: false,
-            expires: 0,
-        };
-        put_offer(reply, 3 + 10 * k, x);
-        k += 1;
-    }
-}
-
-// THE IMAGE
-
-// Removes the leases that have expired, if there are any, with zeros up to where the n leases ended.
-fn drop_expired(image: &mut [u8], from: usize, n: usize, expired: usize, time: u32)
-    requires { ⌜ from + 19 * n ≤ lengthOf (now image) ⌝ }
-    ensures { λ _. ⌜ ((xs : List Lease) → Records (now (image .entry)) from xs → n ≡ lengthOf xs → (expired ≡ 0 → present time xs ≡ xs)
-        → now (image .exit) ≡ put (now (image .entry)) from (gather leaseRecord (present time xs) ++ replicate (19 * (n - lengthOf (present time xs))) 0)) ⌝ }
-{
-    if expired != 0 {
-        records::remove_expired(image, from, n, 0, n, time);
-    }
-}
-
-// The leases in the first `count` places of the columns put among the present ones of n, zeros up to where the n ended,
-// and the time as the last time. Answers the length of the image.
-fn keep(
-    image: &mut [u8],
-    from: usize,
-    n: usize,
-    expired: usize,
-    time: u32,
-    networks: &[u32],
-    lengths: &[u8],
-    flags: &[u8],
-    count: usize,
-    client: u32,
-) -> usize
-    requires { ⌜ (13 ≤ from) × (expired ≤ n) × (from + 19 * n ≤ lengthOf (now image)) × (from + 19 * (n - expired + count) ≤ lengthOf (now image)) × (time ≤ latest)
-        × (count ≤ 25) × (count ≤ lengthOf (now networks)) × (count ≤ lengthOf (now lengths)) × (count ≤ lengthOf (now flags)) ⌝ }
-    ensures { λ r. ⌜ r ≡ from + 19 * (n - expired + count) ⌝ }
-    ensures { λ _. ⌜ ((xs : List Lease) → Records (now (image .entry)) from xs → n ≡ lengthOf xs → (expired ≡ 0 → present time xs ≡ xs) → n - expired ≡ lengthOf (present time xs) → Ascending xs
-        → Ascending (addAll (map some (grantedIn client (time + holdTime) (now (networks .entry)) (now (lengths .entry)) (now (flags .entry)) count)) (present time xs))
-        → now (image .exit) ≡ left (now (image .entry)) from n (addAll (map some (grantedIn client (time + holdTime) (now (networks .entry)) (now (lengths .entry)) (now (flags .entry)) count)) (present time xs)) time) ⌝ }
-{
-    drop_expired(image, from, n, expired, time);
-    let present = n - expired;
-    merging::insert_granted(
-        image,
-        from,
-        present,
-        networks,
-        lengths,
-        flags,
-        count,
-        client,
-        time + HOLD,
-    );
-    records::put32(image, 9, time);
-    from + 19 * (present + count)
-}
-
-// Nothing is written before a request is granted.
 pub fn ask(
     image: &mut [u8],
     image_bytes: usize,
@@ -170,50 +64,18 @@ pub fn ask(
     if !for_ask(requests, m.listing) {
         return image_calls::refused(8, 0);
     }
-    let present = book.leases - book.expired;
-    if LEASES <= present {
-        return image_calls::refused(9, 0);
-    }
-    let mut starts = [0u32; 264];
-    let mut lasts = [0u32; 264];
-    let gaps = image_gaps::gaps_in(
+    grant_image::grant(
         image,
-        book.pools,
-        book.leases,
+        image_bytes,
+        client,
         time,
-        &mut starts,
-        &mut lasts,
-    );
-    let mut flags = [0u8; 25];
-    let granted = granting::serve(
+        option,
+        reply,
+        book,
+        requests,
         &ask_lengths,
         &ask_h,
-        requests,
-        book.default_length,
-        LEASES - present,
-        &mut starts,
-        &mut lasts,
-        gaps,
         &mut networks,
         &mut lengths,
-        &mut flags,
-    );
-    if granted == 0 {
-        return image_calls::refused(10, 0);
-    }
-    let from = 13 + 9 * book.pools;
-    let end = keep(
-        image,
-        from,
-        book.leases,
-        book.expired,
-        time,
-        &networks,
-        &lengths,
-        &flags,
-        granted,
-        client,
-    );
-    put_offers(reply, &networks, &lengths, &flags, granted);
-    image_calls::accepted((3 + 10 * granted) as u32, granted as u32, end)
+    )
 }

@@ -1,3 +1,4 @@
 pub mod AddLaws
 pub mod PlacesLaws
 pub mod MergeLaws
+pub mod KeepLaws

@@ -1,6 +1,6 @@
 -- Laws of removing expired leases in place: those of the first i that are present stand first, the later ones follow them, and zeros follow these.
 -- Assumes nothing.
-use Prim.Native.Nat.{ℕ, zero, suc, _+_, _-_, _*_, _≤_, _<_}
+use Prim.Native.Nat.{ℕ, suc, _+_, _-_, _*_, _≤_, _<_}
 use native.Mathlib.Omega.{arith}
 use native.Mathlib.Numerals.{add-one}
 use mathlib.Core.Path.{_≡_, refl, sym, ap, ap₂, subst, _∙_}
@@ -9,7 +9,7 @@ use mathlib.Core.Bool.{true, false}
 use mathlib.Core.List.{List, [], _∷_, _++_, append-assoc, append-nil}
 use lib.ListN.{length, set, getD, take, drop, replicate, length-append, length-set, length-drop, length-replicate, take-append-drop}
 use lib.Dec.{leb, ltb, eqb}
-use lib.Seq.{take-suc, take-at, take-add, take-append-le, drop-drop, getD-take, getD-drop, getD-set-other, length-take-le}
+use lib.Seq.{take-suc, take-at, take-append-le, drop-drop, getD-take, getD-drop, getD-set-other, length-take-le}
 use borrow.Author.Tests.{leb-true, leb-false, ltb-true, ltb-false, eqb-true, eqb-false}
 use Rattle.lists.specs.Lists.{All, gather}
 use Rattle.lists.specs.Put.{put}
@@ -17,7 +17,7 @@ use Rattle.lists.proofs.Tests.{bool-cases}
 use Rattle.lists.proofs.IndexLaws.{all-at}
 use Rattle.lists.proofs.ThoseLaws.{those-append, those-pass}
 use Rattle.lists.proofs.GatherLaws.{gather-append, gather-one}
-use Rattle.lists.proofs.PutLaws.{put-more, put-fits, length-put}
+use Rattle.lists.proofs.PutLaws.{put-more, put-fits}
 use Rattle.table.specs.declared.Lease.{Lease}
 use Rattle.table.specs.Table.{noLease, present}
 use Rattle.table.proofs.TableLaws.{present?, present-yes, present-no}

@@ -1,6 +1,5 @@
 -- `records::remove_expired` meets its contract.
 -- Assumes nothing.
-use mathlib.Core.Path.{_∙_}
 use native.Mathlib.Omega.{arith}
 use Rattle.records.proofs.RemoveLaws.{removed}
 use borrow.Author.Needs.{needs}

@@ -1,4 +1,4 @@
--- `ask_image::put_offers` meets its contract: so far the head and k informations are put.
+-- `grant_image::put_offers` meets its contract: so far the head and k informations are put.
 -- Assumes nothing.
 use Prim.Native.Nat.{ℕ, _+_, _-_, _*_, _≤_}
 use mathlib.Core.Path.{_≡_, refl, sym, ap, _∙_}
@@ -18,9 +18,9 @@ use Rattle.ledger.specs.Ledger.{informationFor}
 use Rattle.granting.specs.Granting.{grantedIn}
 use Rattle.granting.proofs.GrantLaws.{granted-at}
 use Rattle.merging.proofs.MergeLaws.{granted-length}
-use Rattle.ask_image.proofs.ReplyPuts.{information-more, reply-put, shown-same}
-use Rattle.ask_image.proofs.put_offers.Statement.{statement}
-use Rattle.ask_image.proofs.put_offers.Tie as tie
+use Rattle.grant_image.proofs.ReplyPuts.{information-more, reply-put, shown-same}
+use Rattle.grant_image.proofs.put_offers.Statement.{statement}
+use Rattle.grant_image.proofs.put_offers.Tie as tie
 
 abbrev Inv-loop : tie.InvT-loop
 Inv-loop reply₀ networks lengths flags count k₀ reply k =

@@ -1,12 +1,12 @@
--- `ask_image::put_offer` meets its contract.
+-- `grant_image::put_offer` meets its contract.
 -- Assumes nothing.
 use mathlib.Core.Path.{_∙_}
 use native.Mathlib.Omega.{arith}
 use lib.ListN.{length-set}
-use Rattle.ask_image.proofs.ReplyPuts.{offer-put}
+use Rattle.grant_image.proofs.ReplyPuts.{offer-put}
 use borrow.Author.Needs.{needs}
-use Rattle.ask_image.proofs.put_offer.Statement.{statement}
-use Rattle.ask_image.proofs.put_offer.Tie as tie
+use Rattle.grant_image.proofs.put_offer.Statement.{statement}
+use Rattle.grant_image.proofs.put_offer.Tie as tie
 
 slice-write-reply : tie.Need-slice-write-reply
 slice-write-reply c = search needs

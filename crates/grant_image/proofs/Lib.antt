@@ -1,0 +1,2 @@
+pub mod ReplyPuts
+pub mod GrantLaws
