@@ -17,8 +17,7 @@ use Rattle.ledger.specs.Ledger as ledger
 use Rattle.ledger.specs.Ledger.{Row, firstOf, orElse, refuses?, placeIn}
 use Rattle.ledger.proofs.RowLaws.{first-none}
 pub use Rattle.ledger.proofs.RowLaws.{first-number, first-before, first-after}
-use Rattle.answers.specs.declared.Answer.{Answer}
-use Rattle.answers.specs.Answers.{answerOf, checkedAnswer, commonRows, answered}
+use Rattle.answers.specs.Answers.{checkedAnswer, commonRows, answered}
 
 -- Rows 6 and 7 of what an option reads as.
 abbrev optionRows : Outcome → List Row
@@ -28,12 +27,12 @@ abbrev optionAnswer : Outcome → ledger.Answer
 optionAnswer o = orElse (firstOf (optionRows o)) (λ number. ledger.refusal number (cond (eqb number 7) (placeIn o) 0)) (ledger.acceptance 0 0)
 
 reader-rows : (ok : Bool) (subs : List SuboptionValue) (e : End)
-    → answerOf (checkedAnswer (checkedOf (cond ok (ended subs e) (refused 6 0)))) ≡ optionAnswer (cond ok (ended subs e) (refused 6 0))
+    → checkedAnswer (checkedOf (cond ok (ended subs e) (refused 6 0))) ≡ optionAnswer (cond ok (ended subs e) (refused 6 0))
 reader-rows true subs whole = refl
 reader-rows true subs (badAt place) = refl
 reader-rows false subs e = refl
 
-pub option-rows : (option : List ℕ) → answerOf (checkedAnswer (checkedOf (readOption option))) ≡ answered (firstOf (optionRows (readOption option))) option
+pub option-rows : (option : List ℕ) → checkedAnswer (checkedOf (readOption option)) ≡ answered (firstOf (optionRows (readOption option))) option
 unfolding readOption
 option-rows option = reader-rows (option? option) (readSuboptions option 3 .0) (readSuboptions option 3 .1)
 

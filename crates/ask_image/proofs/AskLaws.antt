@@ -21,7 +21,7 @@ use Rattle.image_check.specs.declared.Book.{Book}
 use Rattle.ledger.specs.Ledger.{Request, Result, Row, firstOf, refusal, suboptions, requests, entries, position, requestsIn, forAsk, ask}
 use Rattle.pieces.specs.declared.Pieces.{Pieces}
 use Rattle.pieces.specs.Held as pieces
-use Rattle.answers.specs.Answers.{answerOf, checkedAnswer, commonRows}
+use Rattle.answers.specs.Answers.{checkedAnswer, commonRows}
 use Rattle.answers.proofs.CommonRows.{Passed}
 use Rattle.image_calls.specs.declared.ImageAnswer.{ImageAnswer}
 use Rattle.image_calls.specs.ImageCalls.{tableIn, small?, answerWith}
@@ -71,7 +71,7 @@ module _ (buffer : List ℕ) (bytes now client : ℕ) (option reply : List ℕ) 
       pub ask-closed : (row ≡ 0 → ⊥) → (answerWith (refusal row 0) 0, buffer, reply) ≡ result
       ask-closed = closed buffer bytes now client option first own (λ (a : ImageAnswer). (a, buffer, reply)) result (by-row buffer bytes now client option reply holds) (room-passed reply room) book i row e
 
-      module _ (z : row ≡ 0) (c : Checked) (f : c ≡ checkedOf (readOption option)) (a : ImageAnswer) (g : a ≡ answerWith (answerOf (checkedAnswer c)) 0) where
+      module _ (z : row ≡ 0) (c : Checked) (f : c ≡ checkedOf (readOption option)) (a : ImageAnswer) (g : a ≡ answerWith (checkedAnswer c) 0) where
         pub ask-unread : (a .number ≡ 0 → ⊥) → (a, buffer, reply) ≡ result
         ask-unread = unread buffer bytes now client option first own (λ (b : ImageAnswer). (b, buffer, reply)) result (by-row buffer bytes now client option reply holds) (room-passed reply room) book i row e z c f a g
 

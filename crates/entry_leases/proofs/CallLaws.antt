@@ -13,7 +13,7 @@ use Rattle.lists.proofs.Tests.{bool-cases, cond-true, cond-false, not-of, not-t
 use Rattle.option.specs.Reading.{readOption}
 use Rattle.option.specs.Answers.{checkedOf}
 use Rattle.ledger.specs.Ledger.{Answer, Row, firstOf, refusal, refusalPlace, suboptions, forTake}
-use Rattle.answers.specs.Answers.{answerOf, checkedAnswer, commonRows, answered}
+use Rattle.answers.specs.Answers.{checkedAnswer, commonRows, answered}
 use Rattle.answers.proofs.CommonRows.{option-rows}
 use Rattle.image_check.specs.declared.Book.{Book}
 use Rattle.image_calls.specs.declared.ImageAnswer.{ImageAnswer}
@@ -36,7 +36,7 @@ module _ (buffer : List ℕ) (bytes now client : ℕ) (option : List ℕ) (first
 
   -- The answer of rows 6 and 7, as the reader gives it.
   abbrev read : ImageAnswer
-  read = answerWith (answerOf (checkedAnswer (checkedOf (readOption option)))) 0
+  read = answerWith (checkedAnswer (checkedOf (readOption option))) 0
 
   read-number : read .number ≡ two .number
   read-number = ap (λ (y : Answer). y .number) (option-rows option)

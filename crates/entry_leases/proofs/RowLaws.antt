@@ -19,7 +19,7 @@ use Rattle.option.specs.declared.Checked.the-variants.{NotTheOption, BadSubopti
 use Rattle.ledger.specs.Ledger.{Answer, firstOf, refusal, suboptions, requests, entries, entriesIn, forTake}
 use Rattle.ledger.proofs.RowLaws.{first-number, first-before, first-after}
 pub use Rattle.ledger.proofs.RowLaws.{nothing-none, nothing-some}
-use Rattle.answers.specs.Answers.{answerOf, checkedAnswer, answered}
+use Rattle.answers.specs.Answers.{checkedAnswer, answered}
 use Rattle.answers.proofs.CommonRows.{option-rows}
 use Rattle.pieces.specs.declared.Pieces.{Pieces}
 use Rattle.pieces.specs.Held.{Columns, HoldsOf, Reads}
@@ -44,11 +44,11 @@ module _ (m : Pieces) (c : Columns) (subs : List SuboptionValue) (h : HoldsOf m 
 -- ROWS 6 AND 7
 
 -- An option with no bad suboption reads as suboptions.
-good-reads : (o : Outcome) → answerOf (checkedAnswer (checkedOf o)) .number ≡ 0 → (subs : List SuboptionValue) × (o ≡ values.accepted subs)
+good-reads : (o : Outcome) → checkedAnswer (checkedOf o) .number ≡ 0 → (subs : List SuboptionValue) × (o ≡ values.accepted subs)
 good-reads (values.accepted subs) z = (subs, refl)
 good-reads (values.refused number place) z = absurd (bad (eqb number 6) z)
   where
-    bad : (b : Bool) → answerOf (checkedAnswer (cond b NotTheOption (BadSuboption place))) .number ≡ 0 → ⊥
+    bad : (b : Bool) → checkedAnswer (cond b NotTheOption (BadSuboption place)) .number ≡ 0 → ⊥
     bad true e = omega (arith, e)
     bad false e = omega (arith, e)
 
@@ -92,9 +92,9 @@ module _ (option : List ℕ) where
 
 -- WHAT IS READ
 
-module _ (option : List ℕ) (m : Pieces) (c : Columns) (reads : Reads option m c) (a : ImageAnswer) (g : a ≡ answerWith (answerOf (checkedAnswer (m .checked))) 0) where
-  checked-is : answerOf (checkedAnswer (m .checked)) ≡ answered (firstOf (optionRows (readOption option))) option
-  checked-is = ap (λ (x : Checked). answerOf (checkedAnswer x)) (reads .checked) ∙ option-rows option
+module _ (option : List ℕ) (m : Pieces) (c : Columns) (reads : Reads option m c) (a : ImageAnswer) (g : a ≡ answerWith (checkedAnswer (m .checked)) 0) where
+  checked-is : checkedAnswer (m .checked) ≡ answered (firstOf (optionRows (readOption option))) option
+  checked-is = ap (λ (x : Checked). checkedAnswer x) (reads .checked) ∙ option-rows option
 
   a-is : a ≡ answerWith (answered (firstOf (optionRows (readOption option))) option) 0
   a-is = g ∙ ap (λ (x : Answer). answerWith x 0) checked-is
@@ -116,7 +116,7 @@ module _ (option : List ℕ) (m : Pieces) (c : Columns) (reads : Reads option m 
     subs : (s : List SuboptionValue) × (readOption option ≡ values.accepted s)
     subs =
         good-reads (readOption option)
-        (sym (ap (λ (x : Checked). answerOf (checkedAnswer x) .number) (reads .checked)) ∙ sym (ap (λ (x : ImageAnswer). x .number) g) ∙ good)
+        (sym (ap (λ (x : Checked). checkedAnswer x .number) (reads .checked)) ∙ sym (ap (λ (x : ImageAnswer). x .number) g) ∙ good)
 
     holding : HoldsOf m c (subs .0)
     holding = reads .holds (subs .0) (subs .1)

@@ -19,7 +19,7 @@ use Rattle.table.specs.declared.LeaseTable.{LeaseTable}
 use Rattle.ledger.specs.Ledger.{Answer, Result, Update, Row, firstOf, orElse, refusal, refuse, refuseUpdate, placeIn, refusalPlace}
 use Rattle.ledger.specs.Sizes.{Bytes}
 use Rattle.ledger.proofs.ReadLaws.{place-short}
-use Rattle.answers.specs.Answers.{answerOf, checkedAnswer, commonRows}
+use Rattle.answers.specs.Answers.{checkedAnswer, commonRows}
 use Rattle.answers.proofs.CommonRows.{first-number, Passed}
 use Rattle.image_check.specs.declared.Book.{Book}
 use Rattle.image_calls.specs.declared.ImageAnswer.{ImageAnswer}
@@ -91,16 +91,16 @@ module _ (buffer : List ℕ) (bytes now client : ℕ) (option : List ℕ) (first
       ap (λ (n : ℕ). keep (answerWith (refusal row n) 0)) (sym no-place)
       ∙ by-row row k (book-refuses buffer bytes now book i client option first own off row e k)
 
-  module _ (z : row ≡ 0) (c : Checked) (f : c ≡ checkedOf (readOption option)) (a : ImageAnswer) (g : a ≡ answerWith (answerOf (checkedAnswer c)) 0) where
-    number-is : a .number ≡ answerOf (checkedAnswer c) .number
+  module _ (z : row ≡ 0) (c : Checked) (f : c ≡ checkedOf (readOption option)) (a : ImageAnswer) (g : a ≡ answerWith (checkedAnswer c) 0) where
+    number-is : a .number ≡ checkedAnswer c .number
     number-is = ap (λ (y : ImageAnswer). y .number) g
 
     -- Rows 6 and 7.
     pub unread : (a .number ≡ 0 → ⊥) → keep a ≡ x
     unread k =
-        let k₁ : answerOf (checkedAnswer c) .number ≡ 0 → ⊥ = λ h. k (number-is ∙ h) in
+        let k₁ : checkedAnswer c .number ≡ 0 → ⊥ = λ h. k (number-is ∙ h) in
         let r = option-refuses buffer bytes now book i client option first own off row e z c f k₁ in
-        ap keep (g ∙ ap (λ (y : Answer). answerWith y 0) (r .1)) ∙ by-row (answerOf (checkedAnswer c) .number) k₁ (r .0)
+        ap keep (g ∙ ap (λ (y : Answer). answerWith y 0) (r .1)) ∙ by-row (checkedAnswer c .number) k₁ (r .0)
 
     module _ (good : a .number ≡ 0) where
       -- What the common rows leave.

@@ -1,11 +1,11 @@
 -- Laws of what an accepted call leaves: the image of the table that the ledger stores, in place.
 -- Assumes nothing.
-use Prim.Native.Nat.{ℕ, _+_, _-_, _*_, _≤_, _<_}
+use Prim.Native.Nat.{ℕ, _+_, _-_, _*_, _≤_}
 use native.Mathlib.Omega.{arith}
-use mathlib.Core.Path.{_≡_, sym, ap, ap₂, subst, _∙_}
+use mathlib.Core.Path.{_≡_, sym, ap, ap₂, _∙_}
 use mathlib.Core.Bool.{true, false}
 use mathlib.Core.List.{List, _++_, append-nil}
-use lib.ListN.{length, set, replicate, length-append, length-replicate, length-set}
+use lib.ListN.{length, replicate, length-append, length-replicate}
 use borrow.Author.Tests.{ltb-true}
 use Rattle.lists.specs.Lists.{All, gather}
 use Rattle.lists.specs.Put.{put}
@@ -21,7 +21,7 @@ use Rattle.image.specs.Image.{leaseRecord, usedPools, imageOf}
 use Rattle.image_check.specs.declared.Book.{Book}
 use Rattle.records.specs.Records.{Records}
 use Rattle.records.proofs.PutForms.{put-over}
-use Rattle.records.proofs.RecordLaws.{length-leases, put-records, put-leases-same, edit-is}
+use Rattle.records.proofs.RecordLaws.{length-leases, put-leases-same}
 use Rattle.ledger.specs.Ledger.{Answer}
 use Rattle.image_calls.specs.ImageCalls.{fullImage, tableIn, answerWith, stored, settled}
 use Rattle.image_calls.proofs.StoreLaws.{settled-accepted}
@@ -63,15 +63,6 @@ pub finished-full : (buffer : List ℕ) (bytes now : ℕ) (book : Book) → Open
 finished-full buffer bytes now book o xs counted edited l n f = omega (arith, f .bytes-are, present-fewer now xs, o .size, o .full)
 
 -- EDITS
-
--- One more lease edited, of leases that were put there.
-pub edited-again : (l : List ℕ) (from : ℕ) (xs : List Lease) → from + 19 * length xs ≤ length l → (l₁ : List ℕ) → l₁ ≡ put l from (gather leaseRecord xs)
-    → (i : ℕ) → i < length xs → (y : Lease) → put l₁ (from + 19 * i) (leaseRecord y) ≡ put l from (gather leaseRecord (set xs i y))
-edited-again l from xs room l₁ e i h y =
-    let here = subst (λ (k : List ℕ). Records k from xs) (sym e) (put-records l from xs room) in
-    edit-is l₁ from xs here i h y
-    ∙ ap (λ (k : List ℕ). put k from (gather leaseRecord (set xs i y))) e
-    ∙ put-over (gather leaseRecord xs) (gather leaseRecord (set xs i y)) l from (omega (arith, length-leases xs, length-leases (set xs i y), length-set xs i y))
 
 -- THE TABLE THAT IS STORED
 

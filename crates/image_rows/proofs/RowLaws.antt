@@ -15,7 +15,7 @@ use Rattle.option.specs.declared.Checked.{Checked}
 use Rattle.table.specs.declared.LeaseTable.{LeaseTable}
 use Rattle.ledger.specs.Ledger.{Answer, Result, Update, Row, firstOf, refusal, refuse, refuseUpdate, refusalPlace}
 use Rattle.ledger.proofs.RowLaws.{first-none}
-use Rattle.answers.specs.Answers.{answerOf, checkedAnswer, commonRows, answered}
+use Rattle.answers.specs.Answers.{checkedAnswer, commonRows, answered}
 use Rattle.answers.proofs.CommonRows.{option-rows, first-number, first-before, first-after, Passed, passed-common}
 use Rattle.image_check.specs.declared.Book.{Book}
 use Rattle.image_calls.specs.declared.ImageAnswer.{ImageAnswer}
@@ -102,25 +102,25 @@ module _ (buffer : List ℕ) (bytes now : ℕ) (book : Book) (i : BookIn buffer 
       option-is = rest-is ∙ first-after (bookRows book client now) (optionRows (readOption option) ++ own) none-of-book
 
       module _ (c : Checked) (f : c ≡ checkedOf (readOption option)) where
-        answer-is : answerOf (checkedAnswer c) ≡ answered (firstOf (optionRows (readOption option))) option
-        answer-is = ap (λ (x : Checked). answerOf (checkedAnswer x)) f ∙ option-rows option
+        answer-is : checkedAnswer c ≡ answered (firstOf (optionRows (readOption option))) option
+        answer-is = ap (λ (x : Checked). checkedAnswer x) f ∙ option-rows option
 
         -- The answer is that of the row that applies.
-        pub option-refuses : (answerOf (checkedAnswer c) .number ≡ 0 → ⊥)
-            → (firstOf (first ++ (commonRows (tableIn buffer bytes) now client option ++ own)) ≡ some (answerOf (checkedAnswer c) .number))
-            × (answerOf (checkedAnswer c) ≡ refusal (answerOf (checkedAnswer c) .number) (refusalPlace option (answerOf (checkedAnswer c) .number)))
+        pub option-refuses : (checkedAnswer c .number ≡ 0 → ⊥)
+            → (firstOf (first ++ (commonRows (tableIn buffer bytes) now client option ++ own)) ≡ some (checkedAnswer c .number))
+            × (checkedAnswer c ≡ refusal (checkedAnswer c .number) (refusalPlace option (checkedAnswer c .number)))
         option-refuses k = go (firstOf (optionRows (readOption option))) refl
           where
             go : (o : Option ℕ) → firstOf (optionRows (readOption option)) ≡ o
-                → (firstOf (first ++ (commonRows (tableIn buffer bytes) now client option ++ own)) ≡ some (answerOf (checkedAnswer c) .number))
-                × (answerOf (checkedAnswer c) ≡ refusal (answerOf (checkedAnswer c) .number) (refusalPlace option (answerOf (checkedAnswer c) .number)))
+                → (firstOf (first ++ (commonRows (tableIn buffer bytes) now client option ++ own)) ≡ some (checkedAnswer c .number))
+                × (checkedAnswer c ≡ refusal (checkedAnswer c .number) (refusalPlace option (checkedAnswer c .number)))
             go none g = absurd (k (ap (λ (x : Answer). x .number) (answer-is ∙ ap (λ (o : Option ℕ). answered o option) g)))
             go (some n) g =
-                let whole : answerOf (checkedAnswer c) ≡ refusal n (refusalPlace option n) = answer-is ∙ ap (λ (o : Option ℕ). answered o option) g in
-                let number : answerOf (checkedAnswer c) .number ≡ n = ap (λ (x : Answer). x .number) whole in
+                let whole : checkedAnswer c ≡ refusal n (refusalPlace option n) = answer-is ∙ ap (λ (o : Option ℕ). answered o option) g in
+                let number : checkedAnswer c .number ≡ n = ap (λ (x : Answer). x .number) whole in
                 (option-is ∙ first-before (optionRows (readOption option)) own n g ∙ ap some (sym number), whole ∙ ap (λ (m : ℕ). refusal m (refusalPlace option m)) (sym number))
 
-        module _ (good : answerOf (checkedAnswer c) .number ≡ 0) where
+        module _ (good : checkedAnswer c .number ≡ 0) where
           none-of-option : firstOf (optionRows (readOption option)) ≡ none
           none-of-option = go (firstOf (optionRows (readOption option))) refl
             where

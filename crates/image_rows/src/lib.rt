@@ -12,7 +12,7 @@ ghost use Rattle.table.specs.Table.{present};
 ghost use Rattle.option.specs.Answers.{placeOf};
 ghost use Rattle.records.specs.Records.{Records, ExpiredIn};
 ghost use Rattle.ledger.specs.Ledger.{firstOf};
-ghost use Rattle.answers.specs.Answers.{answerOf, checkedAnswer};
+ghost use Rattle.answers.specs.Answers.{checkedAnswer};
 ghost use Rattle.image_calls.specs.ImageCalls.{answerWith};
 ghost use Rattle.image_rows.specs.Opened.{bookRows, timeRows, numberOf, BookIn, Finished};
 
@@ -66,7 +66,7 @@ pub fn check_time(book: Book, time: u32) -> u32
 // Rows 6 and 7, as the reader found them; number 0 where the option is good.
 pub fn of_option(c: Checked) -> ImageAnswer
     requires { ⌜ placeOf c ≤ 257 ⌝ }
-    ensures { λ r. ⌜ r ≡ answerWith (answerOf (checkedAnswer c)) 0 ⌝ }
+    ensures { λ r. ⌜ r ≡ answerWith (checkedAnswer c) 0 ⌝ }
 {
     match c {
         Checked::Good => image_calls::refused(0, 0),

@@ -24,7 +24,7 @@ use Rattle.table.specs.Table.{present, sound}
 use Rattle.image.specs.Image.{usedLeases}
 use Rattle.ledger.specs.Ledger.{Request, Answer, Result, Row, firstOf, refusal, acceptance, accept, nothing?, suboptions, requests, requestsIn, entryOf, forList, refusalPlace, position, listed, listedIn, listRows, list}
 use Rattle.ledger.specs.Sizes.{Bytes}
-use Rattle.answers.specs.Answers.{answerOf, checkedAnswer, commonRows}
+use Rattle.answers.specs.Answers.{checkedAnswer, commonRows}
 use Rattle.ledger.proofs.RowLaws.{nothing-none, nothing-some}
 use Rattle.answers.proofs.CommonRows.{Passed}
 use Rattle.reply.specs.Reply.{replyBytes}
@@ -138,7 +138,7 @@ module _ (buffer : List ℕ) (bytes now client : ℕ) (option reply : List ℕ) 
     pub list-closed : (row ≡ 0 → ⊥) → (answerWith (refusal row 0) 0, buffer, reply) ≡ listImage buffer bytes client now option reply
     list-closed = closed buffer bytes now client option first rows keep result by-row off book i row e
 
-    module _ (z : row ≡ 0) (m : Pieces) (c : Columns) (r : Reads option m c) (a : ImageAnswer) (g : a ≡ answerWith (answerOf (checkedAnswer (m .checked))) 0) where
+    module _ (z : row ≡ 0) (m : Pieces) (c : Columns) (r : Reads option m c) (a : ImageAnswer) (g : a ≡ answerWith (checkedAnswer (m .checked)) 0) where
       pub list-unread : (a .number ≡ 0 → ⊥) → (a, buffer, reply) ≡ listImage buffer bytes client now option reply
       list-unread = unread buffer bytes now client option first rows keep result by-row off book i row e z (m .checked) (r .checked) a g
 

@@ -86,10 +86,6 @@ pub pairwise-image : {A B : Type 0} (f : A → B) (R : B → B → Type 0) (xs :
 pairwise-image f R [] p = tt
 pairwise-image f R (x ∷ xs) p = (all-image f (R (f x)) xs (p .0), pairwise-image f R xs (p .1))
 
-pub pairwise-preimage : {A B : Type 0} (f : A → B) (R : B → B → Type 0) (xs : List A) → Pairwise R (map f xs) → Pairwise (λ x y. R (f x) (f y)) xs
-pairwise-preimage f R [] p = tt
-pairwise-preimage f R (x ∷ xs) p = (all-preimage f (R (f x)) xs (p .0), pairwise-preimage f R xs (p .1))
-
 pub holds-map : {A : Type 0} {P Q : A → Type 0} → ((x : A) → P x → Q x) → (o : Option A) → Holds P o → Holds Q o
 holds-map f none a = tt
 holds-map f (some x) a = f x a

@@ -6,25 +6,21 @@ use mathlib.Core.Path.{_≡_, sym, ap, subst, _∙_}
 use mathlib.Core.Logic.{⊎-elim}
 use mathlib.Core.Bool.{Bool, true, false, not}
 use mathlib.Core.List.{List, [], _∷_, _++_, append-assoc}
-use lib.ListN.{length, getD, set, take, drop, length-append, take-append-drop}
-use lib.Seq.{drop-at, map-set-same}
-use lib.Dec.{ltb}
-use borrow.Author.Tests.{ltb-true, ltb-false}
-use Rattle.lists.specs.Lists.{All, Pairwise, those, gather}
-use Rattle.lists.specs.Sorting.{insertBy}
+use lib.ListN.{length, take, drop, length-append, take-append-drop}
+use lib.Seq.{drop-at}
+use Rattle.lists.specs.Lists.{those, gather}
 use Rattle.lists.proofs.Tests.{bool-cases}
-use Rattle.lists.proofs.ListLaws.{all-map, pairwise-image, pairwise-preimage}
+use Rattle.lists.proofs.ListLaws.{all-map}
 use Rattle.lists.proofs.ThoseLaws.{those-yes, those-no, those-all, those-fewer}
-use Rattle.lists.proofs.SortingLaws.{insertBy-before, insertBy-after, insertBy-all}
 use Rattle.prefix.proofs.PrefixLaws.{size-positive}
 use Rattle.table.specs.declared.Lease.{Lease}
 use Rattle.table.specs.declared.LeaseTable.{LeaseTable}
-use Rattle.table.specs.Table.{poolSlots, leaseSlots, noLease, unused?, empty?, prefixOf, networkOf, present, sound, insert}
+use Rattle.table.specs.Table.{poolSlots, leaseSlots, unused?, empty?, prefixOf, present, sound}
 use Rattle.table.proofs.Ascending.{ascending-low}
 use Rattle.table.proofs.Ascending as table
 use Rattle.table.proofs.TableLaws.{sound-used, sound-fine, sound-slots, sound-pool-slots, present-padded, present?}
 use Rattle.image.specs.Image.{headRecord, poolRecord, leaseRecord, usedPools, usedLeases, headOf, imageOf}
-use Rattle.image.proofs.ImageLaws.{length-head, length-pool, length-gather, length-image, table-whole}
+use Rattle.image.proofs.ImageLaws.{length-head, length-pool, length-gather, table-whole}
 use Rattle.records.specs.Records.{Records, Ascending}
 use Rattle.records.proofs.RecordLaws.{length-leases}
 
@@ -53,29 +49,6 @@ module _ (f : Lease → Bool) where
 pub ascending-present : (time : ℕ) (xs : List Lease) → Ascending xs → Ascending (present time xs)
 unfolding present
 ascending-present time xs a = ascending-those (present? time) xs a
-
--- One edited in what is not its network.
-pub ascending-set : (xs : List Lease) (i : ℕ) (y : Lease) → y .network ≡ getD xs i noLease .network → Ascending xs → Ascending (set xs i y)
-unfolding Ascending
-ascending-set xs i y e a =
-    pairwise-preimage networkOf _<_ (set xs i y)
-    (subst (Pairwise _<_) (sym (map-set-same networkOf xs i y noLease e)) (pairwise-image networkOf _<_ xs a))
-
--- One inserted whose network none has.
-pub ascending-insert : (x : Lease) (xs : List Lease) → All (λ y. y .network ≡ x .network → ⊥) xs → Ascending xs → Ascending (insert x xs)
-unfolding Ascending insertBy
-ascending-insert x [] n a = (tt, tt)
-ascending-insert x (y ∷ ys) n a =
-    ⊎-elim
-    (λ (h : ltb (x .network) (y .network) ≡ true).
-    let below = ltb-true (x .network) (y .network) h in
-    subst Ascending (sym (insertBy-before networkOf x y ys h)) ((below, all-map (λ z (g : y .network < z .network). omega arith) ys (a .0)), a))
-    (λ (h : ltb (x .network) (y .network) ≡ false).
-    let upTo = ltb-false (x .network) (y .network) h in
-    let above : y .network < x .network = let apart = n .0 in omega arith in
-    subst Ascending (sym (insertBy-after networkOf x y ys h))
-    (insertBy-all networkOf (λ z. y .network < z .network) x ys above (a .0), ascending-insert x ys (n .1) (a .1)))
-    (bool-cases (ltb (x .network) (y .network)))
 
 -- THE LEASES OF A TABLE
 
@@ -116,6 +89,3 @@ module _ (t : LeaseTable) (l : List ℕ) (bytes : ℕ) (e : imageOf t ≡ take b
       ∙ drop-at (head ++ pools) (leases ++ rest) from front
       ∙ ap (λ (s : List ℕ). leases ++ s)
       (sym (ap (drop (from + 19 * length (usedLeases t))) (here ∙ sym (append-assoc (head ++ pools) leases rest)) ∙ drop-at ((head ++ pools) ++ leases) rest (from + 19 * length (usedLeases t)) after))
-
-  pub image-within : 13 + 9 * length (usedPools t) + 19 * length (usedLeases t) ≤ length l
-  image-within = omega (arith, length-image t, ap length e, ap length (take-append-drop bytes l), length-append (take bytes l) (drop bytes l))

@@ -272,8 +272,7 @@ pub fn remove_expired(
 
 // FINDING AND INSERTING
 
-// How many of n leases that ascend have a network up to this one: the place after them, found by halving. The test in the loop only
-// chooses a number, so it costs no branch that the processor cannot foresee.
+// How many of n leases that ascend have a network up to this one: the place after them, found by halving.
 pub fn place_after(image: &[u8], from: usize, n: usize, network: u32) -> usize
     requires { ⌜ from + 19 * n ≤ length (now image) ⌝ }
     ensures { λ r. ⌜ r ≤ n ⌝ }

@@ -6,7 +6,7 @@ use native.Mathlib.Omega.{arith}
 use borrow.Author.Needs.{needs}
 use Rattle.option.specs.Answers.{placeOf}
 use Rattle.option.specs.declared.Checked.{Checked}
-use Rattle.answers.specs.Answers.{answerOf, checkedAnswer}
+use Rattle.answers.specs.Answers.{checkedAnswer}
 use Rattle.image_calls.specs.ImageCalls.{answerWith}
 use Rattle.image_rows.proofs.of_option.Statement.{statement}
 use Rattle.image_rows.proofs.of_option.Tie as tie
@@ -33,13 +33,13 @@ refused-requires-3 : tie.Need-refused-requires-3
 refused-requires-3 c κs = search needs
 
 returns : tie.Need-returns
-returns c = c .refused .ensures ∙ sym (ap (λ (x : Checked). answerWith (answerOf (checkedAnswer x)) 0) (c .before .enum-told .given .1))
+returns c = c .refused .ensures ∙ sym (ap (λ (x : Checked). answerWith (checkedAnswer x) 0) (c .before .enum-told .given .1))
 
 returns-2 : tie.Need-returns-2
-returns-2 c = c .refused2 .ensures ∙ sym (ap (λ (x : Checked). answerWith (answerOf (checkedAnswer x)) 0) (c .before .enum-told2 .given .1))
+returns-2 c = c .refused2 .ensures ∙ sym (ap (λ (x : Checked). answerWith (checkedAnswer x) 0) (c .before .enum-told2 .given .1))
 
 returns-3 : tie.Need-returns-3
-returns-3 c = c .refused3 .ensures ∙ sym (ap (λ (x : Checked). answerWith (answerOf (checkedAnswer x)) 0) (c .before .before .c .given .1))
+returns-3 c = c .refused3 .ensures ∙ sym (ap (λ (x : Checked). answerWith (checkedAnswer x) 0) (c .before .before .c .given .1))
 
 pub of-option-spec : {M : Type 1} → statement M
 of-option-spec =
