@@ -7,8 +7,8 @@ use mathlib.Core.Bool.{Bool, true, false, _&&_, cond, true≢false}
 use mathlib.Core.List.{List, [], _∷_}
 use mathlib.Core.Option.{none, some}
 use native.Mathlib.Omega.{arith}
-use lib.ListN.{length, drop, length-drop}
-use lib.Seq.{drop-drop}
+use lib.ListN.{length, drop, getD, length-drop}
+use lib.Seq.{drop-drop, getD-drop}
 use lib.Dec.{leb, eqb}
 use borrow.Author.Tests.{le-leb, leb-true, eqb-true, eq-eqb, not-true}
 use Rattle.lists.specs.Lists.{every}
@@ -40,6 +40,13 @@ module _ (p : Pool) where
       ⊎-elim (λ (b : poolOk p ≡ true). (b, e ∙ cond-true (poolOk p) (end (poolPrefix p)) 0 b))
       (λ (b : poolOk p ≡ false). absurd (h (e ∙ cond-false (poolOk p) (end (poolPrefix p)) 0 b)))
       (bool-cases (poolOk p))
+
+-- A number at a place, and from there on.
+pub number-at : (s : List ℕ) (at k : ℕ) → number32 (drop at s) k ≡ number32 s (at + k)
+unfolding number32
+number-at s at k =
+    let digit : (i : ℕ) → getD (drop at s) (k + i) 0 ≡ getD s (at + k + i) 0 = λ i. getD-drop at s (k + i) 0 ∙ ap (λ (j : ℕ). getD s j 0) (omega arith) in
+    omega (arith, getD-drop at s k 0, digit 1, digit 2, digit 3)
 
 pub begins-long : (s : List ℕ) → poolBegins? s ≡ true → 9 ≤ length s
 begins-long s e = leb-true 9 (length s) (every-to (leb poolSize (length s) ∷ eqb (number32 s 0) poolStart ∷ []) e .0)

@@ -9,7 +9,7 @@ ghost use mathlib.Core.Path.{_≡_};
 ghost use mathlib.Core.Bool.{cond};
 ghost use mathlib.Core.Option.{some};
 ghost use Prim.Native.Nat.{ℕ, _+_, _*_, _≤_, _<_};
-ghost use lib.ListN.{length};
+ghost use lib.ListN.{length, drop};
 ghost use Rattle.image.specs.declared.Head.{Head};
 ghost use Rattle.table.specs.Table.{unused?};
 ghost use Rattle.image.specs.Image.{poolIn, poolsAt, afterHead, loadImage};
@@ -65,23 +65,24 @@ fn pool_end(p: Pool) -> u64
 // The first four bytes of a pool record: its length 7 and its kind 2.
 const POOL_START: u32 = 131079;
 
-// Whether a pool record begins here, be it of an unused slot.
-fn pool_begins(s: &[u8]) -> bool
-    ensures { λ r. ⌜ r ≡ poolBegins? (now (s .entry)) ⌝ }
+// Whether a pool record begins at a place, be it of an unused slot.
+fn pool_begins(s: &[u8], at: usize) -> bool
+    requires { ⌜ at ≤ 72 ⌝ }
+    ensures { λ r. ⌜ r ≡ poolBegins? (drop at (now (s .entry))) ⌝ }
 {
-    if s.len() < 9 {
+    if s.len() < at + 9 {
         return false;
     }
-    image::read32(s, 0) == POOL_START
+    image::read32(s, at) == POOL_START
 }
 
-fn pool_in(s: &[u8]) -> Pool
-    requires { ⌜ 9 ≤ length (now s) ⌝ }
-    ensures { λ r. ⌜ r ≡ poolIn (now (s .entry)) ⌝ }
+fn pool_in(s: &[u8], at: usize) -> Pool
+    requires { ⌜ at + 9 ≤ length (now s) ⌝ }
+    ensures { λ r. ⌜ r ≡ poolIn (drop at (now (s .entry))) ⌝ }
 {
     Pool {
-        network: image::read32(s, 4),
-        length: s[8],
+        network: image::read32(s, at + 4),
+        length: s[at + 8],
     }
 }
 
@@ -104,10 +105,10 @@ fn pools_in(s: &[u8]) -> usize
     let mut n: usize = 0;
     while n < POOLS {
         let at = 9 * n;
-        if !pool_begins(&s[at..]) {
+        if !pool_begins(s, at) {
             return n;
         }
-        let p = pool_in(&s[at..]);
+        let p = pool_in(s, at);
         if (p.network as u64) < from {
             return counted_before(p, n);
         }

@@ -3,26 +3,35 @@
 use Prim.Native.Nat.{ℕ}
 use mathlib.Core.Path.{_≡_, sym, ap, _∙_}
 use mathlib.Core.Bool.{and-true}
-use lib.ListN.{length}
+use native.Mathlib.Nat.{add-zero}
+use native.Mathlib.Omega.{arith}
+use lib.ListN.{length, drop, length-drop}
 use Rattle.image.specs.Fields.{number32}
 use lib.Dec.{eqb}
 use borrow.Author.Tests.{le-leb, lt-leb}
 use Rattle.image_check.specs.Inner.{poolStart}
+use Rattle.image_check.proofs.PoolLaws.{number-at}
 use borrow.Author.Needs.{needs}
 use Rattle.image_check.proofs.pool_begins.Statement.{statement}
 use Rattle.image_check.proofs.pool_begins.Tie as tie
 
+add-if1 : tie.Need-add-if1
+add-if1 c = search needs
+
 returns : tie.Need-returns
-returns c = rw (lt-leb 9 (length (c .before .before .args .s .now)) (c .if1 .taken))
+returns c =
+    let a = c .before .before .args in
+    rw (lt-leb 9 (length (drop (a .at) (a .s .now))) (omega (arith, length-drop (a .at) (a .s .now), c .if1 .taken)))
 
 read32-requires : tie.Need-read32-requires
 read32-requires c κs = search needs
 
 returns-2 : tie.Need-returns-2
 returns-2 c =
-    let s = c .before .before .before .args .s .now in
-    let e : c .read32 .result ≡ number32 s 0 = c .read32 .ensures in
-    rw (le-leb 9 (length s) (c .before .if1 .left)) (ap (λ (n : ℕ). eqb n poolStart) e ∙ sym (and-true (eqb (number32 s 0) poolStart)))
+    let a = c .before .before .before .args in
+    let u = drop (a .at) (a .s .now) in
+    let e : c .read32 .result ≡ number32 u 0 = c .read32 .ensures ∙ ap (number32 (a .s .now)) (sym (add-zero (a .at))) ∙ sym (number-at (a .s .now) (a .at) 0) in
+    rw (le-leb 9 (length u) (omega (arith, length-drop (a .at) (a .s .now), c .before .if1 .left))) (ap (λ (n : ℕ). eqb n poolStart) e ∙ sym (and-true (eqb (number32 u 0) poolStart)))
 
 pub pool-begins-spec : {M : Type 1} → statement M
-pool-begins-spec = tie.close (tie.spec returns read32-requires returns-2)
+pool-begins-spec = tie.close (tie.spec add-if1 returns read32-requires returns-2)

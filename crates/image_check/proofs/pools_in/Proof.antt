@@ -1,16 +1,15 @@
 -- `image_check::pools_in` meets its contract: what is left to test and to count is what the bytes from the n-th pool on hold.
 -- Assumes nothing.
-use Prim.Native.Nat.{ℕ, _-_, _*_, _≤_}
-use mathlib.Core.Path.{_≡_, sym, ap, subst, _∙_}
+use Prim.Native.Nat.{ℕ, _-_, _*_}
+use mathlib.Core.Path.{_≡_, sym, _∙_}
 use mathlib.Core.Bool.{true, false}
 use mathlib.Core.List.{List}
-use lib.ListN.{length, drop}
+use lib.ListN.{drop, length-drop}
 use borrow.Author.Tests.{not-true, not-false}
 use Rattle.table.specs.Table.{poolSlots}
 use Rattle.image.specs.Image.{poolIn}
 use Rattle.image.proofs.FieldLaws.{Bytes, bytes-drop}
 use Rattle.image_check.specs.Inner.{poolBegins?}
-use Rattle.image_check.proofs.RunLaws.{part-rest}
 use Rattle.image_check.proofs.PoolLaws.{end-bad, begins-long, begins-not, PoolsRead, pools-none, pools-stop, pools-full, pools-stopped, pools-good}
 use borrow.Author.Needs.{needs}
 use native.Mathlib.Omega.{arith}
@@ -25,10 +24,10 @@ abbrev μ-loop : tie.MeasureT-loop
 
 -- Places further back in the code: where a pool was read, and the loop.
 abbrev begun-at : tie.After-pool-in Inv-loop μ-loop → tie.After-pool-begins Inv-loop μ-loop
-begun-at c = c .before .before .before
+begun-at c = c .before .before
 
 abbrev loop-at : tie.After-pool-begins Inv-loop μ-loop → tie.At-loop Inv-loop μ-loop
-loop-at c = c .before .before .before
+loop-at c = c .before .before
 
 abbrev bytes-of : tie.At-loop Inv-loop μ-loop → List ℕ
 bytes-of c = c .before .before .args .s .now
@@ -40,25 +39,16 @@ bytes c = λ i. omega (arith, c .before .shared-slice-known .given i)
 begins : (c : tie.Else1 Inv-loop μ-loop) → let at = loop-at (c .before) in poolBegins? (drop (9 * at .loop .n) (bytes-of at)) ≡ true
 begins c =
     let at = loop-at (c .before) in
-    ap poolBegins? (sym (part-rest (bytes-of at) (9 * at .loop .n))) ∙ sym (c .before .pool-begins .ensures) ∙ not-false _ (c .if1 .left)
+    sym (c .before .pool-begins .ensures) ∙ not-false _ (c .if1 .left)
 
 pool : (c : tie.After-pool-in Inv-loop μ-loop) → let at = loop-at (begun-at c) in c .pool-in .result ≡ poolIn (drop (9 * at .loop .n) (bytes-of at))
-pool c = let at = loop-at (begun-at c) in c .pool-in .ensures ∙ ap poolIn (part-rest (bytes-of at) (9 * at .loop .n))
+pool c = c .pool-in .ensures
 
 loop-holds : tie.Need-loop-holds Inv-loop μ-loop
 loop-holds c = pools-none (c .before .args .s .now)
 
 mul-at : tie.Need-mul-at Inv-loop μ-loop
 mul-at c = search needs
-
-sub-pool-begins : tie.Need-sub-pool-begins Inv-loop μ-loop
-sub-pool-begins c = search needs
-
-part-pool-begins-start : tie.Need-part-pool-begins-start Inv-loop μ-loop
-part-pool-begins-start c = search needs
-
-part-pool-begins-end : tie.Need-part-pool-begins-end Inv-loop μ-loop
-part-pool-begins-end c = search needs
 
 pool-begins-requires : tie.Need-pool-begins-requires Inv-loop μ-loop
 pool-begins-requires c κs = search needs
@@ -68,23 +58,14 @@ returns c =
     let at = loop-at (c .before) in
     let s = bytes-of at in
     let l = at .loop in
-    let none : poolBegins? (drop (9 * l .n) s) ≡ false = ap poolBegins? (sym (part-rest s (9 * l .n))) ∙ sym (c .before .pool-begins .ensures) ∙ not-true _ (c .if1 .taken) in
+    let none : poolBegins? (drop (9 * l .n) s) ≡ false = sym (c .before .pool-begins .ensures) ∙ not-true _ (c .if1 .taken) in
     pools-stop s (l .from) (l .n) (l .inv) (begins-not (drop (9 * l .n) s) (bytes-drop (9 * l .n) s (bytes at)) none)
-
-sub-pool-in : tie.Need-sub-pool-in Inv-loop μ-loop
-sub-pool-in c = search needs
-
-part-pool-in-start : tie.Need-part-pool-in-start Inv-loop μ-loop
-part-pool-in-start c = search needs
-
-part-pool-in-end : tie.Need-part-pool-in-end Inv-loop μ-loop
-part-pool-in-end c = search needs
 
 pool-in-requires : tie.Need-pool-in-requires Inv-loop μ-loop
 pool-in-requires c κs =
-    let at = loop-at (c .before .before) in
+    let at = loop-at (c .before) in
     let s = bytes-of at in
-    subst (λ (u : List ℕ). 9 ≤ length u) (sym (part-rest s (9 * at .loop .n))) (begins-long (drop (9 * at .loop .n) s) (begins (c .before)))
+    omega (arith, begins-long (drop (9 * at .loop .n) s) (begins c), length-drop (9 * at .loop .n) s)
 
 cast-if2 : tie.Need-cast-if2 Inv-loop μ-loop
 cast-if2 c = search needs
@@ -97,7 +78,7 @@ returns-2 c =
     let read = c .before .before .before in
     let at = loop-at (begun-at read) in
     let l = at .loop in
-    c .counted-before .ensures ∙ pools-stopped (bytes-of at) (bytes at) (l .from) (l .n) (l .inv) (omega arith) (begins (read .before .before)) (read .pool-in .result) (pool read) (λ a o. omega arith)
+    c .counted-before .ensures ∙ pools-stopped (bytes-of at) (bytes at) (l .from) (l .n) (l .inv) (omega arith) (begins (read .before)) (read .pool-in .result) (pool read) (λ a o. omega arith)
 
 pool-end-requires : tie.Need-pool-end-requires Inv-loop μ-loop
 pool-end-requires c κs = search needs
@@ -112,7 +93,7 @@ returns-3 c =
     let at = loop-at (begun-at read) in
     let l = at .loop in
     let p = read .pool-in .result in
-    c .counted-before2 .ensures ∙ pools-stopped (bytes-of at) (bytes at) (l .from) (l .n) (l .inv) (omega arith) (begins (read .before .before)) p (pool read) (λ a o. end-bad p (sym (c .before .if3 .taken) ∙ ended .pool-end .ensures) o)
+    c .counted-before2 .ensures ∙ pools-stopped (bytes-of at) (bytes at) (l .from) (l .n) (l .inv) (omega arith) (begins (read .before)) p (pool read) (λ a o. end-bad p (sym (c .before .if3 .taken) ∙ ended .pool-end .ensures) o)
 
 add-n : tie.Need-add-n Inv-loop μ-loop
 add-n c = search needs
@@ -126,7 +107,7 @@ loop-again c =
     let read = ended .before .before .before in
     let at = loop-at (begun-at read) in
     let l = at .loop in
-    pools-good (bytes-of at) (bytes at) (l .from) (l .n) (l .inv) (omega arith) (begins (read .before .before)) (read .pool-in .result) (pool read) (ended .pool-end .result) (ended .pool-end .ensures) (c .if3 .left) (omega arith)
+    pools-good (bytes-of at) (bytes at) (l .from) (l .n) (l .inv) (omega arith) (begins (read .before)) (read .pool-in .result) (pool read) (ended .pool-end .result) (ended .pool-end .ensures) (c .if3 .left) (omega arith)
 
 returns-4 : tie.Need-returns-4 Inv-loop μ-loop
 returns-4 c = let l = c .before .loop in pools-full (bytes-of (c .before)) (l .from) (l .n) (l .inv) (omega arith)
@@ -139,14 +120,8 @@ pools-in-spec =
     μ-loop
     loop-holds
     mul-at
-    sub-pool-begins
-    part-pool-begins-start
-    part-pool-begins-end
     pool-begins-requires
     returns
-    sub-pool-in
-    part-pool-in-start
-    part-pool-in-end
     pool-in-requires
     cast-if2
     counted-before-requires
