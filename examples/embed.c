@@ -1,11 +1,11 @@
 /*
  * The loop of a DHCP server in small, with Flockdrift embedded: build it with
  *
- *     cc -std=c99 -Iinclude examples/embed.c target/staticlib/libcapi.a -o embed
+ *     cc -std=c99 -Iinclude examples/embed.c target/staticlib/libflockdrift.a -o embed
  *     ./embed DIRECTORY [STOP-AFTER] < messages
  *
- * The lease table is the file `leases` in DIRECTORY, an image as the library makes it. Each line of standard input stands
- * for a message or for a word from the operator, and its answer goes to standard output, both in the console's words:
+ * The lease table is the file `leases` in DIRECTORY, as the library saves it. Each line of standard input stands for a
+ * message or for a word from the operator, and its answer goes to standard output, both in the console's words:
  *
  *     open TERM DEFAULT START PREFIX..       a new table
  *     ask|take|list|return CLIENT NOW OPTION the option in hexadecimal
@@ -41,8 +41,9 @@ enum {
 struct server {
     int directory; /* where the image is kept */
     unsigned long stop_after;
+    uint8_t image[FLOCKDRIFT_IMAGE_CAPACITY];
     size_t bytes; /* the length of the image; 0 where there is none yet, which no call takes for an image */
-    uint8_t image[FLOCKDRIFT_IMAGE_CAPACITY + 1]; /* one byte more shows a file that is longer than any image */
+    uint8_t saved[FLOCKDRIFT_IMAGE_CAPACITY + 1]; /* one byte more shows a file that is longer than any image */
     char text[FLOCKDRIFT_TEXT_CAPACITY];
 };
 
@@ -65,21 +66,22 @@ static int failed(int fd)
     return -1;
 }
 
-/* Reads the image, or finds that there is none yet. A file that is no image is an error, and stays for the operator to see. */
+/* Loads the image, or finds that there is none yet. A file that is no image is an error, and stays for the operator. */
 static int read_image(struct server *s)
 {
+    size_t bytes = 0;
     ssize_t n;
     int fd = openat(s->directory, "leases", O_RDONLY | O_CLOEXEC);
 
     s->bytes = 0;
     if (fd < 0)
         return errno == ENOENT ? 0 : -1;
-    while ((n = read(fd, s->image + s->bytes, sizeof s->image - s->bytes)) != 0)
+    while ((n = read(fd, s->saved + bytes, sizeof s->saved - bytes)) != 0)
         if (n > 0)
-            s->bytes += (size_t)n;
+            bytes += (size_t)n;
         else if (errno != EINTR)
             return failed(fd);
-    if (flockdrift_sheet(s->image, s->bytes, s->text, sizeof s->text).number != 0) {
+    if (flockdrift_load(s->image, sizeof s->image, &s->bytes, s->saved, bytes).number != 0) {
         errno = EBADMSG;
         return failed(fd);
     }
@@ -102,15 +104,24 @@ static int write_all(struct server *s, int fd, const uint8_t *from, size_t bytes
     return 0;
 }
 
-/* Puts the image in the place of the old one: after this returns 0 it is there, and after a crash it is one of the two. */
+/*
+ * Puts the image in the place of the old one: after this returns 0 it is there, and after a crash it is one of the two.
+ * Save checks once more what goes to the disk, so that a fault elsewhere in the server does not take the good file's place.
+ */
 static int write_image(struct server *s)
 {
-    int fd = openat(s->directory, "leases.new", O_WRONLY | O_CREAT | O_TRUNC | O_CLOEXEC, 0600);
+    struct flockdrift_answer a = flockdrift_save(s->image, sizeof s->image, s->bytes, s->saved, sizeof s->saved);
+    int fd;
 
+    if (a.number != 0) {
+        errno = EBADMSG;
+        return -1;
+    }
+    fd = openat(s->directory, "leases.new", O_WRONLY | O_CREAT | O_TRUNC | O_CLOEXEC, 0600);
     if (fd < 0)
         return -1;
     step(s);
-    if (write_all(s, fd, s->image, s->bytes) != 0 || fsync(fd) != 0)
+    if (write_all(s, fd, s->saved, a.bytes) != 0 || fsync(fd) != 0)
         return failed(fd);
     step(s);
     if (close(fd) != 0)
@@ -244,14 +255,14 @@ static int call(struct server *s, const char *verb, char *rest, struct flockdrif
                 return -1;
             n++;
         }
-        *a = flockdrift_open(s->image, sizeof s->image, networks, n, lengths, n, term, length, now);
+        *a = flockdrift_open(s->image, sizeof s->image, &s->bytes, networks, n, lengths, n, term, length, now);
         return 0;
     }
     if (strcmp(verb, "mark") == 0) {
         if (number(word(&rest), &now) != 0 || prefix(word(&rest), &network, &lengths[0]) != 0 ||
             number(word(&rest), &flag) != 0 || flag > 1 || word(&rest) != NULL)
             return -1;
-        *a = flockdrift_mark(s->image, sizeof s->image, s->bytes, network, lengths[0], flag, now);
+        *a = flockdrift_mark(s->image, sizeof s->image, &s->bytes, network, lengths[0], flag, now);
         return 0;
     }
     if (strcmp(verb, "sheet") == 0) {
@@ -264,16 +275,16 @@ static int call(struct server *s, const char *verb, char *rest, struct flockdrif
         octets(word(&rest), option, &bytes) != 0 || word(&rest) != NULL)
         return -1;
     if (strcmp(verb, "ask") == 0)
-        *a = flockdrift_ask(s->image, sizeof s->image, s->bytes, client, now, option, bytes, reply,
+        *a = flockdrift_ask(s->image, sizeof s->image, &s->bytes, client, now, option, bytes, reply,
                             FLOCKDRIFT_REPLY_CAPACITY);
     else if (strcmp(verb, "take") == 0)
-        *a = flockdrift_take(s->image, sizeof s->image, s->bytes, client, now, option, bytes, reply,
+        *a = flockdrift_take(s->image, sizeof s->image, &s->bytes, client, now, option, bytes, reply,
                              FLOCKDRIFT_REPLY_CAPACITY);
     else if (strcmp(verb, "list") == 0)
         *a = flockdrift_list(s->image, sizeof s->image, s->bytes, client, now, option, bytes, reply,
                              FLOCKDRIFT_REPLY_CAPACITY);
     else if (strcmp(verb, "return") == 0)
-        *a = flockdrift_release(s->image, sizeof s->image, s->bytes, client, now, option, bytes);
+        *a = flockdrift_release(s->image, sizeof s->image, &s->bytes, client, now, option, bytes);
     else
         return -1;
     return 0;
@@ -294,11 +305,8 @@ static int serve(struct server *s, char *line, unsigned long count)
         return fflush(stdout);
     }
     step(s);
-    if (a.number == 0 && strcmp(verb, "list") != 0 && strcmp(verb, "sheet") != 0) {
-        s->bytes = a.image_bytes;
-        if (write_image(s) != 0)
-            return -1;
-    }
+    if (a.number == 0 && strcmp(verb, "list") != 0 && strcmp(verb, "sheet") != 0 && write_image(s) != 0)
+        return -1;
     show(s, a, verb, reply);
     if (fflush(stdout) != 0)
         return -1;

@@ -1,6 +1,6 @@
 //! The loop of a DHCP server in small, with Flockdrift embedded: the same as embed.c, from Rust. Build it with
 //!
-//!     rustc --edition 2021 -O -L native=target/staticlib -l static=capi examples/embed.rs -o embed
+//!     rustc --edition 2021 -O -L native=target/staticlib -l static=flockdrift examples/embed.rs -o embed
 //!     ./embed DIRECTORY < messages
 //!
 //! embed.c says what the messages are, and why a client gets its answer only after the new image is on the disk.
@@ -13,112 +13,32 @@ use std::os::unix::fs::OpenOptionsExt;
 use std::path::Path;
 use std::process::ExitCode;
 
+#[allow(unsafe_code)]
+#[path = "../include/flockdrift.rs"]
+mod raw;
+
 /// A safe wrapper of include/flockdrift.h: buffers have the sizes that the library asks for, slices carry their lengths,
 /// and a refusal is an error. The borrow checker sees to the rest: no two arguments overlap, and no two threads work on
 /// one table.
 #[allow(unsafe_code)]
 mod flockdrift {
-    const IMAGE_CAPACITY: usize = 4949;
-    const REPLY_CAPACITY: usize = 257;
-    const TEXT_CAPACITY: usize = 150746;
-
-    #[repr(C)]
-    struct Answer {
-        number: u32,
-        place: u32,
-        bytes: u32,
-        count: u32,
-        image_bytes: u32,
-    }
-
-    type Call = unsafe extern "C" fn(
-        image: *mut u8,
-        capacity: usize,
-        image_bytes: usize,
-        client: u32,
-        now: u32,
-        option: *const u8,
-        option_bytes: usize,
-        reply: *mut u8,
-        reply_capacity: usize,
-    ) -> Answer;
-
-    extern "C" {
-        fn flockdrift_open(
-            image: *mut u8,
-            capacity: usize,
-            networks: *const u32,
-            n: usize,
-            lengths: *const u8,
-            m: usize,
-            term: u32,
-            default_length: u32,
-            start: u32,
-        ) -> Answer;
-        fn flockdrift_ask(
-            image: *mut u8,
-            capacity: usize,
-            image_bytes: usize,
-            client: u32,
-            now: u32,
-            option: *const u8,
-            option_bytes: usize,
-            reply: *mut u8,
-            reply_capacity: usize,
-        ) -> Answer;
-        fn flockdrift_take(
-            image: *mut u8,
-            capacity: usize,
-            image_bytes: usize,
-            client: u32,
-            now: u32,
-            option: *const u8,
-            option_bytes: usize,
-            reply: *mut u8,
-            reply_capacity: usize,
-        ) -> Answer;
-        fn flockdrift_list(
-            image: *const u8,
-            capacity: usize,
-            image_bytes: usize,
-            client: u32,
-            now: u32,
-            option: *const u8,
-            option_bytes: usize,
-            reply: *mut u8,
-            reply_capacity: usize,
-        ) -> Answer;
-        fn flockdrift_release(
-            image: *mut u8,
-            capacity: usize,
-            image_bytes: usize,
-            client: u32,
-            now: u32,
-            option: *const u8,
-            option_bytes: usize,
-        ) -> Answer;
-        fn flockdrift_mark(
-            image: *mut u8,
-            capacity: usize,
-            image_bytes: usize,
-            network: u32,
-            length: u32,
-            deprecated: u32,
-            now: u32,
-        ) -> Answer;
-        fn flockdrift_sheet(
-            image: *const u8,
-            image_bytes: usize,
-            text: *mut u8,
-            capacity: usize,
-        ) -> Answer;
-    }
+    use crate::raw::*;
 
     /// Why a call was refused; `place` is that of a bad suboption (7), and 0 otherwise.
     #[derive(Clone, Copy, Debug, PartialEq, Eq)]
     pub struct Refusal {
         pub number: u32,
         pub place: u32,
+    }
+
+    fn accepted(a: Answer) -> Result<Answer, Refusal> {
+        match a.number {
+            0 => Ok(a),
+            number => Err(Refusal {
+                number,
+                place: a.place,
+            }),
+        }
     }
 
     /// The option that answers a client, and how many entries it has.
@@ -129,6 +49,17 @@ mod flockdrift {
     }
 
     impl Reply {
+        /// What a call writes.
+        fn of(call: impl FnOnce(&mut [u8]) -> Answer) -> Result<Reply, Refusal> {
+            let mut buffer = [0; REPLY_CAPACITY];
+            let a = accepted(call(&mut buffer))?;
+            Ok(Reply {
+                buffer,
+                bytes: a.bytes as usize,
+                count: a.count,
+            })
+        }
+
         pub fn option(&self) -> &[u8] {
             &self.buffer[..self.bytes]
         }
@@ -140,6 +71,8 @@ mod flockdrift {
         bytes: usize,
     }
 
+    // SAFETY of every call below: each pointer with a size is that of a live slice, with its length; the one without is
+    // that of the image's length; and the library keeps none of them.
     impl Table {
         /// No table yet: every call is refused with 5.
         pub fn none() -> Table {
@@ -147,19 +80,6 @@ mod flockdrift {
                 image: [0; IMAGE_CAPACITY],
                 bytes: 0,
             }
-        }
-
-        /// The table of this image; bytes that are no image are refused with 5.
-        pub fn from_image(image: &[u8]) -> Result<Table, Refusal> {
-            sheet(image)?;
-            let mut table = Table::none();
-            table.image[..image.len()].copy_from_slice(image); // no image is longer
-            table.bytes = image.len();
-            Ok(table)
-        }
-
-        pub fn image(&self) -> &[u8] {
-            &self.image[..self.bytes]
         }
 
         pub fn open(
@@ -170,11 +90,11 @@ mod flockdrift {
             start: u32,
         ) -> Result<Table, Refusal> {
             let mut table = Table::none();
-            // SAFETY: each pointer is that of a live slice, with its length.
-            let a = unsafe {
+            accepted(unsafe {
                 flockdrift_open(
                     table.image.as_mut_ptr(),
                     table.image.len(),
+                    &mut table.bytes,
                     networks.as_ptr(),
                     networks.len(),
                     lengths.as_ptr(),
@@ -183,23 +103,75 @@ mod flockdrift {
                     default_length,
                     start,
                 )
-            };
-            table.settle(&a)?;
+            })?;
             Ok(table)
         }
 
+        /// The table that was saved; bytes that are no image are refused with 5.
+        pub fn load(saved: &[u8]) -> Result<Table, Refusal> {
+            let mut table = Table::none();
+            accepted(unsafe {
+                flockdrift_load(
+                    table.image.as_mut_ptr(),
+                    table.image.len(),
+                    &mut table.bytes,
+                    saved.as_ptr(),
+                    saved.len(),
+                )
+            })?;
+            Ok(table)
+        }
+
+        /// The bytes that load takes.
+        pub fn save(&self) -> Result<Vec<u8>, Refusal> {
+            let mut saved = vec![0; IMAGE_CAPACITY];
+            let a = accepted(unsafe {
+                flockdrift_save(
+                    self.image.as_ptr(),
+                    self.image.len(),
+                    self.bytes,
+                    saved.as_mut_ptr(),
+                    saved.len(),
+                )
+            })?;
+            saved.truncate(a.bytes as usize);
+            Ok(saved)
+        }
+
         pub fn ask(&mut self, client: u32, now: u32, option: &[u8]) -> Result<Reply, Refusal> {
-            self.call(flockdrift_ask, client, now, option)
+            Reply::of(|reply| unsafe {
+                flockdrift_ask(
+                    self.image.as_mut_ptr(),
+                    self.image.len(),
+                    &mut self.bytes,
+                    client,
+                    now,
+                    option.as_ptr(),
+                    option.len(),
+                    reply.as_mut_ptr(),
+                    reply.len(),
+                )
+            })
         }
 
         pub fn take(&mut self, client: u32, now: u32, option: &[u8]) -> Result<Reply, Refusal> {
-            self.call(flockdrift_take, client, now, option)
+            Reply::of(|reply| unsafe {
+                flockdrift_take(
+                    self.image.as_mut_ptr(),
+                    self.image.len(),
+                    &mut self.bytes,
+                    client,
+                    now,
+                    option.as_ptr(),
+                    option.len(),
+                    reply.as_mut_ptr(),
+                    reply.len(),
+                )
+            })
         }
 
         pub fn list(&self, client: u32, now: u32, option: &[u8]) -> Result<Reply, Refusal> {
-            let mut buffer = [0; REPLY_CAPACITY];
-            // SAFETY: each pointer is that of a live slice, with its length; the image is only read.
-            let a = unsafe {
+            Reply::of(|reply| unsafe {
                 flockdrift_list(
                     self.image.as_ptr(),
                     self.image.len(),
@@ -208,28 +180,25 @@ mod flockdrift {
                     now,
                     option.as_ptr(),
                     option.len(),
-                    buffer.as_mut_ptr(),
-                    buffer.len(),
+                    reply.as_mut_ptr(),
+                    reply.len(),
                 )
-            };
-            reply(&a, buffer)
+            })
         }
 
         /// Removes leases; how many.
         pub fn release(&mut self, client: u32, now: u32, option: &[u8]) -> Result<u32, Refusal> {
-            // SAFETY: each pointer is that of a live slice, with its length.
-            let a = unsafe {
+            let a = accepted(unsafe {
                 flockdrift_release(
                     self.image.as_mut_ptr(),
                     self.image.len(),
-                    self.bytes,
+                    &mut self.bytes,
                     client,
                     now,
                     option.as_ptr(),
                     option.len(),
                 )
-            };
-            self.settle(&a)?;
+            })?;
             Ok(a.count)
         }
 
@@ -240,87 +209,30 @@ mod flockdrift {
             deprecated: bool,
             now: u32,
         ) -> Result<(), Refusal> {
-            // SAFETY: the pointer is that of a live slice, with its length.
-            let a = unsafe {
+            accepted(unsafe {
                 flockdrift_mark(
                     self.image.as_mut_ptr(),
                     self.image.len(),
-                    self.bytes,
+                    &mut self.bytes,
                     network,
                     length.into(),
                     deprecated.into(),
                     now,
                 )
-            };
-            self.settle(&a)
+            })?;
+            Ok(())
         }
 
         /// The table as text for an operator.
         pub fn sheet(&self) -> Result<String, Refusal> {
-            sheet(self.image())
+            let mut text = vec![0; TEXT_CAPACITY];
+            let image = &self.image[..self.bytes];
+            let a = accepted(unsafe {
+                flockdrift_sheet(image.as_ptr(), image.len(), text.as_mut_ptr(), text.len())
+            })?;
+            text.truncate(a.bytes as usize);
+            Ok(String::from_utf8(text).expect("a sheet is ASCII"))
         }
-
-        fn call(
-            &mut self,
-            call: Call,
-            client: u32,
-            now: u32,
-            option: &[u8],
-        ) -> Result<Reply, Refusal> {
-            let mut buffer = [0; REPLY_CAPACITY];
-            // SAFETY: each pointer is that of a live slice, with its length.
-            let a = unsafe {
-                call(
-                    self.image.as_mut_ptr(),
-                    self.image.len(),
-                    self.bytes,
-                    client,
-                    now,
-                    option.as_ptr(),
-                    option.len(),
-                    buffer.as_mut_ptr(),
-                    buffer.len(),
-                )
-            };
-            self.settle(&a)?;
-            reply(&a, buffer)
-        }
-
-        /// After an accepted call the image has the length that the answer says.
-        fn settle(&mut self, a: &Answer) -> Result<(), Refusal> {
-            accepted(a)?;
-            self.bytes = a.image_bytes as usize;
-            Ok(())
-        }
-    }
-
-    fn sheet(image: &[u8]) -> Result<String, Refusal> {
-        let mut text = vec![0; TEXT_CAPACITY];
-        // SAFETY: each pointer is that of a live slice, with its length.
-        let a =
-            unsafe { flockdrift_sheet(image.as_ptr(), image.len(), text.as_mut_ptr(), text.len()) };
-        accepted(&a)?;
-        text.truncate(a.bytes as usize);
-        Ok(String::from_utf8(text).expect("a sheet is ASCII"))
-    }
-
-    fn accepted(a: &Answer) -> Result<(), Refusal> {
-        match a.number {
-            0 => Ok(()),
-            number => Err(Refusal {
-                number,
-                place: a.place,
-            }),
-        }
-    }
-
-    fn reply(a: &Answer, buffer: [u8; REPLY_CAPACITY]) -> Result<Reply, Refusal> {
-        accepted(a)?;
-        Ok(Reply {
-            buffer,
-            bytes: a.bytes as usize,
-            count: a.count,
-        })
     }
 }
 
@@ -330,7 +242,7 @@ use flockdrift::{Refusal, Reply, Table};
 
 fn read_table(directory: &Path) -> io::Result<Table> {
     match fs::read(directory.join("leases")) {
-        Ok(image) => Table::from_image(&image).map_err(|_| io::ErrorKind::InvalidData.into()),
+        Ok(saved) => Table::load(&saved).map_err(|_| io::ErrorKind::InvalidData.into()),
         Err(e) if e.kind() == io::ErrorKind::NotFound => Ok(Table::none()),
         Err(e) => Err(e),
     }
@@ -338,6 +250,7 @@ fn read_table(directory: &Path) -> io::Result<Table> {
 
 /// Puts the image in the place of the old one.
 fn write_table(directory: &Path, table: &Table) -> io::Result<()> {
+    let saved = table.save().map_err(|_| io::ErrorKind::InvalidData)?;
     let new = directory.join("leases.new");
     let mut file = OpenOptions::new()
         .write(true)
@@ -345,7 +258,7 @@ fn write_table(directory: &Path, table: &Table) -> io::Result<()> {
         .truncate(true)
         .mode(0o600)
         .open(&new)?;
-    file.write_all(table.image())?;
+    file.write_all(&saved)?;
     file.sync_all()?;
     drop(file);
     fs::rename(&new, directory.join("leases"))?;

@@ -1,29 +1,30 @@
 /*
  * Flockdrift: leases of subnets over DHCP option 220 (RFC 6656), embedded in a server.
  *
- * The server holds the lease table as its image: bytes at the front of a buffer that the server owns, and that it may
- * write to a file and read back as they are. Every call is a function from an image to an image: it gets the buffer and
- * the length of the image in it, and if it accepts, the buffer holds the new image, whose length is in the answer.
+ * The server holds the lease table as its image: bytes at the front of a buffer that the server owns, and beside it the
+ * image's length. Both are lent to each call: one that accepts leaves the new image and its length in them, one that
+ * refuses has changed neither. The image is also the saved form, which the server writes to a file and loads from it.
  *
  *     uint8_t image[FLOCKDRIFT_IMAGE_CAPACITY];
- *     size_t bytes;                                  the length of the image
- *     struct flockdrift_answer a = flockdrift_ask(image, sizeof image, bytes, ...);
+ *     size_t bytes = 0;                              no table yet: open or load makes one
+ *     struct flockdrift_answer a = flockdrift_load(image, sizeof image, &bytes, saved, saved_bytes);
  *     if (a.number == 0)
- *         bytes = a.image_bytes;                     a refusal leaves the image, and so its length
+ *         a = flockdrift_ask(image, sizeof image, &bytes, ...);
  *
  * Each function is proved to do what docs and specifications say of it, for all arguments; what that needs of a caller:
  *
  * - A pointer points to as many elements as the size after it says (`networks` to n, `lengths` to m); where the size is
- *   0 it may be null. Bytes that a call writes overlap no other argument.
- * - Nothing is kept between two calls: no pointer, no allocation, no global. Any number of threads may call at once, each
- *   with buffers of its own; two calls on one image need a lock around them. A call takes up to 4 KiB of stack
- *   (measured on x86-64; a proof says nothing of the stack).
+ *   0 it may be null. Where `image_bytes` is a pointer it is never null. What a call writes overlaps no other argument.
+ * - Nothing is kept between two calls: no pointer, no allocation, no global. Any number of threads may call at once,
+ *   each with buffers of its own; two calls on one image need a lock around them, unless both only read it (list, save,
+ *   sheet). A call takes up to 6 KiB of stack (measured on x86-64; a proof says nothing of the stack).
  *
  * Networks are IPv4 addresses as numbers, 10.0.1.0 being 0x0a000100, and lengths are prefix lengths. Times are seconds
- * of the server's clock, which does not run backwards. A client is a number that the server gives it, not 0. Options are
- * whole options 220, from the code byte to the last byte that the length byte counts.
+ * of the server's clock, which does not run backwards. A client is a number that the server gives it, not 0. Options
+ * are whole options 220, from the code byte to the last byte that the length byte counts.
  *
- * C99 or later, C++ too. Link with libcapi.a, which `rt staticlib capi` makes in target/staticlib.
+ * C99 or later, C++ too; flockdrift.rs beside this file has the same for Rust. Link with libflockdrift.a, which
+ * `rt staticlib flockdrift` makes in target/staticlib.
  */
 #ifndef FLOCKDRIFT_H
 #define FLOCKDRIFT_H
@@ -35,7 +36,11 @@
 extern "C" {
 #endif
 
-/* The image of a full table: 8 pools and 256 leases. No image is longer, and an image buffer must not be smaller. */
+/*
+ * The image of a full table: 8 pools and 256 leases. No image is longer, and an image buffer must not be smaller. After
+ * open and load the rest of a buffer of this size is zeros, and every other call that accepts zeroes what the new image
+ * leaves of the old one: of a removed lease, or of an older table, nothing stays behind. No call writes past this size.
+ */
 #define FLOCKDRIFT_IMAGE_CAPACITY 4949
 
 /* What the smallest reply buffer has. No reply is longer. */
@@ -45,20 +50,19 @@ extern "C" {
 #define FLOCKDRIFT_TEXT_CAPACITY 150746
 
 /*
- * The answer of every call. After a refusal all but `number` and `place` are 0, and no byte of image, reply or text
- * has changed.
+ * The answer of every call. After a refusal all but `number` and `place` are 0, and nothing that was lent has changed:
+ * no byte of image, reply, buffer or text, and not the image's length.
  */
 struct flockdrift_answer {
-    uint32_t number;      /* 0: accepted; otherwise why not, see below */
-    uint32_t place;       /* of FLOCKDRIFT_BAD_SUBOPTION: where in the option it begins, the code byte being at 0 */
-    uint32_t bytes;       /* how many bytes of reply or text were written; those after them are as they were */
-    uint32_t count;       /* ask, take, list: entries in the reply; release: leases removed by the option's entries */
-    uint32_t image_bytes; /* the length of the image after the call, also where the call left it as it was */
+    uint32_t number; /* 0: accepted; otherwise why not, see below */
+    uint32_t place;  /* of FLOCKDRIFT_BAD_SUBOPTION: where in the option it begins, the code byte being at 0 */
+    uint32_t bytes;  /* how many bytes of reply, buffer or text were written; those after them are as they were */
+    uint32_t count;  /* ask, take, list: entries in the reply; release: leases removed by the option's entries */
 };
 
 /*
- * Why a call is refused. If several apply, the answer is the first in this order: 14 for the image buffer, then 1, 5, 2,
- * 3, 4, 6, 7, 8, 9, 10, 11, 12, then 14 for the text.
+ * Why a call is refused. If several apply, the answer is the first in this order: 1, 5, 2, 3, 4, 6, 7, 8, 9, 10, 11,
+ * 12, 14.
  */
 enum {
     FLOCKDRIFT_ACCEPTED = 0,
@@ -66,7 +70,8 @@ enum {
     FLOCKDRIFT_NO_CLIENT = 2,         /* client 0 */
     FLOCKDRIFT_TOO_EARLY = 3,         /* now is before the time of the last accepted call that changed the table */
     FLOCKDRIFT_TOO_LATE = 4,          /* now is above 4,292,375,295 */
-    FLOCKDRIFT_NOT_AN_IMAGE = 5,      /* the bytes are not the image of a table, whole and sound */
+    FLOCKDRIFT_NOT_AN_IMAGE = 5,      /* the bytes are not the image of a table, whole and sound; or their buffer is
+                                         below FLOCKDRIFT_IMAGE_CAPACITY or below image_bytes */
     FLOCKDRIFT_NOT_THE_OPTION = 6,    /* the input is not exactly one option 220 */
     FLOCKDRIFT_BAD_SUBOPTION = 7,     /* a suboption breaks the format: `place` says which */
     FLOCKDRIFT_WRONG_SUBOPTIONS = 8,  /* requests or entries are not those that this call takes */
@@ -74,65 +79,79 @@ enum {
     FLOCKDRIFT_NO_SPACE = 10,         /* ask: no free prefix of the length */
     FLOCKDRIFT_NOT_FOUND = 11,        /* take, list, release, mark: no such lease */
     FLOCKDRIFT_OUTSIDE_RULES = 12,    /* open: pools, term, default length or start */
-    FLOCKDRIFT_BUFFER_TOO_SMALL = 14  /* the image buffer is below FLOCKDRIFT_IMAGE_CAPACITY, or the text is too long */
+    FLOCKDRIFT_BUFFER_TOO_SMALL = 14  /* open, load: the image buffer is below FLOCKDRIFT_IMAGE_CAPACITY; save, sheet:
+                                         the image or the text is longer than its buffer */
 };
 
 /*
- * Makes the image of a table without leases. There are 1 to 8 pools, in any order: networks[i] with lengths[i], n and m
- * being equal; each of length 8 to 30, aligned to its size, none overlapping another. A lease is for `term` seconds, 60
- * to 2,592,000; a request that suggests no length asks for `default_length`, 1 to 30; `start` is the time, at most
- * 4,292,375,295. Numbers: 14, 12.
+ * Makes the image of a table without leases, whatever the buffer held before. There are 1 to 8 pools, in any order:
+ * networks[i] with lengths[i], n and m being equal; each of length 8 to 30, aligned to its size, none overlapping
+ * another. A lease is for `term` seconds, 60 to 2,592,000; a request that suggests no length asks for `default_length`,
+ * 1 to 30; `start` is the time, at most 4,292,375,295. Numbers: 12, 14.
  */
-struct flockdrift_answer flockdrift_open(uint8_t *image, size_t capacity, const uint32_t *networks, size_t n,
-                                         const uint8_t *lengths, size_t m, uint32_t term, uint32_t default_length,
-                                         uint32_t start);
+struct flockdrift_answer flockdrift_open(uint8_t *image, size_t capacity, size_t *image_bytes,
+                                         const uint32_t *networks, size_t n, const uint8_t *lengths, size_t m,
+                                         uint32_t term, uint32_t default_length, uint32_t start);
 
 /*
  * Offers a free prefix for each of the option's 1 to 25 requests, where there is one, and holds it for 120 seconds; the
- * reply has one information for each, in order. At least one request must be granted. Numbers: 14, 1, 5, 2, 3, 4, 6, 7,
- * 8, 9, 10.
+ * reply has one information for each, in order. At least one request must be granted. Numbers: 1, 5, 2, 3, 4, 6, 7, 8,
+ * 9, 10.
  */
-struct flockdrift_answer flockdrift_ask(uint8_t *image, size_t capacity, size_t image_bytes, uint32_t client,
+struct flockdrift_answer flockdrift_ask(uint8_t *image, size_t capacity, size_t *image_bytes, uint32_t client,
                                         uint32_t now, const uint8_t *option, size_t option_bytes, uint8_t *reply,
                                         size_t reply_capacity);
 
 /*
  * Confirms or renews, for the table's term, the client's leases that the option's entries name; the reply names those
- * that were found. The option has entries and no request. Numbers: 14, 1, 5, 2, 3, 4, 6, 7, 8, 11.
+ * that were found. The option has entries and no request. Numbers: 1, 5, 2, 3, 4, 6, 7, 8, 11.
  */
-struct flockdrift_answer flockdrift_take(uint8_t *image, size_t capacity, size_t image_bytes, uint32_t client,
+struct flockdrift_answer flockdrift_take(uint8_t *image, size_t capacity, size_t *image_bytes, uint32_t client,
                                          uint32_t now, const uint8_t *option, size_t option_bytes, uint8_t *reply,
                                          size_t reply_capacity);
 
 /*
  * Lists the client's leases, ascending, at most 35 in a reply; whose s bit says that more remain, and an option with
  * that reply's information then gets the next ones. Every request of the option has its i bit set. Changes nothing.
- * Numbers: 14, 1, 5, 2, 3, 4, 6, 7, 8, 11.
+ * Numbers: 1, 5, 2, 3, 4, 6, 7, 8, 11.
  */
 struct flockdrift_answer flockdrift_list(const uint8_t *image, size_t capacity, size_t image_bytes, uint32_t client,
                                          uint32_t now, const uint8_t *option, size_t option_bytes, uint8_t *reply,
                                          size_t reply_capacity);
 
-/*
- * Removes the client's leases that the option's entries name. The bytes by which the old image was longer are zeros
- * afterwards, here as after every accepted call. Numbers: 14, 5, 2, 3, 4, 6, 7, 8, 11.
- */
-struct flockdrift_answer flockdrift_release(uint8_t *image, size_t capacity, size_t image_bytes, uint32_t client,
+/* Removes the client's leases that the option's entries name. Numbers: 5, 2, 3, 4, 6, 7, 8, 11. */
+struct flockdrift_answer flockdrift_release(uint8_t *image, size_t capacity, size_t *image_bytes, uint32_t client,
                                             uint32_t now, const uint8_t *option, size_t option_bytes);
 
 /*
  * Marks the lease with this network and length as deprecated, or, where `deprecated` is 0, as not. The client learns of
- * it from its next take or list. Numbers: 14, 5, 3, 4, 11.
+ * it from its next take or list. Numbers: 5, 3, 4, 11.
  */
-struct flockdrift_answer flockdrift_mark(uint8_t *image, size_t capacity, size_t image_bytes, uint32_t network,
+struct flockdrift_answer flockdrift_mark(uint8_t *image, size_t capacity, size_t *image_bytes, uint32_t network,
                                          uint32_t length, uint32_t deprecated, uint32_t now);
 
 /*
- * Writes the table as text for an operator: a line `sheet lines=LEASES free=ROWS`, then a line for each lease and each
- * free prefix, ascending, each ended by a newline, with no 0 after the last. Changes nothing, and refuses exactly what
- * is no image, so that it also tells whether a file is one. Numbers: 5, 14 for the text.
+ * Makes saved bytes the table's image, whatever the buffer held before. They must be an image exactly, with nothing
+ * missing and nothing after it; but an image has no checksum, so bytes that were changed may be the image of another
+ * table: keep a checksum beside a file that may be. Numbers, 5 being for the saved bytes: 5, 14.
  */
-struct flockdrift_answer flockdrift_sheet(const uint8_t *image, size_t image_bytes, char *text, size_t capacity);
+struct flockdrift_answer flockdrift_load(uint8_t *image, size_t capacity, size_t *image_bytes, const uint8_t *saved,
+                                         size_t saved_bytes);
+
+/*
+ * Checks the image and copies it into a buffer, from which it can be written while other calls go on. Changes nothing
+ * else. Numbers: 5, 14.
+ */
+struct flockdrift_answer flockdrift_save(const uint8_t *image, size_t capacity, size_t image_bytes, uint8_t *buffer,
+                                         size_t buffer_capacity);
+
+/*
+ * Writes the table as text for an operator: a line `sheet lines=LEASES free=ROWS`, then a line for each lease and each
+ * free prefix, ascending, each ended by a newline, with no 0 after the last. The image may stand anywhere: it needs no
+ * room after it. Changes nothing else, and refuses with 5 exactly what is no image, so that it also tells whether a
+ * file is one. Numbers: 5, 14.
+ */
+struct flockdrift_answer flockdrift_sheet(const uint8_t *image, size_t image_bytes, char *text, size_t text_capacity);
 
 #ifdef __cplusplus
 }

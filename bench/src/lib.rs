@@ -2,6 +2,9 @@
 //! and the independent reference behind the same interface.
 
 pub mod desk;
+#[path = "../../include/flockdrift.rs"]
+#[rustfmt::skip] // formatted with the examples, which have lines of another width
+pub mod flockdrift;
 pub mod images;
 pub mod options;
 pub mod peer;

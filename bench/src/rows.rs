@@ -48,20 +48,29 @@ pub struct Case {
 }
 
 /// What a call changes.
+#[derive(PartialEq, Eq)]
 pub struct Buffers {
     pub image: Vec<u8>,
+    pub bytes: usize,
     pub reply: Vec<u8>,
+    pub saved: Vec<u8>,
     pub text: Vec<u8>,
 }
 
 impl Buffers {
     pub fn new() -> Buffers {
-        Buffers { image: vec![0; FULL], reply: vec![0; REPLY], text: vec![0; SHEET] }
+        Buffers { image: vec![0; FULL], bytes: 0, reply: vec![0; REPLY], saved: vec![0; FULL], text: vec![0; SHEET] }
+    }
+
+    /// As a case has them.
+    pub fn of(case: &Case) -> Buffers {
+        Buffers { image: case.image.clone(), bytes: case.bytes, ..Buffers::new() }
     }
 
     /// The case's image, and the bytes after it that a call of the row can have changed.
     pub fn restore(&mut self, row: &Row, case: &Case) {
         self.image[..row.restored].copy_from_slice(&case.image[..row.restored]);
+        self.bytes = case.bytes;
     }
 }
 
@@ -89,33 +98,42 @@ pub struct Row {
 }
 
 fn ask(desk: &Desk, case: &Case, buffers: &mut Buffers) -> Answer {
-    (desk.ask)(&mut buffers.image, case.bytes, case.client, NOW, &case.option, &mut buffers.reply)
+    (desk.ask)(&mut buffers.image, &mut buffers.bytes, case.client, NOW, &case.option, &mut buffers.reply)
 }
 
 fn take(desk: &Desk, case: &Case, buffers: &mut Buffers) -> Answer {
-    (desk.take)(&mut buffers.image, case.bytes, case.client, NOW, &case.option, &mut buffers.reply)
+    (desk.take)(&mut buffers.image, &mut buffers.bytes, case.client, NOW, &case.option, &mut buffers.reply)
 }
 
 fn list(desk: &Desk, case: &Case, buffers: &mut Buffers) -> Answer {
-    (desk.list)(&mut buffers.image, case.bytes, case.client, NOW, &case.option, &mut buffers.reply)
+    (desk.list)(&buffers.image, buffers.bytes, case.client, NOW, &case.option, &mut buffers.reply)
 }
 
 fn release(desk: &Desk, case: &Case, buffers: &mut Buffers) -> Answer {
-    (desk.release)(&mut buffers.image, case.bytes, case.client, NOW, &case.option)
+    (desk.release)(&mut buffers.image, &mut buffers.bytes, case.client, NOW, &case.option)
 }
 
 fn mark(desk: &Desk, case: &Case, buffers: &mut Buffers) -> Answer {
     let (network, length) = case.prefix;
-    (desk.mark)(&mut buffers.image, case.bytes, network, length.into(), 1, NOW)
+    (desk.mark)(&mut buffers.image, &mut buffers.bytes, network, length.into(), 1, NOW)
 }
 
-fn sheet(desk: &Desk, case: &Case, buffers: &mut Buffers) -> Answer {
-    (desk.sheet)(&buffers.image[..case.bytes], &mut buffers.text)
+fn load(desk: &Desk, case: &Case, buffers: &mut Buffers) -> Answer {
+    (desk.load)(&mut buffers.image, &mut buffers.bytes, &case.image[..case.bytes])
+}
+
+fn save(desk: &Desk, _: &Case, buffers: &mut Buffers) -> Answer {
+    (desk.save)(&buffers.image, buffers.bytes, &mut buffers.saved)
+}
+
+fn sheet(desk: &Desk, _: &Case, buffers: &mut Buffers) -> Answer {
+    (desk.sheet)(&buffers.image[..buffers.bytes], &mut buffers.text)
 }
 
 fn open(desk: &Desk, _: &Case, buffers: &mut Buffers) -> Answer {
     let networks = [70, 60, 50, 40, 30, 20, 10, 80].map(|octet: u32| octet << 24);
-    (desk.open)(&mut buffers.image, &networks, &[8, 9, 10, 11, 12, 13, 14, 15], 3600, 28, LAST)
+    let lengths = [8, 9, 10, 11, 12, 13, 14, 15];
+    (desk.open)(&mut buffers.image, &mut buffers.bytes, &networks, &lengths, 3600, 28, LAST)
 }
 
 fn lease(random: &mut Random, network: u32, length: u8) -> Lease {
@@ -310,10 +328,12 @@ pub fn rows(desks: &[&Desk]) -> Vec<Row> {
     let some = [(Packed, 64, 64), (Packed, 256, 256), (Fragmented, 64, 64), (Fragmented, 256, 256)];
     let refused = |plan, number| Plan { number, ..plan };
 
-    // Refused with 2, right after row 5: the image was loaded and nothing else was done.
-    let load = Plan { client: 0, number: 2, ..plan("load", "list", list, listing) };
-    add(&load, &zero);
-    add(&load, &some);
+    // Refused with 2, right after row 5: the image was checked and nothing else was done.
+    let checked = Plan { client: 0, number: 2, ..plan("list", "list", list, listing) };
+    for plan in [&checked, &plan("load", "load", load, listing), &plan("save", "save", save, listing)] {
+        add(plan, &zero);
+        add(plan, &some);
+    }
 
     // One more and 25 more, up to a table of 256.
     let one = plan("ask 1", "ask", ask, ask_20);
@@ -359,22 +379,14 @@ fn check(row: &mut Row, desks: &[&Desk]) {
     for case in &row.cases {
         let mut first: Option<(Answer, Buffers)> = None;
         for desk in desks {
-            let mut buffers = Buffers { image: case.image.clone(), ..Buffers::new() };
+            let mut buffers = Buffers::of(case);
             let answer = (row.run)(desk, case, &mut buffers);
             let what = format!("{} on {} leases, {}", row.call, row.leases, row.shape.name());
             assert_eq!(answer.number, row.number, "{what}: {}", desk.name);
             if let Some((other, left)) = &first {
-                assert!(
-                    *other == answer
-                        && left.image == buffers.image
-                        && left.reply == buffers.reply
-                        && left.text == buffers.text,
-                    "{what}: {} and {} differ",
-                    desks[0].name,
-                    desk.name
-                );
+                assert!(*other == answer && *left == buffers, "{what}: {} and {} differ", desks[0].name, desk.name);
             } else {
-                row.restored = row.restored.max(case.bytes).max(answer.image_bytes as usize);
+                row.restored = row.restored.max(case.bytes).max(buffers.bytes);
                 first = Some((answer, buffers));
             }
         }

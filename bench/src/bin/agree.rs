@@ -1,5 +1,6 @@
 //! Runs the same random and damaged calls through the peer, the reference and, if it was linked, the proved library, and
-//! compares every field of every answer, every byte of the image's buffer and every byte of the reply buffer.
+//! compares every field of every answer, every byte of the image's buffer, the image's length and every byte of the buffer
+//! that a call writes to.
 //!
 //!     agree [CALLS [SEED]]
 //!
@@ -29,6 +30,8 @@ enum Call {
     List { client: u32, now: u32, option: Vec<u8> },
     Release { client: u32, now: u32, option: Vec<u8> },
     Mark { network: u32, length: u32, deprecated: u32, now: u32 },
+    Load { saved: Vec<u8> },
+    Save,
     Sheet,
 }
 
@@ -41,35 +44,39 @@ impl Call {
             Call::List { .. } => "list",
             Call::Release { .. } => "return",
             Call::Mark { .. } => "mark",
+            Call::Load { .. } => "load",
+            Call::Save => "save",
             Call::Sheet => "sheet",
         }
     }
 
-    fn run(&self, desk: &Desk, image: &mut [u8], bytes: usize, reply: &mut [u8]) -> Answer {
+    fn run(&self, desk: &Desk, lent: &mut Lent) -> Answer {
+        let Lent { image, bytes, out } = lent;
         match self {
             Call::Open { networks, lengths, term, default_length, start } => {
-                (desk.open)(image, networks, lengths, *term, *default_length, *start)
+                (desk.open)(image, bytes, networks, lengths, *term, *default_length, *start)
             }
-            Call::Ask { client, now, option } => (desk.ask)(image, bytes, *client, *now, option, reply),
-            Call::Take { client, now, option } => (desk.take)(image, bytes, *client, *now, option, reply),
-            Call::List { client, now, option } => (desk.list)(image, bytes, *client, *now, option, reply),
+            Call::Ask { client, now, option } => (desk.ask)(image, bytes, *client, *now, option, out),
+            Call::Take { client, now, option } => (desk.take)(image, bytes, *client, *now, option, out),
+            Call::List { client, now, option } => (desk.list)(image, *bytes, *client, *now, option, out),
             Call::Release { client, now, option } => (desk.release)(image, bytes, *client, *now, option),
             Call::Mark { network, length, deprecated, now } => {
                 (desk.mark)(image, bytes, *network, *length, *deprecated, *now)
             }
+            Call::Load { saved } => (desk.load)(image, bytes, saved),
+            Call::Save => (desk.save)(image, *bytes, out),
             // The sheet has no capacity of the image: what is lent is the image.
-            Call::Sheet => (desk.sheet)(image.get(..bytes).unwrap_or(image), reply),
+            Call::Sheet => (desk.sheet)(image.get(..*bytes).unwrap_or(image), out),
         }
     }
 }
 
-/// Everything that a call is given.
-#[derive(Clone)]
-struct Given {
+/// What a call may change: the image's buffer, the image's length, and the buffer for a reply, an image or a text.
+#[derive(Clone, PartialEq, Eq)]
+struct Lent {
     image: Vec<u8>,
     bytes: usize,
-    reply: Vec<u8>,
-    call: Call,
+    out: Vec<u8>,
 }
 
 fn hex(bytes: &[u8]) -> String {
@@ -77,11 +84,11 @@ fn hex(bytes: &[u8]) -> String {
 }
 
 /// Runs a call through every desk; answers what all of them left, or says where they differ.
-fn agreed(desks: &[Desk], given: &Given) -> Result<(Answer, Vec<u8>), String> {
-    let mut first: Option<(Answer, Given)> = None;
+fn agreed(desks: &[Desk], call: &Call, given: &Lent) -> Result<(Answer, Lent), String> {
+    let mut first: Option<(Answer, Lent)> = None;
     for desk in desks {
         let mut left = given.clone();
-        let answer = given.call.run(desk, &mut left.image, given.bytes, &mut left.reply);
+        let answer = call.run(desk, &mut left);
         let Some((first_answer, first_left)) = &first else {
             first = Some((answer, left));
             continue;
@@ -90,26 +97,48 @@ fn agreed(desks: &[Desk], given: &Given) -> Result<(Answer, Vec<u8>), String> {
         if *first_answer != answer {
             return Err(format!("{names}: answers {first_answer:?} and {answer:?}"));
         }
-        for (what, one, other) in [("image", &first_left.image, &left.image), ("reply", &first_left.reply, &left.reply)]
-        {
+        if first_left.bytes != left.bytes {
+            return Err(format!("{names}: images of {} and {} bytes", first_left.bytes, left.bytes));
+        }
+        for (what, one, other) in [("image", &first_left.image, &left.image), ("output", &first_left.out, &left.out)] {
             if let Some(at) = (0..one.len()).find(|&at| one[at] != other[at]) {
                 return Err(format!("{names}: {what} byte {at} is {} and {}", one[at], other[at]));
             }
         }
     }
-    let (answer, left) = first.expect("there is a desk");
-    Ok((answer, left.image))
+    Ok(first.expect("there is a desk"))
 }
 
 /// What every answer has to be, whoever gave it.
-fn plausible(given: &Given, answer: &Answer, image: &[u8]) -> Result<(), String> {
+fn plausible(call: &Call, given: &Lent, answer: &Answer, left: &Lent) -> Result<(), String> {
     if answer.number != 0 {
-        if image != given.image {
-            return Err("a refusal changed the image".into());
+        if left != given {
+            return Err("a refusal changed what was lent".into());
         }
-        if (answer.bytes, answer.count, answer.image_bytes) != (0, 0, 0) || (answer.number != 7 && answer.place != 0) {
+        if (answer.bytes, answer.count) != (0, 0) || (answer.number != 7 && answer.place != 0) {
             return Err(format!("a refusal has counts: {answer:?}"));
         }
+        return Ok(());
+    }
+    if left.out[answer.bytes as usize..] != given.out[answer.bytes as usize..] {
+        return Err("bytes after those written have changed".into());
+    }
+    let zeroed = match call {
+        Call::List { .. } | Call::Save | Call::Sheet => {
+            return if (left.bytes, &left.image) == (given.bytes, &given.image) {
+                Ok(())
+            } else {
+                Err("a call that only reads changed the image".into())
+            };
+        }
+        Call::Open { .. } | Call::Load { .. } => FULL,
+        _ => given.bytes.max(left.bytes),
+    };
+    if left.image[left.bytes..zeroed].iter().any(|&byte| byte != 0) {
+        return Err("something is left behind the image".into());
+    }
+    if left.image[zeroed..] != given.image[zeroed..] {
+        return Err("bytes past the image have changed".into());
     }
     Ok(())
 }
@@ -535,21 +564,36 @@ fn random_call(random: &mut Random, table: &Table) -> Call {
     let client = random_client(random);
     let now = random_time(random, table.last);
     match random.below(100) {
-        0..=34 => Call::Ask { client, now, option: random_option(random, table, 0) },
-        35..=54 => Call::Take { client, now, option: random_option(random, table, 1) },
-        55..=69 => Call::List { client, now, option: random_option(random, table, 2) },
-        70..=82 => Call::Release { client, now, option: random_option(random, table, 1) },
-        83..=93 => {
+        0..=31 => Call::Ask { client, now, option: random_option(random, table, 0) },
+        32..=49 => Call::Take { client, now, option: random_option(random, table, 1) },
+        50..=63 => Call::List { client, now, option: random_option(random, table, 2) },
+        64..=76 => Call::Release { client, now, option: random_option(random, table, 1) },
+        77..=87 => {
             let (network, length) = random_prefix(random, table);
             let length = u32::from(length) + if random.once_in(20) { 256 } else { 0 };
             Call::Mark { network, length, deprecated: random.pick(&[0, 1, 1, 2, 256, u32::MAX]), now }
         }
-        94..=97 => Call::Sheet,
+        88..=91 => Call::Sheet,
+        92..=93 => Call::Save,
+        94..=96 => random_load(random, table),
         _ => random_open(random),
     }
 }
 
-fn random_given(random: &mut Random, image: &[u8]) -> Given {
+/// The bytes of this table or of another, as they are or damaged.
+fn random_load(random: &mut Random, table: &Table) -> Call {
+    let mut saved = if random.once_in(2) { table.image() } else { random_table(random).image() };
+    match random.below(16) {
+        0..=3 => damage_image(random, &mut saved),
+        // Longer than every image.
+        4 => saved.resize(FULL + random.below(40) as usize, 0),
+        5 => saved.clear(),
+        _ => {}
+    }
+    Call::Load { saved }
+}
+
+fn random_given(random: &mut Random, image: &[u8]) -> (Call, Lent) {
     let call = random_call(random, &Table::of_image(image));
     let mut image = image.to_vec();
     if random.once_in(8) {
@@ -570,6 +614,7 @@ fn random_given(random: &mut Random, image: &[u8]) -> Given {
     let end = image.len().min(buffer.len());
     buffer[..end].copy_from_slice(&image[..end]);
     let room = match &call {
+        Call::Save => random.pick(&[end, end, end + 1, FULL, end.saturating_sub(1), 0]),
         Call::Sheet => {
             // The sheet is of these bytes, whatever holds them.
             bytes = bytes.min(end);
@@ -585,9 +630,9 @@ fn random_given(random: &mut Random, image: &[u8]) -> Given {
         },
     };
     buffer.truncate(capacity);
-    let mut reply = vec![0; room];
-    random.fill(&mut reply);
-    Given { image: buffer, bytes, reply, call }
+    let mut out = vec![0; room];
+    random.fill(&mut out);
+    (call, Lent { image: buffer, bytes, out })
 }
 
 fn desks() -> Vec<Desk> {
@@ -612,7 +657,7 @@ fn main() {
     let names: Vec<&str> = desks.iter().map(|desk| desk.name).collect();
     println!("agree: {}; {calls} calls, seed {seed}", names.join(", "));
     if names.len() < 3 {
-        println!("agree: the proved library is not linked: target/staticlib/libcapi.a was not there");
+        println!("agree: the proved library is not linked: target/staticlib/libflockdrift.a was not there");
     }
     let mut random = Random(seed);
     let mut answers: BTreeMap<(&str, u32), u64> = BTreeMap::new();
@@ -622,25 +667,25 @@ fn main() {
         if index % HISTORY == 0 {
             image = random_table(&mut random).image();
         }
-        let given = random_given(&mut random, &image);
-        let result = agreed(&desks, &given).and_then(|(answer, left)| {
-            plausible(&given, &answer, &left)?;
+        let (call, given) = random_given(&mut random, &image);
+        let result = agreed(&desks, &call, &given).and_then(|(answer, left)| {
+            plausible(&call, &given, &answer, &left)?;
             Ok((answer, left))
         });
         match result {
             Ok((answer, left)) => {
-                *answers.entry((given.call.name(), answer.number)).or_default() += 1;
+                *answers.entry((call.name(), answer.number)).or_default() += 1;
                 most = most.max(answer.count);
-                full += u64::from(answer.image_bytes as usize == FULL);
-                if answer.number == 0 && answer.image_bytes != 0 {
-                    image = left[..answer.image_bytes as usize].to_vec();
+                if answer.number == 0 {
+                    full += u64::from(left.bytes == FULL);
+                    image = left.image[..left.bytes].to_vec();
                 }
             }
             Err(difference) => {
                 println!("call {index} of seed {seed}: {difference}");
-                println!("{:?}", given.call);
+                println!("{call:?}");
                 println!("image of {} bytes in {}: {}", given.bytes, given.image.len(), hex(&given.image));
-                println!("reply buffer of {}", given.reply.len());
+                println!("output buffer of {}", given.out.len());
                 exit(1);
             }
         }
@@ -654,5 +699,5 @@ fn main() {
         print!(" {number} x{count}");
     }
     println!("\nmost entries in an answer: {most}; full images: {full}");
-    println!("agree: {calls} calls, the same answer, image and reply by all {}", names.len());
+    println!("agree: {calls} calls, the same answer, image and output by all {}", names.len());
 }

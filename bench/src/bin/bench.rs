@@ -180,25 +180,6 @@ fn print_goal(measured: &[Measured]) {
     println!("\nrows slower than the peer: {slower} of {}, at most {worst:.2} times", ratios.len());
 }
 
-/// Save is not exported: it is what an accepted mark costs beyond one that finds nothing.
-fn print_save(rows: &[Row], measured: &[Measured]) {
-    println!("\nsave: an accepted mark less a mark that finds nothing, ns");
-    for (row, found) in rows.iter().zip(measured) {
-        if row.call != "mark" || row.number != 0 {
-            continue;
-        }
-        let refused = rows.iter().position(|other| {
-            (other.call, other.shape, other.leases, other.number) == (row.call, row.shape, row.leases, 11)
-        });
-        let Some(refused) = refused else { continue };
-        print!("{:<20} {:>6} {:<11} {:>6}", "save", row.leases, row.shape.name(), "");
-        for (ns, less) in found.desks.iter().zip(&measured[refused].desks) {
-            print!(" {:>10.0}", ns - less);
-        }
-        println!();
-    }
-}
-
 fn print_stack(rows: &[Row], desks: &[&Desk]) {
     println!("\nstack: the most bytes that a call wrote below its caller, over all rows");
     print!("{:<20}", "call");
@@ -207,14 +188,13 @@ fn print_stack(rows: &[Row], desks: &[&Desk]) {
     }
     println!();
     let mut stack = Stack::new();
-    let mut buffers = Buffers::new();
-    for command in ["open", "ask", "take", "list", "return", "mark", "sheet"] {
+    for command in ["open", "ask", "take", "list", "return", "mark", "load", "save", "sheet"] {
         print!("{command:<20}");
         for desk in desks {
             let mut most = 0;
             for row in rows.iter().filter(|row| row.command == command) {
                 for case in &row.cases {
-                    buffers.image.copy_from_slice(&case.image);
+                    let mut buffers = Buffers::of(case);
                     let used = stack.used(&mut || {
                         black_box((row.run)(desk, case, &mut buffers));
                     });
@@ -255,7 +235,6 @@ fn main() {
             let measured = measure(&rows, &desks, ROUNDS);
             print_table(&rows, &measured, &desks);
             print_goal(&measured);
-            print_save(&rows, &measured);
             print_stack(&rows, &desks);
         }
         ["rows"] => {

@@ -88,17 +88,17 @@ pub struct Pools {
 }
 
 /// What the pass over a sound image found.
-pub struct Book {
+pub struct Summary {
     pub term: u32,
     pub default_length: u8,
     pub last: u32,
-    pub pools: Pools,
+    pub pools: usize,
     pub leases: usize,
 }
 
-impl Book {
+impl Summary {
     pub fn leases_at(&self) -> usize {
-        HEAD + POOL * self.pools.count
+        HEAD + POOL * self.pools
     }
 
     pub fn bytes(&self) -> usize {
@@ -141,6 +141,9 @@ pub struct Met {
 /// What a call notes in the pass over an image. (No closure: those are not always inlined.)
 pub trait Notes {
     fn lease(&mut self, lease: Met, pools: &Pools);
+
+    /// All leases were met.
+    fn end(&mut self, _: &Pools) {}
 }
 
 /// Nothing.
@@ -170,9 +173,10 @@ impl Notes for Expired {
     }
 }
 
-/// One pass over the image: nothing if it is not the image of a sound table.
-#[inline(always)]
-pub fn load(image: &[u8], notes: &mut impl Notes) -> Option<Book> {
+/// One pass over the image: nothing if it is not the image of a sound table. Not inlined, so that the loop has the registers
+/// for itself.
+#[inline(never)]
+pub fn check(image: &[u8], notes: &mut impl Notes) -> Option<Summary> {
     let (head, mut rest) = image.split_first_chunk::<HEAD>()?;
     let (term, default_length, last) = (read32(head, 4), head[8], read32(head, 9));
     if read32(head, 0) != HEAD_START || !head_ok(term, default_length.into(), last) {
@@ -231,16 +235,17 @@ pub fn load(image: &[u8], notes: &mut impl Notes) -> Option<Book> {
         free_from = to;
         notes.lease(Met { place, pool, from, to, expires }, &pools);
     }
-    Some(Book { term, default_length, last, pools, leases: leases.len() })
+    notes.end(&pools);
+    Some(Summary { term, default_length, last, pools: pools.count, leases: leases.len() })
 }
 
 /// The lease records of a sound image.
-pub fn leases<'a>(image: &'a [u8], book: &Book) -> &'a [Record] {
-    image[book.leases_at()..book.bytes()].as_chunks().0
+pub fn leases<'a>(image: &'a [u8], summary: &Summary) -> &'a [Record] {
+    image[summary.leases_at()..summary.bytes()].as_chunks().0
 }
 
-pub fn leases_mut<'a>(image: &'a mut [u8], book: &Book) -> &'a mut [Record] {
-    image[book.leases_at()..book.bytes()].as_chunks_mut().0
+pub fn leases_mut<'a>(image: &'a mut [u8], summary: &Summary) -> &'a mut [Record] {
+    image[summary.leases_at()..summary.bytes()].as_chunks_mut().0
 }
 
 /// The place of the lease with this network and length.

@@ -1,7 +1,7 @@
 //! The sheet: every pool as used and free rows. One walk counts, a second one writes, so that text that does not fit
 //! leaves the buffer as it was.
 
-use super::image::{self, Book, Record};
+use super::image::{self, Met, Notes, Pools, Record};
 use crate::desk::Answer;
 
 /// Where the rows go: counted, or written.
@@ -71,11 +71,21 @@ fn free(rows: &mut impl Rows, mut from: u64, to: u64) -> u32 {
     count
 }
 
+/// The sheet notes the pools.
+impl Notes for Pools {
+    #[inline(always)]
+    fn lease(&mut self, _: Met, _: &Pools) {}
+
+    fn end(&mut self, pools: &Pools) {
+        *self = *pools;
+    }
+}
+
 /// The rows of all pools; how many of them are free.
-fn walk(rows: &mut impl Rows, book: &Book, leases: &[Record]) -> u32 {
+fn walk(rows: &mut impl Rows, pools: &Pools, leases: &[Record]) -> u32 {
     let mut count = 0;
     let mut leases = leases.iter().peekable();
-    for (&from, &to) in book.pools.from.iter().zip(&book.pools.to).take(book.pools.count) {
+    for (&from, &to) in pools.from.iter().zip(&pools.to).take(pools.count) {
         let mut at = from;
         while let Some(lease) = leases.next_if(|lease| u64::from(image::network(lease)) < to) {
             let (network, length) = (image::network(lease), u32::from(image::length(lease)));
@@ -103,18 +113,19 @@ fn head(rows: &mut impl Rows, leases: usize, free: u32) {
 }
 
 pub fn sheet(image: &[u8], text: &mut [u8]) -> Answer {
-    let Some(book) = image::load(image, &mut ()) else {
+    let mut pools = Pools::default();
+    let Some(summary) = image::check(image, &mut pools) else {
         return Answer::refusal(5);
     };
-    let leases = image::leases(image, &book);
+    let leases = image::leases(image, &summary);
     let mut size = Count { bytes: 0 };
-    let free = walk(&mut size, &book, leases);
-    head(&mut size, book.leases, free);
+    let free = walk(&mut size, &pools, leases);
+    head(&mut size, summary.leases, free);
     if size.bytes > text.len() {
         return Answer::refusal(14);
     }
     let mut rows = Write { out: text, at: 0 };
-    head(&mut rows, book.leases, free);
-    walk(&mut rows, &book, leases);
-    Answer { bytes: size.bytes as u32, image_bytes: image.len() as u32, ..Answer::default() }
+    head(&mut rows, summary.leases, free);
+    walk(&mut rows, &pools, leases);
+    Answer::accepted(size.bytes, 0)
 }

@@ -1,14 +1,17 @@
 -- Laws of fields and of records read one after another.
 -- Assumes nothing.
-use Prim.Native.Nat.{ℕ, zero, suc, _+_, _-_, _*_, _/_, _%_, _≤_, _<_}
+use Prim.Native.Nat.{ℕ, zero, suc, _+_, _*_, _/_, _%_, _≤_, _<_}
 use mathlib.Core.Path.{_≡_, refl, sym, ap, ap₂, subst, _∙_}
-use mathlib.Core.List.{List, [], _∷_, _++_, append-assoc, append-nil}
+use mathlib.Core.Bool.{Bool}
+use mathlib.Core.List.{List, [], _∷_, _++_, append-assoc}
 use mathlib.Core.Option.{Option, none, some}
 use native.Mathlib.Omega.{arith}
-use lib.ListN.{length, take, drop, getD, replicate, set, length-set, length-drop, take-append-drop}
-use lib.Seq.{drop-drop, drop-set-lt, take-suc-set, append-snoc, length-take-le, getD-drop, take-all}
-use native.Mathlib.Numerals.{add-one}
-use Rattle.lists.specs.Lists.{All, gather}
+use lib.ListN.{length, take, drop, getD, take-append-drop}
+use lib.Seq.{getD-drop}
+use lib.Dec.{eqb}
+use borrow.Author.Tests.{eqb-true, eq-eqb}
+use Rattle.lists.specs.Lists.{All, and, concatMap}
+use Rattle.lists.proofs.Tests.{bool-ext, and-list-to, and-list-of}
 use Rattle.lists.proofs.DropLaws.{drop-at}
 use Rattle.image.specs.Fields.{le16, le32, number16, number32, Run, before, onItem, records}
 
@@ -63,6 +66,34 @@ module _ (s : List ℕ) (bytes : Bytes s) (at : ℕ) where
   unfolding number32
   le32-number = four (getD s at 0) (getD s (at + 1) 0) (getD s (at + 2) 0) (getD s (at + 3) 0) (bytes at) (bytes (at + 1)) (bytes (at + 2))
 
+-- A byte and a number at a place, and from there on.
+module _ (s : List ℕ) (at : ℕ) where
+  pub byte-from : (k : ℕ) → getD s (at + k) 0 ≡ getD (drop at s) k 0
+  byte-from k = sym (getD-drop at s k 0)
+
+  pub number-from : (k : ℕ) → number32 s (at + k) ≡ number32 (drop at s) k
+  unfolding number32
+  number-from k =
+      let digit : (i : ℕ) → getD (drop at s) (k + i) 0 ≡ getD s (at + k + i) 0 = λ i. getD-drop at s (k + i) 0 ∙ ap (λ (j : ℕ). getD s j 0) (omega arith) in
+      omega (arith, getD-drop at s k 0, digit 1, digit 2, digit 3)
+
+-- The first four bytes of a record: its length, and its kind.
+module _ (s : List ℕ) (bytes : Bytes s) (len kind : ℕ) (small : len < 65536) where
+  pub start-of : number32 s 0 ≡ len + 65536 * kind → (number16 s 0 ≡ len) × (number16 s 2 ≡ kind)
+  unfolding number16 number32
+  start-of e = (omega (arith, bytes 0, bytes 1, bytes 2, bytes 3), omega (arith, bytes 0, bytes 1, bytes 2, bytes 3))
+
+  pub start-to : number16 s 0 ≡ len → number16 s 2 ≡ kind → number32 s 0 ≡ len + 65536 * kind
+  unfolding number16 number32
+  start-to a b = omega arith
+
+  pub start-tells : eqb (number32 s 0) (len + 65536 * kind) ≡ and (eqb (number16 s 0) len ∷ eqb (number16 s 2) kind ∷ [])
+  start-tells =
+      let halves : List Bool = eqb (number16 s 0) len ∷ eqb (number16 s 2) kind ∷ [] in
+      bool-ext (eqb (number32 s 0) (len + 65536 * kind)) (and halves)
+      (λ e. let t = start-of (eqb-true (number32 s 0) (len + 65536 * kind) e) in and-list-of halves (eq-eqb (number16 s 0) len (t .0), (eq-eqb (number16 s 2) kind (t .1), tt)))
+      (λ e. let t = and-list-to halves e in eq-eqb (number32 s 0) (len + 65536 * kind) (start-to (eqb-true (number16 s 0) len (t .0)) (eqb-true (number16 s 2) kind (t .1 .0))))
+
 -- n elements from i on, one by one.
 abbrev pub spelled : ℕ → ℕ → List ℕ → List ℕ
 spelled i zero s = []
@@ -89,20 +120,20 @@ module _ {A : Type 0} (read : List ℕ → Option A) (size : ℕ) where
   records-some limit s x e = rw e
 
   -- What is written is read, up to what is no such record.
-  pub records-gather : (rec : A → List ℕ) (P : A → Type 0) → ((x : A) (q : List ℕ) → P x → read (rec x ++ q) ≡ some x) → ((x : A) (q : List ℕ) → drop size (rec x ++ q) ≡ q)
-      → (limit : ℕ) (xs : List A) (q : List ℕ) → All P xs → length xs ≤ limit → read q ≡ none → records read size limit (gather rec xs ++ q) ≡ record { items = xs; rest = q }
-  records-gather rec P reads skips limit [] q a h e = records-none limit q e
-  records-gather rec P reads skips zero (x ∷ xs) q a h e = absurd (omega arith)
-  records-gather rec P reads skips (suc limit) (x ∷ xs) q a h e =
-      let rest : List ℕ = gather rec xs ++ q in
-      ap (records read size (suc limit)) (append-assoc (rec x) (gather rec xs) q)
+  pub records-concatMap : (rec : A → List ℕ) (P : A → Type 0) → ((x : A) (q : List ℕ) → P x → read (rec x ++ q) ≡ some x) → ((x : A) (q : List ℕ) → drop size (rec x ++ q) ≡ q)
+      → (limit : ℕ) (xs : List A) (q : List ℕ) → All P xs → length xs ≤ limit → read q ≡ none → records read size limit (concatMap rec xs ++ q) ≡ record { items = xs; rest = q }
+  records-concatMap rec P reads skips limit [] q a h e = records-none limit q e
+  records-concatMap rec P reads skips zero (x ∷ xs) q a h e = absurd (omega arith)
+  records-concatMap rec P reads skips (suc limit) (x ∷ xs) q a h e =
+      let rest : List ℕ = concatMap rec xs ++ q in
+      ap (records read size (suc limit)) (append-assoc (rec x) (concatMap rec xs) q)
       ∙ records-some limit (rec x ++ rest) x (reads x rest (a .0))
       ∙ ap (λ (l : List ℕ). before x (records read size limit l)) (skips x rest)
-      ∙ ap (before x) (records-gather rec P reads skips limit xs q (a .1) (omega arith) e)
+      ∙ ap (before x) (records-concatMap rec P reads skips limit xs q (a .1) (omega arith) e)
 
   -- What is read stood there as it is written.
   pub record Readings (rec : A → List ℕ) (P : A → Type 0) (limit : ℕ) (s : List ℕ) (r : Run A) : Type 0 where
-    pub same : s ≡ gather rec (r .items) ++ r .rest
+    pub same : s ≡ concatMap rec (r .items) ++ r .rest
     pub each : All P (r .items)
     pub few : length (r .items) ≤ limit
 
@@ -119,88 +150,7 @@ module _ {A : Type 0} (read : List ℕ → Option A) (size : ℕ) where
           let w = written s x b e in
           let r : Run A = records read size limit (drop size s) in
           record {
-            same = w .0 ∙ ap (λ (l : List ℕ). rec x ++ l) (later .same) ∙ sym (append-assoc (rec x) (gather rec (r .items)) (r .rest));
+            same = w .0 ∙ ap (λ (l : List ℕ). rec x ++ l) (later .same) ∙ sym (append-assoc (rec x) (concatMap rec (r .items)) (r .rest));
             each = (w .1, later .each);
             few = omega (arith, later .few);
           }
-
--- A loop that stores the records at the front of an array: n were read, up to the position at, and the rest of the array is blank.
-pub record Reading {A : Type 0} (read : List ℕ → Option A) (size : ℕ) (blank : A) (limit : ℕ) (s : List ℕ) (out : List A) (n at : ℕ) : Type 0 where
-  pub within : n ≤ limit
-  pub inside : at ≤ length s
-  pub long : length out ≡ limit
-  pub blanks : drop n out ≡ replicate (limit - n) blank
-  pub first : (records read size limit s .items ≡ take n out ++ records read size (limit - n) (drop at s) .items) × (records read size limit s .rest ≡ records read size (limit - n) (drop at s) .rest)
-
-pub reading-none : {A : Type 0} (read : List ℕ → Option A) (size : ℕ) (blank : A) (limit : ℕ) (s : List ℕ) (out : List A) → out ≡ replicate limit blank → length out ≡ limit
-    → Reading read size blank limit s out 0 0
-reading-none read size blank limit s out e len =
-    let z : limit ≡ limit - 0 = omega arith in
-    record {
-      within = omega arith;
-      inside = omega arith;
-      long = len;
-      blanks = e ∙ ap (λ (k : ℕ). replicate k blank) z;
-      first = (ap (λ (k : ℕ). records read size k s .items) z, ap (λ (k : ℕ). records read size k s .rest) z);
-    }
-
--- What the loop leaves: the records in the array, and what is after them.
-pub record Ended {A : Type 0} (read : List ℕ → Option A) (size : ℕ) (blank : A) (limit : ℕ) (s : List ℕ) (out : List A) (at : ℕ) : Type 0 where
-  pub stored : out ≡ records read size limit s .items ++ replicate (limit - length (records read size limit s .items)) blank
-  pub after : records read size limit s .rest ≡ drop at s
-
-module _ {A : Type 0} (read : List ℕ → Option A) (size : ℕ) (blank : A) (limit : ℕ) (s : List ℕ) (out : List A) (n at : ℕ) (r : Reading read size blank limit s out n at) where
-  pub reading-put : (x : A) → n < limit → at + size ≤ length s → read (drop at s) ≡ some x → Reading read size blank limit s (set out n x) (n + 1) (at + size)
-  reading-put x lt room e =
-      let less : limit - n ≡ suc (limit - (n + 1)) = omega arith in
-      let here : n < length out = omega (arith, r .long) in
-      let next : records read size (limit - n) (drop at s) ≡ before x (records read size (limit - (n + 1)) (drop (at + size) s)) =
-      ap (λ (k : ℕ). records read size k (drop at s)) less
-      ∙ records-some read size (limit - (n + 1)) (drop at s) x e
-      ∙ ap (λ (l : List ℕ). before x (records read size (limit - (n + 1)) l)) (drop-drop size at s) in
-      record {
-        within = omega arith;
-        inside = room;
-        long = length-set out n x ∙ r .long;
-        blanks = drop-set-lt (n + 1) out n x (omega arith) ∙ sym (drop-drop 1 n out) ∙ ap (drop 1) (r .blanks) ∙ rw less refl;
-        first = (
-          r .first .0
-              ∙ ap (λ (v : Run A). take n out ++ v .items) next
-              ∙ sym (rw (add-one n, take-suc-set out n x here, append-snoc) refl),
-          r .first .1 ∙ ap (λ (v : Run A). v .rest) next,
-        );
-      }
-
-  ends : (records read size (limit - n) (drop at s) ≡ record { items = []; rest = drop at s }) → Ended read size blank limit s out at
-  ends e =
-      let items : records read size limit s .items ≡ take n out = r .first .0 ∙ ap (λ (v : Run A). take n out ++ v .items) e ∙ append-nil (take n out) in
-      let len : length (take n out) ≡ n = length-take-le n out (omega (arith, r .long, r .within)) in
-      record {
-        stored = sym (rw (items, len, ← r .blanks) (take-append-drop n out));
-        after = r .first .1 ∙ ap (λ (v : Run A). v .rest) e;
-      }
-
-  pub reading-stop : read (drop at s) ≡ none → Ended read size blank limit s out at
-  reading-stop e = ends (records-none read size (limit - n) (drop at s) e)
-
-  pub reading-full : limit ≤ n → Ended read size blank limit s out at
-  unfolding records
-  reading-full past =
-      let z : limit - n ≡ 0 = omega arith in
-      ends (ap (λ (k : ℕ). records read size k (drop at s)) z)
-
--- A turn of the loop, which reads at what is left of the bytes: a record more, or the end.
-module _ {A : Type 0} (read : List ℕ → Option A) (size : ℕ) (long : (b : List ℕ) (x : A) → read b ≡ some x → size ≤ length b) (blank : A) (limit : ℕ) (s : List ℕ) (out : List A)
-    (n at : ℕ) (r : Reading read size blank limit s out n at) where
-  left : take (length s - at) (drop at s) ≡ drop at s
-  left = take-all (length s - at) (drop at s) (omega (arith, length-drop at s))
-
-  pub reading-over : read (take (length s - at) (drop at s)) ≡ none → (at ≤ length s) × Ended read size blank limit s out at
-  reading-over e = (r .inside, reading-stop read size blank limit s out n at r (ap read (sym left) ∙ e))
-
-  module _ (x : A) (e : read (take (length s - at) (drop at s)) ≡ some x) where
-    pub reading-room : at + size ≤ length s
-    reading-room = omega (arith, r .inside, long (drop at s) x (ap read (sym left) ∙ e), length-drop at s)
-
-    pub reading-more : n < limit → Reading read size blank limit s (set out n x) (n + 1) (at + size)
-    reading-more lt = reading-put read size blank limit s out n at r x lt reading-room (ap read (sym left) ∙ e)

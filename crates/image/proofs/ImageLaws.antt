@@ -7,27 +7,24 @@ use mathlib.Core.Bool.{Bool, true, false, not, cond, _&&_}
 use mathlib.Core.List.{List, [], _∷_, _++_, append-nil}
 use mathlib.Core.Option.{Option, none, some}
 use native.Mathlib.Omega.{arith}
-use lib.ListN.{length, drop, getD, replicate, length-append, length-drop}
+use lib.ListN.{length, drop, getD, replicate, length-append}
 use lib.Dec.{leb, eqb}
-use borrow.Author.Tests.{leb-true, le-leb, eqb-true, eq-eqb, ne-eqb, not-true}
-use Rattle.lists.specs.Lists.{All, every, those, gather}
-use Rattle.lists.proofs.GatherLaws as gather-laws
-use Rattle.lists.proofs.Tests.{not-of, cond-true, cond-false, every-to, every-of}
+use borrow.Author.Tests.{leb-true, le-leb, eqb-true, not-true}
+use Rattle.lists.specs.Lists.{All, and, filter, concatMap}
+use Rattle.lists.proofs.ConcatMapLaws as concatMap-laws
+use Rattle.lists.proofs.Tests.{not-of, cond-true, cond-false, and-list-to, and-list-of}
 use Rattle.lists.proofs.ListLaws.{all-map, all-right, all-every}
 use Rattle.lists.proofs.DropLaws.{all-drop}
-use Rattle.lists.proofs.ThoseLaws.{those-whole, those-append, those-replicate, those-fewer, those-pass}
+use Rattle.lists.proofs.FilterLaws.{filter-whole, filter-append, filter-replicate, filter-fewer, filter-pass}
 use Rattle.table.specs.declared.Pool.{Pool}
 use Rattle.table.specs.declared.Lease.{Lease}
 use Rattle.table.specs.declared.LeaseTable.{LeaseTable}
-use Rattle.table.specs.Table.{poolSlots, leaseSlots, noPool, noLease, unused?, empty?, sound, padded, paddedPools}
+use Rattle.table.specs.Table.{poolSlots, leaseSlots, noPool, noLease, unused?, empty?, sound, padded}
 use Rattle.table.proofs.TableLaws.{unused-of, empty-of, sound-slots, sound-pool-slots, sound-pools-whole, sound-used, sound-whole}
 use Rattle.image.specs.declared.Head.{Head}
-use Rattle.image.specs.declared.HeadRead.{HeadRead}
-use Rattle.image.specs.declared.PoolRead.{PoolRead}
-use Rattle.image.specs.declared.LeaseRead.{LeaseRead}
 use Rattle.image.specs.Fields.{le16, le32, number16, number32, Run}
-use Rattle.image.specs.Image.{headRecord, poolRecord, leaseRecord, stateByte, flagsByte, usedPools, usedLeases, headOf, imageOf, headSize, poolSize, leaseSize, headIn, headTests, headAt, poolIn, poolTests, poolAt, leaseIn, leaseTests, leaseAt, headRead, poolRead, leaseRead, poolsAt, leasesAt, tableWith, whole, afterHead, loadImage}
-use Rattle.image.proofs.FieldLaws.{Bytes, bytes-of, spell32, le16-number, le32-number, spelled, front-spelled, records-gather, readings}
+use Rattle.image.specs.Image.{headRecord, poolRecord, leaseRecord, stateByte, flagsByte, usedPools, usedLeases, headOf, imageOf, headSize, poolSize, leaseSize, fullImage, stateByteIn, flagsByteIn, expiresIn, headIn, headTests, headAt, poolIn, poolTests, poolAt, leaseIn, leaseTests, leaseAt, poolsAt, leasesAt, tableWith, whole, afterHead, loadImage}
+use Rattle.image.proofs.FieldLaws.{Bytes, bytes-of, spell32, le16-number, le32-number, spelled, front-spelled, records-concatMap, readings}
 
 -- EACH RECORD READS BACK
 
@@ -43,7 +40,7 @@ module _ (x : Head) (q : List ℕ) where
   unfolding headAt headRecord le16 le32 number16 number32
   head-reads =
       let s : List ℕ = headRecord x ++ q in
-      cond-true (every (headTests s)) (some (headIn s)) none (every-of (headTests s) (le-leb headSize (length s) (omega arith), (refl, (refl, tt))))
+      cond-true (and (headTests s)) (some (headIn s)) none (and-list-of (headTests s) (le-leb headSize (length s) (omega arith), (refl, (refl, tt))))
       ∙ ap₂ (λ (t l : ℕ). some (head t (x .«default_length») l)) (spell32 (x .term)) (spell32 (x .last))
 
   pub head-skips : drop headSize (headRecord x ++ q) ≡ q
@@ -54,9 +51,9 @@ module _ (x : Head) (q : List ℕ) where
 pub head-written : (s : List ℕ) (x : Head) → Bytes s → headAt s ≡ some x → s ≡ headRecord x ++ drop headSize s
 unfolding headAt headRecord
 head-written s x b e =
-    let p = some-same (every (headTests s)) (headIn s) x e in
-    let t = every-to (headTests s) (p .0) in
-    let len : le16 11 ≡ getD s 0 0 ∷ getD s 1 0 ∷ [] = ap le16 (sym (eqb-true (number16 s 0) 11 (t .1 .0))) ∙ le16-number s b 0 in
+    let p = some-same (and (headTests s)) (headIn s) x e in
+    let t = and-list-to (headTests s) (p .0) in
+    let len : le16 (headSize - 2) ≡ getD s 0 0 ∷ getD s 1 0 ∷ [] = ap le16 (sym (eqb-true (number16 s 0) (headSize - 2) (t .1 .0))) ∙ le16-number s b 0 in
     let kind : le16 1 ≡ getD s 2 0 ∷ getD s 3 0 ∷ [] = ap le16 (sym (eqb-true (number16 s 2) 1 (t .1 .1 .0))) ∙ le16-number s b 2 in
     let same : headRecord (headIn s) ≡ spelled 0 headSize s = rw (len, kind, le32-number s b 4, le32-number s b 9) in
     front-spelled headSize s (leb-true headSize (length s) (t .0)) ∙ ap (λ (l : List ℕ). l ++ drop headSize s) (sym same ∙ ap headRecord (p .1))
@@ -67,8 +64,8 @@ module _ (p : Pool) (q : List ℕ) where
   pool-reads used =
       let s : List ℕ = poolRecord p ++ q in
       let same : poolIn s ≡ p = ap (λ (n : ℕ). record { network = n; length = p .length }) (spell32 (p .network)) in
-      cond-true (every (poolTests s)) (some (poolIn s)) none
-      (every-of (poolTests s) (le-leb poolSize (length s) (omega arith), (refl, (refl, (not-of (unused? (poolIn s)) (ap unused? same ∙ used), tt)))))
+      cond-true (and (poolTests s)) (some (poolIn s)) none
+      (and-list-of (poolTests s) (le-leb poolSize (length s) (omega arith), (refl, (refl, (not-of (unused? (poolIn s)) (ap unused? same ∙ used), tt)))))
       ∙ ap some same
 
   pub pool-skips : drop poolSize (poolRecord p ++ q) ≡ q
@@ -78,9 +75,9 @@ module _ (p : Pool) (q : List ℕ) where
 pub pool-written : (s : List ℕ) (p : Pool) → Bytes s → poolAt s ≡ some p → (s ≡ poolRecord p ++ drop poolSize s) × (unused? p ≡ false)
 unfolding poolAt poolRecord
 pool-written s p b e =
-    let q = some-same (every (poolTests s)) (poolIn s) p e in
-    let t = every-to (poolTests s) (q .0) in
-    let len : le16 7 ≡ getD s 0 0 ∷ getD s 1 0 ∷ [] = ap le16 (sym (eqb-true (number16 s 0) 7 (t .1 .0))) ∙ le16-number s b 0 in
+    let q = some-same (and (poolTests s)) (poolIn s) p e in
+    let t = and-list-to (poolTests s) (q .0) in
+    let len : le16 (poolSize - 2) ≡ getD s 0 0 ∷ getD s 1 0 ∷ [] = ap le16 (sym (eqb-true (number16 s 0) (poolSize - 2) (t .1 .0))) ∙ le16-number s b 0 in
     let kind : le16 2 ≡ getD s 2 0 ∷ getD s 3 0 ∷ [] = ap le16 (sym (eqb-true (number16 s 2) 2 (t .1 .1 .0))) ∙ le16-number s b 2 in
     let same : poolRecord (poolIn s) ≡ spelled 0 poolSize s = rw (len, kind, le32-number s b 4) in (
       front-spelled poolSize s (leb-true poolSize (length s) (t .0)) ∙ ap (λ (l : List ℕ). l ++ drop poolSize s) (sym same ∙ ap poolRecord (q .1)),
@@ -136,12 +133,12 @@ module _ (x : Lease) (q : List ℕ) where
   lease-reads used =
       let s : List ℕ = leaseRecord x ++ q in
       let same : leaseIn s ≡ x =
-      ap₂ (λ (n c : ℕ). lease n (x .length) c (eqb (stateByte (x .leased)) 2) (eqb (flagsByte (x .h) (x .d) % 2) 1) (eqb (flagsByte (x .h) (x .d) / 2 % 2) 1) (number32 s 15)) (spell32 (x .network)) (spell32 (x .client))
+      ap₂ (λ (n c : ℕ). lease n (x .length) c (eqb (stateByte (x .leased)) 2) (eqb (flagsByte (x .h) (x .d) % 2) 1) (eqb (flagsByte (x .h) (x .d) / 2 % 2) 1) (expiresIn s)) (spell32 (x .network)) (spell32 (x .client))
       ∙ ap₂ (λ (le : Bool) (e : ℕ). lease (x .network) (x .length) (x .client) le (eqb (flagsByte (x .h) (x .d) % 2) 1) (eqb (flagsByte (x .h) (x .d) / 2 % 2) 1) e) (state-reads (x .leased)) (spell32 (x .expires))
       ∙ ap₂ (λ (h d : Bool). lease (x .network) (x .length) (x .client) (x .leased) h d (x .expires)) (h-reads (x .h) (x .d)) (d-reads (x .h) (x .d)) in
       let state = state-range (x .leased) in
-      cond-true (every (leaseTests s)) (some (leaseIn s)) none
-      (every-of (leaseTests s) (
+      cond-true (and (leaseTests s)) (some (leaseIn s)) none
+      (and-list-of (leaseTests s) (
         le-leb leaseSize (length s) (omega arith),
         (
           refl,
@@ -166,24 +163,24 @@ module _ (x : Lease) (q : List ℕ) where
 pub lease-written : (s : List ℕ) (x : Lease) → Bytes s → leaseAt s ≡ some x → (s ≡ leaseRecord x ++ drop leaseSize s) × (empty? x ≡ false)
 unfolding leaseAt leaseRecord
 lease-written s x b e =
-    let p = some-same (every (leaseTests s)) (leaseIn s) x e in
-    let t = every-to (leaseTests s) (p .0) in
-    let len : le16 17 ≡ getD s 0 0 ∷ getD s 1 0 ∷ [] = ap le16 (sym (eqb-true (number16 s 0) 17 (t .1 .0))) ∙ le16-number s b 0 in
+    let p = some-same (and (leaseTests s)) (leaseIn s) x e in
+    let t = and-list-to (leaseTests s) (p .0) in
+    let len : le16 (leaseSize - 2) ≡ getD s 0 0 ∷ getD s 1 0 ∷ [] = ap le16 (sym (eqb-true (number16 s 0) (leaseSize - 2) (t .1 .0))) ∙ le16-number s b 0 in
     let kind : le16 3 ≡ getD s 2 0 ∷ getD s 3 0 ∷ [] = ap le16 (sym (eqb-true (number16 s 2) 3 (t .1 .1 .0))) ∙ le16-number s b 2 in
-    let state : stateByte (eqb (getD s 9 0) 2) ≡ getD s 9 0 = state-written (getD s 9 0) (leb-true 1 (getD s 9 0) (t .1 .1 .1 .0)) (leb-true (getD s 9 0) 2 (t .1 .1 .1 .1 .0)) in
-    let flags : flagsByte (eqb (getD s 10 0 % 2) 1) (eqb (getD s 10 0 / 2 % 2) 1) ≡ getD s 10 0 = flags-written (getD s 10 0) (leb-true (getD s 10 0) 3 (t .1 .1 .1 .1 .1 .0)) in
+    let state : stateByte (eqb (stateByteIn s) 2) ≡ stateByteIn s = state-written (stateByteIn s) (leb-true 1 (stateByteIn s) (t .1 .1 .1 .0)) (leb-true (stateByteIn s) 2 (t .1 .1 .1 .1 .0)) in
+    let flags : flagsByte (eqb (flagsByteIn s % 2) 1) (eqb (flagsByteIn s / 2 % 2) 1) ≡ flagsByteIn s = flags-written (flagsByteIn s) (leb-true (flagsByteIn s) 3 (t .1 .1 .1 .1 .1 .0)) in
     let same : leaseRecord (leaseIn s) ≡ spelled 0 leaseSize s = rw (len, kind, le32-number s b 4, le32-number s b 11, le32-number s b 15, state, flags) in (
       front-spelled leaseSize s (leb-true leaseSize (length s) (t .0)) ∙ ap (λ (l : List ℕ). l ++ drop leaseSize s) (sym same ∙ ap leaseRecord (p .1)),
       ap empty? (sym (p .1)) ∙ not-true (empty? (leaseIn s)) (t .1 .1 .1 .1 .1 .1 .0),
     )
 
 -- No record of a lease is one of a pool.
-no-pool : (xs : List Lease) → poolAt (gather leaseRecord xs) ≡ none
+no-pool : (xs : List Lease) → poolAt (concatMap leaseRecord xs) ≡ none
 unfolding poolAt leaseRecord le16 le32 number16
 no-pool [] = refl
 no-pool (x ∷ xs) =
-    let s : List ℕ = gather leaseRecord (x ∷ xs) in
-    cond-false (every (poolTests s)) (some (poolIn s)) none (third (leb poolSize (length s)) (eqb (number16 s 0) 7) (not (unused? (poolIn s))))
+    let s : List ℕ = concatMap leaseRecord (x ∷ xs) in
+    cond-false (and (poolTests s)) (some (poolIn s)) none (third (leb poolSize (length s)) (eqb (number16 s 0) (poolSize - 2)) (not (unused? (poolIn s))))
   where
     third : (a b c : Bool) → (a && (b && (false && (c && true)))) ≡ false
     third true true c = refl
@@ -197,22 +194,22 @@ no-lease = refl
 -- LOAD AND SAVE UNDO EACH OTHER
 
 -- What is used of slots that are filled up.
-pub used-pools : (k : ℕ) (ps : List Pool) → All (λ p. unused? p ≡ false) ps → those (λ p. not (unused? p)) (ps ++ replicate k noPool) ≡ ps
+pub used-pools : (k : ℕ) (ps : List Pool) → All (λ p. unused? p ≡ false) ps → filter (λ p. not (unused? p)) (ps ++ replicate k noPool) ≡ ps
 used-pools k ps a =
     let f : Pool → Bool = λ p. not (unused? p) in
-    those-append f ps (replicate k noPool)
-    ∙ ap₂ (λ (x y : List Pool). x ++ y) (those-whole f ps (all-map (λ p (e : unused? p ≡ false). not-of (unused? p) e) ps a)) (those-replicate f k noPool (ap not unused-of))
+    filter-append f ps (replicate k noPool)
+    ∙ ap₂ (λ (x y : List Pool). x ++ y) (filter-whole f ps (all-map (λ p (e : unused? p ≡ false). not-of (unused? p) e) ps a)) (filter-replicate f k noPool (ap not unused-of))
     ∙ append-nil ps
 
-pub used-leases : (k : ℕ) (xs : List Lease) → All (λ x. empty? x ≡ false) xs → those (λ x. not (empty? x)) (xs ++ replicate k noLease) ≡ xs
+pub used-leases : (k : ℕ) (xs : List Lease) → All (λ x. empty? x ≡ false) xs → filter (λ x. not (empty? x)) (xs ++ replicate k noLease) ≡ xs
 used-leases k xs a =
     let f : Lease → Bool = λ x. not (empty? x) in
-    those-append f xs (replicate k noLease)
-    ∙ ap₂ (λ (x y : List Lease). x ++ y) (those-whole f xs (all-map (λ x (e : empty? x ≡ false). not-of (empty? x) e) xs a)) (those-replicate f k noLease (ap not empty-of))
+    filter-append f xs (replicate k noLease)
+    ∙ ap₂ (λ (x y : List Lease). x ++ y) (filter-whole f xs (all-map (λ x (e : empty? x ≡ false). not-of (empty? x) e) xs a)) (filter-replicate f k noLease (ap not empty-of))
     ∙ append-nil xs
 
-used-all : {A : Type 0} (none? : A → Bool) (xs : List A) → All (λ x. none? x ≡ false) (those (λ x. not (none? x)) xs)
-used-all none? xs = all-map (λ x (e : not (none? x) ≡ true). not-true (none? x) e) (those (λ x. not (none? x)) xs) (those-pass (λ x. not (none? x)) xs)
+used-all : {A : Type 0} (none? : A → Bool) (xs : List A) → All (λ x. none? x ≡ false) (filter (λ x. not (none? x)) xs)
+used-all none? xs = all-map (λ x (e : not (none? x) ≡ true). not-true (none? x) e) (filter (λ x. not (none? x)) xs) (filter-pass (λ x. not (none? x)) xs)
 
 -- A sound table is that of its head, its used pools and its used leases.
 pub table-whole : (t : LeaseTable) → sound t ≡ true → t ≡ tableWith (headOf t) (usedPools t) (usedLeases t)
@@ -230,15 +227,15 @@ unfolding loadImage imageOf
 load-image t e =
     let ps : List Pool = usedPools t in
     let xs : List Lease = usedLeases t in
-    let tail : List ℕ = gather leaseRecord xs in
-    let body : List ℕ = gather poolRecord ps ++ tail in
-    let few : length ps ≤ poolSlots = omega (arith, those-fewer (λ p. not (unused? p)) (t .pools), sound-pool-slots t e) in
-    let fewer : length xs ≤ leaseSlots = omega (arith, those-fewer (λ x. not (empty? x)) (t .leases), sound-slots t e) in
+    let tail : List ℕ = concatMap leaseRecord xs in
+    let body : List ℕ = concatMap poolRecord ps ++ tail in
+    let few : length ps ≤ poolSlots = omega (arith, filter-fewer (λ p. not (unused? p)) (t .pools), sound-pool-slots t e) in
+    let fewer : length xs ≤ leaseSlots = omega (arith, filter-fewer (λ x. not (empty? x)) (t .leases), sound-slots t e) in
     let pools : poolsAt body ≡ record { items = ps; rest = tail } =
-    records-gather poolAt poolSize poolRecord (λ p. unused? p ≡ false) (λ p q u. pool-reads p q u) pool-skips poolSlots ps tail (used-all unused? (t .pools)) few (no-pool xs) in
+    records-concatMap poolAt poolSize poolRecord (λ p. unused? p ≡ false) (λ p q u. pool-reads p q u) pool-skips poolSlots ps tail (used-all unused? (t .pools)) few (no-pool xs) in
     let leases : leasesAt tail ≡ record { items = xs; rest = [] } =
     ap leasesAt (sym (append-nil tail))
-    ∙ records-gather leaseAt leaseSize leaseRecord (λ x. empty? x ≡ false) (λ x q u. lease-reads x q u) lease-skips leaseSlots xs [] (used-all empty? (t .leases)) fewer no-lease in
+    ∙ records-concatMap leaseAt leaseSize leaseRecord (λ x. empty? x ≡ false) (λ x q u. lease-reads x q u) lease-skips leaseSlots xs [] (used-all empty? (t .leases)) fewer no-lease in
     ap₂ afterHead (head-reads (headOf t) body) (head-skips (headOf t) body)
     ∙ ap (λ (r : Run Pool). whole (tableWith (headOf t) (r .items) (leasesAt (r .rest) .items)) (leasesAt (r .rest) .rest)) pools
     ∙ ap (λ (r : Run Lease). whole (tableWith (headOf t) ps (r .items)) (r .rest)) leases
@@ -262,18 +259,18 @@ image-loaded s t a e = cases (headAt s) refl e
         let ps : Run Pool = poolsAt body in
         let r = readings poolAt poolSize poolRecord (λ p. unused? p ≡ false) pool-written poolSlots body (bytes-of body bodyBytes) in
         let restBytes : All (λ b. b < 256) (ps .rest) =
-        all-right (λ b. b < 256) (gather poolRecord (ps .items)) (ps .rest) (subst (All (λ b. b < 256)) (r .same) bodyBytes) in
+        all-right (λ b. b < 256) (concatMap poolRecord (ps .items)) (ps .rest) (subst (All (λ b. b < 256)) (r .same) bodyBytes) in
         let xs : Run Lease = leasesAt (ps .rest) in
         let q = readings leaseAt leaseSize leaseRecord (λ y. empty? y ≡ false) lease-written leaseSlots (ps .rest) (bytes-of (ps .rest) restBytes) in
         let u : LeaseTable = tableWith x (ps .items) (xs .items) in
-        let w = some-same (every (eqb (length (xs .rest)) 0 ∷ sound u ∷ [])) u t f in
-        let tests = every-to (eqb (length (xs .rest)) 0 ∷ sound u ∷ []) (w .0) in
+        let w = some-same (and (eqb (length (xs .rest)) 0 ∷ sound u ∷ [])) u t f in
+        let tests = and-list-to (eqb (length (xs .rest)) 0 ∷ sound u ∷ []) (w .0) in
         let nothing : xs .rest ≡ [] = length-zero (xs .rest) (eqb-true (length (xs .rest)) 0 (tests .0)) in
-        let tail : ps .rest ≡ gather leaseRecord (xs .items) = q .same ∙ ap (λ (l : List ℕ). gather leaseRecord (xs .items) ++ l) nothing ∙ append-nil (gather leaseRecord (xs .items)) in
-        let bytes : s ≡ headRecord x ++ (gather poolRecord (ps .items) ++ gather leaseRecord (xs .items)) =
-        head-written s x (bytes-of s a) h ∙ ap (λ (l : List ℕ). headRecord x ++ l) (r .same ∙ ap (λ (l : List ℕ). gather poolRecord (ps .items) ++ l) tail) in
+        let tail : ps .rest ≡ concatMap leaseRecord (xs .items) = q .same ∙ ap (λ (l : List ℕ). concatMap leaseRecord (xs .items) ++ l) nothing ∙ append-nil (concatMap leaseRecord (xs .items)) in
+        let bytes : s ≡ headRecord x ++ (concatMap poolRecord (ps .items) ++ concatMap leaseRecord (xs .items)) =
+        head-written s x (bytes-of s a) h ∙ ap (λ (l : List ℕ). headRecord x ++ l) (r .same ∙ ap (λ (l : List ℕ). concatMap poolRecord (ps .items) ++ l) tail) in
         let image : imageOf u ≡ s =
-        ap₂ (λ (p : List Pool) (l : List Lease). headRecord x ++ (gather poolRecord p ++ gather leaseRecord l))
+        ap₂ (λ (p : List Pool) (l : List Lease). headRecord x ++ (concatMap poolRecord p ++ concatMap leaseRecord l))
         (used-pools (poolSlots - length (ps .items)) (ps .items) (r .each)) (used-leases (leaseSlots - length (xs .items)) (xs .items) (q .each))
         ∙ sym bytes in
         (ap sound (sym (w .1)) ∙ tests .1 .0, ap imageOf (sym (w .1)) ∙ image)
@@ -291,149 +288,57 @@ one-image t u a b = ((λ e. some-injective t u (sym (load-image t a) ∙ ap load
 
 -- HOW LONG AN IMAGE IS
 
-pub length-head : (x : Head) → length (headRecord x) ≡ 13
+pub length-head : (x : Head) → length (headRecord x) ≡ headSize
 unfolding headRecord le16 le32
 length-head x = refl
 
-pub length-pool : (p : Pool) → length (poolRecord p) ≡ 9
+pub length-pool : (p : Pool) → length (poolRecord p) ≡ poolSize
 unfolding poolRecord le16 le32
 length-pool p = refl
 
-pub length-lease : (x : Lease) → length (leaseRecord x) ≡ 19
+pub length-lease : (x : Lease) → length (leaseRecord x) ≡ leaseSize
 unfolding leaseRecord le16 le32
 length-lease x = refl
 
-pub length-gather : {A : Type 0} (rec : A → List ℕ) (n : ℕ) → ((x : A) → length (rec x) ≡ n) → (xs : List A) → length (gather rec xs) ≡ n * length xs
-length-gather rec n h xs = gather-laws.length-gather rec n xs (all-every h xs)
+pub length-concatMap : {A : Type 0} (rec : A → List ℕ) (n : ℕ) → ((x : A) → length (rec x) ≡ n) → (xs : List A) → length (concatMap rec xs) ≡ n * length xs
+length-concatMap rec n h xs = concatMap-laws.length-concatMap rec n xs (all-every h xs)
 
-pub length-image : (t : LeaseTable) → length (imageOf t) ≡ 13 + 9 * length (usedPools t) + 19 * length (usedLeases t)
+pub length-image : (t : LeaseTable) → length (imageOf t) ≡ headSize + poolSize * length (usedPools t) + leaseSize * length (usedLeases t)
 unfolding imageOf
 length-image t =
-    let pools = length-gather poolRecord 9 length-pool (usedPools t) in
-    let leases = length-gather leaseRecord 19 length-lease (usedLeases t) in
-    length-append (headRecord (headOf t)) (gather poolRecord (usedPools t) ++ gather leaseRecord (usedLeases t))
-    ∙ omega (arith, length-head (headOf t), length-append (gather poolRecord (usedPools t)) (gather leaseRecord (usedLeases t)))
+    let pools = length-concatMap poolRecord poolSize length-pool (usedPools t) in
+    let leases = length-concatMap leaseRecord leaseSize length-lease (usedLeases t) in
+    length-append (headRecord (headOf t)) (concatMap poolRecord (usedPools t) ++ concatMap leaseRecord (usedLeases t))
+    ∙ omega (arith, length-head (headOf t), length-append (concatMap poolRecord (usedPools t)) (concatMap leaseRecord (usedLeases t)))
 
 -- "A full book is 4,949 bytes." No image of a sound table is longer.
-pub full-image : (t : LeaseTable) → length (usedPools t) ≡ poolSlots → length (usedLeases t) ≡ leaseSlots → length (imageOf t) ≡ 4949
+pub full-image : (t : LeaseTable) → length (usedPools t) ≡ poolSlots → length (usedLeases t) ≡ leaseSlots → length (imageOf t) ≡ fullImage
 full-image t p l = omega (arith, length-image t)
 
-pub longest-image : (t : LeaseTable) → sound t ≡ true → length (imageOf t) ≤ 4949
+pub longest-image : (t : LeaseTable) → sound t ≡ true → length (imageOf t) ≤ fullImage
 longest-image t e =
-    omega (arith, length-image t, those-fewer (λ p. not (unused? p)) (t .pools), sound-pool-slots t e, those-fewer (λ x. not (empty? x)) (t .leases), sound-slots t e)
-
--- THE ANSWERS OF THE READERS
-
-module _ (s : List ℕ) where
-  pub head-other : every (headTests s) ≡ false → HeadRead.Other ≡ headRead (headAt s)
-  unfolding headAt
-  head-other e = rw e
-
-  pub head-found : every (headTests s) ≡ true → HeadRead.Found (headIn s) ≡ headRead (headAt s)
-  unfolding headAt
-  head-found e = rw e
-
-  pub pool-other : every (poolTests s) ≡ false → PoolRead.Other ≡ poolRead (poolAt s)
-  unfolding poolAt
-  pool-other e = rw e
-
-  pub pool-found : every (poolTests s) ≡ true → PoolRead.Found (poolIn s) ≡ poolRead (poolAt s)
-  unfolding poolAt
-  pool-found e = rw e
-
-  pub lease-other : every (leaseTests s) ≡ false → LeaseRead.Other ≡ leaseRead (leaseAt s)
-  unfolding leaseAt
-  lease-other e = rw e
-
-  pub lease-found : every (leaseTests s) ≡ true → LeaseRead.Found (leaseIn s) ≡ leaseRead (leaseAt s)
-  unfolding leaseAt
-  lease-found e = rw e
-
--- A pool and a lease of numbers that were read.
-abbrev pub poolRaw : ℕ → ℕ → Pool
-poolRaw network len = record { network = network; length = len }
-
-abbrev pub leaseRaw : List ℕ → ℕ → ℕ → ℕ → Lease
-leaseRaw s network client expires = record {
-  network = network;
-  length = getD s 8 0;
-  client = client;
-  leased = eqb (getD s 9 0) 2;
-  h = eqb (getD s 10 0 % 2) 1;
-  d = eqb (getD s 10 0 / 2 % 2) 1;
-  expires = expires;
-}
-
--- What an answer tells of what was read.
-pub pool-of-found : (o : Option Pool) (p : Pool) → poolRead o ≡ PoolRead.Found p → o ≡ some p
-pool-of-found none p e = let z : _≡_ {A = ℕ} 0 1 = cc in absurd (omega arith)
-pool-of-found (some q) p e = cc
-
-pub pool-of-other : (o : Option Pool) → poolRead o ≡ PoolRead.Other → o ≡ none
-pool-of-other none e = refl
-pool-of-other (some q) e = let z : _≡_ {A = ℕ} 0 1 = cc in absurd (omega arith)
-
-pub lease-of-found : (o : Option Lease) (x : Lease) → leaseRead o ≡ LeaseRead.Found x → o ≡ some x
-lease-of-found none x e = let z : _≡_ {A = ℕ} 0 1 = cc in absurd (omega arith)
-lease-of-found (some y) x e = cc
-
-pub lease-of-other : (o : Option Lease) → leaseRead o ≡ LeaseRead.Other → o ≡ none
-lease-of-other none e = refl
-lease-of-other (some y) e = let z : _≡_ {A = ℕ} 0 1 = cc in absurd (omega arith)
-
-pub head-of-found : (o : Option Head) (x : Head) → headRead o ≡ HeadRead.Found x → o ≡ some x
-head-of-found none x e = let z : _≡_ {A = ℕ} 0 1 = cc in absurd (omega arith)
-head-of-found (some y) x e = cc
-
-pub head-of-other : (o : Option Head) → headRead o ≡ HeadRead.Other → o ≡ none
-head-of-other none e = refl
-head-of-other (some y) e = let z : _≡_ {A = ℕ} 0 1 = cc in absurd (omega arith)
+    omega (arith, length-image t, filter-fewer (λ p. not (unused? p)) (t .pools), sound-pool-slots t e, filter-fewer (λ x. not (empty? x)) (t .leases), sound-slots t e)
 
 -- A record that is read is there whole.
-pub head-long : (s : List ℕ) (x : Head) → headAt s ≡ some x → headSize ≤ length s
-unfolding headAt
-head-long s x e = leb-true headSize (length s) (every-to (headTests s) (some-same (every (headTests s)) (headIn s) x e .0) .0)
-
 pub pool-long : (s : List ℕ) (p : Pool) → poolAt s ≡ some p → poolSize ≤ length s
 unfolding poolAt
-pool-long s p e = leb-true poolSize (length s) (every-to (poolTests s) (some-same (every (poolTests s)) (poolIn s) p e .0) .0)
+pool-long s p e = leb-true poolSize (length s) (and-list-to (poolTests s) (some-same (and (poolTests s)) (poolIn s) p e .0) .0)
 
 pub lease-long : (s : List ℕ) (x : Lease) → leaseAt s ≡ some x → leaseSize ≤ length s
 unfolding leaseAt
-lease-long s x e = leb-true leaseSize (length s) (every-to (leaseTests s) (some-same (every (leaseTests s)) (leaseIn s) x e .0) .0)
+lease-long s x e = leb-true leaseSize (length s) (and-list-to (leaseTests s) (some-same (and (leaseTests s)) (leaseIn s) x e .0) .0)
 
--- WHAT LOAD ANSWERS, after the pools were read and `part` is left, of which the leases take `size` bytes.
-module _ (x : Head) (s part : List ℕ) (size : ℕ) (same : part ≡ poolsAt s .rest) (fits : size ≤ length part) (left : leasesAt part .rest ≡ drop size part) where
-  restLength : length (leasesAt (poolsAt s .rest) .rest) ≡ length part - size
-  restLength = ap (λ (l : List ℕ). length (leasesAt l .rest)) (sym same) ∙ ap length left ∙ length-drop size part
+-- WHAT LOAD READS AFTER THE HEAD
 
-  pub load-trailing : (size ≡ length part → ⊥) → afterHead (some x) s ≡ none
-  load-trailing h =
-      let more : length (leasesAt (poolsAt s .rest) .rest) ≡ 0 → ⊥ = λ e. h (omega (arith, restLength)) in
-      rw (ne-eqb (length (leasesAt (poolsAt s .rest) .rest)) 0 more)
+module _ (s : List ℕ) where
+  pub load-no-head : and (headTests s) ≡ false → loadImage s ≡ none
+  unfolding loadImage headAt
+  load-no-head e = rw e
 
-  module _ (all : size ≡ length part) (pools : List Pool) (leases : List Lease) (ps : pools ≡ paddedPools (poolsAt s .items)) (xs : leases ≡ padded (leasesAt part .items)) where
-    abbrev loaded : LeaseTable
-    loaded = record { pools = pools; leases = leases; term = x .term; «default_length» = x .«default_length»; last = x .last }
+  module _ (e : and (headTests s) ≡ true) where
+    pub load-head : loadImage s ≡ afterHead (some (headIn s)) (drop headSize s)
+    unfolding loadImage headAt
+    load-head = rw e
 
-    made : loaded ≡ tableWith x (poolsAt s .items) (leasesAt (poolsAt s .rest) .items)
-    made =
-        ap₂ (λ (p : List Pool) (l : List Lease). record { pools = p; leases = l; term = x .term; «default_length» = x .«default_length»; last = x .last })
-        ps (xs ∙ ap (λ (l : List ℕ). padded (leasesAt l .items)) same)
-
-    nothing : eqb (length (leasesAt (poolsAt s .rest) .rest)) 0 ≡ true
-    nothing = eq-eqb (length (leasesAt (poolsAt s .rest) .rest)) 0 (omega (arith, restLength))
-
-    pub load-unsound : sound loaded ≡ false → afterHead (some x) s ≡ none
-    load-unsound e = rw (nothing, ap sound (sym made) ∙ e)
-
-    pub load-sound : sound loaded ≡ true → afterHead (some x) s ≡ some loaded
-    load-sound e = rw (nothing, ap sound (sym made) ∙ e) (ap some (sym made))
-
-pub load-no-head : (s : List ℕ) → headAt s ≡ none → loadImage s ≡ none
-unfolding loadImage
-load-no-head s e = rw e
-
-pub load-head : (s : List ℕ) (x : Head) → headAt s ≡ some x → loadImage s ≡ afterHead (some x) (drop headSize s)
-unfolding loadImage
-load-head s x e = ap (λ (o : Option Head). afterHead o (drop headSize s)) e
+    pub head-long : headSize ≤ length s
+    head-long = leb-true headSize (length s) (and-list-to (headTests s) e .0)

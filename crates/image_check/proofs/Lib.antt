@@ -1,5 +1,6 @@
 pub mod FitLaws
 pub mod RunLaws
-pub mod BookLaws
+pub mod SummaryLaws
 pub mod PoolLaws
 pub mod ScanLaws
+pub mod BlockLaws

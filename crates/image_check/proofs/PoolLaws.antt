@@ -7,27 +7,27 @@ use mathlib.Core.Bool.{Bool, true, false, _&&_, cond, true≢false}
 use mathlib.Core.List.{List, [], _∷_}
 use mathlib.Core.Option.{none, some}
 use native.Mathlib.Omega.{arith}
-use lib.ListN.{length, drop, getD, length-drop}
-use lib.Seq.{drop-drop, getD-drop}
+use lib.ListN.{length, drop, length-drop}
+use lib.Seq.{drop-drop}
 use lib.Dec.{leb, eqb}
 use borrow.Author.Tests.{le-leb, leb-true, eqb-true, eq-eqb, not-true}
-use Rattle.lists.specs.Lists.{every}
-use Rattle.lists.proofs.Tests.{bool-cases, and-to, cond-true, cond-false, not-of, not-true⇒false, every-to, every-of}
+use Rattle.lists.specs.Lists.{and}
+use Rattle.lists.proofs.Tests.{bool-cases, and-to, cond-true, cond-false, not-of, not-true⇒false, and-list-to, and-list-of}
 use Rattle.prefix.specs.Prefixes.{end}
 use Rattle.prefix.proofs.PrefixLaws.{size-positive}
 use Rattle.table.specs.declared.Pool.{Pool}
 use Rattle.table.specs.Table.{poolSlots, poolPrefix, unused?, poolOk, ascends?, poolsAscend?}
-use Rattle.table.proofs.TableLaws.{GoodPool, poolOk-to, long-not-unused}
+use Rattle.table.proofs.TableLaws.{poolOk-to, long-not-unused}
 use Rattle.image.specs.Fields.{number16, number32, Run, records}
 use Rattle.image.specs.Image.{poolSize, poolIn, poolTests, poolAt, poolsAt}
-use Rattle.image.proofs.FieldLaws.{Bytes, bytes-drop, records-none, records-some}
+use Rattle.image.proofs.FieldLaws.{Bytes, bytes-drop, start-of, start-to, records-none, records-some}
 use Rattle.image_check.specs.Inner.{poolEnd, poolCount, poolStart, poolBegins?}
 use Rattle.image_check.proofs.RunLaws.{pool-known}
 
 -- What the end of a pool tells.
 module _ (p : Pool) where
-  pub end-none : (GoodPool p → ⊥) → 0 ≡ poolEnd p
-  end-none h = sym (cond-false (poolOk p) (end (poolPrefix p)) 0 (not-true⇒false (poolOk p) (λ e. h (poolOk-to p e))))
+  pub end-none : poolOk p ≡ false → 0 ≡ poolEnd p
+  end-none e = sym (cond-false (poolOk p) (end (poolPrefix p)) 0 e)
 
   pub end-some : poolOk p ≡ true → end (poolPrefix p) ≡ poolEnd p
   end-some e = sym (cond-true (poolOk p) (end (poolPrefix p)) 0 e)
@@ -41,50 +41,35 @@ module _ (p : Pool) where
       (λ (b : poolOk p ≡ false). absurd (h (e ∙ cond-false (poolOk p) (end (poolPrefix p)) 0 b)))
       (bool-cases (poolOk p))
 
--- A number at a place, and from there on.
-pub number-at : (s : List ℕ) (at k : ℕ) → number32 (drop at s) k ≡ number32 s (at + k)
-unfolding number32
-number-at s at k =
-    let digit : (i : ℕ) → getD (drop at s) (k + i) 0 ≡ getD s (at + k + i) 0 = λ i. getD-drop at s (k + i) 0 ∙ ap (λ (j : ℕ). getD s j 0) (omega arith) in
-    omega (arith, getD-drop at s k 0, digit 1, digit 2, digit 3)
-
-pub begins-long : (s : List ℕ) → poolBegins? s ≡ true → 9 ≤ length s
-begins-long s e = leb-true 9 (length s) (every-to (leb poolSize (length s) ∷ eqb (number32 s 0) poolStart ∷ []) e .0)
+pub begins-long : (s : List ℕ) → poolBegins? s ≡ true → poolSize ≤ length s
+begins-long s e = leb-true poolSize (length s) (and-list-to (leb poolSize (length s) ∷ eqb (number32 s 0) poolStart ∷ []) e .0)
 
 -- A record that begins as a pool's is one, unless it is unused.
 module _ (s : List ℕ) (bytes : Bytes s) where
   abbrev starts : List Bool
   starts = leb poolSize (length s) ∷ eqb (number32 s 0) poolStart ∷ []
 
-  halves : number32 s 0 ≡ number16 s 0 + 65536 * number16 s 2
-  unfolding number16 number32
-  halves = omega arith
-
-  small : (number16 s 0 < 65536) × (number16 s 2 < 65536)
-  unfolding number16
-  small = (omega (arith, bytes 0, bytes 1), omega (arith, bytes 2, bytes 3))
-
   pub begins-not : poolBegins? s ≡ false → poolAt s ≡ none
   unfolding poolAt
   begins-not e =
-      cond-false (every (poolTests s)) (some (poolIn s)) none (not-true⇒false (every (poolTests s)) (λ f.
-      let t = every-to (poolTests s) f in
-      let start : number32 s 0 ≡ poolStart = omega (arith, halves, eqb-true (number16 s 0) 7 (t .1 .0), eqb-true (number16 s 2) 2 (t .1 .1 .0)) in
-      true≢false (sym (every-of starts (t .0, (eq-eqb (number32 s 0) poolStart start, tt))) ∙ e)))
+      cond-false (and (poolTests s)) (some (poolIn s)) none (not-true⇒false (and (poolTests s)) (λ f.
+      let t = and-list-to (poolTests s) f in
+      let start = start-to s bytes (poolSize - 2) 2 (omega arith) (eqb-true (number16 s 0) (poolSize - 2) (t .1 .0)) (eqb-true (number16 s 2) 2 (t .1 .1 .0)) in
+      true≢false (sym (and-list-of starts (t .0, (eq-eqb (number32 s 0) poolStart start, tt))) ∙ e)))
 
   pub begins-unused : unused? (poolIn s) ≡ true → poolAt s ≡ none
   unfolding poolAt
   begins-unused e =
-      cond-false (every (poolTests s)) (some (poolIn s)) none (not-true⇒false (every (poolTests s)) (λ f.
-      true≢false (sym e ∙ not-true (unused? (poolIn s)) (every-to (poolTests s) f .1 .1 .1 .0))))
+      cond-false (and (poolTests s)) (some (poolIn s)) none (not-true⇒false (and (poolTests s)) (λ f.
+      true≢false (sym e ∙ not-true (unused? (poolIn s)) (and-list-to (poolTests s) f .1 .1 .1 .0))))
 
   pub begins-pool : poolBegins? s ≡ true → unused? (poolIn s) ≡ false → poolAt s ≡ some (poolIn s)
   unfolding poolAt
   begins-pool e u =
-      let t = every-to starts e in
-      let start : number32 s 0 ≡ poolStart = eqb-true (number32 s 0) poolStart (t .1 .0) in
-      cond-true (every (poolTests s)) (some (poolIn s)) none
-      (every-of (poolTests s) (t .0, (eq-eqb (number16 s 0) 7 (omega (arith, halves, small .0, small .1)), (eq-eqb (number16 s 2) 2 (omega (arith, halves, small .0, small .1)), (not-of (unused? (poolIn s)) u, tt)))))
+      let t = and-list-to starts e in
+      let start = start-of s bytes (poolSize - 2) 2 (omega arith) (eqb-true (number32 s 0) poolStart (t .1 .0)) in
+      cond-true (and (poolTests s)) (some (poolIn s)) none
+      (and-list-of (poolTests s) (t .0, (eq-eqb (number16 s 0) (poolSize - 2) (start .0), (eq-eqb (number16 s 2) 2 (start .1), (not-of (unused? (poolIn s)) u, tt)))))
 
 -- Pools that are counted are as a sound table has them.
 pub counted-pools : (ps : List Pool) (n : ℕ) → n ≡ poolCount ps → (n ≡ 0 → ⊥) → (poolsAscend? ps ≡ true) × (n ≡ length ps)
@@ -102,9 +87,9 @@ ascend? from ps = ascends? unused? poolOk poolPrefix from ps
 -- After n pools that are as a sound table has them, which end at `from`: what is left to test, and to count.
 pub record PoolsRead (s : List ℕ) (from n : ℕ) : Type 0 where
   pub few : n ≤ poolSlots
-  pub inside : 9 * n ≤ length s
-  pub ascends : poolsAscend? (poolsAt s .items) ≡ ascend? from (poolsFrom (poolSlots - n) (drop (9 * n) s) .items)
-  pub counted : length (poolsAt s .items) ≡ n + length (poolsFrom (poolSlots - n) (drop (9 * n) s) .items)
+  pub inside : poolSize * n ≤ length s
+  pub ascends : poolsAscend? (poolsAt s .items) ≡ ascend? from (poolsFrom (poolSlots - n) (drop (poolSize * n) s) .items)
+  pub counted : length (poolsAt s .items) ≡ n + length (poolsFrom (poolSlots - n) (drop (poolSize * n) s) .items)
 
 module _ (s : List ℕ) where
   pub pools-none : PoolsRead s 0 0
@@ -112,7 +97,7 @@ module _ (s : List ℕ) where
 
   module _ (from n : ℕ) (r : PoolsRead s from n) where
     abbrev here : List ℕ
-    here = drop (9 * n) s
+    here = drop (poolSize * n) s
 
     -- Nothing is left.
     over : poolsFrom (poolSlots - n) here .items ≡ [] → n ≡ poolCount (poolsAt s .items)
@@ -131,16 +116,16 @@ module _ (s : List ℕ) where
     -- A pool more.
     module _ (p : Pool) (e : poolAt here ≡ some p) (lt : n < poolSlots) where
       later : List Pool
-      later = poolsFrom (poolSlots - (n + 1)) (drop (9 * (n + 1)) s) .items
+      later = poolsFrom (poolSlots - (n + 1)) (drop (poolSize * (n + 1)) s) .items
 
       items : poolsFrom (poolSlots - n) here .items ≡ p ∷ later
       unfolding later
       items =
           let less : poolSlots - n ≡ suc (poolSlots - (n + 1)) = omega arith in
-          let place : 9 * n + 9 ≡ 9 * (n + 1) = omega arith in
+          let place : poolSize * n + poolSize ≡ poolSize * (n + 1) = omega arith in
           ap (λ (k : ℕ). poolsFrom k here .items) less
           ∙ ap (λ (v : Run Pool). v .items) (records-some poolAt poolSize (poolSlots - (n + 1)) here p e)
-          ∙ ap (λ (u : List ℕ). p ∷ poolsFrom (poolSlots - (n + 1)) u .items) (drop-drop 9 (9 * n) s ∙ ap (λ (k : ℕ). drop k s) place)
+          ∙ ap (λ (u : List ℕ). p ∷ poolsFrom (poolSlots - (n + 1)) u .items) (drop-drop poolSize (poolSize * n) s ∙ ap (λ (k : ℕ). drop k s) place)
 
       first : poolsAscend? (poolsAt s .items) ≡ leb from (p .network) && (poolOk p && ascend? (end (poolPrefix p)) later)
       unfolding ascends?
@@ -153,8 +138,8 @@ module _ (s : List ℕ) where
           let a = and-to (leb from (p .network)) (poolOk p && ascend? (end (poolPrefix p)) later) (sym first ∙ t) in
           bad (leb-true from (p .network) (a .0)) (and-to (poolOk p) (ascend? (end (poolPrefix p)) later) (a .1) .0))))
 
-      pub pools-room : 9 * n + 9 ≤ length s
-      pools-room = omega (arith, pool-known here p e .0, length-drop (9 * n) s)
+      pub pools-room : poolSize * n + poolSize ≤ length s
+      pools-room = omega (arith, pool-known here p e .0, length-drop (poolSize * n) s)
 
       pub pools-more : from ≤ p .network → poolOk p ≡ true → PoolsRead s (end (poolPrefix p)) (n + 1)
       unfolding later
@@ -166,16 +151,16 @@ module _ (s : List ℕ) where
       }
 
 -- A record that begins as a pool's.
-module _ (s : List ℕ) (bytes : Bytes s) (from n : ℕ) (r : PoolsRead s from n) (lt : n < poolSlots) (begins : poolBegins? (drop (9 * n) s) ≡ true) (p : Pool)
-    (same : p ≡ poolIn (drop (9 * n) s)) where
-  used-pool : unused? p ≡ false → poolAt (drop (9 * n) s) ≡ some p
-  used-pool u = begins-pool (drop (9 * n) s) (bytes-drop (9 * n) s bytes) begins (ap unused? (sym same) ∙ u) ∙ ap some (sym same)
+module _ (s : List ℕ) (bytes : Bytes s) (from n : ℕ) (r : PoolsRead s from n) (lt : n < poolSlots) (begins : poolBegins? (drop (poolSize * n) s) ≡ true) (p : Pool)
+    (same : p ≡ poolIn (drop (poolSize * n) s)) where
+  used-pool : unused? p ≡ false → poolAt (drop (poolSize * n) s) ≡ some p
+  used-pool u = begins-pool (drop (poolSize * n) s) (bytes-drop (poolSize * n) s bytes) begins (ap unused? (sym same) ∙ u) ∙ ap some (sym same)
 
   -- It is not as a sound table has it.
   pub pools-stopped : (from ≤ p .network → poolOk p ≡ true → ⊥) → cond (unused? p) n 0 ≡ poolCount (poolsAt s .items)
   pools-stopped bad =
       ⊎-elim
-      (λ (u : unused? p ≡ true). cond-true (unused? p) n 0 u ∙ pools-stop s from n r (begins-unused (drop (9 * n) s) (bytes-drop (9 * n) s bytes) (ap unused? (sym same) ∙ u)))
+      (λ (u : unused? p ≡ true). cond-true (unused? p) n 0 u ∙ pools-stop s from n r (begins-unused (drop (poolSize * n) s) (bytes-drop (poolSize * n) s bytes) (ap unused? (sym same) ∙ u)))
       (λ (u : unused? p ≡ false). cond-false (unused? p) n 0 u ∙ pools-bad s from n r p (used-pool u) lt bad)
       (bool-cases (unused? p))
 

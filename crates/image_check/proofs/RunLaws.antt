@@ -10,8 +10,8 @@ use native.Mathlib.Omega.{arith}
 use lib.ListN.{length, take, drop, getD, length-drop}
 use lib.Seq.{drop-drop, take-all}
 use borrow.Author.Tests.{not-true}
-use Rattle.lists.specs.Lists.{All, every}
-use Rattle.lists.proofs.Tests.{every-to}
+use Rattle.lists.specs.Lists.{All, and}
+use Rattle.lists.proofs.Tests.{and-list-to}
 use Rattle.table.specs.declared.Pool.{Pool}
 use Rattle.table.specs.declared.Lease.{Lease}
 use Rattle.table.specs.Table.{poolSlots, unused?, empty?}
@@ -66,8 +66,8 @@ module _ {A : Type 0} (read : List ℕ → Option A) (size : ℕ) (into : List �
 pub pool-known : (b : List ℕ) (p : Pool) → poolAt b ≡ some p → (poolSize ≤ length b) × (p ≡ poolIn b) × (unused? p ≡ false)
 unfolding poolAt
 pool-known b p e =
-    let q = some-same (every (poolTests b)) (poolIn b) p e in
-    let t = every-to (poolTests b) (q .0) in
+    let q = some-same (and (poolTests b)) (poolIn b) p e in
+    let t = and-list-to (poolTests b) (q .0) in
     (pool-long b p e, sym (q .1), ap unused? (sym (q .1)) ∙ not-true (unused? (poolIn b)) (t .1 .1 .1 .0))
 
 pub pools-taken : (s : List ℕ) → Taken poolSize poolIn (λ p. unused? p ≡ false) poolSlots s (poolsAt s)
@@ -76,8 +76,8 @@ pools-taken s = taken poolAt poolSize poolIn (λ p. unused? p ≡ false) pool-kn
 pub lease-known : (b : List ℕ) (x : Lease) → leaseAt b ≡ some x → (leaseSize ≤ length b) × (x ≡ leaseIn b) × (empty? x ≡ false)
 unfolding leaseAt
 lease-known b x e =
-    let q = some-same (every (leaseTests b)) (leaseIn b) x e in
-    let t = every-to (leaseTests b) (q .0) in
+    let q = some-same (and (leaseTests b)) (leaseIn b) x e in
+    let t = and-list-to (leaseTests b) (q .0) in
     (lease-long b x e, sym (q .1), ap empty? (sym (q .1)) ∙ not-true (empty? (leaseIn b)) (t .1 .1 .1 .1 .1 .1 .0))
 
 pub leases-taken : (limit : ℕ) (s : List ℕ) → Taken leaseSize leaseIn (λ x. empty? x ≡ false) limit s (records leaseAt leaseSize limit s)

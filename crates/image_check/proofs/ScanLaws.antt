@@ -11,30 +11,30 @@ use lib.ListN.{length, drop, getD, length-map, length-drop, List·getD-map}
 use lib.Seq.{drop-drop}
 use lib.Dec.{leb, ltb, eqb}
 use borrow.Author.Tests.{ltb-true, ltb-false, eqb-true}
-use Rattle.lists.specs.Lists.{every, any?}
-use Rattle.lists.proofs.Tests.{bool-cases, or-left, or-right, not-of, cond-true, cond-false, every-to}
+use Rattle.lists.specs.Lists.{and, any?}
+use Rattle.lists.proofs.Tests.{bool-cases, or-left, or-right, not-of, cond-true, cond-false, and-list-to}
 use Rattle.lists.proofs.ListLaws.{all-map}
 use Rattle.lists.proofs.DropLaws.{drop-end, all-at}
-use Rattle.lists.proofs.ThoseLaws.{those-whole}
+use Rattle.lists.proofs.FilterLaws.{filter-whole}
 use Rattle.prefix.specs.declared.Prefix.{Prefix}
 use Rattle.prefix.specs.Prefixes.{end, inside?}
-use Rattle.prefix.proofs.PrefixLaws.{size-positive, inside-to, inside-of, inside-not}
+use Rattle.prefix.proofs.PrefixLaws.{size-positive, inside-of, inside-not}
 use Rattle.table.specs.declared.Pool.{Pool}
 use Rattle.table.specs.declared.Lease.{Lease}
 use Rattle.table.specs.Table.{leaseSlots, leasesAscend?, noPool, poolPrefix, unused?, poolOk}
 use Rattle.table.proofs.Ascending.{Ascending, used, ascending-low, ascends-to}
 use Rattle.table.proofs.TableLaws.{unused-to}
 use Rattle.image.specs.declared.Head.{Head}
-use Rattle.image.specs.Fields.{number32, Run}
-use Rattle.image.specs.Image.{leaseSize, leaseIn, leaseAt, poolsAt, afterHead}
+use Rattle.image.specs.Fields.{Run}
+use Rattle.image.specs.Image.{leaseSize, leaseIn, leaseAt, poolsAt, afterHead, networkIn, poolSize}
 use Rattle.image.proofs.FieldLaws.{Bytes, bytes-drop, records-none}
-use Rattle.image_check.specs.Book.{unsound, bookOf}
+use Rattle.image_check.specs.ImageSummary.{unsound, summaryOf}
 use Rattle.image_check.specs.declared.Pass.{Pass}
 use Rattle.image_check.specs.Inner.{prefixIn, nthPool, fitTests, due, Begun}
-use Rattle.image_check.specs.Pass.{bookWith, ending, leasesFrom, poolsIn, Answered, Reached}
+use Rattle.image_check.specs.InnerPass.{summaryWith, ending, leasesFrom, poolsIn, Answered, Reached}
 use Rattle.image_check.proofs.FitLaws.{Fits, Met, fits-to, fits-of, fits-read, fits-ok}
 use Rattle.image_check.proofs.RunLaws.{pools-taken, leases-taken}
-use Rattle.image_check.proofs.BookLaws.{read-begun, ending-none, ending-unsound, ending-next, left-fits}
+use Rattle.image_check.proofs.SummaryLaws.{read-begun, ending-none, ending-unsound, ending-next, left-fits}
 
 -- A test that some element passes, by its place; and one that none passes.
 any?-at : {A : Type 0} (f : A → Bool) (xs : List A) (k : ℕ) (d : A) → k < length xs → f (getD xs k d) ≡ true → any? f xs ≡ true
@@ -62,13 +62,13 @@ due-few expires time =
 pub record Along (x : Head) (s : List ℕ) (n time k low : ℕ) (p : Pass) : Type 0 where
   pub leases : ℕ
   pub least : ℕ
-  pub size : length s ≤ 9 * n + 19 * leaseSlots
-  pub place : p .at ≡ 9 * n + 19 * leases
+  pub size : length s ≤ poolSize * n + leaseSize * leaseSlots
+  pub place : p .at ≡ poolSize * n + leaseSize * leases
   pub above : least ≤ low
   pub under : low ≤ end (nthPool s k)
   pub begins : nthPool s k .network ≤ low
   pub between : (q : Prefix) → least ≤ q .network → q .network < low → inside? q (nthPool s k) ≡ false
-  pub passed : (j : ℕ) → j < k → p .at < length s → every (fitTests (x .last) (drop (p .at) s)) ≡ true → least ≤ number32 (drop (p .at) s) 4
+  pub passed : (j : ℕ) → j < k → p .at < length s → and (fitTests (x .last) (drop (p .at) s)) ≡ true → least ≤ networkIn (drop (p .at) s)
       → inside? (prefixIn (drop (p .at) s)) (nthPool s j) ≡ false
   pub same : Answered x s n time least leases (p .expired) (p .at)
 
@@ -82,36 +82,36 @@ module _ (x : Head) (s : List ℕ) (n time : ℕ) (begun : Begun x s n) where
   pools-apart : (j k : ℕ) → j < k → k < n → end (nthPool s j) ≤ nthPool s k .network
   pools-apart j k lt h =
       let ps : List Pool = poolsAt s .items in
-      let all : used unused? ps ≡ ps = those-whole (λ p. not (unused? p)) ps (all-map (λ p (e : unused? p ≡ false). not-of (unused? p) e) ps (pools-taken s .each)) in
+      let all : used unused? ps ≡ ps = filter-whole (λ p. not (unused? p)) ps (all-map (λ p (e : unused? p ≡ false). not-of (unused? p) e) ps (pools-taken s .each)) in
       let up : Ascending poolPrefix 0 ps = subst (Ascending poolPrefix 0) all (ascends-to unused? poolOk poolPrefix noPool unused-to 0 ps (begun .ascends) .ascending) in
       let a : end (poolPrefix (getD ps j noPool)) ≤ poolPrefix (getD ps k noPool) .network = ascending-pair poolPrefix 0 ps j k noPool up lt (omega (arith, begun .counted)) in
       let e : poolPrefix (getD ps j noPool) ≡ nthPool s j = ap poolPrefix (pools-taken s .at j noPool (omega (arith, begun .counted))) in
       let f : poolPrefix (getD ps k noPool) ≡ nthPool s k = ap poolPrefix (pools-taken s .at k noPool (omega (arith, begun .counted))) in
       subst (λ (q : Prefix). end (nthPool s j) ≤ q .network) f (subst (λ (q : Prefix). end q ≤ poolPrefix (getD ps k noPool) .network) e a)
 
-  pub pools-inside : 9 * n ≤ length s
+  pub pools-inside : poolSize * n ≤ length s
   pools-inside = omega (arith, pools-taken s .inside, begun .counted)
 
   in-pool : (q : Prefix) (k : ℕ) → k < n → inside? q (nthPool s k) ≡ true → any? (inside? q) (poolsIn s) ≡ true
   in-pool q k h e = any?-at (inside? q) (poolsIn s) k (poolPrefix noPool) (omega (arith, pools-many)) (ap (inside? q) (pool-at k h) ∙ e)
 
   -- No number of leases makes up the rest.
-  pub scanned-size : ((m : ℕ) → m ≤ leaseSlots → 9 * n + 19 * m ≡ length s → ⊥) → bookOf time (afterHead (some x) s) ≡ unsound
+  pub scanned-size : ((m : ℕ) → m ≤ leaseSlots → poolSize * n + leaseSize * m ≡ length s → ⊥) → summaryOf time (afterHead (some x) s) ≡ unsound
   scanned-size h =
       read-begun x s n begun time
-      ∙ ending-unsound x time n (poolsIn s) 0 0 0 (leasesFrom leaseSlots (drop (9 * n) s)) (λ e.
-      let r : Run Lease = leasesFrom leaseSlots (drop (9 * n) s) in
-      let t = every-to (eqb (length (r .rest)) 0 ∷ leasesAscend? (poolsIn s) (x .last) 0 (r .items) ∷ []) e in
-      let q = leases-taken leaseSlots (drop (9 * n) s) in
-      h (length (r .items)) (q .few) (omega (arith, eqb-true (length (r .rest)) 0 (t .0), ap length (q .rest), length-drop (19 * length (r .items)) (drop (9 * n) s), q .inside, length-drop (9 * n) s, pools-inside)))
+      ∙ ending-unsound x time n (poolsIn s) 0 0 0 (leasesFrom leaseSlots (drop (poolSize * n) s)) (λ e.
+      let r : Run Lease = leasesFrom leaseSlots (drop (poolSize * n) s) in
+      let t = and-list-to (eqb (length (r .rest)) 0 ∷ leasesAscend? (poolsIn s) (x .last) 0 (r .items) ∷ []) e in
+      let q = leases-taken leaseSlots (drop (poolSize * n) s) in
+      h (length (r .items)) (q .few) (omega (arith, eqb-true (length (r .rest)) 0 (t .0), ap length (q .rest), length-drop (leaseSize * length (r .items)) (drop (poolSize * n) s), q .inside, length-drop (poolSize * n) s, pools-inside)))
 
   -- THE LEASE AT A PLACE
 
-  module _ (low expired at i : ℕ) (place : at ≡ 9 * n + 19 * i) (same : Answered x s n time low i expired at) where
+  module _ (low expired at i : ℕ) (place : at ≡ poolSize * n + leaseSize * i) (same : Answered x s n time low i expired at) where
     abbrev here : List ℕ
     here = drop at s
 
-    nothing-left : length s ≤ at → bookOf time (afterHead (some x) s) ≡ bookWith x n i expired
+    nothing-left : length s ≤ at → summaryOf time (afterHead (some x) s) ≡ summaryWith x n i expired
     unfolding leaseAt
     nothing-left e =
         let nothing : here ≡ [] = drop-end s at e in
@@ -121,15 +121,15 @@ module _ (x : Head) (s : List ℕ) (n time : ℕ) (begun : Begun x s n) where
         ∙ ap (ending x time n (poolsIn s) i expired low) none
         ∙ ending-none x time n (poolsIn s) i expired low
 
-    module _ (few : i < leaseSlots) (room : at + 19 ≤ length s) where
-      long : 19 ≤ length here
+    module _ (few : i < leaseSlots) (room : at + leaseSize ≤ length s) where
+      long : leaseSize ≤ length here
       long = omega (arith, length-drop at s)
 
       less : leaseSlots - i ≡ suc (leaseSlots - (i + 1))
       less = omega arith
 
       -- No sound table has it.
-      no-lease : (Fits (x .last) here → low ≤ number32 here 4 → any? (inside? (prefixIn here)) (poolsIn s) ≡ true → ⊥) → bookOf time (afterHead (some x) s) ≡ unsound
+      no-lease : (Fits (x .last) here → low ≤ networkIn here → any? (inside? (prefixIn here)) (poolsIn s) ≡ true → ⊥) → summaryOf time (afterHead (some x) s) ≡ unsound
       no-lease h =
           same
           ∙ ap (λ (k : ℕ). ending x time n (poolsIn s) i expired low (leasesFrom k here)) less
@@ -139,20 +139,20 @@ module _ (x : Head) (s : List ℕ) (n time : ℕ) (begun : Begun x s n) where
 
       -- It lies in a pool, after the one before it.
       one-lease : Bytes s → (network top expires : ℕ) → Met (x .last) here network top expires → low ≤ network → any? (inside? (prefixIn here)) (poolsIn s) ≡ true
-          → Answered x s n time top (i + 1) (expired + due expires time) (at + 19)
+          → Answered x s n time top (i + 1) (expired + due expires time) (at + leaseSize)
       one-lease bytes network top expires met above a =
-          let higher : low ≤ number32 here 4 = omega (arith, met .starts) in
+          let higher : low ≤ networkIn here = omega (arith, met .starts) in
           same
           ∙ ap (λ (k : ℕ). ending x time n (poolsIn s) i expired low (leasesFrom k here)) less
           ∙ ending-next x time n (poolsIn s) low (leaseSlots - (i + 1)) here (leaseIn here) (fits-read (x .last) here (bytes-drop at s bytes) long (met .fits)) i expired higher
           (fits-ok (x .last) here (poolsIn s) (met .fits) a)
-          ∙ ap₂ (λ (e t : ℕ). ending x time n (poolsIn s) (i + 1) (expired + due e time) t (leasesFrom (leaseSlots - (i + 1)) (drop 19 here))) (sym (met .until)) (sym (met .ends))
+          ∙ ap₂ (λ (e t : ℕ). ending x time n (poolsIn s) (i + 1) (expired + due e time) t (leasesFrom (leaseSlots - (i + 1)) (drop leaseSize here))) (sym (met .until)) (sym (met .ends))
           ∙ ap (λ (u : List ℕ). ending x time n (poolsIn s) (i + 1) (expired + due expires time) top (leasesFrom (leaseSlots - (i + 1)) u))
-          (drop-drop 19 at s)
+          (drop-drop leaseSize at s)
 
   -- ALL POOLS
 
-  pub reached-start : length s ≤ 9 * n + 19 * leaseSlots → Reached x s n time 0 (record { at = 9 * n; expired = 0 })
+  pub reached-start : length s ≤ poolSize * n + leaseSize * leaseSlots → Reached x s n time 0 (record { at = poolSize * n; expired = 0 })
   reached-start size = record {
     leases = 0;
     low = 0;
@@ -163,11 +163,11 @@ module _ (x : Head) (s : List ℕ) (n time : ℕ) (begun : Begun x s n) where
     same = read-begun x s n begun time;
   }
 
-  pub reached-end : (k : ℕ) (p : Pass) (r : Reached x s n time k p) → length s ≤ p .at → bookOf time (afterHead (some x) s) ≡ bookWith x n (r .leases) (p .expired)
+  pub reached-end : (k : ℕ) (p : Pass) (r : Reached x s n time k p) → length s ≤ p .at → summaryOf time (afterHead (some x) s) ≡ summaryWith x n (r .leases) (p .expired)
   reached-end k p r e = nothing-left (r .low) (p .expired) (p .at) (r .leases) (r .place) (r .same) e
 
   -- A lease is left that lies in no pool.
-  pub reached-none : (k : ℕ) (p : Pass) → Reached x s n time k p → n ≤ k → p .at + 19 ≤ length s → bookOf time (afterHead (some x) s) ≡ unsound
+  pub reached-none : (k : ℕ) (p : Pass) → Reached x s n time k p → n ≤ k → p .at + leaseSize ≤ length s → summaryOf time (afterHead (some x) s) ≡ unsound
   reached-none k p r h room =
       no-lease (r .low) (p .expired) (p .at) (r .leases) (r .place) (r .same) (omega (arith, r .size, r .place)) room (λ f l a.
       true≢false
@@ -201,8 +201,8 @@ module _ (x : Head) (s : List ℕ) (n time : ℕ) (begun : Begun x s n) where
       front = drop (p .at) s
 
       -- The lease here lies in the pool.
-      pub along-lease : Bytes s → p .at + 19 ≤ length s → (network top expires : ℕ) → Met (x .last) front network top expires → low ≤ network → top ≤ end pool
-          → Along x s n time k top (record { at = p .at + 19; expired = p .expired + due expires time })
+      pub along-lease : Bytes s → p .at + leaseSize ≤ length s → (network top expires : ℕ) → Met (x .last) front network top expires → low ≤ network → top ≤ end pool
+          → Along x s n time k top (record { at = p .at + leaseSize; expired = p .expired + due expires time })
       along-lease bytes room network top expires met h e =
           let lease : Prefix = prefixIn front in
           let rises : low ≤ top = omega (arith, met .starts, met .ends) in
@@ -216,13 +216,13 @@ module _ (x : Head) (s : List ℕ) (n time : ℕ) (begun : Begun x s n) where
             under = e;
             begins = omega (arith, a .begins, rises);
             between = λ q l (b : q .network < top). absurd (omega arith);
-            passed = λ j (b : j < k) c f (l : top ≤ number32 (drop (p .at + 19) s) 4).
-                inside-not (prefixIn (drop (p .at + 19) s)) (nthPool s j) (λ w. omega (arith, w .1, pools-apart j k b lt, a .begins, rises, size-positive (prefixIn (drop (p .at + 19) s) .length)));
+            passed = λ j (b : j < k) c f (l : top ≤ networkIn (drop (p .at + leaseSize) s)).
+                inside-not (prefixIn (drop (p .at + leaseSize) s)) (nthPool s j) (λ w. omega (arith, w .1, pools-apart j k b lt, a .begins, rises, size-positive (prefixIn (drop (p .at + leaseSize) s) .length)));
             same = one-lease (a .least) (p .expired) (p .at) (a .leases) (a .place) (a .same) (omega (arith, a .size, a .place)) room bytes network top expires met (omega (arith, a .above)) (in-pool lease k lt inside);
           }
 
       -- What is here, if anything, does not lie in the pool.
-      pub along-stop : (p .at < length s → every (fitTests (x .last) front) ≡ true → a .least ≤ number32 front 4 → inside? (prefixIn front) pool ≡ false) → Reached x s n time (k + 1) p
+      pub along-stop : (p .at < length s → and (fitTests (x .last) front) ≡ true → a .least ≤ networkIn front → inside? (prefixIn front) pool ≡ false) → Reached x s n time (k + 1) p
       along-stop out = record {
         leases = a .leases;
         low = a .least;

@@ -1,3 +1,3 @@
-pub mod Book
+pub mod ImageSummary
 pub mod Inner
-pub mod Pass
+pub mod InnerPass

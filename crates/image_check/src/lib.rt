@@ -1,6 +1,9 @@
 // Whether bytes are the image of a sound table, in one pass over the bytes: no table is made.
+use image::HEAD;
 use image::Head;
-use image::HeadRead;
+use image::LEASE;
+use image::POOL;
+use prefix::Checked;
 use prefix::Prefix;
 use table::LEASES;
 use table::POOLS;
@@ -11,15 +14,15 @@ ghost use mathlib.Core.Option.{some};
 ghost use Prim.Native.Nat.{ℕ, _+_, _*_, _≤_, _<_};
 ghost use lib.ListN.{length, drop};
 ghost use Rattle.image.specs.declared.Head.{Head};
-ghost use Rattle.table.specs.Table.{unused?};
-ghost use Rattle.image.specs.Image.{poolIn, poolsAt, afterHead, loadImage};
-ghost use Rattle.image_check.specs.Book.{unsound, bookOf};
-ghost use Rattle.image_check.specs.Inner.{poolEnd, poolCount, poolBegins?, prefixIn, nthPool, stateAndFlags?, fitAt, due, Begun};
-ghost use Rattle.image_check.specs.Pass.{Left, Reached};
+ghost use Rattle.table.specs.Table.{poolSlots, unused?};
+ghost use Rattle.image.specs.Image.{poolSize, leaseSize, poolsAt, afterHead, loadImage};
+ghost use Rattle.image_check.specs.ImageSummary.{unsound, summaryOf};
+ghost use Rattle.image_check.specs.Inner.{poolEnd, poolCount, poolBegins?, nthPool, stateAndFlags?, fitAt, due, Begun};
+ghost use Rattle.image_check.specs.InnerPass.{Left, Reached};
 
 // The head of the table that bytes are the image of, and how many pools, leases and expired leases it has; all of it 0
 // where they are no image of a sound table.
-pub struct Book {
+pub struct ImageSummary {
     pub sound: bool,
     pub term: u32,
     pub default_length: u8,
@@ -29,10 +32,10 @@ pub struct Book {
     pub expired: usize,
 }
 
-fn unsound() -> Book
+fn unsound() -> ImageSummary
     ensures { λ r. ⌜ r ≡ unsound ⌝ }
 {
-    Book {
+    ImageSummary {
         sound: false,
         term: 0,
         default_length: 0,
@@ -45,45 +48,25 @@ fn unsound() -> Book
 
 // POOLS
 
-// The end of a pool, or 0 where it is not as a sound table has it. The sizes are powers of two, so a mask does for the remainder.
+// The end of a pool, or 0 where it is not as a sound table has it.
 fn pool_end(p: Pool) -> u64
     ensures { λ r. ⌜ r ≡ poolEnd p ⌝ }
 {
-    if p.length < 8 {
+    if !table::pool_ok(p) {
         return 0;
     }
-    if Prefix::LONGEST < p.length {
-        return 0;
-    }
-    let size = prefix::size(p.length);
-    if (p.network as u64) & (size - 1) != 0 {
-        return 0;
-    }
-    (p.network as u64) + size
+    table::pool_prefix(p).end()
 }
-
-// The first four bytes of a pool record: its length 7 and its kind 2.
-const POOL_START: u32 = 131079;
 
 // Whether a pool record begins at a place, be it of an unused slot.
 fn pool_begins(s: &[u8], at: usize) -> bool
-    requires { ⌜ at ≤ 72 ⌝ }
+    requires { ⌜ at ≤ poolSize * poolSlots ⌝ }
     ensures { λ r. ⌜ r ≡ poolBegins? (drop at (now (s .entry))) ⌝ }
 {
-    if s.len() < at + 9 {
+    if s.len() < at + POOL {
         return false;
     }
-    image::read32(s, at) == POOL_START
-}
-
-fn pool_in(s: &[u8], at: usize) -> Pool
-    requires { ⌜ at + 9 ≤ length (now s) ⌝ }
-    ensures { λ r. ⌜ r ≡ poolIn (drop at (now (s .entry))) ⌝ }
-{
-    Pool {
-        network: image::read32(s, at + 4),
-        length: s[at + 8],
-    }
+    image::read32(s, at) == image::POOL_START
 }
 
 // What n pools count for before a pool that is not as a sound table has it. One that is unused is no pool: it ends them, and its test comes
@@ -104,11 +87,11 @@ fn pools_in(s: &[u8]) -> usize
     let mut from: u64 = 0;
     let mut n: usize = 0;
     while n < POOLS {
-        let at = 9 * n;
+        let at = POOL * n;
         if !pool_begins(s, at) {
             return n;
         }
-        let p = pool_in(s, at);
+        let p = image::pool_at(s, at);
         if (p.network as u64) < from {
             return counted_before(p, n);
         }
@@ -123,21 +106,10 @@ fn pools_in(s: &[u8]) -> usize
 
 // The prefix of the k-th pool.
 pub fn pool(s: &[u8], k: usize) -> Prefix
-    requires { ⌜ 9 * k + 9 ≤ length (now s) ⌝ }
+    requires { ⌜ poolSize * k + poolSize ≤ length (now s) ⌝ }
     ensures { λ r. ⌜ r ≡ nthPool (now (s .entry)) k ⌝ }
 {
-    let at = 9 * k;
-    prefix_in(&s[at..])
-}
-
-fn prefix_in(s: &[u8]) -> Prefix
-    requires { ⌜ 9 ≤ length (now s) ⌝ }
-    ensures { λ r. ⌜ r ≡ prefixIn (now (s .entry)) ⌝ }
-{
-    Prefix {
-        network: image::read32(s, 4),
-        length: s[8],
-    }
+    table::pool_prefix(image::pool_at(s, POOL * k))
 }
 
 // LEASES
@@ -151,9 +123,6 @@ enum Fit {
     },
     Other,
 }
-
-// The first four bytes of a lease record: its length 17 and its kind 3.
-const LEASE_START: u32 = 196625;
 
 // Whether state and flags, the second and third byte of a word, are as a lease has them: 1 or 2, and at most 3. One more than the
 // state is 2 or 3, so that the tests are of single bits, and compiled they are one mask.
@@ -169,38 +138,29 @@ fn state_and_flags(word: u32) -> bool
 
 // The lease record at the front of the bytes.
 fn fit_at(s: &[u8], last: u32) -> Fit
-    requires { ⌜ 19 ≤ length (now s) ⌝ }
+    requires { ⌜ leaseSize ≤ length (now s) ⌝ }
     ensures { λ r. ⌜ r ≡ fitAt last (now (s .entry)) ⌝ }
 {
-    if image::read32(s, 0) != LEASE_START {
+    if image::read32(s, 0) != image::LEASE_START {
         return Fit::Other;
     }
-    let word = image::read32(s, 8);
-    let length = (word % 256) as u8;
-    if length < Prefix::SHORTEST {
+    let word = image::read32(s, image::LENGTH);
+    let Checked::Good(p) = Prefix::new(image::read32(s, image::NETWORK), (word % 256) as u8) else {
         return Fit::Other;
-    }
-    if Prefix::LONGEST < length {
-        return Fit::Other;
-    }
+    };
     if !state_and_flags(word) {
         return Fit::Other;
     }
-    if image::read32(s, 11) == 0 {
+    if image::read32(s, image::CLIENT) == 0 {
         return Fit::Other;
     }
-    let expires = image::read32(s, 15);
+    let expires = image::read32(s, image::EXPIRES);
     if expires <= last {
         return Fit::Other;
     }
-    let network = image::read32(s, 4);
-    let size = prefix::size(length);
-    if (network as u64) & (size - 1) != 0 {
-        return Fit::Other;
-    }
     Fit::Lease {
-        network,
-        end: (network as u64) + size,
+        network: p.network,
+        end: p.end(),
         expires,
     }
 }
@@ -246,22 +206,22 @@ fn in_pool(s: &[u8], p: Prefix, from: Pass, last: u32, time: u32) -> Pass
         }
         low = end;
         expired = expired + due(expires, time);
-        at = at + 19;
+        at = at + LEASE;
     }
     Pass { at, expired }
 }
 
 // The leases after n pools, and nothing after them. Pools and leases both ascend, so the leases of one pool stand together, before those of the next.
-fn leases_in(head: Head, s: &[u8], n: usize, time: u32) -> Book
+fn leases_in(head: Head, s: &[u8], n: usize, time: u32) -> ImageSummary
     requires { ⌜ Begun head (now s) n ⌝ }
-    ensures { λ r. ⌜ r ≡ bookOf time (afterHead (some head) (now (s .entry))) ⌝ }
+    ensures { λ r. ⌜ r ≡ summaryOf time (afterHead (some head) (now (s .entry))) ⌝ }
 {
-    let from = 9 * n;
-    let count = (s.len() - from) / 19;
+    let from = POOL * n;
+    let count = (s.len() - from) / LEASE;
     if LEASES < count {
         return unsound();
     }
-    if from + 19 * count != s.len() {
+    if from + LEASE * count != s.len() {
         return unsound();
     }
     let mut pass = Pass {
@@ -276,7 +236,7 @@ fn leases_in(head: Head, s: &[u8], n: usize, time: u32) -> Book
         pass = in_pool(s, pool(s, k), pass, head.last, time);
         k = k + 1;
     }
-    Book {
+    ImageSummary {
         sound: true,
         term: head.term,
         default_length: head.default_length,
@@ -290,18 +250,19 @@ fn leases_in(head: Head, s: &[u8], n: usize, time: u32) -> Book
 // THE PASS
 
 // What the bytes are the image of, at a time.
-pub fn check(image: &[u8], time: u32) -> Book
-    ensures { λ r. ⌜ r ≡ bookOf time (loadImage (now (image .entry))) ⌝ }
+pub fn check(image: &[u8], time: u32) -> ImageSummary
+    ensures { λ r. ⌜ r ≡ summaryOf time (loadImage (now (image .entry))) ⌝ }
 {
-    let HeadRead::Found(head) = image::head_at(image) else {
+    if !image::head_begins(image) {
         return unsound();
-    };
+    }
+    let head = image::head_in(image);
     if !table::head_ok(head.term, head.default_length, head.last) {
         return unsound();
     }
-    let n = pools_in(&image[13..]);
+    let n = pools_in(&image[HEAD..]);
     if n == 0 {
         return unsound();
     }
-    leases_in(head, &image[13..], n, time)
+    leases_in(head, &image[HEAD..], n, time)
 }

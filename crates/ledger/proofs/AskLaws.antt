@@ -10,18 +10,20 @@ use native.Mathlib.Omega.{arith}
 use lib.ListN.{length, replicate}
 use lib.Dec.{eqb}
 use borrow.Author.Tests.{eq-eqb, ne-eqb}
-use Rattle.lists.specs.Lists.{All, Any, any?, somes}
-use Rattle.lists.proofs.Tests.{cond-true, cond-false, every-of, not-of, any?-of}
+use Rattle.lists.specs.Lists.{All, Any, any?, catMaybes}
+use Rattle.lists.proofs.Tests.{cond-true, cond-false, and-list-of, not-of, any?-of}
 use Rattle.lists.proofs.ListLaws.{all-image, all-preimage, any-left}
 use Rattle.lists.proofs.Permutations.{perm-all, perm-any, perm-length}
 use Rattle.prefix.specs.Prefixes.{prefix, Apart}
-use Rattle.space.specs.Space.{Pools, Free}
-use Rattle.space.proofs.ListTheorem.{refused⇔none-free}
+use Rattle.free_space.specs.Space.{Pools, Free}
+use Rattle.free_space.proofs.ListTheorem.{refused⇔none-free}
 use Rattle.option.specs.Values.{Entry}
 use Rattle.table.specs.declared.Lease.{Lease}
 use Rattle.table.specs.declared.LeaseTable.{LeaseTable}
 use Rattle.table.specs.Table.{leaseSlots, prefixOf, noLease, poolsOf, insert}
-use Rattle.ledger.specs.Ledger.{Request, entryOf, holdTime, askLength, offer, add, offers, addAll}
+use Rattle.option.specs.Contents.{Request}
+use Rattle.option_reply.specs.Reply.{entryOf}
+use Rattle.ledger.specs.Ledger.{holdTime, askLength, offer, add, offers, addAll}
 use Rattle.ledger.specs.Demand3.{answers?, pairOff, isHeld?, confirmed}
 use Rattle.ledger.proofs.OfferLaws.{prefixes, insert-perm, Offered, Offer, offer-is}
 use mathlib.Core.List.{Permᴰ·symm}
@@ -55,12 +57,12 @@ offer-dead t good now client xs r (inr e) = inr (refused⇔none-free (poolsOf t)
 
 module _ (t : LeaseTable) (good : Pools (poolsOf t)) (now client : ℕ) where
   dead-step : (rs : List Request) (xs : List Lease) (len : ℕ) (r : Request) (o : Option Lease) → Offer t now client xs r o → Dead t xs len
-      → (Dead t (add o xs) len → All (λ y. y .length ≡ len → ⊥) (somes (offers t now client (add o xs) rs)))
-      → All (λ y. y .length ≡ len → ⊥) (somes (o ∷ offers t now client (add o xs) rs))
+      → (Dead t (add o xs) len → All (λ y. y .length ≡ len → ⊥) (catMaybes (offers t now client (add o xs) rs)))
+      → All (λ y. y .length ≡ len → ⊥) (catMaybes (o ∷ offers t now client (add o xs) rs))
   dead-step rs xs len r none f d k = k d
   dead-step rs xs len r (some x) f d k = (dead-offer t now client xs r x len d f, k (dead-insert t x xs len d))
 
-  dead-offers : (rs : List Request) (xs : List Lease) (len : ℕ) → Dead t xs len → All (λ y. y .length ≡ len → ⊥) (somes (offers t now client xs rs))
+  dead-offers : (rs : List Request) (xs : List Lease) (len : ℕ) → Dead t xs len → All (λ y. y .length ≡ len → ⊥) (catMaybes (offers t now client xs rs))
   unfolding offers
   dead-offers [] xs len d = tt
   dead-offers (r ∷ rs) xs len d =
@@ -80,19 +82,19 @@ module _ (t : LeaseTable) (good : Pools (poolsOf t)) (now client : ℕ) where
       (and-first (eqb (askLength t r) (y .length)) _ (ne-eqb (askLength t r) (y .length) (λ e. a .0 (sym e))))
 
   pair-step : (rs : List Request) (xs : List Lease) (r : Request) (o : Option Lease) → Offer t now client xs r o
-      → pairOff t rs (map entryOf (somes (offers t now client (add o xs) rs))) ≡ map entry? (offers t now client (add o xs) rs)
-      → pairOff t (r ∷ rs) (map entryOf (somes (o ∷ offers t now client (add o xs) rs))) ≡ map entry? (o ∷ offers t now client (add o xs) rs)
+      → pairOff t rs (map entryOf (catMaybes (offers t now client (add o xs) rs))) ≡ map entry? (offers t now client (add o xs) rs)
+      → pairOff t (r ∷ rs) (map entryOf (catMaybes (o ∷ offers t now client (add o xs) rs))) ≡ map entry? (o ∷ offers t now client (add o xs) rs)
   pair-step rs xs r none f e =
-      skip r rs (somes (offers t now client xs rs)) (dead-offers rs xs (askLength t r) (offer-dead t good now client xs r f)) ∙ ap (λ (l : List (Option Entry)). none ∷ l) e
+      skip r rs (catMaybes (offers t now client xs rs)) (dead-offers rs xs (askLength t r) (offer-dead t good now client xs r f)) ∙ ap (λ (l : List (Option Entry)). none ∷ l) e
   pair-step rs xs r (some x) f e =
-      let ys : List Entry = map entryOf (somes (offers t now client (insert x xs) rs)) in
+      let ys : List Entry = map entryOf (catMaybes (offers t now client (insert x xs) rs)) in
       cond-true (answers? t r (entryOf x)) (some (entryOf x) ∷ pairOff t rs ys) (none ∷ pairOff t rs (entryOf x ∷ ys))
-      (every-of (eqb (askLength t r) (x .length) ∷ Bool·beq (r .h) (x .h) ∷ [])
+      (and-list-of (eqb (askLength t r) (x .length) ∷ Bool·beq (r .h) (x .h) ∷ [])
       (eq-eqb (askLength t r) (x .length) (sym (f .len)), (subst (λ (b : Bool). Bool·beq (r .h) b ≡ true) (sym (f .h)) (beq-refl (r .h)), tt)))
       ∙ ap (λ (l : List (Option Entry)). some (entryOf x) ∷ l) e
 
   -- The entries of what was offered pair off with the asks that were offered it: once a length found nothing, no later request of the call gets it.
-  pub pairs : (rs : List Request) (xs : List Lease) → pairOff t rs (map entryOf (somes (offers t now client xs rs))) ≡ map entry? (offers t now client xs rs)
+  pub pairs : (rs : List Request) (xs : List Lease) → pairOff t rs (map entryOf (catMaybes (offers t now client xs rs))) ≡ map entry? (offers t now client xs rs)
   unfolding offers
   pairs [] xs = refl
   pairs (r ∷ rs) xs =
@@ -121,7 +123,7 @@ heldTests now client e x = eqb (x .network) (e .network) ∷ eqb (x .length) (e 
 
 held-of : (t : LeaseTable) (now client : ℕ) (xs : List Lease) (r : Request) (x : Lease) → Offered t now client xs r x → isHeld? now client (entryOf x) x ≡ true
 held-of t now client xs r x o =
-    every-of (heldTests now client (entryOf x) x)
+    and-list-of (heldTests now client (entryOf x) x)
     (eq-eqb (x .network) (x .network) refl, (eq-eqb (x .length) (x .length) refl, (eq-eqb (x .client) client (o .owner), (not-of (x .leased) (o .leased), (eq-eqb (x .expires) (now + holdTime) (o .until), tt)))))
 
 abbrev pub Kept : ℕ → ℕ → List Lease → Option Lease → Type 0
@@ -153,12 +155,12 @@ confirm now client k u ys e (some x ∷ os) a =
     ∙ any?-of (isHeld? now client (entryOf x)) (λ y (h : isHeld? now client (entryOf x) y ≡ true). h) (ys ++ replicate k noLease) (any-left (λ y. isHeld? now client (entryOf x) y ≡ true) ys (replicate k noLease) (a .0))))
     (confirm now client k u ys e os (a .1))
 
-pub confirm-none : (now client : ℕ) (u : LeaseTable) (os : List (Option Lease)) → somes os ≡ [] → map (confirmed now client u) (map entry? os) ≡ map entry? os
+pub confirm-none : (now client : ℕ) (u : LeaseTable) (os : List (Option Lease)) → catMaybes os ≡ [] → map (confirmed now client u) (map entry? os) ≡ map entry? os
 confirm-none now client u [] e = refl
 confirm-none now client u (none ∷ os) e = ap (λ (l : List (Option Entry)). none ∷ l) (confirm-none now client u os e)
 confirm-none now client u (some x ∷ os) e = let z : _≡_ {A = ℕ} 0 1 = cc in absurd (omega arith)
 
-pub addAll-none : (os : List (Option Lease)) (xs : List Lease) → somes os ≡ [] → addAll os xs ≡ xs
+pub addAll-none : (os : List (Option Lease)) (xs : List Lease) → catMaybes os ≡ [] → addAll os xs ≡ xs
 unfolding addAll
 addAll-none [] xs e = refl
 addAll-none (none ∷ os) xs e = addAll-none os xs e

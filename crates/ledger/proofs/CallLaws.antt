@@ -9,8 +9,8 @@ use native.Mathlib.Omega.{arith}
 use lib.ListN.{length, drop, length-map}
 use lib.Dec.{leb, ltb, eqb}
 use borrow.Author.Tests.{ltb-false, le-ltb, eqb-false, not-false}
-use Rattle.lists.specs.Lists.{All, somes}
-use Rattle.space.specs.Space.{Pools}
+use Rattle.lists.specs.Lists.{All, catMaybes}
+use Rattle.free_space.specs.Space.{Pools}
 use Rattle.option.specs.Values.{Entry}
 use Rattle.option.specs.Reading.{readOption}
 use Rattle.option.specs.Writing.{optionBytes}
@@ -18,8 +18,10 @@ use Rattle.table.specs.declared.Lease.{Lease}
 use Rattle.table.specs.declared.LeaseTable.{LeaseTable}
 use Rattle.table.specs.Table.{leaseSlots, latest, prefixOf, poolsOf, present, sound, store}
 use Rattle.table.proofs.TableLaws.{Good, sound-fine, sound-fewer, store-sound, present-stored}
-use Rattle.ledger.specs.Ledger.{full, Result, Row, firstOf, before, refuse, Request, refuses?, entryOf, refusalPlace, forAsk, askRows, offers, addAll, askOffers, informationFor, ask}
-use Rattle.ledger.specs.Demand3.{Call, run, none?, wellFormed, Accepts, asksOf, replyEntries, pairOff, confirmed, granted, inUse, Fate, isGranted, wantsSlot, wantsSpace, fate}
+use Rattle.option.specs.Contents.{Request, refuses?}
+use Rattle.option_reply.specs.Reply.{entryOf}
+use Rattle.ledger.specs.Ledger.{State, state, Call, leastReply, full, Result, Row, firstOf, before, refuse, refusalPlace, forAsk, askRows, offers, addAll, askOffers, informationFor, ask}
+use Rattle.ledger.specs.Demand3.{none?, wellFormed, Accepts, asksOf, replyEntries, pairOff, confirmed, granted, inUse, Fate, isGranted, wantsSlot, wantsSpace, fate}
 use Rattle.ledger.proofs.RowLaws.{first-none, none-to, none-not, answerAsk, ask-served, ask-refused}
 use Rattle.ledger.proofs.ReadLaws.{requests-short}
 use Rattle.ledger.proofs.OfferLaws.{pools-good, Inv, offers-inv, offers-good}
@@ -27,47 +29,47 @@ use Rattle.ledger.proofs.ReplyLaws.{reads-none, reads-back}
 use Rattle.ledger.proofs.AskLaws.{entry?, pairs, kept, confirm, confirm-none, addAll-none}
 
 -- The rows of a call before 9.
-abbrev pub rowsFor : ℕ → LeaseTable → Call → List Row
-rowsFor now t c = before 9 (askRows t now (c .client) (c .option) (c .reply))
+abbrev pub rowsFor : ℕ → State → Call → List Row
+rowsFor now t c = before 9 (askRows t now c)
 
-pub record WellFormed (now : ℕ) (t : LeaseTable) (c : Call) : Type 0 where
-  pub buffer : 257 ≤ length (c .reply)
-  pub sound : sound t ≡ true
+pub record WellFormed (now : ℕ) (t : State) (c : Call) : Type 0 where
+  pub buffer : leastReply ≤ length (c .reply)
+  pub sound : sound (t .table) ≡ true
   pub named : c .client ≡ 0 → ⊥
-  pub accepted : Accepts t now
+  pub accepted : Accepts (t .table) now
   pub asks : forAsk (asksOf c) ≡ true
 
-pub well : (now : ℕ) (t : LeaseTable) (c : Call) → wellFormed now t c ≡ true → WellFormed now t c
+pub well : (now : ℕ) (t : State) (c : Call) → wellFormed now t c ≡ true → WellFormed now t c
 unfolding wellFormed askRows
 well now t c e =
     let r = first-none (rowsFor now t c) (none-to (firstOf (rowsFor now t c)) e) in
     record {
-      buffer = ltb-false (length (c .reply)) 257 (r .0);
-      sound = not-false (sound t) (r .1 .0);
+      buffer = ltb-false (length (c .reply)) leastReply (r .0);
+      sound = not-false (sound (t .table)) (r .1 .0);
       named = eqb-false (c .client) 0 (r .1 .1 .0);
-      accepted = (ltb-false now (t .last) (r .1 .1 .1 .0), ltb-false latest now (r .1 .1 .1 .1 .0));
+      accepted = (ltb-false now (t .table .last) (r .1 .1 .1 .0), ltb-false latest now (r .1 .1 .1 .1 .0));
       asks = not-false (forAsk (asksOf c)) (r .1 .1 .1 .1 .1 .1 .1 .0);
     }
 
-run-well : (now : ℕ) (t : LeaseTable) (c : Call) → wellFormed now t c ≡ true
-    → run ask now t c ≡ answerAsk t now (c .reply) (present now (t .leases)) (askOffers t now (c .client) (c .option)) (somes (askOffers t now (c .client) (c .option)))
+run-well : (now : ℕ) (t : State) (c : Call) → wellFormed now t c ≡ true
+    → ask t now c ≡ answerAsk t now (c .reply) (present now (t .table .leases)) (askOffers (t .table) now (c .client) (c .option)) (catMaybes (askOffers (t .table) now (c .client) (c .option)))
 unfolding wellFormed
-run-well now t c e = ask-served t now (c .client) (c .option) (c .reply) (none-to (firstOf (rowsFor now t c)) e)
+run-well now t c e = ask-served t now c (none-to (firstOf (rowsFor now t c)) e)
 
 -- A call that is not well-formed is refused, and changes nothing.
-pub run-refused : (now : ℕ) (t : LeaseTable) (c : Call) → wellFormed now t c ≡ false → (n : ℕ) × (firstOf (rowsFor now t c) ≡ some n) × (run ask now t c ≡ refuse n (refusalPlace (c .option) n) t (c .reply))
+pub run-refused : (now : ℕ) (t : State) (c : Call) → wellFormed now t c ≡ false → (n : ℕ) × (firstOf (rowsFor now t c) ≡ some n) × (ask t now c ≡ refuse n (refusalPlace (c .option) n) t (c .reply))
 unfolding wellFormed
-run-refused now t c e = let n = none-not (firstOf (rowsFor now t c)) e in (n .0, n .1, ask-refused t now (c .client) (c .option) (c .reply) (n .0) (n .1))
+run-refused now t c e = let n = none-not (firstOf (rowsFor now t c)) e in (n .0, n .1, ask-refused t now c (n .0) (n .1))
 
-pub run-not : (now : ℕ) (t : LeaseTable) (c : Call) → wellFormed now t c ≡ false → (run ask now t c .table ≡ t) × (run ask now t c .buffer ≡ c .reply)
-run-not now t c e = let f = run-refused now t c e .2 in (ap (λ (r : Result). r .table) f, ap (λ (r : Result). r .buffer) f)
+pub run-not : (now : ℕ) (t : State) (c : Call) → wellFormed now t c ≡ false → (ask t now c .state ≡ t) × (ask t now c .reply ≡ c .reply)
+run-not now t c e = let f = run-refused now t c e .2 in (ap (λ (r : Result State). r .state) f, ap (λ (r : Result State). r .reply) f)
 
 -- On two sound tables that accept the time a call is well-formed alike.
-pub well-same : (now : ℕ) (t u : LeaseTable) (c : Call) → sound t ≡ true → sound u ≡ true → Accepts t now → Accepts u now → wellFormed now u c ≡ wellFormed now t c
+pub well-same : (now : ℕ) (t u : State) (c : Call) → sound (t .table) ≡ true → sound (u .table) ≡ true → Accepts (t .table) now → Accepts (u .table) now → wellFormed now u c ≡ wellFormed now t c
 unfolding wellFormed askRows
 well-same now t u c st su at au =
     ap₂ (λ (a b : Bool). none? (firstOf (
-    (1, ltb (length (c .reply)) 257)
+    (1, ltb (length (c .reply)) leastReply)
     ∷ (5, not a)
     ∷ (2, eqb (c .client) 0)
     ∷ (3, b)
@@ -76,7 +78,7 @@ well-same now t u c st su at au =
     ∷ (7, refuses? 7 (readOption (c .option)))
     ∷ (8, not (forAsk (asksOf c)))
     ∷ [])))
-    (su ∙ sym st) (le-ltb now (u .last) (au .0) ∙ sym (le-ltb now (t .last) (at .0)))
+    (su ∙ sym st) (le-ltb now (u .table .last) (au .0) ∙ sym (le-ltb now (t .table .last) (at .0)))
 
 -- ONE CALL
 
@@ -86,46 +88,46 @@ numberFor xs [] = cond (full xs) 9 10
 numberFor xs (g ∷ gs) = 0
 
 -- The table after a call: what it was if nothing is granted.
-abbrev pub tableFor : LeaseTable → ℕ → List (Option Lease) → List Lease → List Lease → LeaseTable
-tableFor t now os xs [] = t
-tableFor t now os xs (g ∷ gs) = store t now (addAll os xs)
+abbrev pub stateFor : State → ℕ → List (Option Lease) → List Lease → List Lease → State
+stateFor t now os xs [] = t
+stateFor t now os xs (g ∷ gs) = state (store (t .table) now (addAll os xs))
 
 -- What is so of the result of a call whose requests were offered `os` on the leases `xs`.
-pub record Served (t : LeaseTable) (now client : ℕ) (rs : List Request) (xs : List Lease) (os : List (Option Lease)) (r : Result) : Type 0 where
-  pub given : map (confirmed now client (r .table)) (pairOff t rs (replyEntries r)) ≡ map entry? os
-  pub told : replyEntries r ≡ map entryOf (somes os)
-  pub number : r .answer .number ≡ numberFor xs (somes os)
-  pub count : r .answer .count ≡ length (somes os)
-  pub table : r .table ≡ tableFor t now os xs (somes os)
-  pub good : All (Good (poolsOf t) now) (addAll os xs)
-  pub left : present now (r .table .leases) ≡ addAll os xs
-  pub sound : sound (r .table) ≡ true
-  pub since : r .table .last ≤ now
-  pub pools : r .table .pools ≡ t .pools
-  pub default : r .table .«default_length» ≡ t .«default_length»
+pub record Served (t : State) (now client : ℕ) (rs : List Request) (xs : List Lease) (os : List (Option Lease)) (r : Result State) : Type 0 where
+  pub given : map (confirmed now client (r .state .table)) (pairOff (t .table) rs (replyEntries r)) ≡ map entry? os
+  pub told : replyEntries r ≡ map entryOf (catMaybes os)
+  pub number : r .answer .number ≡ numberFor xs (catMaybes os)
+  pub count : r .answer .count ≡ length (catMaybes os)
+  pub left-state : r .state ≡ stateFor t now os xs (catMaybes os)
+  pub good : All (Good (poolsOf (t .table)) now) (addAll os xs)
+  pub left : present now (r .state .table .leases) ≡ addAll os xs
+  pub sound : sound (r .state .table) ≡ true
+  pub since : r .state .table .last ≤ now
+  pub pools : r .state .table .pools ≡ t .table .pools
+  pub default : r .state .table .«default_length» ≡ t .table .«default_length»
 
-module _ (now : ℕ) (t : LeaseTable) (c : Call) (w : WellFormed now t c) where
-  good : Pools (poolsOf t)
-  good = pools-good t (w .sound)
+module _ (now : ℕ) (t : State) (c : Call) (w : WellFormed now t c) where
+  good : Pools (poolsOf (t .table))
+  good = pools-good (t .table) (w .sound)
 
   xs : List Lease
-  xs = present now (t .leases)
+  xs = present now (t .table .leases)
 
   os : List (Option Lease)
-  os = offers t now (c .client) xs (asksOf c)
+  os = offers (t .table) now (c .client) xs (asksOf c)
 
-  served : (gs : List Lease) → somes os ≡ gs → Served t now (c .client) (asksOf c) xs os (answerAsk t now (c .reply) xs os gs)
+  served : (gs : List Lease) → catMaybes os ≡ gs → Served t now (c .client) (asksOf c) xs os (answerAsk t now (c .reply) xs os gs)
   unfolding os xs store
   served [] e = record {
     given =
-        ap (λ (es : List Entry). map (confirmed now (c .client) t) (pairOff t (asksOf c) es)) (reads-none (cond (full xs) 9 10) 0 t (c .reply) ∙ ap (map entryOf) (sym e))
-        ∙ ap (map (confirmed now (c .client) t)) (pairs t good now (c .client) (asksOf c) xs)
-        ∙ confirm-none now (c .client) t os e;
+        ap (λ (es : List Entry). map (confirmed now (c .client) (t .table)) (pairOff (t .table) (asksOf c) es)) (reads-none (cond (full xs) 9 10) 0 t (c .reply) ∙ ap (map entryOf) (sym e))
+        ∙ ap (map (confirmed now (c .client) (t .table))) (pairs (t .table) good now (c .client) (asksOf c) xs)
+        ∙ confirm-none now (c .client) (t .table) os e;
     told = reads-none (cond (full xs) 9 10) 0 t (c .reply) ∙ ap (map entryOf) (sym e);
     number = ap (numberFor xs) (sym e);
     count = ap length (sym e);
-    table = ap (tableFor t now os xs) (sym e);
-    good = subst (All (Good (poolsOf t) now)) (sym (addAll-none os xs e)) (sound-fine t (w .sound) now .0);
+    left-state = ap (stateFor t now os xs) (sym e);
+    good = subst (All (Good (poolsOf (t .table)) now)) (sym (addAll-none os xs e)) (sound-fine (t .table) (w .sound) now .0);
     left = sym (addAll-none os xs e);
     sound = w .sound;
     since = w .accepted .0;
@@ -133,50 +135,50 @@ module _ (now : ℕ) (t : LeaseTable) (c : Call) (w : WellFormed now t c) where
     default = refl;
   }
   served (g ∷ gs) e =
-      let i : Inv t now (c .client) good (addAll os xs) =
-      offers-inv t now (c .client) good (w .sound) (w .named) (asksOf c) xs (requests-short (c .option)) (record { fine = sound-fine t (w .sound) now; fit = sound-fewer t (w .sound) now }) in
-      let a : All (Good (poolsOf t) now) (g ∷ gs) =
-      subst (All (Good (poolsOf t) now)) e (offers-good t now (c .client) good (w .sound) (w .named) (asksOf c) xs (requests-short (c .option))) in
-      let u : LeaseTable = store t now (addAll os xs) in
+      let i : Inv (t .table) now (c .client) good (addAll os xs) =
+      offers-inv (t .table) now (c .client) good (w .sound) (w .named) (asksOf c) xs (requests-short (c .option)) (record { fine = sound-fine (t .table) (w .sound) now; fit = sound-fewer (t .table) (w .sound) now }) in
+      let a : All (Good (poolsOf (t .table)) now) (g ∷ gs) =
+      subst (All (Good (poolsOf (t .table)) now)) e (offers-good (t .table) now (c .client) good (w .sound) (w .named) (asksOf c) xs (requests-short (c .option))) in
+      let u : LeaseTable = store (t .table) now (addAll os xs) in
       let rest : List ℕ = drop (length (optionBytes (map informationFor (g ∷ gs)))) (c .reply) in
       record {
         given =
-            ap (λ (es : List Entry). map (confirmed now (c .client) u) (pairOff t (asksOf c) es)) (reads-back (poolsOf t) now g gs rest a ∙ ap (map entryOf) (sym e))
-            ∙ ap (map (confirmed now (c .client) u)) (pairs t good now (c .client) (asksOf c) xs)
-            ∙ confirm now (c .client) (leaseSlots - length (addAll os xs)) u (addAll os xs) refl os (kept t good now (c .client) (asksOf c) xs);
-        told = reads-back (poolsOf t) now g gs rest a ∙ ap (map entryOf) (sym e);
+            ap (λ (es : List Entry). map (confirmed now (c .client) u) (pairOff (t .table) (asksOf c) es)) (reads-back (poolsOf (t .table)) now g gs rest a ∙ ap (map entryOf) (sym e))
+            ∙ ap (map (confirmed now (c .client) u)) (pairs (t .table) good now (c .client) (asksOf c) xs)
+            ∙ confirm now (c .client) (leaseSlots - length (addAll os xs)) u (addAll os xs) refl os (kept (t .table) good now (c .client) (asksOf c) xs);
+        told = reads-back (poolsOf (t .table)) now g gs rest a ∙ ap (map entryOf) (sym e);
         number = ap (numberFor xs) (sym e);
         count = ap length (sym e);
-        table = ap (tableFor t now os xs) (sym e);
+        left-state = ap (stateFor t now os xs) (sym e);
         good = i .fine .0;
-        left = present-stored (poolsOf t) now (addAll os xs) (i .fine .0);
-        sound = store-sound t now (addAll os xs) (w .sound) (w .accepted .1) (i .fit) (i .fine);
+        left = present-stored (poolsOf (t .table)) now (addAll os xs) (i .fine .0);
+        sound = store-sound (t .table) now (addAll os xs) (w .sound) (w .accepted .1) (i .fit) (i .fine);
         since = omega arith;
         pools = refl;
         default = refl;
       }
 
-pub called : (now : ℕ) (t : LeaseTable) (c : Call) → wellFormed now t c ≡ true
-    → Served t now (c .client) (asksOf c) (present now (t .leases)) (offers t now (c .client) (present now (t .leases)) (asksOf c)) (run ask now t c)
+pub called : (now : ℕ) (t : State) (c : Call) → wellFormed now t c ≡ true
+    → Served t now (c .client) (asksOf c) (present now (t .table .leases)) (offers (t .table) now (c .client) (present now (t .table .leases)) (asksOf c)) (ask t now c)
 unfolding os xs
 called now t c e =
-    subst (Served t now (c .client) (asksOf c) (present now (t .leases)) (offers t now (c .client) (present now (t .leases)) (asksOf c))) (sym (run-well now t c e))
-    (served now t c (well now t c e) (somes (offers t now (c .client) (present now (t .leases)) (asksOf c))) refl)
+    subst (Served t now (c .client) (asksOf c) (present now (t .table .leases)) (offers (t .table) now (c .client) (present now (t .table .leases)) (asksOf c))) (sym (run-well now t c e))
+    (served now t c (well now t c e) (catMaybes (offers (t .table) now (c .client) (present now (t .table .leases)) (asksOf c))) refl)
 
-pub granted-is : (now : ℕ) (t : LeaseTable) (c : Call) → wellFormed now t c ≡ true
-    → granted ask now t c ≡ map entry? (offers t now (c .client) (present now (t .leases)) (asksOf c))
+pub granted-is : (now : ℕ) (t : State) (c : Call) → wellFormed now t c ≡ true
+    → granted (λ s. s) ask now t c ≡ map entry? (offers (t .table) now (c .client) (present now (t .table .leases)) (asksOf c))
 unfolding granted
 granted-is now t c e = called now t c e .given
 
 -- THE REPLY TELLS WHAT IS GRANTED AND NOTHING ELSE, in order: entries pair off, and none is left over.
-somes-told : (os : List (Option Lease)) → map entryOf (somes os) ≡ somes (map entry? os)
-somes-told [] = refl
-somes-told (none ∷ os) = somes-told os
-somes-told (some x ∷ os) = ap (λ (l : List Entry). entryOf x ∷ l) (somes-told os)
+catMaybes-told : (os : List (Option Lease)) → map entryOf (catMaybes os) ≡ catMaybes (map entry? os)
+catMaybes-told [] = refl
+catMaybes-told (none ∷ os) = catMaybes-told os
+catMaybes-told (some x ∷ os) = ap (λ (l : List Entry). entryOf x ∷ l) (catMaybes-told os)
 
-pub reply-is-granted : (now : ℕ) (t : LeaseTable) (c : Call) → wellFormed now t c ≡ true → replyEntries (run ask now t c) ≡ somes (granted ask now t c)
+pub reply-is-granted : (now : ℕ) (t : State) (c : Call) → wellFormed now t c ≡ true → replyEntries (ask t now c) ≡ catMaybes (granted (λ s. s) ask now t c)
 reply-is-granted now t c e =
-    called now t c e .told ∙ somes-told (offers t now (c .client) (present now (t .leases)) (asksOf c)) ∙ ap somes (sym (granted-is now t c e))
+    called now t c e .told ∙ catMaybes-told (offers (t .table) now (c .client) (present now (t .table .leases)) (asksOf c)) ∙ ap catMaybes (sym (granted-is now t c e))
 
 -- "If none is granted, the answer is the refusal of the first": 9 if it wants a slot, 10 if it wants space.
 abbrev pub numberOf : Fate → ℕ
@@ -184,13 +186,13 @@ numberOf isGranted = 0
 numberOf wantsSlot = 9
 numberOf wantsSpace = 10
 
-pub refused-number : (now : ℕ) (t : LeaseTable) (c : Call) → wellFormed now t c ≡ true → somes (granted ask now t c) ≡ []
-    → (run ask now t c .answer .number ≡ numberOf (fate (inUse now t) none)) × (run ask now t c .answer .count ≡ 0)
+pub refused-number : (now : ℕ) (t : State) (c : Call) → wellFormed now t c ≡ true → catMaybes (granted (λ s. s) ask now t c) ≡ []
+    → (ask t now c .answer .number ≡ numberOf (fate (inUse now (t .table)) none)) × (ask t now c .answer .count ≡ 0)
 refused-number now t c e n =
-    let os : List (Option Lease) = offers t now (c .client) (present now (t .leases)) (asksOf c) in
-    let z : somes os ≡ [] = nil-map (somes os) (somes-told os ∙ ap somes (sym (granted-is now t c e)) ∙ n) in (
-      called now t c e .number ∙ ap (numberFor (present now (t .leases))) z ∙ ap (λ (k : ℕ). cond (leb leaseSlots k) 9 10) (sym (length-map (present now (t .leases)) prefixOf))
-          ∙ same (leb leaseSlots (length (inUse now t))),
+    let os : List (Option Lease) = offers (t .table) now (c .client) (present now (t .table .leases)) (asksOf c) in
+    let z : catMaybes os ≡ [] = nil-map (catMaybes os) (catMaybes-told os ∙ ap catMaybes (sym (granted-is now t c e)) ∙ n) in (
+      called now t c e .number ∙ ap (numberFor (present now (t .table .leases))) z ∙ ap (λ (k : ℕ). cond (leb leaseSlots k) 9 10) (sym (length-map (present now (t .table .leases)) prefixOf))
+          ∙ same (leb leaseSlots (length (inUse now (t .table)))),
       called now t c e .count ∙ ap length z,
     )
   where
@@ -203,13 +205,13 @@ refused-number now t c e n =
     same false = refl
 
 -- The number is 0 where something is granted, and the count is that of the entries.
-pub accepted-number : (now : ℕ) (t : LeaseTable) (c : Call) → wellFormed now t c ≡ true → (g : Entry) (gs : List Entry) → somes (granted ask now t c) ≡ g ∷ gs
-    → (run ask now t c .answer .number ≡ 0) × (run ask now t c .answer .count ≡ length (replyEntries (run ask now t c)))
+pub accepted-number : (now : ℕ) (t : State) (c : Call) → wellFormed now t c ≡ true → (g : Entry) (gs : List Entry) → catMaybes (granted (λ s. s) ask now t c) ≡ g ∷ gs
+    → (ask t now c .answer .number ≡ 0) × (ask t now c .answer .count ≡ length (replyEntries (ask t now c)))
 accepted-number now t c e g gs n =
-    let os : List (Option Lease) = offers t now (c .client) (present now (t .leases)) (asksOf c) in
-    let q : map entryOf (somes os) ≡ g ∷ gs = somes-told os ∙ ap somes (sym (granted-is now t c e)) ∙ n in
-    (called now t c e .number ∙ some-number (somes os) q, called now t c e .count ∙ sym (length-map (somes os) entryOf) ∙ ap length (sym (called now t c e .told)))
+    let os : List (Option Lease) = offers (t .table) now (c .client) (present now (t .table .leases)) (asksOf c) in
+    let q : map entryOf (catMaybes os) ≡ g ∷ gs = catMaybes-told os ∙ ap catMaybes (sym (granted-is now t c e)) ∙ n in
+    (called now t c e .number ∙ some-number (catMaybes os) q, called now t c e .count ∙ sym (length-map (catMaybes os) entryOf) ∙ ap length (sym (called now t c e .told)))
   where
-    some-number : (ys : List Lease) → map entryOf ys ≡ g ∷ gs → numberFor (present now (t .leases)) ys ≡ 0
+    some-number : (ys : List Lease) → map entryOf ys ≡ g ∷ gs → numberFor (present now (t .table .leases)) ys ≡ 0
     some-number [] q = absurd (nil≢cons q)
     some-number (y ∷ ys) q = refl

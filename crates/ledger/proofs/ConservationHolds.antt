@@ -10,19 +10,21 @@ use native.Mathlib.Omega.{arith}
 use lib.ListN.{length}
 use lib.Dec.{leb, ltb, eqb}
 use borrow.Author.Tests.{ltb-false}
-use Rattle.lists.specs.Lists.{All, those, somes}
+use Rattle.lists.specs.Lists.{All, filter, catMaybes}
 use Rattle.lists.proofs.Tests.{bool-cases, cond-false}
-use Rattle.lists.proofs.ThoseLaws.{those-yes, those-no}
+use Rattle.lists.proofs.FilterLaws.{filter-yes, filter-no}
 use Rattle.prefix.specs.declared.Prefix.{Prefix}
 use Rattle.prefix.specs.Prefixes.{size}
 use Rattle.option.specs.Values.{Entry}
 use Rattle.table.specs.declared.Lease.{Lease}
 use Rattle.table.specs.declared.LeaseTable.{LeaseTable}
 use Rattle.table.specs.Table.{leaseSlots, prefixOf, poolsOf, present, sound, store}
-use Rattle.table.proofs.TableLaws.{Good, sound-fine, fine-those, fine-map, present-padded, present-stored}
-use Rattle.opening.proofs.OpenLaws.{open-sound}
-use Rattle.ledger.specs.Ledger.{Result, Update, before, refusalPlace, entriesIn, entryOf, full, openTable, add, offers, addAll, askRows, ask, namedBy?, renew, takeRows, take, releaseRows, release, at?, withD, markRows, mark}
-use Rattle.ledger.specs.Demand3.{Call, run, wellFormed, asksOf, replyEntries}
+use Rattle.table.proofs.TableLaws.{Good, sound-fine, fine-filter, fine-map, present-padded, present-stored}
+use Rattle.table_open.proofs.OpenLaws.{open-sound}
+use Rattle.option.specs.Contents.{entriesIn}
+use Rattle.option_reply.specs.Reply.{entryOf}
+use Rattle.ledger.specs.Ledger.{State, state, Call, ledger, Result, before, refusalPlace, full, openTable, add, offers, addAll, askRows, ask, namedBy?, renew, takeRows, take, releaseRows, release, at?, withD, markRows, mark}
+use Rattle.ledger.specs.Demand3.{wellFormed, asksOf, replyEntries}
 use Rattle.ledger.specs.Histories.{Event, asked, taken, wasListed, returned, marked, saved, next, afterwards, leasesOf}
 use Rattle.ledger.specs.Conservation.{addressesOf, addressesIn, grantedBy, returnedBy, endedAt, endedBy, summed, FromLoad, FromOpen}
 use Rattle.lists.proofs.PartLaws.{Opposite, opposite-not}
@@ -30,7 +32,7 @@ use Rattle.ledger.proofs.RowLaws.{first-none, first-number, Numbered, b
 use Rattle.ledger.proofs.EmptySlots.{present-or-ended, present-later}
 use Rattle.ledger.proofs.ReplyLaws.{reads-none}
 use Rattle.ledger.proofs.OfferLaws.{insert-perm}
-use Rattle.ledger.proofs.CallLaws.{rowsFor, numberFor, tableFor, well, run-refused, called}
+use Rattle.ledger.proofs.CallLaws.{rowsFor, numberFor, stateFor, well, run-refused, called}
 use Rattle.ledger.proofs.SoundKept.{Mild, cond-mild, renew-mild, withD-mild, list-keeps}
 use Rattle.ledger.proofs.HistoriesHold.{next-sound, opened-is}
 
@@ -43,11 +45,11 @@ total-perm (List·Permᴰ.List·Permᴰ·swap {a = a} {b = b} {a′ = a′} {b�
     omega (arith, ap (λ (x : Lease). size (x .length)) e₁, ap (λ (x : Lease). size (x .length)) e₂)
 total-perm (List·Permᴰ.List·Permᴰ·trans d₁ d₂) = total-perm d₁ ∙ total-perm d₂
 
-total-add : (o : Option Lease) (os : List (Option Lease)) (xs : List Lease) → addressesOf (add o xs) + addressesOf (somes os) ≡ addressesOf xs + addressesOf (somes (o ∷ os))
+total-add : (o : Option Lease) (os : List (Option Lease)) (xs : List Lease) → addressesOf (add o xs) + addressesOf (catMaybes os) ≡ addressesOf xs + addressesOf (catMaybes (o ∷ os))
 total-add none os xs = refl
 total-add (some x) os xs = omega (arith, total-perm (insert-perm x xs))
 
-total-addAll : (os : List (Option Lease)) (xs : List Lease) → addressesOf (addAll os xs) ≡ addressesOf xs + addressesOf (somes os)
+total-addAll : (os : List (Option Lease)) (xs : List Lease) → addressesOf (addAll os xs) ≡ addressesOf xs + addressesOf (catMaybes os)
 unfolding addAll
 total-addAll [] xs = omega arith
 total-addAll (o ∷ os) xs = total-addAll os (add o xs) ∙ total-add o os xs
@@ -56,12 +58,12 @@ total-entries : (xs : List Lease) → addressesIn (map entryOf xs) ≡ addresses
 total-entries [] = refl
 total-entries (x ∷ xs) = ap (λ (n : ℕ). size (x .length) + n) (total-entries xs)
 
-total-parts : (p q : Lease → Bool) → Opposite p q → (xs : List Lease) → addressesOf (those p xs) + addressesOf (those q xs) ≡ addressesOf xs
+total-parts : (p q : Lease → Bool) → Opposite p q → (xs : List Lease) → addressesOf (filter p xs) + addressesOf (filter q xs) ≡ addressesOf xs
 total-parts p q o [] = refl
 total-parts p q o (x ∷ xs) =
     ⊎-elim
-    (λ (h : (p x ≡ true) × (q x ≡ false)). omega (arith, ap addressesOf (those-yes p x xs (h .0)), ap addressesOf (those-no q x xs (h .1)), total-parts p q o xs))
-    (λ (h : (p x ≡ false) × (q x ≡ true)). omega (arith, ap addressesOf (those-no p x xs (h .0)), ap addressesOf (those-yes q x xs (h .1)), total-parts p q o xs))
+    (λ (h : (p x ≡ true) × (q x ≡ false)). omega (arith, ap addressesOf (filter-yes p x xs (h .0)), ap addressesOf (filter-no q x xs (h .1)), total-parts p q o xs))
+    (λ (h : (p x ≡ false) × (q x ≡ true)). omega (arith, ap addressesOf (filter-no p x xs (h .0)), ap addressesOf (filter-yes q x xs (h .1)), total-parts p q o xs))
     (o x)
 
 total-map : (f : Lease → Lease) → ((x : Lease) → prefixOf (f x) ≡ prefixOf x) → (ys : List Lease) → addressesOf (map f ys) ≡ addressesOf ys
@@ -101,14 +103,14 @@ module _ (t : LeaseTable) (now : ℕ) (s : sound t ≡ true) (since : t .last �
       (omega (arith, total-map (λ x. cond (p x) (f x) x) (k .place) xs))
 
   -- Leases left out.
-  those-balance : (p q : Lease → Bool) → Opposite p q → Balance t now 0 (addressesOf (those q (present now (t .leases)))) 0 (store t now (those p (present now (t .leases))))
-  those-balance p q o =
+  filter-balance : (p q : Lease → Bool) → Opposite p q → Balance t now 0 (addressesOf (filter q (present now (t .leases)))) 0 (store t now (filter p (present now (t .leases))))
+  filter-balance p q o =
       let xs : List Lease = present now (t .leases) in
-      store-balance 0 (addressesOf (those q xs)) (those p xs) (fine-those (poolsOf t) now 0 p xs (sound-fine t s now) .0) (omega (arith, total-parts p q o xs))
+      store-balance 0 (addressesOf (filter q xs)) (filter p xs) (fine-filter (poolsOf t) now 0 p xs (sound-fine t s now) .0) (omega (arith, total-parts p q o xs))
 
   -- Leases added by an ask.
-  offers-balance : (os : List (Option Lease)) (gs : List Lease) → somes os ≡ gs → All (Good (poolsOf t) now) (addAll os (present now (t .leases)))
-      → Balance t now (addressesOf gs) 0 (numberFor (present now (t .leases)) gs) (tableFor t now os (present now (t .leases)) gs)
+  offers-balance : (os : List (Option Lease)) (gs : List Lease) → catMaybes os ≡ gs → All (Good (poolsOf t) now) (addAll os (present now (t .leases)))
+      → Balance t now (addressesOf gs) 0 (numberFor (present now (t .leases)) gs) (stateFor (state t) now os (present now (t .leases)) gs .table)
   offers-balance os [] e g = refused-balance t now 0 (cond (full (present now (t .leases))) 9 10) (full-number (full (present now (t .leases))))
     where
       full-number : (b : Bool) → eqb (cond b 9 10) 0 ≡ false
@@ -118,35 +120,35 @@ module _ (t : LeaseTable) (now : ℕ) (s : sound t ≡ true) (since : t .last �
       store-balance (addressesOf (h ∷ hs)) 0 (addAll os (present now (t .leases))) g (omega (arith, total-addAll os (present now (t .leases)), ap addressesOf e))
 
 -- An ask's balance is with the entries of its reply.
-abbrev AskBalance : LeaseTable → ℕ → Result → Type 0
-AskBalance t now r = Balance t now (addressesIn (replyEntries r)) 0 (r .answer .number) (r .table)
+abbrev AskBalance : LeaseTable → ℕ → Result State → Type 0
+AskBalance t now r = Balance t now (addressesIn (replyEntries r)) 0 (r .answer .number) (r .state .table)
 
-numbered-before : (t : LeaseTable) (now client : ℕ) (option reply : List ℕ) → Numbered (before 9 (askRows t now client option reply))
+pub numbered-before : (s : State) (now : ℕ) (c : Call) → Numbered (before 9 (askRows s now c))
 unfolding askRows
-numbered-before t now client option reply = (refl, (refl, (refl, (refl, (refl, (refl, (refl, (refl, tt))))))))
+numbered-before s now c = (refl, (refl, (refl, (refl, (refl, (refl, (refl, (refl, tt))))))))
 
-ask-balance : (t : LeaseTable) (now : ℕ) (c : Call) → AskBalance t now (run ask now t c)
+ask-balance : (t : State) (now : ℕ) (c : Call) → AskBalance (t .table) now (ask t now c)
 unfolding wellFormed
 ask-balance t now c = ⊎-elim good bad (bool-cases (wellFormed now t c))
   where
-    good : wellFormed now t c ≡ true → AskBalance t now (run ask now t c)
+    good : wellFormed now t c ≡ true → AskBalance (t .table) now (ask t now c)
     good e =
         let k = called now t c e in
         let w = well now t c e in
-        let xs : List Lease = present now (t .leases) in
-        let os : List (Option Lease) = offers t now (c .client) xs (asksOf c) in
-        let b : Balance t now (addressesOf (somes os)) 0 (numberFor xs (somes os)) (tableFor t now os xs (somes os)) = offers-balance t now (w .sound) (w .accepted .0) os (somes os) refl (k .good) in
-        let m : addressesIn (replyEntries (run ask now t c)) ≡ addressesOf (somes os) = ap addressesIn (k .told) ∙ total-entries (somes os) in
-        subst (λ (n : ℕ). Balance t now n 0 (run ask now t c .answer .number) (run ask now t c .table)) (sym m)
-        (subst (λ (n : ℕ). Balance t now (addressesOf (somes os)) 0 n (run ask now t c .table)) (sym (k .number))
-        (subst (λ (u : LeaseTable). Balance t now (addressesOf (somes os)) 0 (numberFor xs (somes os)) u) (sym (k .table)) b))
+        let xs : List Lease = present now (t .table .leases) in
+        let os : List (Option Lease) = offers (t .table) now (c .client) xs (asksOf c) in
+        let b : Balance (t .table) now (addressesOf (catMaybes os)) 0 (numberFor xs (catMaybes os)) (stateFor t now os xs (catMaybes os) .table) = offers-balance (t .table) now (w .sound) (w .accepted .0) os (catMaybes os) refl (k .good) in
+        let m : addressesIn (replyEntries (ask t now c)) ≡ addressesOf (catMaybes os) = ap addressesIn (k .told) ∙ total-entries (catMaybes os) in
+        subst (λ (n : ℕ). Balance (t .table) now n 0 (ask t now c .answer .number) (ask t now c .state .table)) (sym m)
+        (subst (λ (n : ℕ). Balance (t .table) now (addressesOf (catMaybes os)) 0 n (ask t now c .state .table)) (sym (k .number))
+        (subst (λ (u : State). Balance (t .table) now (addressesOf (catMaybes os)) 0 (numberFor xs (catMaybes os)) (u .table)) (sym (k .left-state)) b))
 
-    bad : wellFormed now t c ≡ false → AskBalance t now (run ask now t c)
+    bad : wellFormed now t c ≡ false → AskBalance (t .table) now (ask t now c)
     bad e =
         let r = run-refused now t c e in
-        let z : eqb (r .0) 0 ≡ false = first-number (λ m. eqb m 0 ≡ false) (rowsFor now t c) (numbered-before t now (c .client) (c .option) (c .reply)) (r .0) (r .1) in
-        subst (AskBalance t now) (sym (r .2))
-        (refused-balance t now 0 (r .0) z ∙ ap (λ (es : List Entry). addressesOf (leasesOf t) + addressesIn es) (sym (reads-none (r .0) (refusalPlace (c .option) (r .0)) t (c .reply))))
+        let z : eqb (r .0) 0 ≡ false = first-number (λ m. eqb m 0 ≡ false) (rowsFor now t c) (numbered-before t now c) (r .0) (r .1) in
+        subst (AskBalance (t .table) now) (sym (r .2))
+        (refused-balance (t .table) now 0 (r .0) z ∙ ap (λ (es : List Entry). addressesOf (leasesOf (t .table)) + addressesIn es) (sym (reads-none (r .0) (refusalPlace (c .option) (r .0)) t (c .reply))))
 
 -- EVERY CALL
 
@@ -157,56 +159,57 @@ plain t now granted n u b = omega (arith, b, zero-either (eqb n 0))
     zero-either true = refl
     zero-either false = refl
 
-take-balance : (t : LeaseTable) (now client : ℕ) (option reply : List ℕ) → sound t ≡ true
-    → Balance t now 0 0 (take t now client option reply .answer .number) (take t now client option reply .table)
+take-balance : (s : State) (now : ℕ) (c : Call) → sound (s .table) ≡ true → Balance (s .table) now 0 0 (take s now c .answer .number) (take s now c .state .table)
 unfolding take takeRows
-take-balance t now client option reply s =
-    by-rows (λ (r : Result). Balance t now 0 0 (r .answer .number) (r .table)) (takeRows t now client option reply) _ _ (numbered-take t now client option reply)
-    (λ n e. refused-balance t now 0 n e)
+take-balance s now c so =
+    by-rows (λ (r : Result State). Balance (s .table) now 0 0 (r .answer .number) (r .state .table)) (takeRows s now c) _ _ (numbered-take s now c)
+    (λ n e. refused-balance (s .table) now 0 n e)
     (λ e.
-    let r = first-none (takeRows t now client option reply) e in
-    map-balance t now s (ltb-false now (t .last) (r .1 .1 .1 .0)) (namedBy? client (entriesIn option)) (renew now (t .term)) (renew-mild t now s))
+    let r = first-none (takeRows s now c) e in
+    map-balance (s .table) now so (ltb-false now (s .table .last) (r .1 .1 .1 .0)) (namedBy? (c .client) (entriesIn (c .option))) (renew now (s .table .term)) (renew-mild (s .table) now so))
 
-release-balance : (t : LeaseTable) (now client : ℕ) (option : List ℕ) → sound t ≡ true
-    → Balance t now 0 (addressesOf (those (namedBy? client (entriesIn option)) (present now (t .leases)))) (release t now client option .answer .number) (release t now client option .table)
+release-balance : (s : State) (now : ℕ) (c : Call) → sound (s .table) ≡ true
+    → Balance (s .table) now 0 (addressesOf (filter (namedBy? (c .client) (entriesIn (c .option))) (present now (s .table .leases)))) (release s now c .answer .number) (release s now c .state .table)
 unfolding release releaseRows
-release-balance t now client option s =
-    by-rows (λ (r : Update). Balance t now 0 (addressesOf (those (namedBy? client (entriesIn option)) (present now (t .leases)))) (r .answer .number) (r .table)) (releaseRows t now client option) _ _
-    (numbered-release t now client option)
-    (λ n e. refused-balance t now (addressesOf (those (namedBy? client (entriesIn option)) (present now (t .leases)))) n e)
+release-balance s now c so =
+    let named : Lease → Bool = namedBy? (c .client) (entriesIn (c .option)) in
+    let back : ℕ = addressesOf (filter named (present now (s .table .leases))) in
+    by-rows (λ (r : Result State). Balance (s .table) now 0 back (r .answer .number) (r .state .table)) (releaseRows s now c) _ _ (numbered-release s now c)
+    (λ n e. refused-balance (s .table) now back n e)
     (λ e.
-    let r = first-none (releaseRows t now client option) e in
-    those-balance t now s (ltb-false now (t .last) (r .1 .1 .0)) (λ x. not (namedBy? client (entriesIn option) x)) (namedBy? client (entriesIn option)) (opposite-not (namedBy? client (entriesIn option))))
+    let r = first-none (releaseRows s now c) e in
+    filter-balance (s .table) now so (ltb-false now (s .table .last) (r .1 .1 .0)) (λ x. not (namedBy? (c .client) (entriesIn (c .option)) x)) (namedBy? (c .client) (entriesIn (c .option))) (opposite-not (namedBy? (c .client) (entriesIn (c .option)))))
 
-mark-balance : (t : LeaseTable) (now network len : ℕ) (d : Bool) → sound t ≡ true
-    → Balance t now 0 0 (mark t now network len d .answer .number) (mark t now network len d .table)
+mark-balance : (s : State) (now network len : ℕ) (d : Bool) → sound (s .table) ≡ true
+    → Balance (s .table) now 0 0 (mark s now network len d .answer .number) (mark s now network len d .state .table)
 unfolding mark markRows
-mark-balance t now network len d s =
-    by-rows (λ (r : Update). Balance t now 0 0 (r .answer .number) (r .table)) (markRows t now network len) _ _ (numbered-mark t now network len)
-    (λ n e. refused-balance t now 0 n e)
+mark-balance s now network len d so =
+    by-rows (λ (r : Result State). Balance (s .table) now 0 0 (r .answer .number) (r .state .table)) (markRows s now network len) _ _ (numbered-mark s now network len)
+    (λ n e. refused-balance (s .table) now 0 n e)
     (λ e.
-    let r = first-none (markRows t now network len) e in
-    map-balance t now s (ltb-false now (t .last) (r .1 .0)) (at? network len) (withD d) (withD-mild t now s d))
+    let r = first-none (markRows s now network len) e in
+    map-balance (s .table) now so (ltb-false now (s .table .last) (r .1 .0)) (at? network len) (withD d) (withD-mild (s .table) now so d))
 
-one : (t : LeaseTable) (e : Event) → sound t ≡ true → addressesOf (leasesOf (next t e)) + returnedBy t e + endedBy t e ≡ addressesOf (leasesOf t) + grantedBy t e
+one : (s : State) (e : Event) → sound (s .table) ≡ true
+    → addressesOf (leasesOf (next ledger s e .table)) + returnedBy ledger s e + endedBy ledger s e ≡ addressesOf (leasesOf (s .table)) + grantedBy ledger s e
 unfolding returnedBy endedBy grantedBy
-one t (asked now client option reply) s =
-    let r : Result = ask t now client option reply in
-    plain t now (addressesIn (replyEntries r)) (r .answer .number) (r .table) (ask-balance t now (record { client = client; option = option; reply = reply }))
-one t (taken now client option reply) s =
-    let r : Result = take t now client option reply in
-    plain t now 0 (r .answer .number) (r .table) (take-balance t now client option reply s)
-one t (wasListed now client option reply) s = omega (arith, ap (λ (u : LeaseTable). addressesOf (leasesOf u)) (list-keeps t now client option reply))
-one t (returned now client option) s = release-balance t now client option s
-one t (marked now network len d) s =
-    let r : Update = mark t now network len d in
-    plain t now 0 (r .answer .number) (r .table) (mark-balance t now network len d s)
-one t saved s = omega arith
+one s (asked now c) so =
+    let r : Result State = ask s now c in
+    plain (s .table) now (addressesIn (replyEntries r)) (r .answer .number) (r .state .table) (ask-balance s now c)
+one s (taken now c) so =
+    let r : Result State = take s now c in
+    plain (s .table) now 0 (r .answer .number) (r .state .table) (take-balance s now c so)
+one s (wasListed now c) so = omega (arith, ap (λ (u : State). addressesOf (leasesOf (u .table))) (list-keeps s now c))
+one s (returned now c) so = release-balance s now c so
+one s (marked now network len d) so =
+    let r : Result State = mark s now network len d in
+    plain (s .table) now 0 (r .answer .number) (r .state .table) (mark-balance s now network len d so)
+one s saved so = omega arith
 
-pub conservation : FromLoad
+pub conservation : FromLoad ledger
 unfolding afterwards summed
-conservation t [] s = omega arith
-conservation t (e ∷ es) s = omega (arith, one t e s, conservation (next t e) es (next-sound t e s))
+conservation s [] so = omega arith
+conservation s (e ∷ es) so = omega (arith, one s e so, conservation (next ledger s e) es (next-sound s e so))
 
 -- From open there are no leases at first.
 none-present : (now : ℕ) → present now [] ≡ []
@@ -215,9 +218,9 @@ none-present now = refl
 
 pub conservation-open : FromOpen
 conservation-open networks lengths term defaultLength start es e =
-    let t : LeaseTable = openTable networks lengths term defaultLength start .table in
+    let s : State = openTable networks lengths term defaultLength start .state in
     let o = opened-is networks lengths term defaultLength start e in
-    let n : addressesOf (leasesOf t) ≡ 0 =
-    ap (λ (u : LeaseTable). addressesOf (leasesOf u)) (o .1) ∙ ap addressesOf (present-padded start leaseSlots [] ∙ none-present start) in
-    let s : sound t ≡ true = subst (λ (u : LeaseTable). sound u ≡ true) (sym (o .1)) (open-sound networks lengths term defaultLength start (o .0)) in
-    omega (arith, conservation t es s, n)
+    let n : addressesOf (leasesOf (s .table)) ≡ 0 =
+    ap (λ (u : State). addressesOf (leasesOf (u .table))) (o .1) ∙ ap addressesOf (present-padded start leaseSlots [] ∙ none-present start) in
+    let so : sound (s .table) ≡ true = subst (λ (u : State). sound (u .table) ≡ true) (sym (o .1)) (open-sound networks lengths term defaultLength start (o .0)) in
+    omega (arith, conservation s es so, n)

@@ -8,32 +8,34 @@ use mathlib.Core.List.{List, [], _∷_, _++_, map, map-append, nil≢cons, head-
 use mathlib.Core.Option.{Option, none, some, Option·some-ne-none}
 use native.Mathlib.Omega.{arith}
 use lib.ListN.{length, length-append, length-map}
-use Rattle.lists.specs.Lists.{All, Pairwise, those, gather}
+use Rattle.lists.specs.Lists.{All, Pairwise, filter, concatMap}
 use Rattle.lists.proofs.Tests.{bool-cases}
-use Rattle.lists.proofs.ThoseLaws.{those-yes, those-no}
+use Rattle.lists.proofs.FilterLaws.{filter-yes, filter-no}
 use Rattle.lists.proofs.Permutations.{perm-length}
 use Rattle.prefix.specs.declared.Prefix.{Prefix}
 use Rattle.prefix.specs.Prefixes.{Apart}
-use Rattle.space.specs.Space.{Pools, Free, Packing, grant, withGrant, serve, after}
-use Rattle.space.proofs.ListTheorem.{serve-packing}
-use Rattle.space.proofs.Permuted.{grant-perm}
+use Rattle.free_space.specs.Space.{Pools, Free, Packing, grant, withGrant, serve, after}
+use Rattle.free_space.proofs.ListTheorem.{serve-packing}
+use Rattle.free_space.proofs.Permuted.{grant-perm}
 use Rattle.option.specs.Values.{Entry}
 use Rattle.table.specs.declared.Lease.{Lease}
 use Rattle.table.specs.declared.LeaseTable.{LeaseTable}
 use Rattle.table.specs.Table.{leaseSlots, prefixOf, poolsOf, present, sound}
 use Rattle.table.proofs.TableLaws.{sound-fewer}
-use Rattle.ledger.specs.Ledger.{Request, entryOf, askLength, offer, add, offers, addAll, ask}
-use Rattle.ledger.specs.Demand3.{Call, run, Received, received, wellFormed, Accepts, asksOf, granted, entryPrefix, inUse, wellFormedCalls, wellFormedAsks, lengthsAsked, prefixesAt, CanBeChosen}
+use Rattle.option.specs.Contents.{Request}
+use Rattle.option_reply.specs.Reply.{entryOf}
+use Rattle.ledger.specs.Ledger.{State, Call, askLength, offer, add, offers, addAll, ask}
+use Rattle.ledger.specs.Demand3.{Received, received, wellFormed, Accepts, asksOf, granted, entryPrefix, inUse, wellFormedCalls, wellFormedAsks, lengthsAsked, prefixesAt, CanBeChosen}
 use Rattle.lists.proofs.PartLaws.{split-some}
 use Rattle.ledger.proofs.EmptySlots.{empty-slots}
 use Rattle.ledger.proofs.OfferLaws.{prefixes, prefix?, pools-good, Offer, offer-is, add-perm, offers-length}
 use Rattle.ledger.proofs.AskLaws.{entry?}
 use Rattle.ledger.proofs.CallLaws.{run-not, called, granted-is}
-use Rattle.ledger.proofs.Demand3Holds.{serve-append, addAll-perm, State, same, next, start, pools-same, lens-same, prefixes-of, all-granted}
+use Rattle.ledger.proofs.Demand3Holds.{serve-append, addAll-perm, Reached, same, next, start, pools-same, lens-same, prefixes-of, all-granted}
 
 -- "every well-formed ask is granted"
-abbrev pub EveryGranted : ℕ → LeaseTable → List Call → Type 0
-EveryGranted now t cs = (given : List Entry) × (gather (λ v. granted ask now (v .got) (v .call)) (wellFormedCalls ask now t cs) ≡ map some given)
+abbrev pub EveryGranted : ℕ → State → List Call → Type 0
+EveryGranted now t cs = (given : List Entry) × (concatMap (λ v. granted (λ s. s) ask now (v .got) (v .call)) (wellFormedCalls (λ s. s) ask now t cs) ≡ map some given)
 
 -- The leases behind entries that lack nothing.
 told-leases : (os : List (Option Lease)) (es : List Entry) → map entry? os ≡ map some es → (ys : List Lease) × (os ≡ map some ys) × (map entryOf ys ≡ es)
@@ -86,65 +88,65 @@ module _ (t : LeaseTable) (good : Pools (poolsOf t)) (now client : ℕ) where
       granted-step r rs xs ls o y ys (offer-is t now client good xs r) (grant-perm (poolsOf t) p (askLength t r)) e
       (λ d q. all-offers rs (add o xs) (withGrant (prefix? o) ls) ys q d) p
 
-module _ (t : LeaseTable) (now : ℕ) (st : sound t ≡ true) (ac : Accepts t now) where
-  abbrev kept? : Received → Bool
+module _ (t : State) (now : ℕ) (st : sound (t .table) ≡ true) (ac : Accepts (t .table) now) where
+  abbrev kept? : Received State → Bool
   kept? v = wellFormed now t (v .call)
 
-  abbrev gives : Received → List (Option Entry)
-  gives v = granted ask now (v .got) (v .call)
+  abbrev gives : Received State → List (Option Entry)
+  gives v = granted (λ s. s) ask now (v .got) (v .call)
 
   -- From any table that the list goes through.
   abbrev Back : List Call → Type 0
-  Back cs = (u : LeaseTable) (ls : List Prefix) (given : List Entry) → State t now u → List·Permᴰ (inUse now u) ls → gather gives (those kept? (received ask now u cs)) ≡ map some given
-      → (serve (poolsOf t) ls (lengthsAsked now t cs) ≡ map some (map entryPrefix given)) × (length (present now (u .leases)) + length (wellFormedAsks now t cs) ≤ leaseSlots)
+  Back cs = (u : State) (ls : List Prefix) (given : List Entry) → Reached t now u → List·Permᴰ (inUse now (u .table)) ls → concatMap gives (filter kept? (received (λ s. s) ask now u cs)) ≡ map some given
+      → (serve (poolsOf (t .table)) ls (lengthsAsked now t cs) ≡ map some (map entryPrefix given)) × (length (present now (u .table .leases)) + length (wellFormedAsks now t cs) ≤ leaseSlots)
 
   back-none : Back []
   unfolding received
-  back-none u ls [] s p e = (refl, omega (arith, sound-fewer u (s .sound) now))
+  back-none u ls [] s p e = (refl, omega (arith, sound-fewer (u .table) (s .sound) now))
   back-none u ls (g ∷ gs) s p e = absurd (nil≢cons e)
 
   back-not : (c : Call) (cs : List Call) → wellFormed now t c ≡ false → Back cs → Back (c ∷ cs)
   unfolding received
   back-not c cs b k u ls given s p e =
-      let v : Received = record { call = c; got = u } in
-      let vs : List Received = received ask now (run ask now u c .table) cs in
-      let f : those (wellFormed now t) (c ∷ cs) ≡ those (wellFormed now t) cs = those-no (wellFormed now t) c cs b in
-      let q : run ask now u c .table ≡ u = run-not now u c (same t now st ac u c s ∙ b) .0 in
-      let m = k (run ask now u c .table) ls given (next t now st ac u c s) (subst (λ (w : LeaseTable). List·Permᴰ (inUse now w) ls) (sym q) p) (ap (gather gives) (sym (those-no kept? v vs b)) ∙ e) in (
-        ap (λ (z : List Call). serve (poolsOf t) ls (map (askLength t) (gather asksOf z))) f ∙ m .0,
-        omega (arith, ap (λ (w : LeaseTable). length (present now (w .leases))) q, ap (λ (z : List Call). length (gather asksOf z)) f, m .1),
+      let v : Received State = record { call = c; got = u } in
+      let vs : List (Received State) = received (λ s. s) ask now (ask u now c .state) cs in
+      let f : filter (wellFormed now t) (c ∷ cs) ≡ filter (wellFormed now t) cs = filter-no (wellFormed now t) c cs b in
+      let q : ask u now c .state ≡ u = run-not now u c (same t now st ac u c s ∙ b) .0 in
+      let m = k (ask u now c .state) ls given (next t now st ac u c s) (subst (λ (w : State). List·Permᴰ (inUse now (w .table)) ls) (sym q) p) (ap (concatMap gives) (sym (filter-no kept? v vs b)) ∙ e) in (
+        ap (λ (z : List Call). serve (poolsOf (t .table)) ls (map (askLength (t .table)) (concatMap asksOf z))) f ∙ m .0,
+        omega (arith, ap (λ (w : State). length (present now (w .table .leases))) q, ap (λ (z : List Call). length (concatMap asksOf z)) f, m .1),
       )
 
   back-well : (c : Call) (cs : List Call) → wellFormed now t c ≡ true → Back cs → Back (c ∷ cs)
   unfolding received
   back-well c cs b k u ls given s p e =
-      let xs : List Lease = present now (u .leases) in
-      let v : Received = record { call = c; got = u } in
-      let vs : List Received = received ask now (run ask now u c .table) cs in
-      let js : List ℕ = map (askLength t) (asksOf c) in
-      let good : Pools (poolsOf u) = pools-good u (s .sound) in
+      let xs : List Lease = present now (u .table .leases) in
+      let v : Received State = record { call = c; got = u } in
+      let vs : List (Received State) = received (λ s. s) ask now (ask u now c .state) cs in
+      let js : List ℕ = map (askLength (t .table)) (asksOf c) in
+      let good : Pools (poolsOf (u .table)) = pools-good (u .table) (s .sound) in
       let w : wellFormed now u c ≡ true = same t now st ac u c s ∙ b in
-      let f : those (wellFormed now t) (c ∷ cs) ≡ c ∷ those (wellFormed now t) cs = those-yes (wellFormed now t) c cs b in
-      let r = split-some (granted ask now u c) (gather gives (those kept? vs)) given (ap (gather gives) (sym (those-yes kept? v vs b)) ∙ e) in
-      let a = told-leases (offers u now (c .client) xs (asksOf c)) (r .0) (sym (granted-is now u c w) ∙ r .2) in
-      let m = all-offers u good now (c .client) (asksOf c) xs ls (a .0) p (a .1) in
-      let d : serve (poolsOf t) ls js ≡ map some (prefixes (a .0)) =
+      let f : filter (wellFormed now t) (c ∷ cs) ≡ c ∷ filter (wellFormed now t) cs = filter-yes (wellFormed now t) c cs b in
+      let r = split-some (granted (λ s. s) ask now u c) (concatMap gives (filter kept? vs)) given (ap (concatMap gives) (sym (filter-yes kept? v vs b)) ∙ e) in
+      let a = told-leases (offers (u .table) now (c .client) xs (asksOf c)) (r .0) (sym (granted-is now u c w) ∙ r .2) in
+      let m = all-offers (u .table) good now (c .client) (asksOf c) xs ls (a .0) p (a .1) in
+      let d : serve (poolsOf (t .table)) ls js ≡ map some (prefixes (a .0)) =
       sym (ap₂ (λ (ps : List Prefix) (z : List ℕ). serve ps ls z) (pools-same t now st ac u s) (lens-same t now st ac u (asksOf c) s)) ∙ m .0 in
-      let q : List·Permᴰ (inUse now (run ask now u c .table)) (after (poolsOf t) ls js) =
-      subst (λ (z : List Lease). List·Permᴰ (prefixes z) (after (poolsOf t) ls js)) (sym (called now u c w .left))
-      (subst (λ (z : List Prefix). List·Permᴰ (prefixes (addAll (offers u now (c .client) xs (asksOf c)) xs)) z)
+      let q : List·Permᴰ (inUse now (ask u now c .state .table)) (after (poolsOf (t .table)) ls js) =
+      subst (λ (z : List Lease). List·Permᴰ (prefixes z) (after (poolsOf (t .table)) ls js)) (sym (called now u c w .left))
+      (subst (λ (z : List Prefix). List·Permᴰ (prefixes (addAll (offers (u .table) now (c .client) xs (asksOf c)) xs)) z)
       (ap₂ (λ (ps : List Prefix) (z : List ℕ). after ps ls z) (pools-same t now st ac u s) (lens-same t now st ac u (asksOf c) s)) (m .1)) in
-      let n : length (present now (run ask now u c .table .leases)) ≡ length xs + length (asksOf c) =
+      let n : length (present now (ask u now c .state .table .leases)) ≡ length xs + length (asksOf c) =
       ap length (called now u c w .left) ∙ ap (λ (z : List (Option Lease)). length (addAll z xs)) (a .1) ∙ perm-length (addAll-perm (a .0) xs) ∙ length-append xs (a .0)
-      ∙ omega (arith, length-map (a .0) some, ap length (a .1), offers-length u now (c .client) (asksOf c) xs) in
-      let rest = k (run ask now u c .table) (after (poolsOf t) ls js) (r .1) (next t now st ac u c s) q (r .3) in (
-        ap (λ (z : List Call). serve (poolsOf t) ls (map (askLength t) (gather asksOf z))) f
-            ∙ ap (serve (poolsOf t) ls) (map-append (askLength t) (asksOf c) (wellFormedAsks now t cs))
-            ∙ serve-append (poolsOf t) ls js (lengthsAsked now t cs)
+      ∙ omega (arith, length-map (a .0) some, ap length (a .1), offers-length (u .table) now (c .client) (asksOf c) xs) in
+      let rest = k (ask u now c .state) (after (poolsOf (t .table)) ls js) (r .1) (next t now st ac u c s) q (r .3) in (
+        ap (λ (z : List Call). serve (poolsOf (t .table)) ls (map (askLength (t .table)) (concatMap asksOf z))) f
+            ∙ ap (serve (poolsOf (t .table)) ls) (map-append (askLength (t .table)) (asksOf c) (wellFormedAsks now t cs))
+            ∙ serve-append (poolsOf (t .table)) ls js (lengthsAsked now t cs)
             ∙ ap₂ (λ (x y : List (Option Prefix)). x ++ y) (d ∙ ap (map some) (sym (prefixes-of (a .0)) ∙ ap (map entryPrefix) (a .2))) (rest .0)
             ∙ sym (map-append some (map entryPrefix (r .0)) (map entryPrefix (r .1)))
             ∙ ap (map some) (sym (map-append entryPrefix (r .0) (r .1)) ∙ ap (map entryPrefix) (sym (r .4))),
-        omega (arith, n, rest .1, ap (λ (z : List Call). length (gather asksOf z)) f, length-append (asksOf c) (wellFormedAsks now t cs)),
+        omega (arith, n, rest .1, ap (λ (z : List Call). length (concatMap asksOf z)) f, length-append (asksOf c) (wellFormedAsks now t cs)),
       )
 
   back : (cs : List Call) → Back cs
@@ -158,20 +160,20 @@ placed-back (p ∷ ps) [] e = absurd (nil≢cons (sym e))
 placed-back (p ∷ ps) (l ∷ lens) e =
     ap₂ (λ (n : ℕ) (z : List Prefix). record { network = p .network; length = n } ∷ z) (sym (head-eq-of-cons-eq e)) (placed-back ps lens (tail-eq-of-cons-eq e))
 
-pub converse : (t : LeaseTable) (now : ℕ) (cs : List Call) → sound t ≡ true → Accepts t now → EveryGranted now t cs → CanBeChosen now t cs
+pub converse : (t : State) (now : ℕ) (cs : List Call) → sound (t .table) ≡ true → Accepts (t .table) now → EveryGranted now t cs → CanBeChosen now t cs
 converse t now cs st ac g =
     let ps : List Prefix = map entryPrefix (g .0) in
-    let b = back t now st ac cs t (inUse now t) (g .0) (start t now st ac) (Permᴰ·refl (inUse now t)) (g .1) in
-    let k : Packing (poolsOf t) (inUse now t) (lengthsAsked now t cs) ps = serve-packing (poolsOf t) (pools-good t st) (lengthsAsked now t cs) (inUse now t) ps (b .0) in
+    let b = back t now st ac cs t (inUse now (t .table)) (g .0) (start t now st ac) (Permᴰ·refl (inUse now (t .table))) (g .1) in
+    let k : Packing (poolsOf (t .table)) (inUse now (t .table)) (lengthsAsked now t cs) ps = serve-packing (poolsOf (t .table)) (pools-good (t .table) st) (lengthsAsked now t cs) (inUse now (t .table)) ps (b .0) in
     let q : prefixesAt (map (λ (p : Prefix). p .network) ps) (lengthsAsked now t cs) ≡ ps = placed-back ps (lengthsAsked now t cs) (k .asked) in
     record {
       networks = map (λ (p : Prefix). p .network) ps;
       enough = length-map ps (λ (p : Prefix). p .network) ∙ sym (length-map ps (λ (p : Prefix). p .length)) ∙ ap length (k .asked);
-      free = subst (All (Free (poolsOf t) (inUse now t))) (sym q) (k .free);
+      free = subst (All (Free (poolsOf (t .table)) (inUse now (t .table)))) (sym q) (k .free);
       apart = subst (Pairwise Apart) (sym q) (k .disjoint);
-      slots = omega (arith, b .1, empty-slots t now st);
+      slots = omega (arith, b .1, empty-slots (t .table) now st);
     }
 
 -- Every well-formed ask is granted exactly if the prefixes can be chosen and there is a slot for each.
-pub granted⇔choosable : (t : LeaseTable) (now : ℕ) (cs : List Call) → sound t ≡ true → Accepts t now → EveryGranted now t cs ↔ CanBeChosen now t cs
+pub granted⇔choosable : (t : State) (now : ℕ) (cs : List Call) → sound (t .table) ≡ true → Accepts (t .table) now → EveryGranted now t cs ↔ CanBeChosen now t cs
 granted⇔choosable t now cs st ac = (converse t now cs st ac, (λ p. let a = all-granted t now st ac cs p in (a .given, a .all)))

@@ -10,20 +10,23 @@ use mathlib.Core.Option.{Option, none, some, Option·some-ne-none}
 use native.Mathlib.Omega.{arith}
 use lib.ListN.{length, length-append, length-map}
 use lib.Dec.{eqb}
-use Rattle.lists.specs.Lists.{All, Pairwise, those, gather, somes}
+use Rattle.lists.specs.Lists.{All, Pairwise, filter, concatMap, catMaybes}
 use Rattle.lists.proofs.Tests.{bool-cases, cond-true, cond-false}
+use Rattle.lists.proofs.ListLaws.{all-map}
 use Rattle.lists.proofs.Permutations.{perm-length}
 use Rattle.prefix.specs.declared.Prefix.{Prefix}
 use Rattle.prefix.specs.Prefixes.{Apart}
-use Rattle.space.specs.Space.{Pools, Free, Packing, grant, withGrant, serve, after}
-use Rattle.space.proofs.ListTheorem.{list-theorem}
+use Rattle.free_space.specs.Space.{Pools, Free, Packing, grant, withGrant, serve, after}
+use Rattle.free_space.proofs.ListTheorem.{list-theorem}
 use Rattle.option.specs.Values.{Entry}
 use Rattle.table.specs.declared.Lease.{Lease}
 use Rattle.table.specs.declared.LeaseTable.{LeaseTable}
 use Rattle.table.specs.Table.{leaseSlots, latest, prefixOf, prefixesOf, poolsOf, present, sound}
-use Rattle.ledger.specs.Ledger.{Request, entryOf, holdTime, askLength, offer, add, offers, addAll, ask}
-use Rattle.ledger.specs.Demand3.{Call, run, Received, received, afterAll, wellFormed, Accepts, asksOf, granted, entryPrefix, inUse, wellFormedAsks, lengthsAsked, prefixesAt, CanBeChosen, leaseFor, made, AllGranted, Untouched, Demand3}
-use Rattle.lists.proofs.PartLaws.{somes-some, split-some}
+use Rattle.option.specs.Contents.{Request}
+use Rattle.option_reply.specs.Reply.{entryOf}
+use Rattle.ledger.specs.Ledger.{State, Call, holdTime, askLength, offer, add, offers, addAll, ask}
+use Rattle.ledger.specs.Demand3.{Received, received, afterAll, wellFormed, Accepts, asksOf, granted, entryPrefix, inUse, wellFormedAsks, lengthsAsked, prefixesAt, CanBeChosen, leaseFor, made, AllGranted, Untouched, Demand3}
+use Rattle.lists.proofs.PartLaws.{catMaybes-some, split-some}
 use Rattle.ledger.proofs.EmptySlots.{empty-slots}
 use Rattle.ledger.proofs.OfferLaws.{prefixes, prefix?, pools-good, insert-perm, Offer, offer-is, offers-serve, offers-after, offers-length}
 use Rattle.ledger.proofs.AskLaws.{entry?}
@@ -39,7 +42,7 @@ placed-lengths [] (l ∷ lens) e = absurd (omega (arith, e))
 placed-lengths (n ∷ ns) [] e = absurd (omega (arith, e))
 placed-lengths (n ∷ ns) (l ∷ lens) e = ap (λ (js : List ℕ). l ∷ js) (placed-lengths ns lens (omega (arith, e)))
 
-choice : (now : ℕ) (t : LeaseTable) (cs : List Call) (p : CanBeChosen now t cs) → Packing (poolsOf t) (inUse now t) (lengthsAsked now t cs) (prefixesAt (p .networks) (lengthsAsked now t cs))
+choice : (now : ℕ) (t : State) (cs : List Call) (p : CanBeChosen now t cs) → Packing (poolsOf (t .table)) (inUse now (t .table)) (lengthsAsked now t cs) (prefixesAt (p .networks) (lengthsAsked now t cs))
 choice now t cs p = record {
   asked = placed-lengths (p .networks) (lengthsAsked now t cs) (p .enough);
   free = p .free;
@@ -54,14 +57,14 @@ pub serve-append : (pools ls : List Prefix) (js ks : List ℕ) → serve pools l
 serve-append pools ls [] ks = refl
 serve-append pools ls (j ∷ js) ks = ap (λ (l : List (Option Prefix)). grant pools ls j ∷ l) (serve-append pools (withGrant (grant pools ls j) ls) js ks)
 
-all-somes : (os : List (Option Lease)) (gs : List Prefix) → map prefix? os ≡ map some gs → (ys : List Lease) × (os ≡ map some ys) × (prefixes ys ≡ gs)
-all-somes [] [] e = ([], refl, refl)
-all-somes [] (g ∷ gs) e = absurd (nil≢cons e)
-all-somes (none ∷ os) [] e = absurd (nil≢cons (sym e))
-all-somes (some x ∷ os) [] e = absurd (nil≢cons (sym e))
-all-somes (none ∷ os) (g ∷ gs) e = absurd (Option·some-ne-none g (sym (head-eq-of-cons-eq e)))
-all-somes (some x ∷ os) (g ∷ gs) e =
-    let r = all-somes os gs (tail-eq-of-cons-eq e) in
+all-catMaybes : (os : List (Option Lease)) (gs : List Prefix) → map prefix? os ≡ map some gs → (ys : List Lease) × (os ≡ map some ys) × (prefixes ys ≡ gs)
+all-catMaybes [] [] e = ([], refl, refl)
+all-catMaybes [] (g ∷ gs) e = absurd (nil≢cons e)
+all-catMaybes (none ∷ os) [] e = absurd (nil≢cons (sym e))
+all-catMaybes (some x ∷ os) [] e = absurd (nil≢cons (sym e))
+all-catMaybes (none ∷ os) (g ∷ gs) e = absurd (Option·some-ne-none g (sym (head-eq-of-cons-eq e)))
+all-catMaybes (some x ∷ os) (g ∷ gs) e =
+    let r = all-catMaybes os gs (tail-eq-of-cons-eq e) in
     let h : some (prefixOf x) ≡ some g = head-eq-of-cons-eq e in
     let k : prefixOf x ≡ g = cc in
     (x ∷ r .0, ap (λ (l : List (Option Lease)). some x ∷ l) (r .1), ap₂ (λ (b : Prefix) (l : List Prefix). b ∷ l) k (r .2))
@@ -87,12 +90,12 @@ lease-path : (now client : ℕ) (x : Lease) → x .client ≡ client → x .leas
 lease-path now client x p q r = λ i. record { network = x .network; length = x .length; client = p i; leased = q i; h = x .h; d = x .d; expires = r i }
 
 module _ (t : LeaseTable) (good : Pools (poolsOf t)) (now client : ℕ) where
-  told-step : (xs : List Lease) (r : Request) (o : Option Lease) (os : List (Option Lease)) → Offer t now client xs r o → map (leaseFor now client) (map entryOf (somes os)) ≡ somes os
-      → map (leaseFor now client) (map entryOf (somes (o ∷ os))) ≡ somes (o ∷ os)
+  told-step : (xs : List Lease) (r : Request) (o : Option Lease) (os : List (Option Lease)) → Offer t now client xs r o → map (leaseFor now client) (map entryOf (catMaybes os)) ≡ catMaybes os
+      → map (leaseFor now client) (map entryOf (catMaybes (o ∷ os))) ≡ catMaybes (o ∷ os)
   told-step xs r none os f e = e
   told-step xs r (some x) os f e = ap₂ (λ (y : Lease) (l : List Lease). y ∷ l) (sym (lease-path now client x (f .owner) (f .leased) (f .until))) e
 
-  told : (rs : List Request) (xs : List Lease) → map (leaseFor now client) (map entryOf (somes (offers t now client xs rs))) ≡ somes (offers t now client xs rs)
+  told : (rs : List Request) (xs : List Lease) → map (leaseFor now client) (map entryOf (catMaybes (offers t now client xs rs))) ≡ catMaybes (offers t now client xs rs)
   unfolding offers
   told [] xs = refl
   told (r ∷ rs) xs = told-step xs r (offer t now client xs r) (offers t now client (add (offer t now client xs r) xs) rs) (offer-is t now client good xs r) (told rs (add (offer t now client xs r) xs))
@@ -117,201 +120,208 @@ module _ (t : LeaseTable) (good : Pools (poolsOf t)) (now client : ℕ) where
 
 -- the tables that a list goes through
 
-pub record State (t : LeaseTable) (now : ℕ) (u : LeaseTable) : Type 0 where
-  pub sound : sound u ≡ true
-  pub since : u .last ≤ now
-  pub pools : u .pools ≡ t .pools
-  pub default : u .«default_length» ≡ t .«default_length»
+pub record Reached (t : State) (now : ℕ) (u : State) : Type 0 where
+  pub sound : sound (u .table) ≡ true
+  pub since : u .table .last ≤ now
+  pub pools : u .table .pools ≡ t .table .pools
+  pub default : u .table .«default_length» ≡ t .table .«default_length»
 
-module _ (t : LeaseTable) (now : ℕ) (st : sound t ≡ true) (ac : Accepts t now) where
-  pub same : (u : LeaseTable) (c : Call) → State t now u → wellFormed now u c ≡ wellFormed now t c
+module _ (t : State) (now : ℕ) (st : sound (t .table) ≡ true) (ac : Accepts (t .table) now) where
+  pub same : (u : State) (c : Call) → Reached t now u → wellFormed now u c ≡ wellFormed now t c
   same u c s = well-same now t u c st (s .sound) ac (s .since, ac .1)
 
-  pub next : (u : LeaseTable) (c : Call) → State t now u → State t now (run ask now u c .table)
+  pub next : (u : State) (c : Call) → Reached t now u → Reached t now (ask u now c .state)
   next u c s =
       ⊎-elim
       (λ (e : wellFormed now u c ≡ true).
       let k = called now u c e in
       record { sound = k .sound; since = k .since; pools = k .pools ∙ s .pools; default = k .default ∙ s .default })
-      (λ (e : wellFormed now u c ≡ false). subst (State t now) (sym (run-not now u c e .0)) s)
+      (λ (e : wellFormed now u c ≡ false). subst (Reached t now) (sym (run-not now u c e .0)) s)
       (bool-cases (wellFormed now u c))
 
-  untouched-from : (cs : List Call) (u : LeaseTable) → State t now u
-      → All (λ v. wellFormed now t (v .call) ≡ false → (run ask now (v .got) (v .call) .table ≡ v .got) × (run ask now (v .got) (v .call) .buffer ≡ v .call .reply)) (received ask now u cs)
+  ill-formed-from : (cs : List Call) (u : State) → Reached t now u → All (λ v. wellFormed now t (v .call) ≡ false → wellFormed now (v .got) (v .call) ≡ false) (received (λ s. s) ask now u cs)
   unfolding received
-  untouched-from [] u s = tt
-  untouched-from (c ∷ cs) u s = ((λ e. run-not now u c (same u c s ∙ e)), untouched-from cs (run ask now u c .table) (next u c s))
+  ill-formed-from [] u s = tt
+  ill-formed-from (c ∷ cs) u s = ((λ e. same u c s ∙ e), ill-formed-from cs (ask u now c .state) (next u c s))
 
   -- the list, from any table that it goes through
 
-  abbrev kept? : Received → Bool
+  abbrev kept? : Received State → Bool
   kept? v = wellFormed now t (v .call)
 
-  abbrev gives : Received → List (Option Entry)
-  gives v = granted ask now (v .got) (v .call)
+  abbrev gives : Received State → List (Option Entry)
+  gives v = granted (λ s. s) ask now (v .got) (v .call)
 
-  record Goes (cs : List Call) (u : LeaseTable) (gs : List Prefix) : Type 0 where
+  record Goes (cs : List Call) (u : State) (gs : List Prefix) : Type 0 where
     given : List Entry
-    all : gather gives (those kept? (received ask now u cs)) ≡ map some given
+    all : concatMap gives (filter kept? (received (λ s. s) ask now u cs)) ≡ map some given
     are : map entryPrefix given ≡ gs
     lens : map (λ (e : Entry). e .length) given ≡ lengthsAsked now t cs
-    left : List·Permᴰ (present now (afterAll ask now u cs .leases)) (present now (u .leases) ++ gather (made ask now) (those kept? (received ask now u cs)))
+    left : List·Permᴰ (present now (afterAll (λ s. s) ask now u cs .table .leases)) (present now (u .table .leases) ++ concatMap (made (λ s. s) ask now) (filter kept? (received (λ s. s) ask now u cs)))
 
-  goes-none : (u : LeaseTable) (gs : List Prefix) → _≡_ {A = List (Option Prefix)} [] (map some gs) → Goes [] u gs
+  goes-none : (u : State) (gs : List Prefix) → _≡_ {A = List (Option Prefix)} [] (map some gs) → Goes [] u gs
   unfolding received afterAll
-  goes-none u [] e = record { given = []; all = refl; are = refl; lens = refl; left = Permᴰ·symm (Permᴰ·append-nil (present now (u .leases))) }
+  goes-none u [] e = record { given = []; all = refl; are = refl; lens = refl; left = Permᴰ·symm (Permᴰ·append-nil (present now (u .table .leases))) }
   goes-none u (g ∷ gs) e = absurd (nil≢cons e)
 
-  goes-not : (c : Call) (cs : List Call) (u : LeaseTable) (gs : List Prefix) → State t now u → wellFormed now t c ≡ false → Goes cs (run ask now u c .table) gs → Goes (c ∷ cs) u gs
+  goes-not : (c : Call) (cs : List Call) (u : State) (gs : List Prefix) → Reached t now u → wellFormed now t c ≡ false → Goes cs (ask u now c .state) gs → Goes (c ∷ cs) u gs
   unfolding received afterAll
   goes-not c cs u gs s e k =
-      let v : Received = record { call = c; got = u } in
-      let vs : List Received = received ask now (run ask now u c .table) cs in
-      let f : those kept? (v ∷ vs) ≡ those kept? vs = cond-false (wellFormed now t c) (v ∷ those kept? vs) (those kept? vs) e in
-      let q : run ask now u c .table ≡ u = run-not now u c (same u c s ∙ e) .0 in
+      let v : Received State = record { call = c; got = u } in
+      let vs : List (Received State) = received (λ s. s) ask now (ask u now c .state) cs in
+      let f : filter kept? (v ∷ vs) ≡ filter kept? vs = cond-false (wellFormed now t c) (v ∷ filter kept? vs) (filter kept? vs) e in
+      let q : ask u now c .state ≡ u = run-not now u c (same u c s ∙ e) .0 in
       record {
         given = k .given;
-        all = ap (gather gives) f ∙ k .all;
+        all = ap (concatMap gives) f ∙ k .all;
         are = k .are;
-        lens = k .lens ∙ ap (λ (z : List Call). map (askLength t) (gather asksOf z)) (sym (cond-false (wellFormed now t c) (c ∷ those (wellFormed now t) cs) (those (wellFormed now t) cs) e));
-        left = subst (List·Permᴰ (present now (afterAll ask now (run ask now u c .table) cs .leases)))
-            (ap₂ (λ (w : LeaseTable) (l : List Received). present now (w .leases) ++ gather (made ask now) l) q (sym f)) (k .left);
+        lens = k .lens ∙ ap (λ (z : List Call). map (askLength (t .table)) (concatMap asksOf z)) (sym (cond-false (wellFormed now t c) (c ∷ filter (wellFormed now t) cs) (filter (wellFormed now t) cs) e));
+        left = subst (List·Permᴰ (present now (afterAll (λ s. s) ask now (ask u now c .state) cs .table .leases)))
+            (ap₂ (λ (w : State) (l : List (Received State)). present now (w .table .leases) ++ concatMap (made (λ s. s) ask now) l) q (sym f)) (k .left);
       }
 
-  pub lens-same : (u : LeaseTable) (rs : List Request) → State t now u → map (askLength u) rs ≡ map (askLength t) rs
+  pub lens-same : (u : State) (rs : List Request) → Reached t now u → map (askLength (u .table)) rs ≡ map (askLength (t .table)) rs
   lens-same u rs s = ap (λ (n : ℕ). map (λ (r : Request). cond (eqb (r .length) 0) n (r .length)) rs) (s .default)
 
-  goes-well : (c : Call) (cs : List Call) (u : LeaseTable) (ys : List Lease) (g₁ g₂ : List Prefix) → State t now u → wellFormed now t c ≡ true
-      → offers u now (c .client) (present now (u .leases)) (asksOf c) ≡ map some ys → prefixes ys ≡ g₁
-      → Goes cs (run ask now u c .table) g₂ → Goes (c ∷ cs) u (g₁ ++ g₂)
+  goes-well : (c : Call) (cs : List Call) (u : State) (ys : List Lease) (g₁ g₂ : List Prefix) → Reached t now u → wellFormed now t c ≡ true
+      → offers (u .table) now (c .client) (present now (u .table .leases)) (asksOf c) ≡ map some ys → prefixes ys ≡ g₁
+      → Goes cs (ask u now c .state) g₂ → Goes (c ∷ cs) u (g₁ ++ g₂)
   unfolding received afterAll
   goes-well c cs u ys g₁ g₂ s e o b k =
-      let xs : List Lease = present now (u .leases) in
+      let xs : List Lease = present now (u .table .leases) in
       let w : wellFormed now u c ≡ true = same u c s ∙ e in
-      let good : Pools (poolsOf u) = pools-good u (s .sound) in
-      let v : Received = record { call = c; got = u } in
-      let vs : List Received = received ask now (run ask now u c .table) cs in
-      let f : those kept? (v ∷ vs) ≡ v ∷ those kept? vs = cond-true (wellFormed now t c) (v ∷ those kept? vs) (those kept? vs) e in
-      let h : granted ask now u c ≡ map some (map entryOf ys) = granted-is now u c w ∙ ap (map entry?) o ∙ entries-some ys in
-      let so : somes (offers u now (c .client) xs (asksOf c)) ≡ ys = ap somes o ∙ somes-some ys in
-      let m : made ask now v ≡ ys =
-      ap (λ (l : List (Option Entry)). map (leaseFor now (c .client)) (somes l)) h
-      ∙ ap (map (leaseFor now (c .client))) (somes-some (map entryOf ys))
+      let good : Pools (poolsOf (u .table)) = pools-good (u .table) (s .sound) in
+      let v : Received State = record { call = c; got = u } in
+      let vs : List (Received State) = received (λ s. s) ask now (ask u now c .state) cs in
+      let f : filter kept? (v ∷ vs) ≡ v ∷ filter kept? vs = cond-true (wellFormed now t c) (v ∷ filter kept? vs) (filter kept? vs) e in
+      let h : granted (λ s. s) ask now u c ≡ map some (map entryOf ys) = granted-is now u c w ∙ ap (map entry?) o ∙ entries-some ys in
+      let so : catMaybes (offers (u .table) now (c .client) xs (asksOf c)) ≡ ys = ap catMaybes o ∙ catMaybes-some ys in
+      let m : made (λ s. s) ask now v ≡ ys =
+      ap (λ (l : List (Option Entry)). map (leaseFor now (c .client)) (catMaybes l)) h
+      ∙ ap (map (leaseFor now (c .client))) (catMaybes-some (map entryOf ys))
       ∙ ap (λ (l : List Lease). map (leaseFor now (c .client)) (map entryOf l)) (sym so)
-      ∙ told u good now (c .client) (asksOf c) xs ∙ so in
-      let p : List·Permᴰ (present now (run ask now u c .table .leases)) (xs ++ ys) =
+      ∙ told (u .table) good now (c .client) (asksOf c) xs ∙ so in
+      let p : List·Permᴰ (present now (ask u now c .state .table .leases)) (xs ++ ys) =
       subst (λ (l : List Lease). List·Permᴰ l (xs ++ ys)) (sym (called now u c w .left ∙ ap (λ (l : List (Option Lease)). addAll l xs) o)) (addAll-perm ys xs) in
       record {
         given = map entryOf ys ++ k .given;
-        all = ap (gather gives) f ∙ ap₂ (λ (a b : List (Option Entry)). a ++ b) h (k .all) ∙ sym (map-append some (map entryOf ys) (k .given));
+        all = ap (concatMap gives) f ∙ ap₂ (λ (a b : List (Option Entry)). a ++ b) h (k .all) ∙ sym (map-append some (map entryOf ys) (k .given));
         are = map-append entryPrefix (map entryOf ys) (k .given) ∙ ap₂ (λ (a b : List Prefix). a ++ b) (prefixes-of ys ∙ b) (k .are);
         lens =
             map-append (λ (z : Entry). z .length) (map entryOf ys) (k .given)
-            ∙ ap₂ (λ (a b : List ℕ). a ++ b) (lengths-of ys ∙ lengths-told u good now (c .client) (asksOf c) xs ys o ∙ lens-same u (asksOf c) s) (k .lens)
-            ∙ sym (map-append (askLength t) (asksOf c) (wellFormedAsks now t cs))
-            ∙ ap (λ (z : List Call). map (askLength t) (gather asksOf z)) (sym (cond-true (wellFormed now t c) (c ∷ those (wellFormed now t) cs) (those (wellFormed now t) cs) e));
+            ∙ ap₂ (λ (a b : List ℕ). a ++ b) (lengths-of ys ∙ lengths-told (u .table) good now (c .client) (asksOf c) xs ys o ∙ lens-same u (asksOf c) s) (k .lens)
+            ∙ sym (map-append (askLength (t .table)) (asksOf c) (wellFormedAsks now t cs))
+            ∙ ap (λ (z : List Call). map (askLength (t .table)) (concatMap asksOf z)) (sym (cond-true (wellFormed now t c) (c ∷ filter (wellFormed now t) cs) (filter (wellFormed now t) cs) e));
         left =
             List·Permᴰ.List·Permᴰ·trans (k .left)
-            (subst (List·Permᴰ (present now (run ask now u c .table .leases) ++ gather (made ask now) (those kept? vs)))
-            (append-assoc xs ys (gather (made ask now) (those kept? vs)) ∙ ap (λ (l : List Lease). xs ++ (l ++ gather (made ask now) (those kept? vs))) (sym m) ∙ ap (λ (l : List Received). xs ++ gather (made ask now) l) (sym f))
-            (Permᴰ·append-right (gather (made ask now) (those kept? vs)) p));
+            (subst (List·Permᴰ (present now (ask u now c .state .table .leases) ++ concatMap (made (λ s. s) ask now) (filter kept? vs)))
+            (append-assoc xs ys (concatMap (made (λ s. s) ask now) (filter kept? vs)) ∙ ap (λ (l : List Lease). xs ++ (l ++ concatMap (made (λ s. s) ask now) (filter kept? vs))) (sym m) ∙ ap (λ (l : List (Received State)). xs ++ concatMap (made (λ s. s) ask now) l) (sym f))
+            (Permᴰ·append-right (concatMap (made (λ s. s) ask now) (filter kept? vs)) p));
       }
 
-  pub pools-same : (u : LeaseTable) → State t now u → poolsOf u ≡ poolsOf t
+  pub pools-same : (u : State) → Reached t now u → poolsOf (u .table) ≡ poolsOf (t .table)
   pools-same u s = ap prefixesOf (s .pools)
 
   abbrev Claim : List Call → Type 0
-  Claim cs = (u : LeaseTable) (ls gs : List Prefix) → State t now u → List·Permᴰ (inUse now u) ls → serve (poolsOf t) ls (lengthsAsked now t cs) ≡ map some gs
-      → length (present now (u .leases)) + length (wellFormedAsks now t cs) ≤ leaseSlots → Goes cs u gs
+  Claim cs = (u : State) (ls gs : List Prefix) → Reached t now u → List·Permᴰ (inUse now (u .table)) ls → serve (poolsOf (t .table)) ls (lengthsAsked now t cs) ≡ map some gs
+      → length (present now (u .table .leases)) + length (wellFormedAsks now t cs) ≤ leaseSlots → Goes cs u gs
 
   step-not : (c : Call) (cs : List Call) → wellFormed now t c ≡ false → Claim cs → Claim (c ∷ cs)
   step-not c cs b k u ls gs s p e l =
-      let f : those (wellFormed now t) (c ∷ cs) ≡ those (wellFormed now t) cs =
-      cond-false (wellFormed now t c) (c ∷ those (wellFormed now t) cs) (those (wellFormed now t) cs) b in
-      let q : run ask now u c .table ≡ u = run-not now u c (same u c s ∙ b) .0 in
+      let f : filter (wellFormed now t) (c ∷ cs) ≡ filter (wellFormed now t) cs =
+      cond-false (wellFormed now t c) (c ∷ filter (wellFormed now t) cs) (filter (wellFormed now t) cs) b in
+      let q : ask u now c .state ≡ u = run-not now u c (same u c s ∙ b) .0 in
       goes-not c cs u gs s b
-      (k (run ask now u c .table) ls gs (next u c s)
-      (subst (λ (w : LeaseTable). List·Permᴰ (inUse now w) ls) (sym q) p)
-      (subst (λ (z : List Call). serve (poolsOf t) ls (map (askLength t) (gather asksOf z)) ≡ map some gs) f e)
-      (omega (arith, ap (λ (w : LeaseTable). length (present now (w .leases))) q, ap (λ (z : List Call). length (gather asksOf z)) f)))
+      (k (ask u now c .state) ls gs (next u c s)
+      (subst (λ (w : State). List·Permᴰ (inUse now (w .table)) ls) (sym q) p)
+      (subst (λ (z : List Call). serve (poolsOf (t .table)) ls (map (askLength (t .table)) (concatMap asksOf z)) ≡ map some gs) f e)
+      (omega (arith, ap (λ (w : State). length (present now (w .table .leases))) q, ap (λ (z : List Call). length (concatMap asksOf z)) f)))
 
   step-well : (c : Call) (cs : List Call) → wellFormed now t c ≡ true → Claim cs → Claim (c ∷ cs)
   step-well c cs b k u ls gs s p e l =
-      let xs : List Lease = present now (u .leases) in
-      let js : List ℕ = map (askLength t) (asksOf c) in
-      let good : Pools (poolsOf u) = pools-good u (s .sound) in
+      let xs : List Lease = present now (u .table .leases) in
+      let js : List ℕ = map (askLength (t .table)) (asksOf c) in
+      let good : Pools (poolsOf (u .table)) = pools-good (u .table) (s .sound) in
       let w : wellFormed now u c ≡ true = same u c s ∙ b in
-      let f : those (wellFormed now t) (c ∷ cs) ≡ c ∷ those (wellFormed now t) cs =
-      cond-true (wellFormed now t c) (c ∷ those (wellFormed now t) cs) (those (wellFormed now t) cs) b in
+      let f : filter (wellFormed now t) (c ∷ cs) ≡ c ∷ filter (wellFormed now t) cs =
+      cond-true (wellFormed now t c) (c ∷ filter (wellFormed now t) cs) (filter (wellFormed now t) cs) b in
       let room : length xs + (length (asksOf c) + length (wellFormedAsks now t cs)) ≤ leaseSlots =
-      omega (arith, ap (λ (z : List Call). length (gather asksOf z)) f, length-append (asksOf c) (wellFormedAsks now t cs)) in
+      omega (arith, ap (λ (z : List Call). length (concatMap asksOf z)) f, length-append (asksOf c) (wellFormedAsks now t cs)) in
       let o : lengthsAsked now t (c ∷ cs) ≡ js ++ lengthsAsked now t cs =
-      ap (λ (z : List Call). map (askLength t) (gather asksOf z)) f ∙ map-append (askLength t) (asksOf c) (wellFormedAsks now t cs) in
-      let r = split-some (serve (poolsOf t) ls js) (serve (poolsOf t) (after (poolsOf t) ls js) (lengthsAsked now t cs)) gs
-      (sym (serve-append (poolsOf t) ls js (lengthsAsked now t cs)) ∙ ap (serve (poolsOf t) ls) (sym o) ∙ e) in
-      let a = all-somes (offers u now (c .client) xs (asksOf c)) (r .0)
-      (offers-serve u now (c .client) good (asksOf c) xs ls (omega arith) p ∙ ap₂ (λ (ps : List Prefix) (z : List ℕ). serve ps ls z) (pools-same u s) (lens-same u (asksOf c) s) ∙ r .2) in
-      let q : List·Permᴰ (inUse now (run ask now u c .table)) (after (poolsOf t) ls js) =
-      subst (λ (z : List Lease). List·Permᴰ (prefixes z) (after (poolsOf t) ls js)) (sym (called now u c w .left))
-      (subst (λ (z : List Prefix). List·Permᴰ (prefixes (addAll (offers u now (c .client) xs (asksOf c)) xs)) z)
+      ap (λ (z : List Call). map (askLength (t .table)) (concatMap asksOf z)) f ∙ map-append (askLength (t .table)) (asksOf c) (wellFormedAsks now t cs) in
+      let r = split-some (serve (poolsOf (t .table)) ls js) (serve (poolsOf (t .table)) (after (poolsOf (t .table)) ls js) (lengthsAsked now t cs)) gs
+      (sym (serve-append (poolsOf (t .table)) ls js (lengthsAsked now t cs)) ∙ ap (serve (poolsOf (t .table)) ls) (sym o) ∙ e) in
+      let a = all-catMaybes (offers (u .table) now (c .client) xs (asksOf c)) (r .0)
+      (offers-serve (u .table) now (c .client) good (asksOf c) xs ls (omega arith) p ∙ ap₂ (λ (ps : List Prefix) (z : List ℕ). serve ps ls z) (pools-same u s) (lens-same u (asksOf c) s) ∙ r .2) in
+      let q : List·Permᴰ (inUse now (ask u now c .state .table)) (after (poolsOf (t .table)) ls js) =
+      subst (λ (z : List Lease). List·Permᴰ (prefixes z) (after (poolsOf (t .table)) ls js)) (sym (called now u c w .left))
+      (subst (λ (z : List Prefix). List·Permᴰ (prefixes (addAll (offers (u .table) now (c .client) xs (asksOf c)) xs)) z)
       (ap₂ (λ (ps : List Prefix) (z : List ℕ). after ps ls z) (pools-same u s) (lens-same u (asksOf c) s))
-      (offers-after u now (c .client) good (asksOf c) xs ls (omega arith) p)) in
-      let n : length (present now (run ask now u c .table .leases)) ≡ length xs + length (asksOf c) =
+      (offers-after (u .table) now (c .client) good (asksOf c) xs ls (omega arith) p)) in
+      let n : length (present now (ask u now c .state .table .leases)) ≡ length xs + length (asksOf c) =
       ap length (called now u c w .left) ∙ ap (λ (z : List (Option Lease)). length (addAll z xs)) (a .1) ∙ perm-length (addAll-perm (a .0) xs) ∙ length-append xs (a .0)
-      ∙ omega (arith, length-map (a .0) some, ap length (a .1), offers-length u now (c .client) (asksOf c) xs) in
+      ∙ omega (arith, length-map (a .0) some, ap length (a .1), offers-length (u .table) now (c .client) (asksOf c) xs) in
       subst (Goes (c ∷ cs) u) (sym (r .4))
       (goes-well c cs u (a .0) (r .0) (r .1) s b (a .1) (a .2)
-      (k (run ask now u c .table) (after (poolsOf t) ls js) (r .1) (next u c s) q (r .3) (omega arith)))
+      (k (ask u now c .state) (after (poolsOf (t .table)) ls js) (r .1) (next u c s) q (r .3) (omega arith)))
 
   goes : (cs : List Call) → Claim cs
   goes [] = λ u ls gs s p e l. goes-none u gs e
   goes (c ∷ cs) =
       ⊎-elim (λ (b : wellFormed now t c ≡ true). step-well c cs b (goes cs)) (λ (b : wellFormed now t c ≡ false). step-not c cs b (goes cs)) (bool-cases (wellFormed now t c))
 
-  pub start : State t now t
+  pub start : Reached t now t
   start = record { sound = st; since = ac .0; pools = refl; default = refl }
 
-  pub all-granted : (cs : List Call) → CanBeChosen now t cs → AllGranted ask now t cs
+  pub all-granted : (cs : List Call) → CanBeChosen now t cs → AllGranted (λ s. s) ask now t cs
   all-granted cs p =
-      let m = list-theorem (poolsOf t) (pools-good t st) (inUse now t) (lengthsAsked now t cs) (prefixesAt (p .networks) (lengthsAsked now t cs)) (choice now t cs p) in
-      let g = goes cs t (inUse now t) (m .0) start (Permᴰ·refl (inUse now t)) (m .1) (omega (arith, p .slots, empty-slots t now st)) in
+      let m = list-theorem (poolsOf (t .table)) (pools-good (t .table) st) (inUse now (t .table)) (lengthsAsked now t cs) (prefixesAt (p .networks) (lengthsAsked now t cs)) (choice now t cs p) in
+      let g = goes cs t (inUse now (t .table)) (m .0) start (Permᴰ·refl (inUse now (t .table))) (m .1) (omega (arith, p .slots, empty-slots (t .table) now st)) in
       record {
         given = g .given;
         all = g .all;
         lengths = g .lens;
-        free = subst (All (Free (poolsOf t) (inUse now t))) (sym (g .are)) (m .2 .free);
+        free = subst (All (Free (poolsOf (t .table)) (inUse now (t .table)))) (sym (g .are)) (m .2 .free);
         apart = subst (Pairwise Apart) (sym (g .are)) (m .2 .disjoint);
         left = g .left;
       }
 
-  pub untouched : (cs : List Call) → Untouched ask now t cs
-  untouched cs = untouched-from cs t start
+  ill-formed : (cs : List Call) → All (λ v. wellFormed now t (v .call) ≡ false → wellFormed now (v .got) (v .call) ≡ false) (received (λ s. s) ask now t cs)
+  ill-formed cs = ill-formed-from cs t start
 
 -- On a table that is not sound, or at a time not accepted, no call is well-formed, and each gets the table that the first got.
-none-touch : (t : LeaseTable) (now : ℕ) → ((c : Call) → wellFormed now t c ≡ false) → (cs : List Call) (u : LeaseTable) → u ≡ t
-    → All (λ v. wellFormed now t (v .call) ≡ false → (run ask now (v .got) (v .call) .table ≡ v .got) × (run ask now (v .got) (v .call) .buffer ≡ v .call .reply)) (received ask now u cs)
+none-formed : (t : State) (now : ℕ) → ((c : Call) → wellFormed now t c ≡ false) → (cs : List Call) (u : State) → u ≡ t
+    → All (λ v. wellFormed now t (v .call) ≡ false → wellFormed now (v .got) (v .call) ≡ false) (received (λ s. s) ask now u cs)
 unfolding received
-none-touch t now f [] u e = tt
-none-touch t now f (c ∷ cs) u e =
-    let w : wellFormed now u c ≡ false = ap (λ (x : LeaseTable). wellFormed now x c) e ∙ f c in
-    ((λ _. run-not now u c w), none-touch t now f cs (run ask now u c .table) (run-not now u c w .0 ∙ e))
+none-formed t now f [] u e = tt
+none-formed t now f (c ∷ cs) u e =
+    let w : wellFormed now u c ≡ false = ap (λ (x : State). wellFormed now x c) e ∙ f c in
+    ((λ _. w), none-formed t now f cs (ask u now c .state) (run-not now u c w .0 ∙ e))
 
-never : (t : LeaseTable) (now : ℕ) → (sound t ≡ true → Accepts t now → ⊥) → (c : Call) → wellFormed now t c ≡ false
+never : (t : State) (now : ℕ) → (sound (t .table) ≡ true → Accepts (t .table) now → ⊥) → (c : Call) → wellFormed now t c ≡ false
 never t now k c =
     ⊎-elim (λ (e : wellFormed now t c ≡ true). absurd (k (well now t c e .sound) (well now t c e .accepted))) (λ (e : wellFormed now t c ≡ false). e) (bool-cases (wellFormed now t c))
 
-untouched-always : (t : LeaseTable) (now : ℕ) (cs : List Call) → Untouched ask now t cs
-untouched-always t now cs =
+-- A call that is not well-formed on the first table is not on the one that it gets.
+pub ill-formed-always : (t : State) (now : ℕ) (cs : List Call) → All (λ v. wellFormed now t (v .call) ≡ false → wellFormed now (v .got) (v .call) ≡ false) (received (λ s. s) ask now t cs)
+ill-formed-always t now cs =
     ⊎-elim
-    (λ (s : sound t ≡ true).
-    by-cases (decLe (t .last) now)
-    (λ a. by-cases (decLe now latest) (λ b. untouched t now s (a, b) cs) (λ b. none-touch t now (never t now (λ _ q. b (q .1))) cs t refl))
-    (λ a. none-touch t now (never t now (λ _ q. a (q .0))) cs t refl))
-    (λ (s : sound t ≡ false). none-touch t now (never t now (λ p _. true≢false (sym p ∙ s))) cs t refl)
-    (bool-cases (sound t))
+    (λ (s : sound (t .table) ≡ true).
+    by-cases (decLe (t .table .last) now)
+    (λ a. by-cases (decLe now latest) (λ b. ill-formed t now s (a, b) cs) (λ b. none-formed t now (never t now (λ _ q. b (q .1))) cs t refl))
+    (λ a. none-formed t now (never t now (λ _ q. a (q .0))) cs t refl))
+    (λ (s : sound (t .table) ≡ false). none-formed t now (never t now (λ p _. true≢false (sym p ∙ s))) cs t refl)
+    (bool-cases (sound (t .table)))
+
+untouched-always : (t : State) (now : ℕ) (cs : List Call) → Untouched (λ s. s) ask now t cs
+untouched-always t now cs =
+    let stays : (v : Received State) → (wellFormed now t (v .call) ≡ false → wellFormed now (v .got) (v .call) ≡ false)
+    → wellFormed now t (v .call) ≡ false → (ask (v .got) now (v .call) .state ≡ v .got) × (ask (v .got) now (v .call) .reply ≡ v .call .reply) =
+    λ v w e. run-not now (v .got) (v .call) (w e) in
+    all-map stays (received (λ s. s) ask now t cs) (ill-formed-always t now cs)
 
 -- DEMAND 3
-pub demand3 : Demand3 ask
+pub demand3 : Demand3 (λ s. s) ask
 demand3 = record {
   sentence = first-sentence;
   lists = λ t now cs s a p. all-granted t now s a cs p;

@@ -9,7 +9,7 @@ use native.Mathlib.Omega.{arith}
 use lib.ListN.{length, length-map}
 use lib.Dec.{leb, ltb}
 use borrow.Author.Tests.{ltb-true, ltb-false, le-leb, lt-leb}
-use Rattle.lists.specs.Lists.{those}
+use Rattle.lists.specs.Lists.{filter}
 use Rattle.lists.proofs.Tests.{bool-cases, cond-true, cond-false}
 use Rattle.table.specs.declared.Lease.{Lease}
 use Rattle.table.specs.declared.LeaseTable.{LeaseTable}
@@ -44,23 +44,23 @@ present-or-empty now x =
     (present-or-ended now x)
 
 -- Those present later are, of those present now, the ones that have not ended by then.
-pub present-later : (last now : ℕ) → last ≤ now → (xs : List Lease) → those (λ x. ltb now (x .expires)) (present last xs) ≡ present now xs
+pub present-later : (last now : ℕ) → last ≤ now → (xs : List Lease) → filter (λ x. ltb now (x .expires)) (present last xs) ≡ present now xs
 unfolding present
 present-later last now l [] = refl
 present-later last now l (x ∷ xs) =
     ⊎-elim
     (λ (h : ltb now (x .expires) ≡ true).
     let a = ltb-true now (x .expires) h in
-    ap (those (λ x. ltb now (x .expires))) (present-yes last x xs (omega arith))
+    ap (filter (λ x. ltb now (x .expires))) (present-yes last x xs (omega arith))
     ∙ cond-true (ltb now (x .expires)) _ _ h ∙ ap (λ (l : List Lease). x ∷ l) (present-later last now l xs) ∙ sym (present-yes now x xs a))
     (λ (h : ltb now (x .expires) ≡ false).
     let a = ltb-false now (x .expires) h in
     ⊎-elim
     (λ (k : ltb last (x .expires) ≡ true).
-    ap (those (λ x. ltb now (x .expires))) (present-yes last x xs (ltb-true last (x .expires) k))
+    ap (filter (λ x. ltb now (x .expires))) (present-yes last x xs (ltb-true last (x .expires) k))
     ∙ cond-false (ltb now (x .expires)) _ _ h ∙ present-later last now l xs ∙ sym (present-no now x xs a))
     (λ (k : ltb last (x .expires) ≡ false).
-    ap (those (λ x. ltb now (x .expires))) (present-no last x xs (ltb-false last (x .expires) k)) ∙ present-later last now l xs ∙ sym (present-no now x xs a))
+    ap (filter (λ x. ltb now (x .expires))) (present-no last x xs (ltb-false last (x .expires) k)) ∙ present-later last now l xs ∙ sym (present-no now x xs a))
     (bool-cases (ltb last (x .expires))))
     (bool-cases (ltb now (x .expires)))
 

@@ -12,22 +12,23 @@ use native.Mathlib.Omega.{arith}
 use lib.ListN.{length, length-map}
 use lib.Dec.{leb, eqb}
 use borrow.Author.Tests.{leb-true, le-leb, lt-leb, eqb-true}
-use Rattle.lists.specs.Lists.{All, Holds, any?}
-use Rattle.lists.proofs.Tests.{bool-cases, cond-true, cond-false, every-to}
+use Rattle.lists.specs.Lists.{All, OfSome, any?}
+use Rattle.lists.proofs.Tests.{bool-cases, cond-true, cond-false, and-list-to}
 use Rattle.lists.proofs.Permutations.{perm-length}
 use Rattle.prefix.specs.declared.Prefix.{Prefix}
 use Rattle.prefix.specs.Prefixes.{prefix, Apart}
 use Rattle.prefix.proofs.Nesting.{prefix-path, inside-refl, apart-absurd}
-use Rattle.space.specs.Space.{Pools, Free, Takes}
-use Rattle.space.proofs.ListTheorem.{refused⇔none-free}
-use Rattle.space.proofs.Permuted.{grant-perm, free-perm}
-use Rattle.space.proofs.Rules.{grant-takes}
+use Rattle.free_space.specs.Space.{Pools, Free, Takes}
+use Rattle.free_space.proofs.ListTheorem.{refused⇔none-free}
+use Rattle.free_space.proofs.Permuted.{grant-perm, free-perm}
+use Rattle.free_space.proofs.Rules.{grant-takes}
 use Rattle.option.specs.Values.{Entry}
 use Rattle.table.specs.declared.Lease.{Lease}
 use Rattle.table.specs.declared.LeaseTable.{LeaseTable}
 use Rattle.table.specs.Table.{leaseSlots, prefixOf, poolsOf, present}
-use Rattle.ledger.specs.Ledger.{Request, askLength, offer, add, offers, ask}
-use Rattle.ledger.specs.Demand3.{Call, wellFormed, asksOf, granted, entryPrefix, inUse, same?, meets, wantsSlot, wantsSpace, fate, NoneFree, RefusedRightly}
+use Rattle.option.specs.Contents.{Request}
+use Rattle.ledger.specs.Ledger.{State, Call, askLength, offer, add, offers, ask}
+use Rattle.ledger.specs.Demand3.{wellFormed, asksOf, granted, entryPrefix, inUse, same?, meets, wantsSlot, wantsSpace, fate, NoneFree, RefusedRightly}
 use Rattle.ledger.specs.Choice.{ChosenRightly}
 use Rattle.ledger.proofs.OfferLaws.{prefixes, pools-good, Offer, offer-is, add-perm}
 use Rattle.ledger.proofs.AskLaws.{entry?}
@@ -74,7 +75,7 @@ module _ (t : LeaseTable) (good : Pools (poolsOf t)) (now client : ℕ) where
   not-there b (u ∷ us) a =
       ⊎-elim
       (λ (e : same? b u ≡ true).
-      let s = every-to (eqb (b .network) (u .network) ∷ eqb (b .length) (u .length) ∷ []) e in
+      let s = and-list-to (eqb (b .network) (u .network) ∷ eqb (b .length) (u .length) ∷ []) e in
       let q : u ≡ b = sym (prefix-path b u (eqb-true (b .network) (u .network) (s .0)) (eqb-true (b .length) (u .length) (s .1 .0))) in
       absurd (apart-absurd b b (inside-refl b) (subst (Apart b) q (a .0))))
       (λ (e : same? b u ≡ false). ap (λ (z : Bool). z || any? (same? b) us) e ∙ not-there b us (a .1))
@@ -95,15 +96,15 @@ module _ (t : LeaseTable) (good : Pools (poolsOf t)) (now client : ℕ) where
       let f : Offer t now client xs r o = offer-is t now client good xs r in
       (space xs used r o p f, slot xs used r o p f, rightly rs (add o xs) (meets (entry? o) used) (meets-perm xs used r o f p))
 
-pub first-sentence : (t : LeaseTable) (now : ℕ) (c : Call) → wellFormed now t c ≡ true → RefusedRightly t (inUse now t) (asksOf c) (granted ask now t c)
+pub first-sentence : (t : State) (now : ℕ) (c : Call) → wellFormed now t c ≡ true → RefusedRightly (t .table) (inUse now (t .table)) (asksOf c) (granted (λ s. s) ask now t c)
 first-sentence t now c e =
-    subst (RefusedRightly t (inUse now t) (asksOf c)) (sym (granted-is now t c e))
-    (rightly t (pools-good t (well now t c e .sound)) now (c .client) (asksOf c) (present now (t .leases)) (inUse now t) (Permᴰ·refl (inUse now t)))
+    subst (RefusedRightly (t .table) (inUse now (t .table)) (asksOf c)) (sym (granted-is now t c e))
+    (rightly (t .table) (pools-good (t .table) (well now t c e .sound)) now (c .client) (asksOf c) (present now (t .table .leases)) (inUse now (t .table)) (Permᴰ·refl (inUse now (t .table))))
 
 -- THE CHOICE of each ask that is granted is document 01's.
 module _ (t : LeaseTable) (good : Pools (poolsOf t)) (now client : ℕ) where
   chosen : (xs : List Lease) (used : List Prefix) (r : Request) (o : Option Lease) → List·Permᴰ (prefixes xs) used → Offer t now client xs r o
-      → Holds (λ e. Takes (poolsOf t) used (askLength t r) (entryPrefix e)) (entry? o)
+      → OfSome (λ e. Takes (poolsOf t) used (askLength t r) (entryPrefix e)) (entry? o)
   chosen xs used r none p f = tt
   chosen xs used r (some x) p f = grant-takes (poolsOf t) good used (askLength t r) (prefixOf x) .0 (sym (grant-perm (poolsOf t) p (askLength t r)) ∙ f .granted)
 
@@ -115,7 +116,7 @@ module _ (t : LeaseTable) (good : Pools (poolsOf t)) (now client : ℕ) where
       let f : Offer t now client xs r o = offer-is t now client good xs r in
       (chosen xs used r o p f, all-chosen rs (add o xs) (meets (entry? o) used) (meets-perm t good now client xs used r o f p))
 
-pub chosen-rightly : (t : LeaseTable) (now : ℕ) (c : Call) → wellFormed now t c ≡ true → ChosenRightly t (inUse now t) (asksOf c) (granted ask now t c)
+pub chosen-rightly : (t : State) (now : ℕ) (c : Call) → wellFormed now t c ≡ true → ChosenRightly (t .table) (inUse now (t .table)) (asksOf c) (granted (λ s. s) ask now t c)
 chosen-rightly t now c e =
-    subst (ChosenRightly t (inUse now t) (asksOf c)) (sym (granted-is now t c e))
-    (all-chosen t (pools-good t (well now t c e .sound)) now (c .client) (asksOf c) (present now (t .leases)) (inUse now t) (Permᴰ·refl (inUse now t)))
+    subst (ChosenRightly (t .table) (inUse now (t .table)) (asksOf c)) (sym (granted-is now t c e))
+    (all-chosen (t .table) (pools-good (t .table) (well now t c e .sound)) now (c .client) (asksOf c) (present now (t .table .leases)) (inUse now (t .table)) (Permᴰ·refl (inUse now (t .table))))

@@ -1,8 +1,10 @@
 -- Laws of the definitions, and the theorems.
 pub mod RowLaws
+pub mod CommonRows
 pub mod ReadLaws
 pub mod OfferLaws
 pub mod ReplyLaws
+pub mod ReadBack
 pub mod EmptySlots
 pub mod AskLaws
 pub mod CallLaws
@@ -13,7 +15,7 @@ pub mod SoundKept
 pub mod HistoriesHold
 pub mod ConservationHolds
 pub mod ListDependsHolds
+pub mod Following
 pub mod Resuming
 pub mod NothingBehind
 pub mod Counts
-pub mod InRange

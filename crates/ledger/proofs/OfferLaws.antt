@@ -10,24 +10,25 @@ use native.Mathlib.Omega.{arith}
 use lib.ListN.{length}
 use lib.Dec.{eqb}
 use borrow.Author.Tests.{leb-true, leb-false, le-leb, lt-leb, eqb-false}
-use Rattle.lists.specs.Lists.{All, Any, Pairwise, somes}
+use Rattle.lists.specs.Lists.{All, Any, Pairwise, catMaybes}
 use Rattle.lists.proofs.Tests.{bool-cases, cond-true, cond-false}
 use Rattle.lists.proofs.ListLaws.{all-map, all-image, pairwise-image}
 use Rattle.lists.proofs.Permutations.{perm-map, perm-length}
 use Rattle.lists.proofs.SortingLaws.{insertBy-perm}
 use Rattle.prefix.specs.declared.Prefix.{Prefix}
 use Rattle.prefix.specs.Prefixes.{longest, end, Aligned, Inside, Apart}
-use Rattle.space.specs.Space.{Pools, Before, Ordered, Free, Takes, grant, withGrant, serve, after}
-use Rattle.space.proofs.ListTheorem.{granted-free}
-use Rattle.space.proofs.Rules.{grant-takes}
-use Rattle.space.proofs.Permuted.{grant-perm}
+use Rattle.free_space.specs.Space.{Pools, Before, Ordered, Free, Takes, grant, withGrant, serve, after}
+use Rattle.free_space.proofs.ListTheorem.{granted-free}
+use Rattle.free_space.proofs.Rules.{grant-takes}
+use Rattle.free_space.proofs.Permuted.{grant-perm}
 use Rattle.table.specs.declared.Pool.{Pool}
 use Rattle.table.specs.declared.Lease.{Lease}
 use Rattle.table.specs.declared.LeaseTable.{LeaseTable}
 use Rattle.table.specs.Table.{leaseSlots, addresses, poolPrefix, prefixOf, networkOf, unused?, prefixesOf, poolsOf, sound, insert}
 use Rattle.table.proofs.Ascending.{Ascending, used, ascending-low, ascending-apart}
 use Rattle.table.proofs.TableLaws.{GoodPool, Good, Fine, sound-pools, sound-default, insert-fine}
-use Rattle.ledger.specs.Ledger.{Request, askLength, full, holdTime, offered, offer, add, offers, addAll}
+use Rattle.option.specs.Contents.{Request}
+use Rattle.ledger.specs.Ledger.{askLength, full, holdTime, offered, offer, add, offers, addAll}
 
 abbrev pub prefixes : List Lease → List Prefix
 prefixes xs = map prefixOf xs
@@ -145,12 +146,12 @@ module _ (t : LeaseTable) (now client : ℕ) where
       offers-inv (r ∷ rs) xs a i =
           offers-inv rs (add (offer t now client xs r) xs) (a .1) (add-inv xs r (a .0) (offer t now client xs r) (offer-is xs r) i)
 
-      some-good : (xs : List Lease) (r : Request) → r .length ≤ longest → (o : Option Lease) → Offer xs r o → (ys : List (Option Lease)) → All (Good (poolsOf t) now) (somes ys)
-          → All (Good (poolsOf t) now) (somes (o ∷ ys))
+      some-good : (xs : List Lease) (r : Request) → r .length ≤ longest → (o : Option Lease) → Offer xs r o → (ys : List (Option Lease)) → All (Good (poolsOf t) now) (catMaybes ys)
+          → All (Good (poolsOf t) now) (catMaybes (o ∷ ys))
       some-good xs r l none f ys a = a
       some-good xs r l (some x) f ys a = (offered-good xs r x l f, a)
 
-      pub offers-good : (rs : List Request) (xs : List Lease) → All (λ r. r .length ≤ longest) rs → All (Good (poolsOf t) now) (somes (offers t now client xs rs))
+      pub offers-good : (rs : List Request) (xs : List Lease) → All (λ r. r .length ≤ longest) rs → All (Good (poolsOf t) now) (catMaybes (offers t now client xs rs))
       unfolding offers
       offers-good [] xs a = tt
       offers-good (r ∷ rs) xs a =

@@ -2,7 +2,7 @@
 -- Assumes nothing.
 use Prim.Native.Nat.{ℕ, zero, suc, _+_, _*_, _≤_, _<_}
 use mathlib.Core.Path.{_≡_, refl, sym, ap, subst}
-use mathlib.Core.Bool.{Bool, true, false, cond, _&&_, true≢false}
+use mathlib.Core.Bool.{Bool, true, false, cond, true≢false}
 use mathlib.Core.Logic.{by-cases}
 use native.Mathlib.Decide.{decLe}
 use mathlib.Core.List.{List, [], _∷_}
@@ -13,15 +13,15 @@ use borrow.Author.Tests.{leb-true, leb-false, eqb-true}
 use Rattle.lists.specs.Lists.{All}
 use Rattle.lists.specs.Walk.{Turn, more, stop, onTurn, walk}
 use Rattle.lists.proofs.Tests.{and-to}
-use Rattle.lists.proofs.WalkLaws.{more-not-stop}
 use Rattle.lists.proofs.IndexLaws.{all-at}
 use Rattle.prefix.specs.Prefixes.{longest}
 use Rattle.option.specs.Values.{Entry, SuboptionValue, request, information, name, unknown, refused}
 use Rattle.option.specs.Rules.{fields?}
-use Rattle.option.specs.Reading.{End, whole, badAt, subEnd, subInside?, whenGood, readRequest, readEntry, readEntries, readInformation, readName, readBody, readSuboption, readSuboptions, ended, option?, readOption}
-use Rattle.option.proofs.EntryLaws.{entry-read}
-use Rattle.option.proofs.SuboptionLaws.{good-read, suboption-read, suboption-moves, information-entries}
-use Rattle.ledger.specs.Ledger.{refuses?, placeIn, refusalPlace, suboptions, requests, entries, requestsIn, entriesIn}
+use Rattle.option.specs.Reading.{End, whole, badAt, subEnd, subInside?, whenGood, readRequest, readInformation, readName, readBody, readSuboption, readSuboptions, ended, option?, readOption}
+use Rattle.option.proofs.EntryLaws.{weigh, walk-weight, entries-weight}
+use Rattle.option.proofs.SuboptionLaws.{good-read, suboption-read, suboption-moves, information-entries, option-long, body-stops}
+use Rattle.option.specs.Contents.{refuses?, placeIn, suboptions, requests, entries, requestsIn, entriesIn}
+use Rattle.ledger.specs.Ledger.{refusalPlace}
 
 -- WHAT HOLDS OF EACH PIECE OF A WALK
 
@@ -34,21 +34,6 @@ module _ {A B : Type 0} (P : A → Type 0) (turn : ℕ → Turn A B) (out : B) (
   unfolding walk
   walk-all zero at = tt
   walk-all (suc fuel) at = turn-all at (turn at) (λ next. walk turn out fuel next) refl (λ next. walk-all fuel next)
-
-abbrev pub weigh : {A : Type 0} → (A → ℕ) → List A → ℕ
-weigh w [] = 0
-weigh w (a ∷ rest) = w a + weigh w rest
-
--- Pieces that each need so many positions.
-module _ {A B : Type 0} (w : A → ℕ) (turn : ℕ → Turn A B) (out : B) (N : ℕ) (p : (at : ℕ) (a : A) (next : ℕ) → turn at ≡ more a next → (at + w a ≤ next) × (next ≤ N)) where
-  turn-weight : (at : ℕ) (t : Turn A B) (k : ℕ → List A × B) → at ≤ N → turn at ≡ t → ((next : ℕ) → next ≤ N → next + weigh w (k next .0) ≤ N) → at + weigh w (onTurn t k .0) ≤ N
-  turn-weight at (more a next) k l e h = let q = p at a next e in omega (arith, h next (q .1), q)
-  turn-weight at (stop b) k l e h = omega arith
-
-  pub walk-weight : (fuel at : ℕ) → at ≤ N → at + weigh w (walk turn out fuel at .0) ≤ N
-  unfolding walk
-  walk-weight zero at l = omega arith
-  walk-weight (suc fuel) at l = turn-weight at (turn at) (λ next. walk turn out fuel next) l refl (λ next h. walk-weight fuel next h)
 
 -- THE FIELDS OF WHAT IS READ
 
@@ -106,15 +91,6 @@ bytesOf (information c s es) = 3 + 7 * length es
 bytesOf (name octets) = 0
 bytesOf unknown = 0
 
-entries-weight : (s : List ℕ) (end at : ℕ) → at ≤ end → at + 7 * length (readEntries s end at .0) ≤ end
-unfolding readEntries
-entries-weight s end at l =
-    omega (arith, walk-weight (λ (e : Entry). 7) (readEntry s end) false end (λ at e next h. let r = entry-read s end at e next h in omega (arith, r .0 .whole, r .2)) (suc end) at l, sevens (readEntries s end at .0))
-  where
-    sevens : (es : List Entry) → weigh (λ (e : Entry). 7) es ≡ 7 * length es
-    sevens [] = refl
-    sevens (e ∷ es) = omega (arith, sevens es)
-
 abbrev Needs : ℕ → Turn SuboptionValue End → Type 0
 Needs at t = (h i : Bool) (len next : ℕ) → t ≡ more (request h i len) next → at + 4 ≡ next
 
@@ -159,14 +135,6 @@ entries-head (unknown ∷ subs) k = omega (arith, entries-head subs k)
 ended-weight : (subs : List SuboptionValue) (e : End) → weigh bytesOf (suboptions (ended subs e)) ≤ weigh bytesOf subs
 ended-weight subs whole = omega arith
 ended-weight subs (badAt place) = omega arith
-
-option-long : (s : List ℕ) → option? s ≡ true → 4 ≤ length s
-unfolding option?
-option-long s e =
-    let a = and-to (leb 2 (length s)) _ e in
-    let b = and-to (eqb (getD s 0 0) 220) _ (a .1) in
-    let c = and-to (eqb (getD s 1 0 + 2) (length s)) (leb 2 (getD s 1 0)) (b .1) in
-    omega (arith, eqb-true (getD s 1 0 + 2) (length s) (c .0), leb-true 2 (getD s 1 0) (c .1))
 
 short : (s : List ℕ) → All (λ b. b < 256) s → option? s ≡ true → length s ≤ 257
 unfolding option?
@@ -220,29 +188,6 @@ module _ {A B : Type 0} (P : B → Type 0) (turn : ℕ → Turn A B) (out : B) (
 abbrev Within : ℕ → End → Type 0
 Within n whole = Unit {0}
 Within n (badAt place) = place ≤ n
-
-abbrev StopsAt : ℕ → Turn SuboptionValue End → Type 0
-StopsAt at t = (b : End) → t ≡ stop b → b ≡ badAt at
-
-cond-stops : (b : Bool) (at : ℕ) (t u : Turn SuboptionValue End) → StopsAt at t → StopsAt at u → StopsAt at (cond b t u)
-cond-stops true at t u p q = p
-cond-stops false at t u p q = q
-
-good-stops : (framed : Bool) (x : SuboptionValue) (at end : ℕ) → StopsAt at (whenGood framed x at end)
-unfolding whenGood
-good-stops framed x at end = go (framed && fields? x)
-  where
-    go : (c : Bool) → StopsAt at (cond c (more x end) (stop (badAt at)))
-    go true b e = absurd (more-not-stop x end b e)
-    go false b e = let z : badAt at ≡ b = cc in sym z
-
-body-stops : (number : ℕ) (s : List ℕ) (at end : ℕ) → StopsAt at (readBody number s at end)
-unfolding readBody readRequest readInformation readName
-body-stops number s at end =
-    cond-stops (eqb number 1) at (readRequest s at end) _ (good-stops _ _ at end)
-    (cond-stops (eqb number 2) at (readInformation s at end) _ (good-stops _ _ at end)
-    (cond-stops (eqb number 3) at (readName s at end) _ (good-stops _ _ at end)
-    (λ b e. absurd (more-not-stop unknown end b e))))
 
 sub-stops : (s : List ℕ) (at : ℕ) (b : End) → readSuboption s at ≡ stop b → Within (length s) b
 unfolding readSuboption

@@ -23,9 +23,10 @@ use Rattle.option.specs.Writing.{optionBytes, entryWritable?, writable?}
 use Rattle.option.proofs.Replies.{Bare, ask-reply-length, information-reply-length}
 use Rattle.option.proofs.WrittenReadsBack.{bytes-read-back}
 use Rattle.table.specs.declared.Lease.{Lease}
-use Rattle.table.specs.declared.LeaseTable.{LeaseTable}
 use Rattle.table.proofs.TableLaws.{Good}
-use Rattle.ledger.specs.Ledger.{refuse, suboptions, entries, entriesIn, entryOf, informationFor}
+use Rattle.option.specs.Contents.{suboptions, entries, entriesIn}
+use Rattle.option_reply.specs.Reply.{entryOf}
+use Rattle.ledger.specs.Ledger.{refuse, informationFor}
 use Rattle.ledger.specs.Demand3.{replyEntries}
 
 -- A good lease is a block, so its entry can be written.
@@ -51,9 +52,9 @@ reads-back ps now x xs rest a =
     ∙ entries-of (x ∷ xs)
 
 -- A refusal has no entries.
-pub reads-none : (n place : ℕ) (t : LeaseTable) (reply : List ℕ) → replyEntries (refuse n place t reply) ≡ []
+pub reads-none : {S : Type 0} (n place : ℕ) (s : S) (reply : List ℕ) → replyEntries (refuse n place s reply) ≡ []
 unfolding readOption option?
-reads-none n place t reply = go (eqb n 0)
+reads-none n place s reply = go (eqb n 0)
   where
     go : (b : Bool) → cond b (entriesIn (upTo 0 reply)) [] ≡ []
     go true = refl

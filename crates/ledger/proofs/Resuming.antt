@@ -12,12 +12,12 @@ use lib.ListN.{length, drop}
 use lib.ListN.{take as upTo}
 use lib.Dec.{ltb, eqb}
 use borrow.Author.Tests.{ltb-true, lt-ltb, le-ltb}
-use Rattle.lists.specs.Lists.{All, every, those}
-use Rattle.lists.proofs.MapLaws.{those-those}
-use Rattle.lists.proofs.ThoseLaws.{those-same, those-same-on}
+use Rattle.lists.specs.Lists.{All, and, filter}
+use Rattle.lists.proofs.MapLaws.{filter-filter}
+use Rattle.lists.proofs.FilterLaws.{filter-same, filter-same-on}
 use Rattle.lists.proofs.Tests.{bool-cases, and-to}
 use Rattle.lists.proofs.ListLaws.{all-map, all-every}
-use Rattle.lists.proofs.ThoseLaws.{those-yes, those-no, those-all, those-whole}
+use Rattle.lists.proofs.FilterLaws.{filter-yes, filter-no, filter-all, filter-whole}
 use Rattle.prefix.specs.Prefixes.{end}
 use Rattle.prefix.proofs.PrefixLaws.{size-positive}
 use Rattle.option.specs.Values.{request, information}
@@ -27,7 +27,9 @@ use Rattle.table.specs.declared.LeaseTable.{LeaseTable}
 use Rattle.table.specs.Table.{leaseSlots, prefixOf, padded, present, sound, store}
 use Rattle.table.proofs.Ascending.{Ascending, ascending-low}
 use Rattle.table.proofs.TableLaws.{sound-fine, present-padded}
-use Rattle.ledger.specs.Ledger.{Update, entryOf, suboptions, entriesIn, namedBy?, lastNetwork, position, above?, listed, listedIn, releaseRows, release}
+use Rattle.option.specs.Contents.{suboptions, entriesIn, lastNetwork, position}
+use Rattle.option_reply.specs.Reply.{mostEntries, entryOf}
+use Rattle.ledger.specs.Ledger.{State, Call, Result, ledger, namedBy?, above?, listed, listedIn, releaseRows, release}
 use Rattle.ledger.specs.Histories.{Event, returned, next, afterwards}
 use Rattle.ledger.proofs.EmptySlots.{present-later}
 use Rattle.ledger.proofs.RowLaws.{served-or-not}
@@ -36,7 +38,7 @@ abbrev tests : ℕ → Option ℕ → Lease → List Bool
 tests client p x = eqb (x .client) client ∷ x .leased ∷ above? p (x .network) ∷ []
 
 abbrev wanted : ℕ → Option ℕ → Lease → Bool
-wanted client p x = every (tests client p x)
+wanted client p x = and (tests client p x)
 
 -- What is above an address that passed is above it too.
 above-later : (p : Option ℕ) (a b : ℕ) → above? p a ≡ true → a < b → above? p b ≡ true
@@ -63,21 +65,21 @@ after-first client p from (x ∷ xs) g gs s e =
 
     yes-first : wanted client p x ≡ true → listed client (some (g .network)) (x ∷ xs) ≡ gs
     yes-first b =
-        let q : x ∷ listed client p xs ≡ g ∷ gs = sym (those-yes (wanted client p) x xs b) ∙ e in
+        let q : x ∷ listed client p xs ≡ g ∷ gs = sym (filter-yes (wanted client p) x xs b) ∙ e in
         let h : x ≡ g = head-eq-of-cons-eq q in
         let ab : above? p (x .network) ≡ true =
         and-to (above? p (x .network)) true (and-to (x .leased) _ (and-to (eqb (x .client) client) _ b .1) .1) .0 in
         ap (λ (y : Lease). listed client (some (y .network)) (x ∷ xs)) (sym h)
-        ∙ those-no (wanted client (some (x .network))) x xs (third (eqb (x .client) client) (x .leased) (ltb (x .network) (x .network)) (le-ltb (x .network) (x .network) (omega arith)))
-        ∙ those-same-on (wanted client (some (x .network))) (wanted client p) xs
+        ∙ filter-no (wanted client (some (x .network))) x xs (third (eqb (x .client) client) (x .leased) (ltb (x .network) (x .network)) (le-ltb (x .network) (x .network) (omega arith)))
+        ∙ filter-same-on (wanted client (some (x .network))) (wanted client p) xs
         (all-map (λ y (l : x .network < y .network). ap (λ (v : Bool). eqb (y .client) client && (y .leased && (v && true))) (lt-ltb (x .network) (y .network) l ∙ sym (above-later p (x .network) (y .network) ab l))) xs up)
         ∙ tail-eq-of-cons-eq q
 
     not-first : (listed client p xs ≡ g ∷ gs → listed client (some (g .network)) xs ≡ gs) → wanted client p x ≡ false → listed client (some (g .network)) (x ∷ xs) ≡ gs
     not-first rest b =
-        let q : listed client p xs ≡ g ∷ gs = sym (those-no (wanted client p) x xs b) ∙ e in
-        let l : x .network < g .network = subst (All (λ y. x .network < y .network)) q (those-all (wanted client p) (λ y. x .network < y .network) xs up) .0 in
-        those-no (wanted client (some (g .network))) x xs (third (eqb (x .client) client) (x .leased) (ltb (g .network) (x .network)) (le-ltb (g .network) (x .network) (omega arith)))
+        let q : listed client p xs ≡ g ∷ gs = sym (filter-no (wanted client p) x xs b) ∙ e in
+        let l : x .network < g .network = subst (All (λ y. x .network < y .network)) q (filter-all (wanted client p) (λ y. x .network < y .network) xs up) .0 in
+        filter-no (wanted client (some (g .network))) x xs (third (eqb (x .client) client) (x .leased) (ltb (g .network) (x .network)) (le-ltb (g .network) (x .network) (omega arith)))
         ∙ rest q
 
 -- After a page of n: exactly what remained.
@@ -93,22 +95,22 @@ and-swap true false = refl
 and-swap false true = refl
 and-swap false false = refl
 
-those-swap : (p q : Lease → Bool) (xs : List Lease) → those p (those q xs) ≡ those q (those p xs)
-those-swap p q xs = those-those q p xs ∙ those-same (λ x. q x && p x) (λ x. p x && q x) (λ x. and-swap (q x) (p x)) xs ∙ sym (those-those p q xs)
+filter-swap : (p q : Lease → Bool) (xs : List Lease) → filter p (filter q xs) ≡ filter q (filter p xs)
+filter-swap p q xs = filter-filter q p xs ∙ filter-same (λ x. q x && p x) (λ x. p x && q x) (λ x. and-swap (q x) (p x)) xs ∙ sym (filter-filter p q xs)
 
 -- A SECOND LIST, whose position is the last network of the first one's page, on a table that keeps some of the leases (those not returned and not
 -- ended): exactly those of the leases after the page that are still there, in order; so none is skipped and none is listed again.
 pub resumed : (t u : LeaseTable) (now later client : ℕ) (option resuming : List ℕ) (keep : Lease → Bool) → sound t ≡ true
-    → present later (u .leases) ≡ those keep (present now (t .leases))
-    → position none (suboptions (readOption resuming)) ≡ lastNetwork (position none (suboptions (readOption option))) (map entryOf (upTo 35 (listedIn t now client option)))
-    → listedIn u later client resuming ≡ those keep (drop 35 (listedIn t now client option))
+    → present later (u .leases) ≡ filter keep (present now (t .leases))
+    → position none (suboptions (readOption resuming)) ≡ lastNetwork (position none (suboptions (readOption option))) (map entryOf (upTo mostEntries (listedIn t now client option)))
+    → listedIn u later client resuming ≡ filter keep (drop mostEntries (listedIn t now client option))
 resumed t u now later client option resuming keep s k e =
     let p : Option ℕ = position none (suboptions (readOption option)) in
     let xs : List Lease = present now (t .leases) in
-    let q : Option ℕ = lastNetwork p (map entryOf (upTo 35 (listed client p xs))) in
+    let q : Option ℕ = lastNetwork p (map entryOf (upTo mostEntries (listed client p xs))) in
     ap₂ (λ (o : Option ℕ) (l : List Lease). listed client o l) e k
-    ∙ those-swap (wanted client q) keep xs
-    ∙ ap (those keep) (after-page 35 client p 0 xs (listed client p xs) (sound-fine t s now .1) refl)
+    ∙ filter-swap (wanted client q) keep xs
+    ∙ ap (filter keep) (after-page mostEntries client p 0 xs (listed client p xs) (sound-fine t s now .1) refl)
 
 -- The position of an option that asks for more and echoes a page: "the network of the last entry of the last Information with c and s set".
 pub echoed : (h : Bool) (len : ℕ) (p : Option ℕ) (g : Lease) (gs : List Lease)
@@ -117,53 +119,53 @@ echoed h len p g gs = refl
 
 -- RETURNS IN BETWEEN keep some of the leases, and change none of those.
 
-all-kept : (xs : List Lease) → xs ≡ those (λ x. true) xs
-all-kept xs = sym (those-whole (λ x. true) xs (all-every (λ x. refl) xs))
+all-kept : (xs : List Lease) → xs ≡ filter (λ x. true) xs
+all-kept xs = sym (filter-whole (λ x. true) xs (all-every (λ x. refl) xs))
 
 ended-later : (now later : ℕ) (keep : Lease → Bool) (xs : List Lease)
-    → present later (padded (those keep (present now xs))) ≡ those (λ x. ltb now (x .expires) && keep x) (present later xs)
+    → present later (padded (filter keep (present now xs))) ≡ filter (λ x. ltb now (x .expires) && keep x) (present later xs)
 unfolding present
 ended-later now later keep xs =
-    present-padded later (leaseSlots - length (those keep (present now xs))) (those keep (present now xs))
-    ∙ ap (those (λ x. ltb later (x .expires))) (those-those (λ x. ltb now (x .expires)) keep xs)
-    ∙ those-swap (λ x. ltb later (x .expires)) (λ x. ltb now (x .expires) && keep x) xs
+    present-padded later (leaseSlots - length (filter keep (present now xs))) (filter keep (present now xs))
+    ∙ ap (filter (λ x. ltb later (x .expires))) (filter-filter (λ x. ltb now (x .expires)) keep xs)
+    ∙ filter-swap (λ x. ltb later (x .expires)) (λ x. ltb now (x .expires) && keep x) xs
 
 -- What is still there at a later time, of what was there at an earlier one.
 abbrev pub StillThere : LeaseTable → ℕ → LeaseTable → ℕ → Type 0
-StillThere t now u later = (keep : Lease → Bool) × (present later (u .leases) ≡ those keep (present now (t .leases)))
+StillThere t now u later = (keep : Lease → Bool) × (present later (u .leases) ≡ filter keep (present now (t .leases)))
 
-return-keeps : (t : LeaseTable) (now client : ℕ) (option : List ℕ) (later : ℕ) → StillThere t later (release t now client option .table) later
+return-keeps : (s : State) (now : ℕ) (c : Call) (later : ℕ) → StillThere (s .table) later (release s now c .state .table) later
 unfolding release store
-return-keeps t now client option later =
-    served-or-not (λ (r : Update). StillThere t later (r .table) later) (releaseRows t now client option) _ _
-    (λ n. ((λ x. true), all-kept (present later (t .leases))))
-    (λ e. ((λ x. ltb now (x .expires) && not (namedBy? client (entriesIn option) x)), ended-later now later (λ x. not (namedBy? client (entriesIn option) x)) (t .leases)))
+return-keeps s now c later =
+    served-or-not (λ (r : Result State). StillThere (s .table) later (r .state .table) later) (releaseRows s now c) _ _
+    (λ n. ((λ x. true), all-kept (present later (s .table .leases))))
+    (λ e. ((λ x. ltb now (x .expires) && not (namedBy? (c .client) (entriesIn (c .option)) x)), ended-later now later (λ x. not (namedBy? (c .client) (entriesIn (c .option)) x)) (s .table .leases)))
 
 -- A history of returns.
 abbrev pub AllReturns : List Event → Type 0
-AllReturns es = All (λ e. (now : ℕ) × (client : ℕ) × (option : List ℕ) × (e ≡ returned now client option)) es
+AllReturns es = All (λ e. (now : ℕ) × (c : Call) × (e ≡ returned now c)) es
 
-returns-keep : (es : List Event) → AllReturns es → (t : LeaseTable) (later : ℕ) → StillThere t later (afterwards t es) later
+returns-keep : (es : List Event) → AllReturns es → (s : State) (later : ℕ) → StillThere (s .table) later (afterwards ledger s es .table) later
 unfolding afterwards
-returns-keep [] a t later = ((λ x. true), all-kept (present later (t .leases)))
-returns-keep (e ∷ es) a t later =
-    let first = return-keeps t (a .0 .0) (a .0 .1) (a .0 .2) later in
-    let rest = returns-keep es (a .1) (next t e) later in (
+returns-keep [] a s later = ((λ x. true), all-kept (present later (s .table .leases)))
+returns-keep (e ∷ es) a s later =
+    let first = return-keeps s (a .0 .0) (a .0 .1) later in
+    let rest = returns-keep es (a .1) (next ledger s e) later in (
       (λ x. first .0 x && rest .0 x),
       rest .1
-          ∙ ap (λ (v : Event). those (rest .0) (present later (next t v .leases))) (a .0 .3)
-          ∙ ap (those (rest .0)) (first .1)
-          ∙ those-those (first .0) (rest .0) (present later (t .leases)),
+          ∙ ap (λ (v : Event). filter (rest .0) (present later (next ledger s v .table .leases))) (a .0 .2)
+          ∙ ap (filter (rest .0)) (first .1)
+          ∙ filter-filter (first .0) (rest .0) (present later (s .table .leases)),
     )
 
 -- Whatever was returned in between: with `keep` the leases that are still there, the second list is those of the rest that are.
-pub resumed-after-returns : (t : LeaseTable) (now later client : ℕ) (option resuming : List ℕ) (es : List Event) → sound t ≡ true → now ≤ later → AllReturns es
-    → position none (suboptions (readOption resuming)) ≡ lastNetwork (position none (suboptions (readOption option))) (map entryOf (upTo 35 (listedIn t now client option)))
-    → (keep : Lease → Bool) × (present later (afterwards t es .leases) ≡ those keep (present now (t .leases)))
-    × (listedIn (afterwards t es) later client resuming ≡ those keep (drop 35 (listedIn t now client option)))
-resumed-after-returns t now later client option resuming es s l a e =
-    let r = returns-keep es a t later in
+pub resumed-after-returns : (s : State) (now later client : ℕ) (option resuming : List ℕ) (es : List Event) → sound (s .table) ≡ true → now ≤ later → AllReturns es
+    → position none (suboptions (readOption resuming)) ≡ lastNetwork (position none (suboptions (readOption option))) (map entryOf (upTo mostEntries (listedIn (s .table) now client option)))
+    → (keep : Lease → Bool) × (present later (afterwards ledger s es .table .leases) ≡ filter keep (present now (s .table .leases)))
+    × (listedIn (afterwards ledger s es .table) later client resuming ≡ filter keep (drop mostEntries (listedIn (s .table) now client option)))
+resumed-after-returns s now later client option resuming es so l a e =
+    let r = returns-keep es a s later in
     let keep : Lease → Bool = λ x. ltb later (x .expires) && r .0 x in
-    let k : present later (afterwards t es .leases) ≡ those keep (present now (t .leases)) =
-    r .1 ∙ ap (those (r .0)) (sym (present-later now later l (t .leases))) ∙ those-those (λ x. ltb later (x .expires)) (r .0) (present now (t .leases)) in
-    (keep, k, resumed t (afterwards t es) now later client option resuming keep s k e)
+    let k : present later (afterwards ledger s es .table .leases) ≡ filter keep (present now (s .table .leases)) =
+    r .1 ∙ ap (filter (r .0)) (sym (present-later now later l (s .table .leases))) ∙ filter-filter (λ x. ltb later (x .expires)) (r .0) (present now (s .table .leases)) in
+    (keep, k, resumed (s .table) (afterwards ledger s es .table) now later client option resuming keep so k e)

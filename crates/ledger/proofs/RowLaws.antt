@@ -9,16 +9,16 @@ use mathlib.Core.Option.{Option, none, some, Option·some-ne-none}
 use native.Mathlib.Omega.{arith}
 use lib.ListN.{length}
 use lib.Dec.{eqb}
-use Rattle.lists.specs.Lists.{All, somes}
+use borrow.Author.Tests.{eqb-false}
+use Rattle.lists.specs.Lists.{All, catMaybes}
 use Rattle.lists.proofs.Tests.{bool-cases, cond-true, cond-false}
 use Rattle.option.specs.Reading.{four}
 use Rattle.option.specs.Selection.{address, selection?, readSelection}
 use Rattle.option.specs.Selection.{refused as refusedSelection}
 use Rattle.option.specs.Writing.{optionBytes}
 use Rattle.table.specs.declared.Lease.{Lease}
-use Rattle.table.specs.declared.LeaseTable.{LeaseTable}
 use Rattle.table.specs.Table.{present, store}
-use Rattle.ledger.specs.Ledger.{read118, Result, refuse, accept, Row, firstOf, orElse, before, nothing?, refusalPlace, full, informationFor, addAll, askOffers, askRows, ask, takeRows, listRows, releaseRows, markRows}
+use Rattle.ledger.specs.Ledger.{State, state, Call, byRows, read118, Result, refuse, accept, Row, firstOf, orElse, before, nothing?, refusalPlace, full, informationFor, addAll, askOffers, askRows, ask, takeRows, listRows, releaseRows, markRows}
 use Rattle.ledger.specs.Demand3.{none?}
 
 pub first-none : (rows : List Row) → firstOf rows ≡ none → All (λ (r : Row). r .1 ≡ false) rows
@@ -66,11 +66,6 @@ served-or-not P rows refusing accepting a b = go (firstOf rows) b
     go none k = k refl
     go (some n) k = a n
 
--- A call whose first row is known.
-pub refused-with : {R : Type 0} (P : R → Type 0) (rows : List Row) (refusing : ℕ → R) (accepting : R) (n : ℕ) → firstOf rows ≡ some n
-    → P (refusing n) → P (orElse (firstOf rows) refusing accepting)
-refused-with P rows refusing accepting n e p = subst (λ (o : Option ℕ). P (orElse o refusing accepting)) (sym e) p
-
 -- A row whose list has nothing, by the length of the list.
 pub nothing-none : {A : Type 0} (xs : List A) → length xs ≡ 0 → nothing? xs ≡ true
 nothing-none [] e = refl
@@ -105,75 +100,84 @@ pub by-rows : {R : Type 0} (P : R → Type 0) (rows : List Row) (refusing : ℕ 
     → ((n : ℕ) → eqb n 0 ≡ false → P (refusing n)) → (firstOf rows ≡ none → P accepting) → P (orElse (firstOf rows) refusing accepting)
 by-rows P rows refusing accepting k a b = by-numbers (λ m. eqb m 0 ≡ false) P rows refusing accepting k a b
 
-pub numbered-ask : (t : LeaseTable) (now client : ℕ) (option reply : List ℕ) → Numbered (askRows t now client option reply)
+-- A call that is accepted has no row that applies.
+pub accepted-none : {S : Type 0} (rows : List Row) (place : ℕ → ℕ) (s : S) (reply : List ℕ) (accepted : Result S) → Numbered rows
+    → byRows rows place s reply accepted .answer .number ≡ 0 → firstOf rows ≡ none
+accepted-none rows place s reply accepted k z = go (firstOf rows) refl z
+  where
+    go : (o : Option ℕ) → firstOf rows ≡ o → orElse o (λ number. refuse number (place number) s reply) accepted .answer .number ≡ 0 → firstOf rows ≡ none
+    go none e q = e
+    go (some n) e q = absurd (eqb-false n 0 (first-number (λ m. eqb m 0 ≡ false) rows k n e) q)
+
+pub numbered-ask : (s : State) (now : ℕ) (c : Call) → Numbered (askRows s now c)
 unfolding askRows
-numbered-ask t now client option reply = (refl, (refl, (refl, (refl, (refl, (refl, (refl, (refl, (refl, (refl, tt))))))))))
+numbered-ask s now c = (refl, (refl, (refl, (refl, (refl, (refl, (refl, (refl, (refl, (refl, tt))))))))))
 
-pub numbered-take : (t : LeaseTable) (now client : ℕ) (option reply : List ℕ) → Numbered (takeRows t now client option reply)
+pub numbered-take : (s : State) (now : ℕ) (c : Call) → Numbered (takeRows s now c)
 unfolding takeRows
-numbered-take t now client option reply = (refl, (refl, (refl, (refl, (refl, (refl, (refl, (refl, (refl, tt)))))))))
+numbered-take s now c = (refl, (refl, (refl, (refl, (refl, (refl, (refl, (refl, (refl, tt)))))))))
 
-pub numbered-list : (t : LeaseTable) (now client : ℕ) (option reply : List ℕ) → Numbered (listRows t now client option reply)
+pub numbered-list : (s : State) (now : ℕ) (c : Call) → Numbered (listRows s now c)
 unfolding listRows
-numbered-list t now client option reply = (refl, (refl, (refl, (refl, (refl, (refl, (refl, (refl, (refl, tt)))))))))
+numbered-list s now c = (refl, (refl, (refl, (refl, (refl, (refl, (refl, (refl, (refl, tt)))))))))
 
-pub numbered-release : (t : LeaseTable) (now client : ℕ) (option : List ℕ) → Numbered (releaseRows t now client option)
+pub numbered-release : (s : State) (now : ℕ) (c : Call) → Numbered (releaseRows s now c)
 unfolding releaseRows
-numbered-release t now client option = (refl, (refl, (refl, (refl, (refl, (refl, (refl, (refl, tt))))))))
+numbered-release s now c = (refl, (refl, (refl, (refl, (refl, (refl, (refl, (refl, tt))))))))
 
-pub numbered-mark : (t : LeaseTable) (now network len : ℕ) → Numbered (markRows t now network len)
+pub numbered-mark : (s : State) (now network len : ℕ) → Numbered (markRows s now network len)
 unfolding markRows
-numbered-mark t now network len = (refl, (refl, (refl, (refl, tt))))
+numbered-mark s now network len = (refl, (refl, (refl, (refl, tt))))
 
 -- ASK: rows 1 to 8, and rows 9 and 10.
 
 -- What an ask answers whose rows before 9 do not apply: `gs` are the leases granted.
-abbrev pub answerAsk : LeaseTable → ℕ → List ℕ → List Lease → List (Option Lease) → List Lease → Result
-answerAsk t now reply xs os [] = refuse (cond (full xs) 9 10) 0 t reply
-answerAsk t now reply xs os (g ∷ gs) = accept (store t now (addAll os xs)) (optionBytes (map informationFor (g ∷ gs))) (length (g ∷ gs)) reply
+abbrev pub answerAsk : State → ℕ → List ℕ → List Lease → List (Option Lease) → List Lease → Result State
+answerAsk s now reply xs os [] = refuse (cond (full xs) 9 10) 0 s reply
+answerAsk s now reply xs os (g ∷ gs) = accept (state (store (s .table) now (addAll os xs))) (optionBytes (map informationFor (g ∷ gs))) (length (g ∷ gs)) reply
 
-module _ (t : LeaseTable) (now client : ℕ) (option reply : List ℕ) where
+module _ (s : State) (now : ℕ) (c : Call) where
   xs : List Lease
-  xs = present now (t .leases)
+  xs = present now (s .table .leases)
 
   os : List (Option Lease)
-  os = askOffers t now client option
+  os = askOffers (s .table) now (c .client) (c .option)
 
   -- Rows 9 and 10.
   abbrev ownRows : List Lease → List Row
   ownRows gs = (9, nothing? gs && full xs) ∷ (10, nothing? gs) ∷ []
 
-  rows-split : askRows t now client option reply ≡ before 9 (askRows t now client option reply) ++ ownRows (somes os)
+  rows-split : askRows s now c ≡ before 9 (askRows s now c) ++ ownRows (catMaybes os)
   unfolding askRows xs os
   rows-split = refl
 
   own : (gs : List Lease)
-      → orElse (firstOf (ownRows gs)) (λ number. refuse number (refusalPlace option number) t reply)
-      (accept (store t now (addAll os xs)) (optionBytes (map informationFor gs)) (length gs) reply)
-      ≡ answerAsk t now reply xs os gs
+      → orElse (firstOf (ownRows gs)) (λ number. refuse number (refusalPlace (c .option) number) s (c .reply))
+      (accept (state (store (s .table) now (addAll os xs))) (optionBytes (map informationFor gs)) (length gs) (c .reply))
+      ≡ answerAsk s now (c .reply) xs os gs
   own (g ∷ gs) = refl
   own [] = go (full xs)
     where
       go : (b : Bool)
-          → orElse (cond b (some 9) (some 10)) (λ number. refuse number (refusalPlace option number) t reply)
-          (accept (store t now (addAll os xs)) (optionBytes (map informationFor [])) (length (map informationFor [])) reply)
-          ≡ refuse (cond b 9 10) 0 t reply
+          → orElse (cond b (some 9) (some 10)) (λ number. refuse number (refusalPlace (c .option) number) s (c .reply))
+          (accept (state (store (s .table) now (addAll os xs))) (optionBytes (map informationFor [])) (length (map informationFor [])) (c .reply))
+          ≡ refuse (cond b 9 10) 0 s (c .reply)
       go true = refl
       go false = refl
 
-  pub ask-served : firstOf (before 9 (askRows t now client option reply)) ≡ none
-      → ask t now client option reply ≡ answerAsk t now reply (present now (t .leases)) (askOffers t now client option) (somes (askOffers t now client option))
+  pub ask-served : firstOf (before 9 (askRows s now c)) ≡ none
+      → ask s now c ≡ answerAsk s now (c .reply) (present now (s .table .leases)) (askOffers (s .table) now (c .client) (c .option)) (catMaybes (askOffers (s .table) now (c .client) (c .option)))
   unfolding ask xs os
   ask-served e =
-      ap (λ (o : Option ℕ). orElse o (λ number. refuse number (refusalPlace option number) t reply) (accept (store t now (addAll os xs)) (optionBytes (map informationFor (somes os))) (length (somes os)) reply))
-      (ap firstOf rows-split ∙ first-after (before 9 (askRows t now client option reply)) (ownRows (somes os)) e)
-      ∙ own (somes os)
+      ap (λ (o : Option ℕ). orElse o (λ number. refuse number (refusalPlace (c .option) number) s (c .reply)) (accept (state (store (s .table) now (addAll os xs))) (optionBytes (map informationFor (catMaybes os))) (length (catMaybes os)) (c .reply)))
+      (ap firstOf rows-split ∙ first-after (before 9 (askRows s now c)) (ownRows (catMaybes os)) e)
+      ∙ own (catMaybes os)
 
-  pub ask-refused : (n : ℕ) → firstOf (before 9 (askRows t now client option reply)) ≡ some n → ask t now client option reply ≡ refuse n (refusalPlace option n) t reply
+  pub ask-refused : (n : ℕ) → firstOf (before 9 (askRows s now c)) ≡ some n → ask s now c ≡ refuse n (refusalPlace (c .option) n) s (c .reply)
   unfolding ask xs os
   ask-refused n e =
-      ap (λ (o : Option ℕ). orElse o (λ number. refuse number (refusalPlace option number) t reply) (accept (store t now (addAll os xs)) (optionBytes (map informationFor (somes os))) (length (somes os)) reply))
-      (ap firstOf rows-split ∙ first-before (before 9 (askRows t now client option reply)) (ownRows (somes os)) n e)
+      ap (λ (o : Option ℕ). orElse o (λ number. refuse number (refusalPlace (c .option) number) s (c .reply)) (accept (state (store (s .table) now (addAll os xs))) (optionBytes (map informationFor (catMaybes os))) (length (catMaybes os)) (c .reply)))
+      (ap firstOf rows-split ∙ first-before (before 9 (askRows s now c)) (ownRows (catMaybes os)) n e)
 
 -- OPTION 118: the ledger's reading is that of crate `option`.
 pub read118-is : (s : List ℕ) → read118 s ≡ readSelection s

@@ -2,25 +2,24 @@
 -- changes no table.
 -- Assumes nothing.
 use Prim.Native.Nat.{ℕ, _-_, _≤_}
-use mathlib.Core.Path.{_≡_, refl, sym, ap, subst}
+use mathlib.Core.Path.{_≡_, refl, sym, subst}
 use mathlib.Core.Logic.{_⊎_, ⊎-elim}
 use mathlib.Core.Bool.{Bool, true, false, not, cond}
-use mathlib.Core.List.{List, _∷_, map}
-use mathlib.Core.Option.{some}
+use mathlib.Core.List.{List, [], map}
 use native.Mathlib.Omega.{arith}
-use lib.ListN.{drop}
-use borrow.Author.Tests.{ltb-false}
+use borrow.Author.Tests.{ltb-false, not-false}
 use Rattle.lists.specs.Lists.{Pairwise}
-use Rattle.lists.proofs.Tests.{bool-cases, cond-true}
+use Rattle.lists.proofs.Tests.{bool-cases}
 use Rattle.prefix.specs.declared.Prefix.{Prefix}
 use Rattle.prefix.specs.Prefixes.{Apart}
 use Rattle.table.specs.declared.Lease.{Lease}
 use Rattle.table.specs.declared.LeaseTable.{LeaseTable}
 use Rattle.table.specs.Table.{latest, prefixOf, poolsOf, present, sound, store}
-use Rattle.table.proofs.TableLaws.{Good, sound-term, sound-fine, fine-apart, map-sound, those-sound}
-use Rattle.ledger.specs.Ledger.{Result, Update, Row, firstOf, refuse, refuseUpdate, refusalPlace, entriesIn, askRows, ask, namedBy?, renew, takeRows, take, listRows, list, releaseRows, release, at?, withD, markRows, mark}
-use Rattle.ledger.specs.Demand3.{Call, wellFormed}
-use Rattle.ledger.proofs.RowLaws.{first-none, served-or-not, refused-with}
+use Rattle.table.proofs.TableLaws.{Good, sound-term, sound-fine, fine-apart, map-sound, filter-sound}
+use Rattle.option.specs.Contents.{entriesIn}
+use Rattle.ledger.specs.Ledger.{State, Call, Result, Row, byRows, refusalPlace, askRows, ask, namedBy?, renew, takeRows, take, listRows, list, releaseRows, release, at?, withD, markRows, mark}
+use Rattle.ledger.specs.Demand3.{wellFormed}
+use Rattle.ledger.proofs.RowLaws.{first-none, served-or-not, accepted-none, numbered-ask, numbered-take, numbered-list, numbered-release, numbered-mark}
 use Rattle.ledger.proofs.CallLaws.{run-not, called}
 
 -- CHANGES THAT KEEP A LEASE GOOD AND IN ITS PLACE
@@ -57,101 +56,97 @@ module _ (t : LeaseTable) (now : ℕ) (s : sound t ≡ true) where
 
 -- EVERY CALL KEEPS A SOUND TABLE SOUND
 
-pub ask-keeps : (t : LeaseTable) (now client : ℕ) (option reply : List ℕ) → sound t ≡ true → sound (ask t now client option reply .table) ≡ true
-ask-keeps t now client option reply s =
-    let c : Call = record { client = client; option = option; reply = reply } in
-    ⊎-elim (λ (e : wellFormed now t c ≡ true). called now t c e .sound) (λ (e : wellFormed now t c ≡ false). subst (λ (u : LeaseTable). sound u ≡ true) (sym (run-not now t c e .0)) s)
-    (bool-cases (wellFormed now t c))
+pub ask-keeps : (s : State) (now : ℕ) (c : Call) → sound (s .table) ≡ true → sound (ask s now c .state .table) ≡ true
+ask-keeps s now c so =
+    ⊎-elim (λ (e : wellFormed now s c ≡ true). called now s c e .sound) (λ (e : wellFormed now s c ≡ false). subst (λ (u : State). sound (u .table) ≡ true) (sym (run-not now s c e .0)) so)
+    (bool-cases (wellFormed now s c))
 
-pub take-keeps : (t : LeaseTable) (now client : ℕ) (option reply : List ℕ) → sound t ≡ true → sound (take t now client option reply .table) ≡ true
+pub take-keeps : (s : State) (now : ℕ) (c : Call) → sound (s .table) ≡ true → sound (take s now c .state .table) ≡ true
 unfolding take takeRows
-take-keeps t now client option reply s =
-    served-or-not (λ (r : Result). sound (r .table) ≡ true) (takeRows t now client option reply) _ _ (λ n. s)
+take-keeps s now c so =
+    served-or-not (λ (r : Result State). sound (r .state .table) ≡ true) (takeRows s now c) _ _ (λ n. so)
     (λ e.
-    let r = first-none (takeRows t now client option reply) e in
-    map-keeps t now s (ltb-false latest now (r .1 .1 .1 .1 .0)) (namedBy? client (entriesIn option)) (renew now (t .term)) (renew-mild t now s))
+    let r = first-none (takeRows s now c) e in
+    map-keeps (s .table) now so (ltb-false latest now (r .1 .1 .1 .1 .0)) (namedBy? (c .client) (entriesIn (c .option))) (renew now (s .table .term)) (renew-mild (s .table) now so))
 
--- "List changes nothing": the table is what it was, sound or not.
-pub list-keeps : (t : LeaseTable) (now client : ℕ) (option reply : List ℕ) → list t now client option reply .table ≡ t
+-- "List changes nothing": all is what it was, sound or not.
+pub list-keeps : (s : State) (now : ℕ) (c : Call) → list s now c .state ≡ s
 unfolding list
-list-keeps t now client option reply = served-or-not (λ (r : Result). r .table ≡ t) (listRows t now client option reply) _ _ (λ n. refl) (λ e. refl)
+list-keeps s now c = served-or-not (λ (r : Result State). r .state ≡ s) (listRows s now c) _ _ (λ n. refl) (λ e. refl)
 
-pub release-keeps : (t : LeaseTable) (now client : ℕ) (option : List ℕ) → sound t ≡ true → sound (release t now client option .table) ≡ true
+pub release-keeps : (s : State) (now : ℕ) (c : Call) → sound (s .table) ≡ true → sound (release s now c .state .table) ≡ true
 unfolding release releaseRows
-release-keeps t now client option s =
-    served-or-not (λ (r : Update). sound (r .table) ≡ true) (releaseRows t now client option) _ _ (λ n. s)
+release-keeps s now c so =
+    served-or-not (λ (r : Result State). sound (r .state .table) ≡ true) (releaseRows s now c) _ _ (λ n. so)
     (λ e.
-    let r = first-none (releaseRows t now client option) e in
-    those-sound t now (λ x. not (namedBy? client (entriesIn option) x)) s (ltb-false latest now (r .1 .1 .1 .0)))
+    let r = first-none (releaseRows s now c) e in
+    filter-sound (s .table) now (λ x. not (namedBy? (c .client) (entriesIn (c .option)) x)) so (ltb-false latest now (r .1 .1 .1 .0)))
 
-pub mark-keeps : (t : LeaseTable) (now network len : ℕ) (d : Bool) → sound t ≡ true → sound (mark t now network len d .table) ≡ true
+pub mark-keeps : (s : State) (now network len : ℕ) (d : Bool) → sound (s .table) ≡ true → sound (mark s now network len d .state .table) ≡ true
 unfolding mark markRows
-mark-keeps t now network len d s =
-    served-or-not (λ (r : Update). sound (r .table) ≡ true) (markRows t now network len) _ _ (λ n. s)
-    (λ e. let r = first-none (markRows t now network len) e in map-keeps t now s (ltb-false latest now (r .1 .1 .0)) (at? network len) (withD d) (withD-mild t now s d))
-
--- MARK REFUSES AN UNSOUND TABLE with 5, whatever it is to mark, and the table stays as it is.
-
-rows-one : (s : Bool) (rows : List Row) → s ≡ false → firstOf ((5, not s) ∷ rows) ≡ some 5
-rows-one s rows e = cond-true (not s) (some 5) (firstOf rows) (ap not e)
-
-module _ (t : LeaseTable) (u : sound t ≡ false) where
-  mark-five : (now network len : ℕ) → firstOf (markRows t now network len) ≡ some 5
-  unfolding markRows
-  mark-five now network len = rows-one (sound t) (drop 1 (markRows t now network len)) u
-
-  pub mark-unsound : (now network len : ℕ) (d : Bool) → mark t now network len d ≡ refuseUpdate 5 0 t
-  unfolding mark
-  mark-unsound now network len d = refused-with (λ (r : Update). r ≡ refuseUpdate 5 0 t) (markRows t now network len) _ _ 5 (mark-five now network len) refl
+mark-keeps s now network len d so =
+    served-or-not (λ (r : Result State). sound (r .state .table) ≡ true) (markRows s now network len) _ _ (λ n. so)
+    (λ e. let r = first-none (markRows s now network len) e in map-keeps (s .table) now so (ltb-false latest now (r .1 .1 .0)) (at? network len) (withD d) (withD-mild (s .table) now so d))
 
 -- AFTER A REFUSAL: "all counts 0, and the old bytes everywhere"
 
-pub record Unchanged (t : LeaseTable) (reply : List ℕ) (r : Result) : Type 0 where
-  pub table : r .table ≡ t
-  pub buffer : r .buffer ≡ reply
+pub record Unchanged {S : Type 0} (s : S) (reply : List ℕ) (r : Result S) : Type 0 where
+  pub stays : r .state ≡ s
+  pub reply-stays : r .reply ≡ reply
   pub bytes : r .answer .bytes ≡ 0
   pub count : r .answer .count ≡ 0
 
-pub record UnchangedTable (t : LeaseTable) (r : Update) : Type 0 where
-  pub table : r .table ≡ t
-  pub bytes : r .answer .bytes ≡ 0
-  pub count : r .answer .count ≡ 0
+refused-by : {S : Type 0} (rows : List Row) (place : ℕ → ℕ) (s : S) (reply : List ℕ) (accepted : Result S) → accepted .answer .number ≡ 0
+    → (byRows rows place s reply accepted .answer .number ≡ 0 → ⊥) → Unchanged s reply (byRows rows place s reply accepted)
+refused-by {S} rows place s reply accepted z =
+    served-or-not (λ (r : Result S). (r .answer .number ≡ 0 → ⊥) → Unchanged s reply r) rows _ _
+    (λ n k. record { stays = refl; reply-stays = refl; bytes = refl; count = refl }) (λ e k. absurd (k z))
 
-same : (t : LeaseTable) (reply : List ℕ) (n place : ℕ) → Unchanged t reply (refuse n place t reply)
-same t reply n place = record { table = refl; buffer = refl; bytes = refl; count = refl }
-
-same-table : (t : LeaseTable) (n place : ℕ) → UnchangedTable t (refuseUpdate n place t)
-same-table t n place = record { table = refl; bytes = refl; count = refl }
-
-module _ (t : LeaseTable) (now client : ℕ) (option reply : List ℕ) where
-  pub ask-refused-unchanged : (ask t now client option reply .answer .number ≡ 0 → ⊥) → Unchanged t reply (ask t now client option reply)
+module _ (s : State) (now : ℕ) (c : Call) where
+  pub ask-refused-unchanged : (ask s now c .answer .number ≡ 0 → ⊥) → Unchanged s (c .reply) (ask s now c)
   unfolding ask
-  ask-refused-unchanged =
-      served-or-not (λ (r : Result). (r .answer .number ≡ 0 → ⊥) → Unchanged t reply r) (askRows t now client option reply) _ _
-      (λ n k. same t reply n (refusalPlace option n)) (λ e k. absurd (k refl))
+  ask-refused-unchanged = refused-by (askRows s now c) (refusalPlace (c .option)) s (c .reply) _ refl
 
-  pub take-refused-unchanged : (take t now client option reply .answer .number ≡ 0 → ⊥) → Unchanged t reply (take t now client option reply)
+  pub take-refused-unchanged : (take s now c .answer .number ≡ 0 → ⊥) → Unchanged s (c .reply) (take s now c)
   unfolding take
-  take-refused-unchanged =
-      served-or-not (λ (r : Result). (r .answer .number ≡ 0 → ⊥) → Unchanged t reply r) (takeRows t now client option reply) _ _
-      (λ n k. same t reply n (refusalPlace option n)) (λ e k. absurd (k refl))
+  take-refused-unchanged = refused-by (takeRows s now c) (refusalPlace (c .option)) s (c .reply) _ refl
 
-  pub list-refused-unchanged : (list t now client option reply .answer .number ≡ 0 → ⊥) → Unchanged t reply (list t now client option reply)
+  pub list-refused-unchanged : (list s now c .answer .number ≡ 0 → ⊥) → Unchanged s (c .reply) (list s now c)
   unfolding list
-  list-refused-unchanged =
-      served-or-not (λ (r : Result). (r .answer .number ≡ 0 → ⊥) → Unchanged t reply r) (listRows t now client option reply) _ _
-      (λ n k. same t reply n (refusalPlace option n)) (λ e k. absurd (k refl))
+  list-refused-unchanged = refused-by (listRows s now c) (refusalPlace (c .option)) s (c .reply) _ refl
 
-  pub release-refused-unchanged : (release t now client option .answer .number ≡ 0 → ⊥) → UnchangedTable t (release t now client option)
+  pub release-refused-unchanged : (release s now c .answer .number ≡ 0 → ⊥) → Unchanged s (c .reply) (release s now c)
   unfolding release
-  release-refused-unchanged =
-      served-or-not (λ (r : Update). (r .answer .number ≡ 0 → ⊥) → UnchangedTable t r) (releaseRows t now client option) _ _
-      (λ n k. same-table t n (refusalPlace option n)) (λ e k. absurd (k refl))
+  release-refused-unchanged = refused-by (releaseRows s now c) (refusalPlace (c .option)) s (c .reply) _ refl
 
-pub mark-refused-unchanged : (t : LeaseTable) (now network len : ℕ) (d : Bool) → (mark t now network len d .answer .number ≡ 0 → ⊥) → UnchangedTable t (mark t now network len d)
+pub mark-refused-unchanged : (s : State) (now network len : ℕ) (d : Bool) → (mark s now network len d .answer .number ≡ 0 → ⊥) → Unchanged s [] (mark s now network len d)
 unfolding mark
-mark-refused-unchanged t now network len d =
-    served-or-not (λ (r : Update). (r .answer .number ≡ 0 → ⊥) → UnchangedTable t r) (markRows t now network len) _ _ (λ n k. same-table t n 0) (λ e k. absurd (k refl))
+mark-refused-unchanged s now network len d = refused-by (markRows s now network len) (λ n. 0) s [] _ refl
+
+-- AN ACCEPTED CALL HAD A SOUND TABLE: row 5 did not apply.
+
+module _ (s : State) (now : ℕ) (c : Call) where
+  pub ask-accepted-sound : ask s now c .answer .number ≡ 0 → sound (s .table) ≡ true
+  unfolding ask askRows
+  ask-accepted-sound z = not-false (sound (s .table)) (first-none (askRows s now c) (accepted-none (askRows s now c) (refusalPlace (c .option)) s (c .reply) _ (numbered-ask s now c) z) .1 .0)
+
+  pub take-accepted-sound : take s now c .answer .number ≡ 0 → sound (s .table) ≡ true
+  unfolding take takeRows
+  take-accepted-sound z = not-false (sound (s .table)) (first-none (takeRows s now c) (accepted-none (takeRows s now c) (refusalPlace (c .option)) s (c .reply) _ (numbered-take s now c) z) .1 .0)
+
+  pub release-accepted-sound : release s now c .answer .number ≡ 0 → sound (s .table) ≡ true
+  unfolding release releaseRows
+  release-accepted-sound z =
+      not-false (sound (s .table)) (first-none (releaseRows s now c) (accepted-none (releaseRows s now c) (refusalPlace (c .option)) s (c .reply) _ (numbered-release s now c) z) .0)
+
+  pub list-accepted-sound : list s now c .answer .number ≡ 0 → sound (s .table) ≡ true
+  unfolding list listRows
+  list-accepted-sound z = not-false (sound (s .table)) (first-none (listRows s now c) (accepted-none (listRows s now c) (refusalPlace (c .option)) s (c .reply) _ (numbered-list s now c) z) .1 .0)
+
+pub mark-accepted-sound : (s : State) (now network len : ℕ) (d : Bool) → mark s now network len d .answer .number ≡ 0 → sound (s .table) ≡ true
+unfolding mark markRows
+mark-accepted-sound s now network len d z =
+    not-false (sound (s .table)) (first-none (markRows s now network len) (accepted-none (markRows s now network len) (λ n. 0) s [] _ (numbered-mark s now network len) z) .0)
 
 -- NO TWO LEASES OF A SOUND TABLE SHARE AN ADDRESS, at any time.
 pub no-overlap : (t : LeaseTable) (now : ℕ) → sound t ≡ true → Pairwise Apart (map prefixOf (present now (t .leases)))

@@ -6,13 +6,15 @@ use mathlib.Core.Path.{_≡_}
 use mathlib.Core.Bool.{true, cond}
 use mathlib.Core.List.{List, [], _∷_}
 use lib.Dec.{leb, eqb}
-use Rattle.lists.specs.Lists.{those}
+use Rattle.lists.specs.Lists.{filter}
 use Rattle.prefix.specs.Prefixes.{size}
 use Rattle.option.specs.Values.{Entry}
 use Rattle.table.specs.declared.Lease.{Lease}
 use Rattle.table.specs.declared.LeaseTable.{LeaseTable}
 use Rattle.table.specs.Table.{present, sound}
-use Rattle.ledger.specs.Ledger.{Answer, openTable, entriesIn, namedBy?, ask, take, release, mark}
+use Rattle.option.specs.Contents.{entriesIn}
+use Rattle.ledger.specs.declared.Answer.{Answer}
+use Rattle.ledger.specs.Ledger.{Calls, openTable, namedBy?, ledger}
 use Rattle.ledger.specs.Demand3.{replyEntries}
 use Rattle.ledger.specs.Histories.{Event, asked, taken, wasListed, returned, marked, saved, next, afterwards, leasesOf}
 
@@ -25,52 +27,60 @@ abbrev pub addressesIn : List Entry → ℕ
 addressesIn [] = 0
 addressesIn (e ∷ es) = size (e .length) + addressesIn es
 
--- "those granted by accepted asks": the entries of its reply (a refusal has none).
-unfoldable pub grantedBy : LeaseTable → Event → ℕ
-grantedBy t (asked now client option reply) = addressesIn (replyEntries (ask t now client option reply))
-grantedBy t (taken now client option reply) = 0
-grantedBy t (wasListed now client option reply) = 0
-grantedBy t (returned now client option) = 0
-grantedBy t (marked now network len d) = 0
-grantedBy t saved = 0
-
 abbrev pub ifAccepted : Answer → ℕ → ℕ
 ifAccepted a n = cond (eqb (a .number) 0) n 0
 
--- "those returned" by an accepted return: the client's present leases that its entries name.
-unfoldable pub returnedBy : LeaseTable → Event → ℕ
-returnedBy t (asked now client option reply) = 0
-returnedBy t (taken now client option reply) = 0
-returnedBy t (wasListed now client option reply) = 0
-returnedBy t (returned now client option) =
-    ifAccepted (release t now client option .answer) (addressesOf (those (namedBy? client (entriesIn option)) (present now (t .leases))))
-returnedBy t (marked now network len d) = 0
-returnedBy t saved = 0
-
--- "those struck as ended" by an accepted ask, take, return or mark: the leases with an end at or before now.
+-- The leases with an end at or before now.
 abbrev pub endedAt : ℕ → LeaseTable → ℕ
-endedAt now t = addressesOf (those (λ x. leb (x .expires) now) (leasesOf t))
+endedAt now t = addressesOf (filter (λ x. leb (x .expires) now) (leasesOf t))
 
-unfoldable pub endedBy : LeaseTable → Event → ℕ
-endedBy t (asked now client option reply) = ifAccepted (ask t now client option reply .answer) (endedAt now t)
-endedBy t (taken now client option reply) = ifAccepted (take t now client option reply .answer) (endedAt now t)
-endedBy t (wasListed now client option reply) = 0
-endedBy t (returned now client option) = ifAccepted (release t now client option .answer) (endedAt now t)
-endedBy t (marked now network len d) = ifAccepted (mark t now network len d .answer) (endedAt now t)
-endedBy t saved = 0
+-- OF ANY CALLS on what holds a state.
+module _ {S : Type 0} (calls : Calls S) where
+  abbrev tableOf : S → LeaseTable
+  tableOf s = calls .stateOf s .table
 
--- "summed over the history"
-unfoldable pub summed : (LeaseTable → Event → ℕ) → LeaseTable → List Event → ℕ
-summed f t [] = 0
-summed f t (e ∷ es) = f t e + summed f (next t e) es
+  -- "those granted by accepted asks": the entries of its reply (a refusal has none).
+  unfoldable pub grantedBy : S → Event → ℕ
+  grantedBy s (asked now c) = addressesIn (replyEntries (calls .asks s now c))
+  grantedBy s (taken now c) = 0
+  grantedBy s (wasListed now c) = 0
+  grantedBy s (returned now c) = 0
+  grantedBy s (marked now network len d) = 0
+  grantedBy s saved = 0
 
--- "after a load, from the loaded lines": a load gives any sound table.
-abbrev pub FromLoad : Type 0
-FromLoad = (t : LeaseTable) (es : List Event) → sound t ≡ true
-    → addressesOf (leasesOf (afterwards t es)) + summed returnedBy t es + summed endedBy t es ≡ addressesOf (leasesOf t) + summed grantedBy t es
+  -- "those returned" by an accepted return: the client's present leases that its entries name.
+  unfoldable pub returnedBy : S → Event → ℕ
+  returnedBy s (asked now c) = 0
+  returnedBy s (taken now c) = 0
+  returnedBy s (wasListed now c) = 0
+  returnedBy s (returned now c) =
+      ifAccepted (calls .releases s now c .answer) (addressesOf (filter (namedBy? (c .client) (entriesIn (c .option))) (present now (tableOf s .leases))))
+  returnedBy s (marked now network len d) = 0
+  returnedBy s saved = 0
+
+  -- "those struck as ended" by an accepted ask, take, return or mark.
+  unfoldable pub endedBy : S → Event → ℕ
+  endedBy s (asked now c) = ifAccepted (calls .asks s now c .answer) (endedAt now (tableOf s))
+  endedBy s (taken now c) = ifAccepted (calls .takes s now c .answer) (endedAt now (tableOf s))
+  endedBy s (wasListed now c) = 0
+  endedBy s (returned now c) = ifAccepted (calls .releases s now c .answer) (endedAt now (tableOf s))
+  endedBy s (marked now network len d) = ifAccepted (calls .marks s now network len d .answer) (endedAt now (tableOf s))
+  endedBy s saved = 0
+
+  -- "summed over the history"
+  unfoldable pub summed : (S → Event → ℕ) → S → List Event → ℕ
+  summed f s [] = 0
+  summed f s (e ∷ es) = f s e + summed f (next calls s e) es
+
+  -- "The addresses of all lines together equal those granted .. less those returned, less those struck as ended", after a history that began with `first`.
+  abbrev pub Conserved : ℕ → S → List Event → Type 0
+  Conserved first s es = addressesOf (leasesOf (tableOf (afterwards calls s es))) + summed returnedBy s es + summed endedBy s es ≡ first + summed grantedBy s es
+
+  -- "after a load, from the loaded lines": a load gives any sound table.
+  abbrev pub FromLoad : Type 0
+  FromLoad = (s : S) (es : List Event) → sound (tableOf s) ≡ true → Conserved (addressesOf (leasesOf (tableOf s))) s es
 
 -- "from open": an accepted open makes a table with no lease.
 abbrev pub FromOpen : Type 0
 FromOpen = (networks lengths : List ℕ) (term defaultLength start : ℕ) (es : List Event) → openTable networks lengths term defaultLength start .answer .number ≡ 0
-    → (let t = openTable networks lengths term defaultLength start .table in
-    addressesOf (leasesOf (afterwards t es)) + summed returnedBy t es + summed endedBy t es ≡ summed grantedBy t es)
+    → Conserved ledger 0 (openTable networks lengths term defaultLength start .state) es

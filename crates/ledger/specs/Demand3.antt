@@ -10,36 +10,30 @@ use mathlib.Core.Option.{Option, none, some}
 use lib.ListN.{length}
 use lib.ListN.{take as upTo}
 use lib.Dec.{leb, eqb}
-use Rattle.lists.specs.Lists.{All, Pairwise, every, any?, those, gather, somes}
+use Rattle.lists.specs.Lists.{All, Pairwise, and, any?, filter, concatMap, catMaybes}
 use Rattle.prefix.specs.declared.Prefix.{Prefix}
 use Rattle.prefix.specs.Prefixes.{prefix, Apart}
-use Rattle.space.specs.Space.{Free}
+use Rattle.free_space.specs.Space.{Free}
 use Rattle.option.specs.Values.{Entry}
 use Rattle.table.specs.declared.Lease.{Lease}
 use Rattle.table.specs.declared.LeaseTable.{LeaseTable}
 use Rattle.table.specs.Table.{leaseSlots, latest, prefixOf, poolsOf, present, sound}
-use Rattle.ledger.specs.Ledger.{Result, firstOf, before, Request, requestsIn, entriesIn, emptySlots, askRows, askLength, holdTime}
+use Rattle.option.specs.Contents.{Request, requestsIn, entriesIn}
+use Rattle.ledger.specs.Ledger.{State, Call, Result, firstOf, before, emptySlots, askRows, askLength, holdTime}
 
 -- A CALL, AND WHEN IT IS WELL-FORMED
 
--- What answers an ask call: from the table, the time, the client, the option's bytes and the reply buffer's.
-abbrev pub Server : Type 0
-Server = LeaseTable → ℕ → ℕ → List ℕ → List ℕ → Result
-
--- "A list names each call's station, option and reply buffer beforehand." A client is a number of 32 bits and a byte is below 256 in the code's types;
--- the claim holds of all numbers.
-pub record Call : Type 0 where
-  pub client : ℕ
-  pub option : List ℕ
-  pub reply : List ℕ
+-- What answers an ask call: from what it is given, the time and what comes with the call.
+abbrev pub Server : Type 0 → Type 0
+Server S = S → ℕ → Call → Result S
 
 abbrev pub none? : {A : Type 0} → Option A → Bool
 none? none = true
 none? (some x) = false
 
 -- "a call is well-formed if no row before 9, as the table then stands, applies to it"
-unfoldable pub wellFormed : ℕ → LeaseTable → Call → Bool
-wellFormed now t c = none? (firstOf (before 9 (askRows t now (c .client) (c .option) (c .reply))))
+unfoldable pub wellFormed : ℕ → State → Call → Bool
+wellFormed now s c = none? (firstOf (before 9 (askRows s now c)))
 
 -- "The desk accepts a time if neither row 3 nor row 4 applies to it on the first book."
 abbrev pub Accepts : LeaseTable → ℕ → Type 0
@@ -52,12 +46,12 @@ asksOf c = requestsIn (c .option)
 -- GRANTED
 
 -- The entries of a reply: of the bytes that an accepted answer says were written, read by the reader. A refusal has no reply.
-abbrev pub replyEntries : Result → List Entry
-replyEntries r = cond (eqb (r .answer .number) 0) (entriesIn (upTo (r .answer .bytes) (r .buffer))) []
+abbrev pub replyEntries : {S : Type 0} → Result S → List Entry
+replyEntries r = cond (eqb (r .answer .number) 0) (entriesIn (upTo (r .answer .bytes) (r .reply))) []
 
 -- "entries pair off in order, each with the next ask of its length and h"
 abbrev pub answers? : LeaseTable → Request → Entry → Bool
-answers? t r e = every (eqb (askLength t r) (e .length) ∷ Bool·beq (r .h) (e .h) ∷ [])
+answers? t r e = and (eqb (askLength t r) (e .length) ∷ Bool·beq (r .h) (e .h) ∷ [])
 
 abbrev pub pairOff : LeaseTable → List Request → List Entry → List (Option Entry)
 pairOff t [] es = []
@@ -70,7 +64,7 @@ pairOff t (r ∷ rs) (e ∷ es) =
 -- "and the book after the call has the entry's block as a line held by the call's station until now + 120"
 abbrev pub isHeld? : ℕ → ℕ → Entry → Lease → Bool
 isHeld? now client e x =
-    every (eqb (x .network) (e .network) ∷ eqb (x .length) (e .length) ∷ eqb (x .client) client ∷ not (x .leased) ∷ eqb (x .expires) (now + holdTime) ∷ [])
+    and (eqb (x .network) (e .network) ∷ eqb (x .length) (e .length) ∷ eqb (x .client) client ∷ not (x .leased) ∷ eqb (x .expires) (now + holdTime) ∷ [])
 
 abbrev pub confirmed : ℕ → ℕ → LeaseTable → Option Entry → Option Entry
 confirmed now client after none = none
@@ -88,7 +82,7 @@ inUse now t = map prefixOf (present now (t .leases))
 -- "The book that it meets is the one that its call got, with the lines newly made for the requests before it": the prefixes in use after one more
 -- request. A prefix that was in use already is no lease newly made.
 abbrev pub same? : Prefix → Prefix → Bool
-same? a b = every (eqb (a .network) (b .network) ∷ eqb (a .length) (b .length) ∷ [])
+same? a b = and (eqb (a .network) (b .network) ∷ eqb (a .length) (b .length) ∷ [])
 
 abbrev pub meets : Option Entry → List Prefix → List Prefix
 meets none used = used
@@ -121,12 +115,12 @@ RefusedRightly t used (r ∷ rs) (g ∷ gs) =
 -- THE ASKS OF A LIST
 
 -- "in the list, if none would apply to it on the first book"
-abbrev pub wellFormedAsks : ℕ → LeaseTable → List Call → List Request
-wellFormedAsks now t cs = gather asksOf (those (wellFormed now t) cs)
+abbrev pub wellFormedAsks : ℕ → State → List Call → List Request
+wellFormedAsks now s cs = concatMap asksOf (filter (wellFormed now s) cs)
 
 -- "one of its length for each well-formed ask": their lengths, and the prefixes of those lengths at these networks.
-abbrev pub lengthsAsked : ℕ → LeaseTable → List Call → List ℕ
-lengthsAsked now t cs = map (askLength t) (wellFormedAsks now t cs)
+abbrev pub lengthsAsked : ℕ → State → List Call → List ℕ
+lengthsAsked now s cs = map (askLength (s .table)) (wellFormedAsks now s cs)
 
 abbrev pub prefixesAt : List ℕ → List ℕ → List Prefix
 prefixesAt [] lens = []
@@ -135,71 +129,72 @@ prefixesAt (n ∷ ns) (len ∷ lens) = prefix n len ∷ prefixesAt ns lens
 
 -- "If free aligned blocks can be chosen in the first book, one of its length for each well-formed ask of the list, no two sharing an address, and
 -- that book has an empty line for each"
-pub record CanBeChosen (now : ℕ) (t : LeaseTable) (cs : List Call) : Type 0 where
+pub record CanBeChosen (now : ℕ) (s : State) (cs : List Call) : Type 0 where
   pub networks : List ℕ
-  pub enough : length networks ≡ length (lengthsAsked now t cs)
-  pub free : All (Free (poolsOf t) (inUse now t)) (prefixesAt networks (lengthsAsked now t cs))
-  pub apart : Pairwise Apart (prefixesAt networks (lengthsAsked now t cs))
-  pub slots : length (wellFormedAsks now t cs) ≤ emptySlots now t
+  pub enough : length networks ≡ length (lengthsAsked now s cs)
+  pub free : All (Free (poolsOf (s .table)) (inUse now (s .table))) (prefixesAt networks (lengthsAsked now s cs))
+  pub apart : Pairwise Apart (prefixesAt networks (lengthsAsked now s cs))
+  pub slots : length (wellFormedAsks now s cs) ≤ emptySlots now (s .table)
 
 -- The lease that an entry granted to a client tells of.
 abbrev pub leaseFor : ℕ → ℕ → Entry → Lease
 leaseFor now client e = record { network = e .network; length = e .length; client = client; leased = false; h = e .h; d = e .d; expires = now + holdTime }
 
--- A call of a list, with the table that it got.
-pub record Received : Type 0 where
+-- A call of a list, with what it got.
+pub record Received (S : Type 0) : Type 0 where
   pub call : Call
-  pub got : LeaseTable
+  pub got : S
 
-module _ (server : Server) where
-  abbrev pub run : ℕ → LeaseTable → Call → Result
-  run now t c = server t now (c .client) (c .option) (c .reply)
+-- OF ANY SERVER on what holds a state: the ledger's own, or what the code is lent.
+module _ {S : Type 0} (stateOf : S → State) (server : Server S) where
+  abbrev pub tableOf : S → LeaseTable
+  tableOf s = stateOf s .table
 
   -- What each ask of a call is granted: "It is granted if the reply has an entry for it: .. and the book after the call has the entry's block".
-  unfoldable pub granted : ℕ → LeaseTable → Call → List (Option Entry)
-  granted now t c = map (confirmed now (c .client) (run now t c .table)) (pairOff t (asksOf c) (replyEntries (run now t c)))
+  unfoldable pub granted : ℕ → S → Call → List (Option Entry)
+  granted now s c = map (confirmed now (c .client) (tableOf (server s now c .state))) (pairOff (tableOf s) (asksOf c) (replyEntries (server s now c)))
 
   -- "The first call gets that book, each later call the book that the one before left, and nobody else writes it meanwhile."
-  unfoldable pub received : ℕ → LeaseTable → List Call → List Received
-  received now t [] = []
-  received now t (c ∷ cs) = record { call = c; got = t } ∷ received now (run now t c .table) cs
+  unfoldable pub received : ℕ → S → List Call → List (Received S)
+  received now s [] = []
+  received now s (c ∷ cs) = record { call = c; got = s } ∷ received now (server s now c .state) cs
 
-  unfoldable pub afterAll : ℕ → LeaseTable → List Call → LeaseTable
-  afterAll now t [] = t
-  afterAll now t (c ∷ cs) = afterAll now (run now t c .table) cs
+  unfoldable pub afterAll : ℕ → S → List Call → S
+  afterAll now s [] = s
+  afterAll now s (c ∷ cs) = afterAll now (server s now c .state) cs
 
-  abbrev pub wellFormedCalls : ℕ → LeaseTable → List Call → List Received
-  wellFormedCalls now t cs = those (λ v. wellFormed now t (v .call)) (received now t cs)
+  abbrev pub wellFormedCalls : ℕ → S → List Call → List (Received S)
+  wellFormedCalls now s cs = filter (λ v. wellFormed now (stateOf s) (v .call)) (received now s cs)
 
   -- The leases that a call's granted asks made.
-  abbrev pub made : ℕ → Received → List Lease
-  made now v = map (leaseFor now (v .call .client)) (somes (granted now (v .got) (v .call)))
+  abbrev pub made : ℕ → Received S → List Lease
+  made now v = map (leaseFor now (v .call .client)) (catMaybes (granted now (v .got) (v .call)))
 
-  pub record AllGranted (now : ℕ) (t : LeaseTable) (cs : List Call) : Type 0 where
+  pub record AllGranted (now : ℕ) (s : S) (cs : List Call) : Type 0 where
     -- what was granted
     pub given : List Entry
     -- "then every well-formed ask is granted"
-    pub all : gather (λ v. granted now (v .got) (v .call)) (wellFormedCalls now t cs) ≡ map some given
+    pub all : concatMap (λ v. granted now (v .got) (v .call)) (wellFormedCalls now s cs) ≡ map some given
     -- each of the length asked for
-    pub lengths : map (λ e. e .length) given ≡ lengthsAsked now t cs
+    pub lengths : map (λ e. e .length) given ≡ lengthsAsked now (stateOf s) cs
     -- "In that case the blocks granted were free in the first book and share no address"
-    pub free : All (Free (poolsOf t) (inUse now t)) (map entryPrefix given)
+    pub free : All (Free (poolsOf (tableOf s)) (inUse now (tableOf s))) (map entryPrefix given)
     pub apart : Pairwise Apart (map entryPrefix given)
     -- "after the list the lines present are those present at its start and those granted, one for each well-formed ask"
-    pub left : List·Permᴰ (present now (afterAll now t cs .leases)) (present now (t .leases) ++ gather (made now) (wellFormedCalls now t cs))
+    pub left : List·Permᴰ (present now (tableOf (afterAll now s cs) .leases)) (present now (tableOf s .leases) ++ concatMap (made now) (wellFormedCalls now s cs))
 
   -- "a call not well-formed leaves the book as it was", and its reply buffer
-  abbrev pub Untouched : ℕ → LeaseTable → List Call → Type 0
-  Untouched now t cs =
-      All (λ v. wellFormed now t (v .call) ≡ false → (run now (v .got) (v .call) .table ≡ v .got) × (run now (v .got) (v .call) .buffer ≡ v .call .reply)) (received now t cs)
+  abbrev pub Untouched : ℕ → S → List Call → Type 0
+  Untouched now s cs =
+      All (λ v. wellFormed now (stateOf s) (v .call) ≡ false → (server (v .got) now (v .call) .state ≡ v .got) × (server (v .got) now (v .call) .reply ≡ v .call .reply)) (received now s cs)
 
   -- DEMAND 3, whole.
   pub record Demand3 : Type 0 where
     -- "While the book has an empty line, a well-formed ask is refused for want of ground exactly when no free aligned block of its length lies inside a
     -- root."
-    pub sentence : (t : LeaseTable) (now : ℕ) (c : Call) → wellFormed now t c ≡ true → RefusedRightly t (inUse now t) (asksOf c) (granted now t c)
+    pub sentence : (s : S) (now : ℕ) (c : Call) → wellFormed now (stateOf s) c ≡ true → RefusedRightly (tableOf s) (inUse now (tableOf s)) (asksOf c) (granted now s c)
     -- "take every list of ask calls, in whatever order, refused ones included, from any sound book and all at one time that the desk accepts", and what
     -- `CanBeChosen` and `AllGranted` quote.
-    pub lists : (t : LeaseTable) (now : ℕ) (cs : List Call) → sound t ≡ true → Accepts t now → CanBeChosen now t cs → AllGranted now t cs
+    pub lists : (s : S) (now : ℕ) (cs : List Call) → sound (tableOf s) ≡ true → Accepts (tableOf s) now → CanBeChosen now (stateOf s) cs → AllGranted now s cs
     -- "In every case a call not well-formed leaves the book as it was."
-    pub untouched : (t : LeaseTable) (now : ℕ) (cs : List Call) → Untouched now t cs
+    pub untouched : (s : S) (now : ℕ) (cs : List Call) → Untouched now s cs

@@ -1,11 +1,11 @@
 -- THE LEDGER: document 01's sections "Ground, blocks and the book" and "The calls", each call as a function of its arguments.
 --
--- Ask, take and list: of the table, the time, the client, the option's bytes and the reply buffer's bytes, to the answer, the table after the call
--- and the buffer after it. Return (`release`) and mark have no reply buffer; open has no table before it. Save and load stand in crate `image`.
--- A refused call gives the first row that applies; the rows of each call stand in one list, in document 01's order.
+-- A call is a function of what it is given (`State`), the time and what comes with it (`Call`), to its answer, what it leaves, and the reply buffer after
+-- it. Open has no state before it, mark comes with a prefix and a bit. Save and load stand in crate `image`.
+-- A refused call gives the first row that applies; the rows of each call stand in one list, in document 01's order, built from those that calls share.
 --
 -- Numbers are as large as the types of the code let them be (32 bits for a network, a client and a time, 8 for a length and a byte). Neither a call nor
--- `sound` tests that: `Sizes` says it of tables and bytes, and the laws of `InRange` say that arguments within these sizes give results within them.
+-- `sound` tests that: the code's calls equal these, so what they give of arguments within the code's types is within them.
 -- Assumes nothing: these are definitions.
 use Prim.Native.Nat.{ℕ, _+_}
 use mathlib.Core.Bool.{Bool, true, false, not, cond, _&&_}
@@ -14,59 +14,66 @@ use mathlib.Core.Option.{Option, none, some}
 use lib.ListN.{length, drop}
 use lib.ListN.{take as upTo}
 use lib.Dec.{leb, ltb, eqb}
-use Rattle.lists.specs.Lists.{every, all?, any?, those, gather, somes}
+use Rattle.lists.specs.Lists.{and, all?, any?, filter, concatMap, catMaybes}
 use Rattle.prefix.specs.declared.Prefix.{Prefix}
-use Rattle.space.specs.Space.{grant}
-use Rattle.option.specs.Values.{Entry, SuboptionValue, request, information, name, unknown, Outcome, refused, accepted}
+use Rattle.free_space.specs.Space.{grant}
+use Rattle.option.specs.Sizes.{longestOption, mostRequests, mostEntries}
+use Rattle.option.specs.Values.{Entry, SuboptionValue, information}
 use Rattle.option.specs.Reading.{four, readOption}
+use Rattle.option.specs.Contents.{Request, refuses?, placeIn, suboptions, requests, entries, requestsIn, entriesIn, position}
 use Rattle.option.specs.Writing.{optionBytes}
+use Rattle.option_reply.specs.Reply.{entryOf}
 use Rattle.option.specs.Selection.{Selected, address, selection?}
 use Rattle.option.specs.Selection.{refused as refusedSelection}
 use Rattle.table.specs.declared.Lease.{Lease}
 use Rattle.table.specs.declared.LeaseTable.{LeaseTable}
 use Rattle.table.specs.Table.{leaseSlots, latest, blank, prefixOf, poolsOf, empty?, present, sound, store, insert}
-use Rattle.opening.specs.Open.{given, openOk, fresh}
+use Rattle.table_open.specs.Open.{given, openOk, fresh}
+use Rattle.ledger.specs.declared.Answer.{Answer}
 
--- WHAT A CALL GIVES
+-- WHAT A CALL IS GIVEN, AND WHAT IT LEAVES
 
--- The number (0: accepted), the place (row 7 only), the bytes written and the count of entries.
-pub record Answer : Type 0 where
-  pub number : ℕ
-  pub place : ℕ
-  pub bytes : ℕ
-  pub count : ℕ
-
--- The answer, the table after the call, and the reply buffer after it.
-pub record Result : Type 0 where
-  pub answer : Answer
+-- What goes from call to call (document 01: the book).
+pub record State : Type 0 where
   pub table : LeaseTable
-  pub buffer : List ℕ
 
--- The same of a call that has no reply buffer.
-pub record Update : Type 0 where
+abbrev pub state : LeaseTable → State
+state t = record { table = t }
+
+-- What comes with a call: the client (document 01: the station), the bytes of the option, those of the reply buffer. "A list names each call's station,
+-- option and reply buffer beforehand." A client is a number of 32 bits and a byte is below 256 in the code's types; what is claimed holds of all numbers.
+pub record Call : Type 0 where
+  pub client : ℕ
+  pub option : List ℕ
+  pub reply : List ℕ
+
+abbrev pub call : ℕ → List ℕ → List ℕ → Call
+call client option reply = record { client = client; option = option; reply = reply }
+
+-- The answer, what is left, and the reply buffer after the call. A call that has no reply buffer is given and leaves an empty one. `S` is what goes from
+-- call to call: the state here, what the code is lent in crate `call_spec`.
+pub record Result (S : Type 0) : Type 0 where
   pub answer : Answer
-  pub table : LeaseTable
+  pub state : S
+  pub reply : List ℕ
+
+abbrev pub result : {S : Type 0} → Answer → S → List ℕ → Result S
+result a s reply = record { answer = a; state = s; reply = reply }
 
 -- "A refusal returns its number (7 also its place), all counts 0, and the old bytes everywhere."
 abbrev pub refusal : ℕ → ℕ → Answer
 refusal number place = record { number = number; place = place; bytes = 0; count = 0 }
 
-abbrev pub refuse : ℕ → ℕ → LeaseTable → List ℕ → Result
-refuse number place t reply = record { answer = refusal number place; table = t; buffer = reply }
-
-abbrev pub refuseUpdate : ℕ → ℕ → LeaseTable → Update
-refuseUpdate number place t = record { answer = refusal number place; table = t }
+abbrev pub refuse : {S : Type 0} → ℕ → ℕ → S → List ℕ → Result S
+refuse number place s reply = result (refusal number place) s reply
 
 -- "An accepted answer gives the bytes written and the count of entries (for return, of lines it struck by its entries)."
 abbrev pub acceptance : ℕ → ℕ → Answer
 acceptance bytes count = record { number = 0; place = 0; bytes = bytes; count = count }
 
 -- "Bytes of the reply buffer after those written keep their content."
-abbrev pub accept : LeaseTable → List ℕ → ℕ → List ℕ → Result
-accept t written count reply = record { answer = acceptance (length written) count; table = t; buffer = written ++ drop (length written) reply }
-
-abbrev pub acceptUpdate : LeaseTable → ℕ → Update
-acceptUpdate t count = record { answer = acceptance 0 count; table = t }
+abbrev pub accept : {S : Type 0} → S → List ℕ → ℕ → List ℕ → Result S
+accept s written count reply = result (acceptance (length written) count) s (written ++ drop (length written) reply)
 
 -- THE ROWS
 
@@ -92,54 +99,51 @@ abbrev pub nothing? : {A : Type 0} → List A → Bool
 nothing? [] = true
 nothing? (x ∷ xs) = false
 
--- WHAT AN OPTION HAS
-
-pub record Request : Type 0 where
-  pub h : Bool
-  pub i : Bool
-  pub length : ℕ
-
--- Rows 6 and 7 are those of the reader of option 220.
-abbrev pub refuses? : ℕ → Outcome → Bool
-refuses? number (refused n place) = eqb n number
-refuses? number (accepted subs) = false
-
-abbrev pub placeIn : Outcome → ℕ
-placeIn (refused n place) = place
-placeIn (accepted subs) = 0
-
-abbrev pub suboptions : Outcome → List SuboptionValue
-suboptions (refused n place) = []
-suboptions (accepted subs) = subs
-
--- "Pieces that a call doesn't name are checked by the reader and have no effect."
-abbrev pub requests : List SuboptionValue → List Request
-requests [] = []
-requests (request h i length ∷ subs) = record { h = h; i = i; length = length } ∷ requests subs
-requests (information c s es ∷ subs) = requests subs
-requests (name octets ∷ subs) = requests subs
-requests (unknown ∷ subs) = requests subs
-
-abbrev pub entries : List SuboptionValue → List Entry
-entries [] = []
-entries (request h i length ∷ subs) = entries subs
-entries (information c s es ∷ subs) = es ++ entries subs
-entries (name octets ∷ subs) = entries subs
-entries (unknown ∷ subs) = entries subs
-
-abbrev pub requestsIn : List ℕ → List Request
-requestsIn option = requests (suboptions (readOption option))
-
-abbrev pub entriesIn : List ℕ → List Entry
-entriesIn option = entries (suboptions (readOption option))
-
--- "flags and figures from the book: h, d, no figures"
-abbrev pub entryOf : Lease → Entry
-entryOf x = record { network = x .network; length = x .length; h = x .h; d = x .d; figures = [] }
-
 -- The place of a refusal: "7 also its place".
 abbrev pub refusalPlace : List ℕ → ℕ → ℕ
 refusalPlace option number = cond (eqb number 7) (placeIn (readOption option)) 0
+
+-- A call goes by its rows: the first that applies refuses it, with the place that its number has.
+abbrev pub byRows : {S : Type 0} → List Row → (ℕ → ℕ) → S → List ℕ → Result S → Result S
+byRows rows place s reply accepted = orElse (firstOf rows) (λ number. refuse number (place number) s reply) accepted
+
+-- THE ROWS THAT CALLS SHARE
+
+-- Row 1, of a call whose reply buffer has to have so many bytes; and how many ask, take and list want.
+abbrev pub leastReply : ℕ
+leastReply = longestOption
+
+abbrev pub replyRows : ℕ → Call → List Row
+replyRows least c =
+    (1, ltb (length (c .reply)) least)
+    ∷ []
+
+-- Row 5, of what the call is given.
+abbrev pub stateRows : State → List Row
+stateRows s =
+    (5, not (sound (s .table)))
+    ∷ []
+
+abbrev pub clientRows : Call → List Row
+clientRows c =
+    (2, eqb (c .client) 0)
+    ∷ []
+
+abbrev pub timeRows : State → ℕ → List Row
+timeRows s now =
+    (3, ltb now (s .table .last))
+    ∷ (4, ltb latest now)
+    ∷ []
+
+abbrev pub optionRows : Call → List Row
+optionRows c =
+    (6, refuses? 6 (readOption (c .option)))
+    ∷ (7, refuses? 7 (readOption (c .option)))
+    ∷ []
+
+-- Those of a call with an option, after row 1 where it has that one and before its own.
+abbrev pub commonRows : State → ℕ → Call → List Row
+commonRows s now c = stateRows s ++ (clientRows c ++ (timeRows s now ++ optionRows c))
 
 -- OPTION 118: "The desk reads and writes it, and acts on none". Reading has row 6 alone.
 
@@ -159,7 +163,7 @@ abbrev pub emptySlot? : ℕ → Lease → Bool
 emptySlot? now x = cond (empty? x) true (leb (x .expires) now)
 
 unfoldable pub emptySlots : ℕ → LeaseTable → ℕ
-emptySlots now t = length (those (emptySlot? now) (t .leases))
+emptySlots now t = length (filter (emptySlot? now) (t .leases))
 
 -- Leases that fill a table: it has no empty slot.
 abbrev pub full : List Lease → Bool
@@ -174,17 +178,16 @@ openRows networks lengths term defaultLength start =
     ∷ []
 
 -- "roots (any order given), term, default length and a start time make a book". Refused, it makes none: all zero.
-unfoldable pub openTable : List ℕ → List ℕ → ℕ → ℕ → ℕ → Update
+unfoldable pub openTable : List ℕ → List ℕ → ℕ → ℕ → ℕ → Result State
 openTable networks lengths term defaultLength start =
-    orElse (firstOf (openRows networks lengths term defaultLength start))
-    (λ number. refuseUpdate number 0 blank)
-    (acceptUpdate (fresh (given networks lengths) term defaultLength start) 0)
+    byRows (openRows networks lengths term defaultLength start) (λ number. 0) (state blank) []
+    (accept (state (fresh (given networks lengths) term defaultLength start)) [] 0 [])
 
 -- ASK
 
 -- "the option has 1 to 25 requests, none with i"
 abbrev pub forAsk : List Request → Bool
-forAsk rs = every (leb 1 (length rs) ∷ leb (length rs) 25 ∷ all? (λ r. not (r .i)) rs ∷ [])
+forAsk rs = and (leb 1 (length rs) ∷ leb (length rs) mostRequests ∷ all? (λ r. not (r .i)) rs ∷ [])
 
 -- "An ask's length is the prefix asked for, or the default length for 0."
 abbrev pub askLength : LeaseTable → Request → ℕ
@@ -224,44 +227,38 @@ abbrev pub askOffers : LeaseTable → ℕ → ℕ → List ℕ → List (Option 
 askOffers t now client option = offers t now client (present now (t .leases)) (requestsIn option)
 
 -- Rows 9 and 10: "If none is granted, the answer is the refusal of the first."
-unfoldable pub askRows : LeaseTable → ℕ → ℕ → List ℕ → List ℕ → List Row
-askRows t now client option reply =
-    let granted = somes (askOffers t now client option) in
-    (1, ltb (length reply) 257)
-    ∷ (5, not (sound t))
-    ∷ (2, eqb client 0)
-    ∷ (3, ltb now (t .last))
-    ∷ (4, ltb latest now)
-    ∷ (6, refuses? 6 (readOption option))
-    ∷ (7, refuses? 7 (readOption option))
-    ∷ (8, not (forAsk (requestsIn option)))
-    ∷ (9, nothing? granted && full (present now (t .leases)))
+abbrev pub grantRows : State → ℕ → Call → List Row
+grantRows s now c =
+    let granted = catMaybes (askOffers (s .table) now (c .client) (c .option)) in
+    (9, nothing? granted && full (present now (s .table .leases)))
     ∷ (10, nothing? granted)
     ∷ []
 
-unfoldable pub ask : LeaseTable → ℕ → ℕ → List ℕ → List ℕ → Result
-ask t now client option reply =
-    let os = askOffers t now client option in
-    orElse (firstOf (askRows t now client option reply))
-    (λ number. refuse number (refusalPlace option number) t reply)
-    (accept (store t now (addAll os (present now (t .leases)))) (optionBytes (map informationFor (somes os))) (length (somes os)) reply)
+unfoldable pub askRows : State → ℕ → Call → List Row
+askRows s now c = replyRows leastReply c ++ (commonRows s now c ++ ((8, not (forAsk (requestsIn (c .option)))) ∷ grantRows s now c))
+
+unfoldable pub ask : State → ℕ → Call → Result State
+ask s now c =
+    let os = askOffers (s .table) now (c .client) (c .option) in
+    byRows (askRows s now c) (refusalPlace (c .option)) s (c .reply)
+    (accept (state (store (s .table) now (addAll os (present now (s .table .leases))))) (optionBytes (map informationFor (catMaybes os))) (length (catMaybes os)) (c .reply))
 
 -- TAKE
 
 -- "no requests, at least one entry"
 abbrev pub forTake : List SuboptionValue → Bool
-forTake subs = every (nothing? (requests subs) ∷ not (nothing? (entries subs)) ∷ [])
+forTake subs = and (nothing? (requests subs) ∷ not (nothing? (entries subs)) ∷ [])
 
 -- "Each entry that equals a present line of this station in network and length"
 abbrev pub names? : ℕ → Lease → Entry → Bool
-names? client x e = every (eqb (x .client) client ∷ eqb (x .network) (e .network) ∷ eqb (x .length) (e .length) ∷ [])
+names? client x e = and (eqb (x .client) client ∷ eqb (x .network) (e .network) ∷ eqb (x .length) (e .length) ∷ [])
 
 abbrev pub namedBy? : ℕ → List Entry → Lease → Bool
 namedBy? client es x = any? (names? client x) es
 
 -- The leases that entries name, "in order".
 abbrev pub found : ℕ → List Lease → List Entry → List Lease
-found client xs es = gather (λ e. those (λ x. names? client x e) xs) es
+found client xs es = concatMap (λ e. filter (λ x. names? client x e) xs) es
 
 -- "makes it leased until now + term"
 abbrev pub renew : ℕ → ℕ → Lease → Lease
@@ -270,45 +267,27 @@ renew now term x = record { network = x .network; length = x .length; client = x
 abbrev pub renewNamed : ℕ → ℕ → ℕ → List Entry → List Lease → List Lease
 renewNamed now term client es xs = map (λ x. cond (namedBy? client es x) (renew now term x) x) xs
 
-unfoldable pub takeRows : LeaseTable → ℕ → ℕ → List ℕ → List ℕ → List Row
-takeRows t now client option reply =
-    (1, ltb (length reply) 257)
-    ∷ (5, not (sound t))
-    ∷ (2, eqb client 0)
-    ∷ (3, ltb now (t .last))
-    ∷ (4, ltb latest now)
-    ∷ (6, refuses? 6 (readOption option))
-    ∷ (7, refuses? 7 (readOption option))
-    ∷ (8, not (forTake (suboptions (readOption option))))
-    ∷ (11, nothing? (found client (present now (t .leases)) (entriesIn option)))
-    ∷ []
+unfoldable pub takeRows : State → ℕ → Call → List Row
+takeRows s now c =
+    replyRows leastReply c
+    ++ (commonRows s now c
+    ++ ((8, not (forTake (suboptions (readOption (c .option)))))
+    ∷ (11, nothing? (found (c .client) (present now (s .table .leases)) (entriesIn (c .option))))
+    ∷ []))
 
 -- "The reply is one Information with those entries in order, flags and figures from the book: h, d, no figures, c and s 0."
-unfoldable pub take : LeaseTable → ℕ → ℕ → List ℕ → List ℕ → Result
-take t now client option reply =
-    let xs = present now (t .leases) in
-    let gs = found client xs (entriesIn option) in
-    orElse (firstOf (takeRows t now client option reply))
-    (λ number. refuse number (refusalPlace option number) t reply)
-    (accept (store t now (renewNamed now (t .term) client (entriesIn option) xs)) (optionBytes (information false false (map entryOf gs) ∷ [])) (length gs) reply)
+unfoldable pub take : State → ℕ → Call → Result State
+take s now c =
+    let xs = present now (s .table .leases) in
+    let gs = found (c .client) xs (entriesIn (c .option)) in
+    byRows (takeRows s now c) (refusalPlace (c .option)) s (c .reply)
+    (accept (state (store (s .table) now (renewNamed now (s .table .term) (c .client) (entriesIn (c .option)) xs))) (optionBytes (information false false (map entryOf gs) ∷ [])) (length gs) (c .reply))
 
 -- LIST
 
 -- "at least one request, all with i"
 abbrev pub forList : List Request → Bool
-forList rs = every (not (nothing? rs) ∷ all? (λ r. r .i) rs ∷ [])
-
--- "The position is the network of the last entry of the last Information with c and s set". `earlier`: the one before these entries or suboptions.
-abbrev pub lastNetwork : Option ℕ → List Entry → Option ℕ
-lastNetwork earlier [] = earlier
-lastNetwork earlier (e ∷ es) = lastNetwork (some (e .network)) es
-
-abbrev pub position : Option ℕ → List SuboptionValue → Option ℕ
-position earlier [] = earlier
-position earlier (request h i length ∷ subs) = position earlier subs
-position earlier (information c s es ∷ subs) = position (cond (c && s) (lastNetwork earlier es) earlier) subs
-position earlier (name octets ∷ subs) = position earlier subs
-position earlier (unknown ∷ subs) = position earlier subs
+forList rs = and (not (nothing? rs) ∷ all? (λ r. r .i) rs ∷ [])
 
 -- "with network above the position"; "without one, all lines are meant"
 abbrev pub above? : Option ℕ → ℕ → Bool
@@ -317,74 +296,72 @@ above? (some p) network = ltb p network
 
 -- "the station's present leased lines with network above the position, ascending"
 abbrev pub listed : ℕ → Option ℕ → List Lease → List Lease
-listed client p xs = those (λ x. every (eqb (x .client) client ∷ x .leased ∷ above? p (x .network) ∷ [])) xs
+listed client p xs = filter (λ x. and (eqb (x .client) client ∷ x .leased ∷ above? p (x .network) ∷ [])) xs
 
 abbrev pub listedIn : LeaseTable → ℕ → ℕ → List ℕ → List Lease
 listedIn t now client option = listed client (position none (suboptions (readOption option))) (present now (t .leases))
 
-unfoldable pub listRows : LeaseTable → ℕ → ℕ → List ℕ → List ℕ → List Row
-listRows t now client option reply =
-    (1, ltb (length reply) 257)
-    ∷ (5, not (sound t))
-    ∷ (2, eqb client 0)
-    ∷ (3, ltb now (t .last))
-    ∷ (4, ltb latest now)
-    ∷ (6, refuses? 6 (readOption option))
-    ∷ (7, refuses? 7 (readOption option))
-    ∷ (8, not (forList (requestsIn option)))
-    ∷ (11, nothing? (listedIn t now client option))
-    ∷ []
+unfoldable pub listRows : State → ℕ → Call → List Row
+listRows s now c =
+    replyRows leastReply c
+    ++ (commonRows s now c
+    ++ ((8, not (forList (requestsIn (c .option))))
+    ∷ (11, nothing? (listedIn (s .table) now (c .client) (c .option)))
+    ∷ []))
 
 -- "at most 35, in one Information with c set, and s set exactly if more remain". "List changes nothing."
-unfoldable pub list : LeaseTable → ℕ → ℕ → List ℕ → List ℕ → Result
-list t now client option reply =
-    let gs = listedIn t now client option in
-    orElse (firstOf (listRows t now client option reply))
-    (λ number. refuse number (refusalPlace option number) t reply)
-    (accept t (optionBytes (information true (ltb 35 (length gs)) (map entryOf (upTo 35 gs)) ∷ [])) (length (upTo 35 gs)) reply)
+unfoldable pub list : State → ℕ → Call → Result State
+list s now c =
+    let gs = listedIn (s .table) now (c .client) (c .option) in
+    byRows (listRows s now c) (refusalPlace (c .option)) s (c .reply)
+    (accept s (optionBytes (information true (ltb mostEntries (length gs)) (map entryOf (upTo mostEntries gs)) ∷ [])) (length (upTo mostEntries gs)) (c .reply))
 
 -- RETURN: "as take, but strikes the lines; no reply buffer"
 
-unfoldable pub releaseRows : LeaseTable → ℕ → ℕ → List ℕ → List Row
-releaseRows t now client option =
-    (5, not (sound t))
-    ∷ (2, eqb client 0)
-    ∷ (3, ltb now (t .last))
-    ∷ (4, ltb latest now)
-    ∷ (6, refuses? 6 (readOption option))
-    ∷ (7, refuses? 7 (readOption option))
-    ∷ (8, not (forTake (suboptions (readOption option))))
-    ∷ (11, nothing? (those (namedBy? client (entriesIn option)) (present now (t .leases))))
-    ∷ []
+unfoldable pub releaseRows : State → ℕ → Call → List Row
+releaseRows s now c =
+    commonRows s now c
+    ++ ((8, not (forTake (suboptions (readOption (c .option)))))
+    ∷ (11, nothing? (filter (namedBy? (c .client) (entriesIn (c .option))) (present now (s .table .leases))))
+    ∷ [])
 
 -- "Held lines may be returned." The count is "of lines it struck by its entries".
-unfoldable pub release : LeaseTable → ℕ → ℕ → List ℕ → Update
-release t now client option =
-    let xs = present now (t .leases) in
-    let es = entriesIn option in
-    orElse (firstOf (releaseRows t now client option))
-    (λ number. refuseUpdate number (refusalPlace option number) t)
-    (acceptUpdate (store t now (those (λ x. not (namedBy? client es x)) xs)) (length (those (namedBy? client es) xs)))
+unfoldable pub release : State → ℕ → Call → Result State
+release s now c =
+    let xs = present now (s .table .leases) in
+    let es = entriesIn (c .option) in
+    byRows (releaseRows s now c) (refusalPlace (c .option)) s (c .reply)
+    (accept (state (store (s .table) now (filter (λ x. not (namedBy? (c .client) es x)) xs))) [] (length (filter (namedBy? (c .client) es) xs)) (c .reply))
 
 -- MARK: "sets or clears d on the present line with a given network and length"; "Mark has no station"
 
 abbrev pub at? : ℕ → ℕ → Lease → Bool
-at? network len x = every (eqb (x .network) network ∷ eqb (x .length) len ∷ [])
+at? network len x = and (eqb (x .network) network ∷ eqb (x .length) len ∷ [])
 
 abbrev pub withD : Bool → Lease → Lease
 withD d x = record { network = x .network; length = x .length; client = x .client; leased = x .leased; h = x .h; d = d; expires = x .expires }
 
-unfoldable pub markRows : LeaseTable → ℕ → ℕ → ℕ → List Row
-markRows t now network len =
-    (5, not (sound t))
-    ∷ (3, ltb now (t .last))
-    ∷ (4, ltb latest now)
-    ∷ (11, not (any? (at? network len) (present now (t .leases))))
-    ∷ []
+unfoldable pub markRows : State → ℕ → ℕ → ℕ → List Row
+markRows s now network len =
+    stateRows s
+    ++ (timeRows s now
+    ++ ((11, not (any? (at? network len) (present now (s .table .leases))))
+    ∷ []))
 
 -- "A count that a call has none of is 0."
-unfoldable pub mark : LeaseTable → ℕ → ℕ → ℕ → Bool → Update
-mark t now network len d =
-    orElse (firstOf (markRows t now network len))
-    (λ number. refuseUpdate number 0 t)
-    (acceptUpdate (store t now (map (λ x. cond (at? network len x) (withD d x) x) (present now (t .leases)))) 0)
+unfoldable pub mark : State → ℕ → ℕ → ℕ → Bool → Result State
+mark s now network len d =
+    byRows (markRows s now network len) (λ number. 0) s []
+    (accept (state (store (s .table) now (map (λ x. cond (at? network len x) (withD d x) x) (present now (s .table .leases))))) [] 0 [])
+
+-- ALL OF THEM, on what S is: what they are called on holds a state.
+pub record Calls (S : Type 0) : Type 0 where
+  pub stateOf : S → State
+  pub asks : S → ℕ → Call → Result S
+  pub takes : S → ℕ → Call → Result S
+  pub lists : S → ℕ → Call → Result S
+  pub releases : S → ℕ → Call → Result S
+  pub marks : S → ℕ → ℕ → ℕ → Bool → Result S
+
+abbrev pub ledger : Calls State
+ledger = record { stateOf = λ s. s; asks = ask; takes = take; lists = list; releases = release; marks = mark }

@@ -1,4 +1,5 @@
 pub mod Ledger
+pub mod Answers
 pub mod Demand3
 pub mod Choice
 pub mod Histories

@@ -8,21 +8,23 @@ use mathlib.Core.List.{List, [], _∷_}
 use lib.ListN.{length}
 use lib.ListN.{take as upTo}
 use lib.Dec.{eqb}
-use Rattle.lists.specs.Lists.{every, those}
+use Rattle.lists.specs.Lists.{and, filter}
 use Rattle.table.specs.declared.Lease.{Lease}
 use Rattle.table.specs.declared.LeaseTable.{LeaseTable}
 use Rattle.table.specs.Table.{empty?, sound}
-use Rattle.ledger.specs.Ledger.{Answer, Result, list}
+use Rattle.ledger.specs.declared.Answer.{Answer}
+use Rattle.ledger.specs.Ledger.{call, Result, Calls}
 
 -- This client's leases: empty slots are none.
 abbrev pub leasesFor : ℕ → LeaseTable → List Lease
-leasesFor client t = those (λ x. every (not (empty? x) ∷ eqb (x .client) client ∷ [])) (t .leases)
+leasesFor client t = filter (λ x. and (not (empty? x) ∷ eqb (x .client) client ∷ [])) (t .leases)
 
 -- What a list answers: its numbers, and the bytes that it writes.
-abbrev pub answered : Result → Answer × List ℕ
-answered r = (r .answer, upTo (r .answer .bytes) (r .buffer))
+abbrev pub answered : {S : Type 0} → Result S → Answer × List ℕ
+answered r = (r .answer, upTo (r .answer .bytes) (r .reply))
 
-abbrev pub DependsOnly : Type 0
-DependsOnly = (t u : LeaseTable) (now client : ℕ) (option reply reply′ : List ℕ) → sound t ≡ true → sound u ≡ true
-    → t .last ≡ u .last → length reply ≡ length reply′ → leasesFor client t ≡ leasesFor client u
-    → answered (list t now client option reply) ≡ answered (list u now client option reply′)
+-- Of any calls on what holds a state.
+abbrev pub DependsOnly : {S : Type 0} → Calls S → Type 0
+DependsOnly {S} calls = (s u : S) (now client : ℕ) (option reply reply′ : List ℕ) → sound (calls .stateOf s .table) ≡ true → sound (calls .stateOf u .table) ≡ true
+    → calls .stateOf s .table .last ≡ calls .stateOf u .table .last → length reply ≡ length reply′ → leasesFor client (calls .stateOf s .table) ≡ leasesFor client (calls .stateOf u .table)
+    → answered (calls .lists s now (call client option reply)) ≡ answered (calls .lists u now (call client option reply′))

@@ -9,13 +9,12 @@ use Rattle.option.specs.Values.{Entry, request, information, Outcome, refused, 
 use Rattle.option.specs.Reading.{readOption}
 use Rattle.option.specs.Writing.{optionBytes}
 use Rattle.option.specs.Selection as selection
-use Rattle.table.specs.declared.LeaseTable.{LeaseTable}
-use Rattle.ledger.specs.Ledger.{Result, Update, read118, openTable, ask, take, list, release, mark}
+use Rattle.ledger.specs.Ledger.{State, call, Result, ledger, read118, openTable, ask, take, list, release, mark}
 use Rattle.ledger.specs.Histories.{Event, asked, taken, wasListed, returned, marked, saved, next}
 
 -- A table opened at 1000 with these pools, term 3600 and default length 28.
-unfoldable pub newTable : List ℕ → List ℕ → LeaseTable
-newTable networks lengths = openTable networks lengths 3600 28 1000 .table
+unfoldable pub newTable : List ℕ → List ℕ → State
+newTable networks lengths = openTable networks lengths 3600 28 1000 .state
 
 unfoldable pub buffer : List ℕ
 buffer = replicate 257 0
@@ -32,24 +31,21 @@ abbrev pub naming : ℕ → ℕ → List ℕ
 naming network len = optionBytes (information false false (entry network len [] ∷ []) ∷ [])
 
 -- A call's number, its place, and the bytes written.
-unfoldable pub shown : Result → List ℕ
-shown r = r .answer .number ∷ r .answer .place ∷ upTo (r .answer .bytes) (r .buffer)
+unfoldable pub shown : Result State → List ℕ
+shown r = r .answer .number ∷ r .answer .place ∷ upTo (r .answer .bytes) (r .reply)
 
-unfoldable pub shownUpdate : Update → List ℕ
-shownUpdate r = r .answer .number ∷ r .answer .place ∷ []
-
-unfoldable pub does : LeaseTable → Event → List ℕ
-does t (asked now client option reply) = shown (ask t now client option reply)
-does t (taken now client option reply) = shown (take t now client option reply)
-does t (wasListed now client option reply) = shown (list t now client option reply)
-does t (returned now client option) = shownUpdate (release t now client option)
-does t (marked now network len d) = shownUpdate (mark t now network len d)
-does t saved = []
+unfoldable pub does : State → Event → List ℕ
+does s (asked now c) = shown (ask s now c)
+does s (taken now c) = shown (take s now c)
+does s (wasListed now c) = shown (list s now c)
+does s (returned now c) = shown (release s now c)
+does s (marked now network len d) = shown (mark s now network len d)
+does s saved = []
 
 -- Calls one after another, each on the table that the one before left.
-unfoldable pub doesAll : LeaseTable → List Event → List (List ℕ)
-doesAll t [] = []
-doesAll t (e ∷ es) = does t e ∷ doesAll (next t e) es
+unfoldable pub doesAll : State → List Event → List (List ℕ)
+doesAll s [] = []
+doesAll s (e ∷ es) = does s e ∷ doesAll (next ledger s e) es
 
 -- Accepted, with the offer of 10.0.x.y of this length in the bytes of P2.
 abbrev pub offering : ℕ → ℕ → ℕ → List ℕ
@@ -60,10 +56,10 @@ refusing number place = number ∷ place ∷ []
 
 -- An ask of one request at 1000, and a take of one entry.
 abbrev pub askFor : ℕ → ℕ → Event
-askFor client len = asked 1000 client (requesting len) buffer
+askFor client len = asked 1000 (call client (requesting len) buffer)
 
 abbrev pub takeAt : ℕ → ℕ → ℕ → ℕ → Event
-takeAt now client network len = taken now client (naming network len) buffer
+takeAt now client network len = taken now (call client (naming network len) buffer)
 
 -- What a row shows: how bytes read (option 220, option 118), what is written, what calls answer one after another.
 pub data Shown : Type 0 where
@@ -90,7 +86,7 @@ examples =
     ∷ shows (reads (readOption (0xdc ∷ 5 ∷ 0 ∷ 1 ∷ 2 ∷ 0 ∷ 0x1e ∷ []))) (reads (accepted (request false false 30 ∷ [])))
     ∷ shows (answers (doesAll (newTable (0x0a000100 ∷ []) (24 ∷ [])) (askFor 1 30 ∷ askFor 1 31 ∷ []))) (answers (offering 1 0 30 ∷ refusing 7 3 ∷ []))
     -- P4 `DC 01 00` gets 6; `DC 02 00 01` gets 7 at place 3
-    ∷ shows (answers (doesAll (newTable (0x0a000100 ∷ []) (24 ∷ [])) (asked 1000 1 (0xdc ∷ 1 ∷ 0 ∷ []) buffer ∷ asked 1000 1 (0xdc ∷ 2 ∷ 0 ∷ 1 ∷ []) buffer ∷ [])))
+    ∷ shows (answers (doesAll (newTable (0x0a000100 ∷ []) (24 ∷ [])) (asked 1000 (call 1 (0xdc ∷ 1 ∷ 0 ∷ []) buffer) ∷ asked 1000 (call 1 (0xdc ∷ 2 ∷ 0 ∷ 1 ∷ []) buffer) ∷ [])))
     (answers (refusing 6 0 ∷ refusing 7 3 ∷ []))
     -- P5 root 10.0.1.0/24, each ask from another station: asks 26, 25, 27 get 10.0.1.0, 10.0.1.128, 10.0.1.64; then 26 gets 10
     ∷ shows (answers (doesAll (newTable (0x0a000100 ∷ []) (24 ∷ [])) (askFor 1 26 ∷ askFor 2 25 ∷ askFor 3 27 ∷ askFor 4 26 ∷ [])))

@@ -8,20 +8,20 @@ use lib.ListN.{replicate}
 use Rattle.prefix.specs.declared.Prefix.{Prefix}
 use Rattle.option.specs.Values.{Entry}
 use Rattle.table.specs.declared.Lease.{Lease}
-use Rattle.table.specs.declared.LeaseTable.{LeaseTable}
 use Rattle.table.specs.Table.{noPool, padded}
-use Rattle.ledger.specs.Demand3.{Call, Fate, fate, meets}
+use Rattle.ledger.specs.Ledger.{State, state, Call}
+use Rattle.ledger.specs.Demand3.{Fate, fate, meets}
 use Rattle.ledger_examples.specs.Examples.{buffer, requesting}
 
 -- A table with one pool, last written at 1000.
-unfoldable pub tableWith : ℕ → ℕ → List Lease → LeaseTable
-tableWith network len xs = record {
+unfoldable pub tableWith : ℕ → ℕ → List Lease → State
+tableWith network len xs = state (record {
   pools = record { network = network; length = len } ∷ replicate 7 noPool;
   leases = padded xs;
   term = 3600;
   «default_length» = 28;
   last = 1000;
-}
+})
 
 -- A lease of client 5, and n of length 30, one after another.
 unfoldable pub lease : ℕ → ℕ → ℕ → Lease
@@ -32,8 +32,8 @@ leasesFrom network zero = []
 leasesFrom network (suc n) = lease network 30 9000 ∷ leasesFrom (network + 4) n
 
 -- A call by a client with these bytes, with room for a reply.
-unfoldable pub call : ℕ → List ℕ → Call
-call client option = record { client = client; option = option; reply = buffer }
+unfoldable pub callBy : ℕ → List ℕ → Call
+callBy client option = record { client = client; option = option; reply = buffer }
 
 -- Two requests, and three, in one option.
 abbrev pub two : ℕ → ℕ → List ℕ
@@ -44,7 +44,7 @@ three a b c = 0xdc ∷ 13 ∷ 0 ∷ 1 ∷ 2 ∷ 0 ∷ a ∷ 1 ∷ 2 ∷ 0 ∷ b 
 
 -- A list with its table, its time, and networks that can be chosen.
 pub record Sample : Type 0 where
-  pub table : LeaseTable
+  pub start : State
   pub now : ℕ
   pub calls : List Call
   pub networks : List ℕ
@@ -52,16 +52,16 @@ pub record Sample : Type 0 where
 -- Calls that are not well-formed in between: client 0, a buffer too short, bytes that are no option, a bad suboption, no request.
 unfoldable pub malformedBetween : Sample
 malformedBetween = record {
-  table = tableWith 0x0a000100 24 [];
+  start = tableWith 0x0a000100 24 [];
   now = 1000;
   calls =
-      call 0 (requesting 24)
-      ∷ call 7 (requesting 26)
+      callBy 0 (requesting 24)
+      ∷ callBy 7 (requesting 26)
       ∷ record { client = 7; option = requesting 24; reply = replicate 256 0 }
-      ∷ call 7 []
-      ∷ call 7 (requesting 31)
-      ∷ call 7 (0xdc ∷ 3 ∷ 0 ∷ 9 ∷ 0 ∷ [])
-      ∷ call 8 (requesting 25)
+      ∷ callBy 7 []
+      ∷ callBy 7 (requesting 31)
+      ∷ callBy 7 (0xdc ∷ 3 ∷ 0 ∷ 9 ∷ 0 ∷ [])
+      ∷ callBy 8 (requesting 25)
       ∷ [];
   networks = 0x0a000100 ∷ 0x0a000180 ∷ [];
 }
@@ -69,31 +69,31 @@ malformedBetween = record {
 -- The ground of leases that end at the time of the asks.
 unfoldable pub endedGround : Sample
 endedGround = record {
-  table = tableWith 0x0a000100 24 (lease 0x0a000100 25 1120 ∷ lease 0x0a000180 25 1120 ∷ []);
+  start = tableWith 0x0a000100 24 (lease 0x0a000100 25 1120 ∷ lease 0x0a000180 25 1120 ∷ []);
   now = 1120;
-  calls = call 7 (requesting 24) ∷ [];
+  calls = callBy 7 (requesting 24) ∷ [];
   networks = 0x0a000100 ∷ [];
 }
 
 -- Prefix 0: the default length, 28.
 unfoldable pub prefixZero : Sample
-prefixZero = record { table = tableWith 0x0a000100 24 []; now = 1000; calls = call 7 (two 0 28) ∷ []; networks = 0x0a000100 ∷ 0x0a000110 ∷ [] }
+prefixZero = record { start = tableWith 0x0a000100 24 []; now = 1000; calls = callBy 7 (two 0 28) ∷ []; networks = 0x0a000100 ∷ 0x0a000110 ∷ [] }
 
 -- 254 leases, and two asks: exactly 256 at the end.
 unfoldable pub lastSlots : Sample
 lastSlots = record {
-  table = tableWith 0x0a000000 21 (leasesFrom 0x0a000000 254);
+  start = tableWith 0x0a000000 21 (leasesFrom 0x0a000000 254);
   now = 1000;
-  calls = call 7 (requesting 30) ∷ call 8 (requesting 22) ∷ [];
+  calls = callBy 7 (requesting 30) ∷ callBy 8 (requesting 22) ∷ [];
   networks = 0x0a0003f8 ∷ 0x0a000400 ∷ [];
 }
 
 -- The ground filled exactly, by two calls.
 unfoldable pub filledExactly : Sample
 filledExactly = record {
-  table = tableWith 0x0a000100 24 [];
+  start = tableWith 0x0a000100 24 [];
   now = 1000;
-  calls = call 7 (two 26 25) ∷ call 8 (requesting 26) ∷ [];
+  calls = callBy 7 (two 26 25) ∷ callBy 8 (requesting 26) ∷ [];
   networks = 0x0a000100 ∷ 0x0a000180 ∷ 0x0a000140 ∷ [];
 }
 
@@ -106,8 +106,8 @@ fates used [] = []
 fates used (g ∷ gs) = fate used g ∷ fates (meets g used) gs
 
 -- Tables on which asks are refused: for want of ground, and (with 256 leases) for want of lines.
-unfoldable pub narrow : LeaseTable
+unfoldable pub narrow : State
 narrow = tableWith 0x0a000100 24 []
 
-unfoldable pub crowded : ℕ → LeaseTable
+unfoldable pub crowded : ℕ → State
 crowded n = tableWith 0x0a000000 21 (leasesFrom 0x0a000000 n)

@@ -1,15 +1,14 @@
 -- Laws for a loop that goes through a list: what all of the rest pass, and those of the rest that pass, one element further.
 -- Assumes nothing.
 use Prim.Native.Nat.{ℕ, zero, suc, _+_, _≤_, _<_}
-use mathlib.Core.Path.{_≡_, refl, ap, _∙_}
-use mathlib.Core.Bool.{Bool, true, false, cond, _&&_}
+use mathlib.Core.Path.{_≡_}
+use mathlib.Core.Bool.{Bool, cond, _&&_}
 use mathlib.Core.List.{List, [], _∷_}
 use native.Mathlib.Numerals.{add-one}
-use native.Mathlib.Omega.{arith}
 use lib.ListN.{length, drop, getD, drop-of-length-le}
 use lib.Seq.{drop-cons}
 pub use Rattle.lists.proofs.IndexLaws.{all-at}
-use Rattle.lists.specs.Lists.{All, all?, those}
+use Rattle.lists.specs.Lists.{All, all?, filter}
 
 module _ {A : Type 0} (xs : List A) (i : ℕ) (d : A) (lt : i < length xs) where
   pub drop-at : drop i xs ≡ getD xs i d ∷ drop (i + 1) xs
@@ -18,26 +17,15 @@ module _ {A : Type 0} (xs : List A) (i : ℕ) (d : A) (lt : i < length xs) where
   pub all?-at : (f : A → Bool) → all? f (drop i xs) ≡ f (getD xs i d) && all? f (drop (i + 1) xs)
   all?-at f = rw drop-at
 
-  pub those-at : (f : A → Bool) → those f (drop i xs) ≡ cond (f (getD xs i d)) (getD xs i d ∷ those f (drop (i + 1) xs)) (those f (drop (i + 1) xs))
-  those-at f = rw drop-at
-
-  pub count-yes : (f : A → Bool) → f (getD xs i d) ≡ true → length (those f (drop i xs)) ≡ 1 + length (those f (drop (i + 1) xs))
-  count-yes f e =
-      let here : those f (drop i xs) ≡ getD xs i d ∷ those f (drop (i + 1) xs) = those-at f ∙ rw e refl in
-      omega (arith, ap length here)
-
-  pub count-no : (f : A → Bool) → f (getD xs i d) ≡ false → length (those f (drop i xs)) ≡ length (those f (drop (i + 1) xs))
-  count-no f e = let here : those f (drop i xs) ≡ those f (drop (i + 1) xs) = those-at f ∙ rw e refl in ap length here
+  pub filter-at : (f : A → Bool) → filter f (drop i xs) ≡ cond (f (getD xs i d)) (getD xs i d ∷ filter f (drop (i + 1) xs)) (filter f (drop (i + 1) xs))
+  filter-at f = rw drop-at
 
 module _ {A : Type 0} (xs : List A) (i : ℕ) (past : length xs ≤ i) where
   pub drop-end : drop i xs ≡ []
   drop-end = drop-of-length-le xs past
 
-  pub all?-end : (f : A → Bool) → all? f (drop i xs) ≡ true
-  all?-end f = rw drop-end
-
-  pub those-end : (f : A → Bool) → those f (drop i xs) ≡ []
-  those-end f = rw drop-end
+  pub filter-end : (f : A → Bool) → filter f (drop i xs) ≡ []
+  filter-end f = rw drop-end
 
 pub all-drop : {A : Type 0} (P : A → Type 0) (i : ℕ) (xs : List A) → All P xs → All P (drop i xs)
 all-drop P zero xs a = a

@@ -2,11 +2,11 @@ pub mod Tests
 pub mod ListLaws
 pub mod Permutations
 pub mod TableRule
-pub mod ThoseLaws
+pub mod FilterLaws
 pub mod DropLaws
 pub mod WalkLaws
 pub mod PutLaws
-pub mod GatherLaws
+pub mod ConcatMapLaws
 pub mod ShiftLaws
 pub mod SortingLaws
 pub mod InsertionLaws

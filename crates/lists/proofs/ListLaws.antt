@@ -4,7 +4,7 @@ use mathlib.Core.Path.{_≡_, refl}
 use mathlib.Core.Logic.{_⊎_, inl, inr, ⊎-elim}
 use mathlib.Core.List.{List, [], _∷_, _++_, map}
 use mathlib.Core.Option.{Option, none, some}
-use Rattle.lists.specs.Lists.{All, Any, Pairwise, Holds}
+use Rattle.lists.specs.Lists.{All, Any, Pairwise, OfSome}
 
 pub all-map : {A : Type 0} {P Q : A → Type 0} → ((x : A) → P x → Q x) → (xs : List A) → All P xs → All Q xs
 all-map f [] a = tt
@@ -86,6 +86,6 @@ pub pairwise-image : {A B : Type 0} (f : A → B) (R : B → B → Type 0) (xs :
 pairwise-image f R [] p = tt
 pairwise-image f R (x ∷ xs) p = (all-image f (R (f x)) xs (p .0), pairwise-image f R xs (p .1))
 
-pub holds-map : {A : Type 0} {P Q : A → Type 0} → ((x : A) → P x → Q x) → (o : Option A) → Holds P o → Holds Q o
+pub holds-map : {A : Type 0} {P Q : A → Type 0} → ((x : A) → P x → Q x) → (o : Option A) → OfSome P o → OfSome Q o
 holds-map f none a = tt
 holds-map f (some x) a = f x a

@@ -8,23 +8,23 @@ use mathlib.Core.List.{List, [], _∷_, _++_, map, nil≢cons, head-eq-of-cons-e
 use mathlib.Core.Option.{Option, none, some}
 use native.Mathlib.Omega.{arith}
 use lib.ListN.{length}
-use Rattle.lists.specs.Lists.{those, somes}
+use Rattle.lists.specs.Lists.{filter, catMaybes}
 use Rattle.lists.proofs.Tests.{bool-cases, not-to, not-of}
-use Rattle.lists.proofs.ThoseLaws.{those-yes, those-no}
+use Rattle.lists.proofs.FilterLaws.{filter-yes, filter-no}
 
-pub somes-some : {A : Type 0} (ys : List A) → somes (map some ys) ≡ ys
-somes-some [] = refl
-somes-some (y ∷ ys) = ap (λ (l : List _). y ∷ l) (somes-some ys)
+pub catMaybes-some : {A : Type 0} (ys : List A) → catMaybes (map some ys) ≡ ys
+catMaybes-some [] = refl
+catMaybes-some (y ∷ ys) = ap (λ (l : List _). y ∷ l) (catMaybes-some ys)
 
-pub somes-append : {A : Type 0} (os ps : List (Option A)) → somes (os ++ ps) ≡ somes os ++ somes ps
-somes-append [] ps = refl
-somes-append (none ∷ os) ps = somes-append os ps
-somes-append (some x ∷ os) ps = ap (λ (l : List _). x ∷ l) (somes-append os ps)
+pub catMaybes-append : {A : Type 0} (os ps : List (Option A)) → catMaybes (os ++ ps) ≡ catMaybes os ++ catMaybes ps
+catMaybes-append [] ps = refl
+catMaybes-append (none ∷ os) ps = catMaybes-append os ps
+catMaybes-append (some x ∷ os) ps = ap (λ (l : List _). x ∷ l) (catMaybes-append os ps)
 
-pub somes-few : {A : Type 0} (os : List (Option A)) → length (somes os) ≤ length os
-somes-few [] = omega arith
-somes-few (none ∷ os) = omega (arith, somes-few os)
-somes-few (some x ∷ os) = omega (arith, somes-few os)
+pub catMaybes-few : {A : Type 0} (os : List (Option A)) → length (catMaybes os) ≤ length os
+catMaybes-few [] = omega arith
+catMaybes-few (none ∷ os) = omega (arith, catMaybes-few os)
+catMaybes-few (some x ∷ os) = omega (arith, catMaybes-few os)
 
 -- Where two lists together lack nothing, neither does.
 pub split-some : {A : Type 0} (ps qs : List (Option A)) (gs : List A) → ps ++ qs ≡ map some gs
@@ -43,10 +43,10 @@ pub opposite-not : {A : Type 0} (q : A → Bool) → Opposite (λ x. not (q x)) 
 opposite-not q x = ⊎-elim (λ (h : q x ≡ true). inr (not-to (q x) h, h)) (λ (h : q x ≡ false). inl (not-of (q x) h, h)) (bool-cases (q x))
 
 -- They part a list.
-pub count-parts : {A : Type 0} (p q : A → Bool) → Opposite p q → (xs : List A) → length (those p xs) + length (those q xs) ≡ length xs
+pub count-parts : {A : Type 0} (p q : A → Bool) → Opposite p q → (xs : List A) → length (filter p xs) + length (filter q xs) ≡ length xs
 count-parts p q o [] = refl
 count-parts p q o (x ∷ xs) =
     ⊎-elim
-    (λ (h : (p x ≡ true) × (q x ≡ false)). omega (arith, ap length (those-yes p x xs (h .0)), ap length (those-no q x xs (h .1)), count-parts p q o xs))
-    (λ (h : (p x ≡ false) × (q x ≡ true)). omega (arith, ap length (those-no p x xs (h .0)), ap length (those-yes q x xs (h .1)), count-parts p q o xs))
+    (λ (h : (p x ≡ true) × (q x ≡ false)). omega (arith, ap length (filter-yes p x xs (h .0)), ap length (filter-no q x xs (h .1)), count-parts p q o xs))
+    (λ (h : (p x ≡ false) × (q x ≡ true)). omega (arith, ap length (filter-no p x xs (h .0)), ap length (filter-yes q x xs (h .1)), count-parts p q o xs))
     (o x)

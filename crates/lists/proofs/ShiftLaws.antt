@@ -7,7 +7,7 @@ use native.Mathlib.Nat.{sub-self}
 use native.Mathlib.Numerals.{add-one}
 use native.Mathlib.Omega.{arith}
 use lib.ListN.{length, take, drop, set, getD, length-drop, length-append, take-append-drop, List·getD-append}
-use lib.Seq.{take-all, take-suc, drop-cons, set-at, length-take-le, take-append-add, append-snoc, getD-take, getD-append-add, getD-drop}
+use lib.Seq.{take-all, take-suc, drop-cons, set-at, length-take-le, append-snoc, getD-take, getD-append-add, getD-drop}
 
 -- The elements from k on one place up, with the one at k kept in its place too, of a list of n + 1.
 abbrev pub shifted : {A : Type 0} → ℕ → List A → ℕ → List A
@@ -37,21 +37,6 @@ module _ {A : Type 0} (n : ℕ) (l : List A) (full : length l ≡ n + 1) where
   shifted-more d k p h =
       let e : suc (k - 1) ≡ k = omega arith in
       subst (λ (m : ℕ). set (shifted n l m) m (getD (shifted n l m) (k - 1) d) ≡ shifted n l (k - 1)) e (step d (k - 1) (omega arith))
-
-  -- Inserted at i, the last of them falls off.
-  pub inserted-at : (i : ℕ) (x : A) → i ≤ n → take (n + 1) (take i l ++ (x ∷ drop i l)) ≡ take i l ++ (x ∷ take (n - i) (drop i l))
-  inserted-at i x h =
-      let e : n + 1 ≡ length (take i l) + suc (n - i) = omega (arith, length-take-le i l (omega arith)) in
-      ap (λ (m : ℕ). take m (take i l ++ (x ∷ drop i l))) e ∙ take-append-add (take i l) (x ∷ drop i l) (suc (n - i))
-
-  -- Inserted behind the last place, it is the one that falls off.
-  pub inserted-past : (i : ℕ) (x : A) → n < i → take (n + 1) (take i l ++ (x ∷ drop i l)) ≡ l
-  inserted-past i x h =
-      let e : n + 1 ≡ length l + 0 = omega arith in
-      ap (λ (p : List A). take (n + 1) (p ++ (x ∷ drop i l))) (take-all i l (omega arith))
-      ∙ ap (λ (m : ℕ). take m (l ++ (x ∷ drop i l))) e
-      ∙ take-append-add l (x ∷ drop i l) 0
-      ∙ append-nil l
 
 -- The elements between i and k one place down, with the one at k kept in its place too.
 abbrev pub lowered : {A : Type 0} → List A → ℕ → ℕ → List A

@@ -4,7 +4,7 @@ use mathlib.Core.Path.{_≡_, refl, sym}
 use mathlib.Core.Logic.{_⊎_, inl, inr, ⊎-elim}
 use mathlib.Core.Bool.{Bool, true, false, not, cond, _&&_, _||_, true≢false, false≢true}
 use mathlib.Core.List.{List, [], _∷_}
-use Rattle.lists.specs.Lists.{All, Any, every, all?, any?}
+use Rattle.lists.specs.Lists.{All, Any, and, all?, any?}
 
 pub bool-cases : (b : Bool) → (b ≡ true) ⊎ (b ≡ false)
 bool-cases true = inl refl
@@ -52,13 +52,13 @@ pub cond-false : {A : Type 0} (b : Bool) (x y : A) → b ≡ false → cond b x 
 cond-false true x y e = absurd (true≢false e)
 cond-false false x y e = refl
 
-pub every-to : (bs : List Bool) → every bs ≡ true → All (λ (b : Bool). b ≡ true) bs
-every-to [] e = tt
-every-to (b ∷ bs) e = let t = and-to b (every bs) e in (t .0, every-to bs (t .1))
+pub and-list-to : (bs : List Bool) → and bs ≡ true → All (λ (b : Bool). b ≡ true) bs
+and-list-to [] e = tt
+and-list-to (b ∷ bs) e = let t = and-to b (and bs) e in (t .0, and-list-to bs (t .1))
 
-pub every-of : (bs : List Bool) → All (λ (b : Bool). b ≡ true) bs → every bs ≡ true
-every-of [] a = refl
-every-of (b ∷ bs) a = and-of b (every bs) (a .0) (every-of bs (a .1))
+pub and-list-of : (bs : List Bool) → All (λ (b : Bool). b ≡ true) bs → and bs ≡ true
+and-list-of [] a = refl
+and-list-of (b ∷ bs) a = and-of b (and bs) (a .0) (and-list-of bs (a .1))
 
 -- The tests of all and of some element decide what they say, where the test of one does.
 pub all?-to : {A : Type 0} {P : A → Type 0} (f : A → Bool) → ((x : A) → f x ≡ true → P x) → (xs : List A) → all? f xs ≡ true → All P xs

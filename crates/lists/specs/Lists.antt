@@ -21,9 +21,9 @@ Pairwise R [] = Unit {0}
 Pairwise R (x ∷ xs) = All (R x) xs × Pairwise R xs
 
 -- All of these tests pass.
-abbrev pub every : List Bool → Bool
-every [] = true
-every (b ∷ bs) = b && every bs
+abbrev pub and : List Bool → Bool
+and [] = true
+and (b ∷ bs) = b && and bs
 
 -- The test passes at every element; at some element.
 abbrev pub all? : {A : Type 0} → (A → Bool) → List A → Bool
@@ -35,22 +35,22 @@ any? f [] = false
 any? f (x ∷ xs) = f x || any? f xs
 
 -- The elements that pass the test, in order.
-abbrev pub those : {A : Type 0} → (A → Bool) → List A → List A
-those f [] = []
-those f (x ∷ xs) = let rest = those f xs in cond (f x) (x ∷ rest) rest
+abbrev pub filter : {A : Type 0} → (A → Bool) → List A → List A
+filter f [] = []
+filter f (x ∷ xs) = let rest = filter f xs in cond (f x) (x ∷ rest) rest
 
 -- The lists that f makes of the elements, one after the other.
-abbrev pub gather : {A B : Type 0} → (A → List B) → List A → List B
-gather f [] = []
-gather f (x ∷ xs) = f x ++ gather f xs
+abbrev pub concatMap : {A B : Type 0} → (A → List B) → List A → List B
+concatMap f [] = []
+concatMap f (x ∷ xs) = f x ++ concatMap f xs
 
 -- What is there of a list of what may be missing.
-abbrev pub somes : {A : Type 0} → List (Option A) → List A
-somes [] = []
-somes (none ∷ xs) = somes xs
-somes (some x ∷ xs) = x ∷ somes xs
+abbrev pub catMaybes : {A : Type 0} → List (Option A) → List A
+catMaybes [] = []
+catMaybes (none ∷ xs) = catMaybes xs
+catMaybes (some x ∷ xs) = x ∷ catMaybes xs
 
 -- P holds of what is there.
-abbrev pub Holds : {A : Type 0} → (A → Type 0) → Option A → Type 0
-Holds P none = Unit {0}
-Holds P (some x) = P x
+abbrev pub OfSome : {A : Type 0} → (A → Type 0) → Option A → Type 0
+OfSome P none = Unit {0}
+OfSome P (some x) = P x

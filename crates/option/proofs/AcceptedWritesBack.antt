@@ -12,7 +12,7 @@ use lib.ListN.{length, getD, take, drop, length-append, length-drop, length-take
 use lib.Seq.{drop-cons, drop-drop, drop-length}
 use lib.Dec.{eqb, leb, ltb}
 use borrow.Author.Tests.{eqb-true, ltb-true, le-leb}
-use Rattle.lists.specs.Lists.{All, all?, gather}
+use Rattle.lists.specs.Lists.{All, all?, concatMap}
 use Rattle.lists.specs.Walk.{more, Placed, Tiles}
 use Rattle.lists.proofs.Tests.{and-to, and-of, all?-to, all?-of}
 use Rattle.lists.proofs.ListLaws.{all-map, all-map₂, all-image}
@@ -78,7 +78,7 @@ module _ (s : List ℕ) (bytes : Bytes s) where
       let lo : two s n % 256 ≡ getD s (n + 1) 0 = omega arith in
       pair s n m e h ∙ ap₂ (λ (x y : ℕ). x ∷ y ∷ drop m s) (sym hi) (sym lo)
 
-  written-figures : (n k : ℕ) → k % 2 ≡ 0 → k ≤ 6 → n + k ≤ length s → drop n s ≡ gather twoBytes (figuresAt s n k) ++ drop (n + k) s
+  written-figures : (n k : ℕ) → k % 2 ≡ 0 → k ≤ 6 → n + k ≤ length s → drop n s ≡ concatMap twoBytes (figuresAt s n k) ++ drop (n + k) s
   unfolding figuresAt twoBytes
   written-figures n zero e h l = let z : n ≡ n + 0 = omega arith in ap (λ (m : ℕ). drop m s) z
   written-figures n (suc (suc zero)) e h l = written-two n (n + 2) refl l

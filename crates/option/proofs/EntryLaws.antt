@@ -1,15 +1,14 @@
 -- Laws of the entries of an information, and what an answer of the entry cursor tells.
 -- Assumes nothing.
-use Prim.Native.Nat.{ℕ, _+_, _%_, _≤_, _<_}
+use Prim.Native.Nat.{ℕ, zero, suc, _+_, _*_, _%_, _≤_, _<_}
 use native.Mathlib.Omega.{arith}
 use mathlib.Core.Path.{_≡_, refl, sym, ap, ap₂, _∙_}
 use mathlib.Core.List.{List, [], _∷_}
-use mathlib.Core.Bool.{Bool, true, false, cond, _&&_, and-true, and-assoc}
+use mathlib.Core.Bool.{Bool, true, false, cond}
 use lib.ListN.{length, getD}
 use lib.Dec.{eqb, leb}
 use borrow.Author.Tests.{leb-true, eqb-true}
-use Rattle.lists.specs.Lists.{all?}
-use Rattle.lists.specs.Walk.{Turn, more, stop}
+use Rattle.lists.specs.Walk.{Turn, more, stop, onTurn, walk}
 use Rattle.lists.proofs.Tests.{and-to}
 use Rattle.lists.proofs.WalkLaws.{unroll-more, unroll-stop}
 use Rattle.option.specs.Values.{Entry}
@@ -17,10 +16,9 @@ use Rattle.prefix.specs.Prefixes.{checked}
 use Rattle.option.specs.Rules.{block?, entryFields?}
 use Rattle.option.specs.Reading.{entryFramed?, entryAt, entryEnd, readEntry, readEntries}
 use Rattle.option.specs.Answers.{fieldsOf, entryStepOf}
-use Rattle.entries.specs.declared.EntryFields.{EntryFields}
-use Rattle.entries.specs.declared.EntryCursor.{EntryCursor}
-use Rattle.option.specs.declared.Scan.{Scan}
-use Rattle.entries.specs.declared.EntryStep.the-variants as entry-step
+use Rattle.option_entry.specs.declared.EntryFields.{EntryFields}
+use Rattle.option_entry.specs.declared.EntryCursor.{EntryCursor}
+use Rattle.option_entry.specs.declared.EntryStep.the-variants as entry-step
 
 -- What the framing test of an entry decides.
 pub record EntryFramed (s : List ℕ) (end at : ℕ) : Type 0 where
@@ -93,29 +91,44 @@ told-entries-end end (more e n) h = let z : _≡_ {A = ℕ} 0 1 = cc in absurd (
 told-entries-end end (stop true) h = refl
 told-entries-end end (stop false) h = let z : _≡_ {A = ℕ} 0 1 = cc in absurd (omega arith)
 
--- What a pass over the entries finds, from what it found of those before.
-abbrev pub scanAfter : Bool → List Entry × Bool → Scan
-scanAfter fields r = record { framed = r .1; fields = fields && all? entryFields? (r .0) }
-
-pub scan-more : (s : List ℕ) (end at : ℕ) → at ≤ end → (e : Entry) (next : ℕ) → readEntry s end at ≡ more e next → (f : Bool)
-    → scanAfter f (readEntries s end at) ≡ scanAfter (f && entryFields? e) (readEntries s end next)
-scan-more s end at le e next h f =
-    ap (scanAfter f) (entries-more s end at le e next h)
-    ∙ ap (λ (b : Bool). record { framed = readEntries s end next .1; fields = b }) (sym (and-assoc f (entryFields? e) (all? entryFields? (readEntries s end next .0))))
-
-pub scan-stop : (s : List ℕ) (end at : ℕ) → at ≤ end → (b : Bool) → readEntry s end at ≡ stop b → (f : Bool)
-    → scanAfter f (readEntries s end at) ≡ record { framed = b; fields = f }
-scan-stop s end at le b h f = ap (scanAfter f) (entries-stop s end at le b h) ∙ ap (λ (g : Bool). record { framed = b; fields = g }) (and-true f)
-
--- A turn of the pass: what is found goes on from the next entry.
-pub scan-turn : (s : List ℕ) (end at : ℕ) (e : Entry) (next end′ : ℕ) (f b g : Bool) (r : Scan) → at ≤ end → readEntry s end at ≡ more e next → end′ ≡ end
-    → r ≡ scanAfter f (readEntries s end at) → entryFields? e ≡ b → (f && b) ≡ g → (next ≤ end′) × (r ≡ scanAfter g (readEntries s end′ next))
-scan-turn s end at e next end′ f b g r le h same found fields both = (
-  omega (arith, entry-moves s end at e next h),
-  found ∙ scan-more s end at le e next h f ∙ ap₂ (λ (b : Bool) (n : ℕ). scanAfter b (readEntries s n next)) (ap (λ (x : Bool). f && x) fields ∙ both) (sym same),
-)
-
 -- The field test of an entry, from its fields as the code holds them.
 pub entry-fields : (e : Entry) (f : EntryFields) → f ≡ fieldsOf e → block? (checked (f .network) (f .length)) ≡ entryFields? e
 unfolding entryFields?
 entry-fields e f h = ap₂ (λ (n l : ℕ). block? (checked n l)) (ap (λ (f : EntryFields). f .network) h) (ap (λ (f : EntryFields). f .length) h)
+
+-- HOW MANY
+
+-- Pieces that each need so many positions.
+abbrev pub weigh : {A : Type 0} → (A → ℕ) → List A → ℕ
+weigh w [] = 0
+weigh w (a ∷ rest) = w a + weigh w rest
+
+module _ {A B : Type 0} (w : A → ℕ) (turn : ℕ → Turn A B) (out : B) (N : ℕ) (p : (at : ℕ) (a : A) (next : ℕ) → turn at ≡ more a next → (at + w a ≤ next) × (next ≤ N)) where
+  turn-weight : (at : ℕ) (t : Turn A B) (k : ℕ → List A × B) → at ≤ N → turn at ≡ t → ((next : ℕ) → next ≤ N → next + weigh w (k next .0) ≤ N) → at + weigh w (onTurn t k .0) ≤ N
+  turn-weight at (more a next) k l e h = let q = p at a next e in omega (arith, h next (q .1), q)
+  turn-weight at (stop b) k l e h = omega arith
+
+  pub walk-weight : (fuel at : ℕ) → at ≤ N → at + weigh w (walk turn out fuel at .0) ≤ N
+  unfolding walk
+  walk-weight zero at l = omega arith
+  walk-weight (suc fuel) at l = turn-weight at (turn at) (λ next. walk turn out fuel next) l refl (λ next h. walk-weight fuel next h)
+
+-- An entry has seven bytes or more.
+pub entries-weight : (s : List ℕ) (end at : ℕ) → at ≤ end → at + 7 * length (readEntries s end at .0) ≤ end
+unfolding readEntries
+entries-weight s end at l =
+    omega (arith, walk-weight (λ (e : Entry). 7) (readEntry s end) false end (λ at e next h. let r = entry-read s end at e next h in omega (arith, r .0 .whole, r .2)) (suc end) at l, sevens (readEntries s end at .0))
+  where
+    sevens : (es : List Entry) → weigh (λ (e : Entry). 7) es ≡ 7 * length es
+    sevens [] = refl
+    sevens (e ∷ es) = omega (arith, sevens es)
+
+-- Entries that are all framed, where there is a byte, are one or more.
+pub entries-some : (s : List ℕ) (end at : ℕ) → at < end → readEntries s end at .1 ≡ true → 0 < length (readEntries s end at .0)
+entries-some s end at lt h = go (readEntry s end at) refl
+  where
+    go : (t : Turn Entry Bool) → readEntry s end at ≡ t → 0 < length (readEntries s end at .0)
+    go (more e next) k = omega (arith, ap (λ (q : List Entry × Bool). length (q .0)) (entries-more s end at (omega arith) e next k))
+    go (stop b) k =
+        let last : b ≡ true = sym (ap (λ (q : List Entry × Bool). q .1) (entries-stop s end at (omega arith) b k)) ∙ h in
+        absurd (omega (arith, entry-end s end at (k ∙ ap stop last)))

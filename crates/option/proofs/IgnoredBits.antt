@@ -17,7 +17,7 @@ use Rattle.option.specs.Reading.{End, whole, bit1, bit2, two, four, figu
 use Rattle.option.specs.Writing.{flags, optionHead, optionBytes}
 use Rattle.option.specs.Places.{placedSuboptions, placedEntries, SameFrom, SameEntry, SameBody, SameSuboption, SameButIgnored}
 use Rattle.option.proofs.RuleLaws.{option-of}
-use Rattle.entries.proofs.FigureLaws.{figures-none, figures-one, figures-two, figures-three}
+use Rattle.option_entry.proofs.FigureLaws.{figures-none, figures-one, figures-two, figures-three}
 use Rattle.option.proofs.EntryLaws.{entry-read, entries-more, entries-stop}
 use Rattle.option.proofs.SuboptionLaws.{good-read, suboption-read, suboption-moves, suboptions-more, suboptions-stop}
 use Rattle.option.proofs.AcceptedWritesBack.{piecesOf, placed-entries, tiled-entries, given-entries, accepted-read, never-joined}

@@ -11,10 +11,11 @@ use lib.Dec.{eqb, leb, ltb}
 use borrow.Author.Tests.{leb-true, ltb-true}
 use Rattle.lists.specs.Walk.{Turn, more, stop}
 use Rattle.lists.proofs.Tests.{and-to}
-use Rattle.lists.proofs.WalkLaws.{unroll-more, unroll-stop}
+use Rattle.lists.proofs.WalkLaws.{unroll-more, unroll-stop, more-not-stop}
 use Rattle.option.specs.Values.{Entry, SuboptionValue, request, information, name, unknown}
 use Rattle.option.specs.Rules.{final, fields?}
-use Rattle.option.specs.Reading.{End, whole, badAt, subEnd, subInside?, whenGood, readEntries, readRequest, readInformation, readName, readBody, readSuboption, readSuboptions, ended}
+use Rattle.option.specs.Reading.{End, whole, badAt, subEnd, subInside?, whenGood, readEntries, readRequest, readInformation, readName, readBody, readSuboption, readSuboptions, ended, option?}
+use Rattle.option.proofs.RuleLaws.{option-to}
 use Rattle.option.specs.Answers.{suboptionOf, stepOf, checkedOf}
 use Rattle.option.specs.declared.Suboption.{Suboption}
 use Rattle.option.specs.declared.Cursor.{Cursor}
@@ -62,14 +63,14 @@ suboption-read s at x next h =
     record { head = leb-true _ _ (t .0); fits = leb-true _ _ (t .1); body = c .1 }
 
 -- A reading that, if it gives a suboption, ends at n.
-abbrev EndsAt : ℕ → Turn SuboptionValue End → Type 0
+abbrev pub EndsAt : ℕ → Turn SuboptionValue End → Type 0
 EndsAt n t = (x : SuboptionValue) (next : ℕ) → t ≡ more x next → n ≡ next
 
 cond-ends : (b : Bool) (n : ℕ) (t u : Turn SuboptionValue End) → EndsAt n t → EndsAt n u → EndsAt n (cond b t u)
 cond-ends true n t u p q = p
 cond-ends false n t u p q = q
 
-body-ends : (number : ℕ) (s : List ℕ) (at end : ℕ) → EndsAt end (readBody number s at end)
+pub body-ends : (number : ℕ) (s : List ℕ) (at end : ℕ) → EndsAt end (readBody number s at end)
 unfolding readBody readRequest readInformation readName
 body-ends number s at end =
     cond-ends (eqb number 1) end (readRequest s at end) _ (λ x next h. good-read _ _ at end x next h .3)
@@ -159,7 +160,7 @@ information-entries s at c t es next h =
     (omega arith, ap (λ (m : ℕ). readEntries s m (at + 3)) (sym last) ∙ ap₂ (λ (x : List Entry) (y : Bool). (x, y)) (g .1) (f .1))
 
 -- Only the end of the option is the end of a reading that is whole.
-good-not-whole : (framed : Bool) (x : SuboptionValue) (at end : ℕ) → whenGood framed x at end ≡ stop whole → ⊥
+pub good-not-whole : (framed : Bool) (x : SuboptionValue) (at end : ℕ) → whenGood framed x at end ≡ stop whole → ⊥
 unfolding whenGood
 good-not-whole framed x at end h = go (framed && fields? x) h
   where
@@ -189,3 +190,31 @@ unfolding readSuboption
 suboption-whole s at h =
     leb-true (length s) at
     (finished (leb (length s) at) (subInside? s at) (readBody (getD s at 0) s at (subEnd s at)) at (body-not-whole (getD s at 0) s at (subEnd s at)) h)
+
+-- A body that is bad is so at its suboption.
+abbrev pub StopsAt : ℕ → Turn SuboptionValue End → Type 0
+StopsAt at t = (b : End) → t ≡ stop b → b ≡ badAt at
+
+cond-stops : (b : Bool) (at : ℕ) (t u : Turn SuboptionValue End) → StopsAt at t → StopsAt at u → StopsAt at (cond b t u)
+cond-stops true at t u p q = p
+cond-stops false at t u p q = q
+
+good-stops : (framed : Bool) (x : SuboptionValue) (at end : ℕ) → StopsAt at (whenGood framed x at end)
+unfolding whenGood
+good-stops framed x at end = go (framed && fields? x)
+  where
+    go : (c : Bool) → StopsAt at (cond c (more x end) (stop (badAt at)))
+    go true b e = absurd (more-not-stop x end b e)
+    go false b e = let z : badAt at ≡ b = cc in sym z
+
+pub body-stops : (number : ℕ) (s : List ℕ) (at end : ℕ) → StopsAt at (readBody number s at end)
+unfolding readBody readRequest readInformation readName
+body-stops number s at end =
+    cond-stops (eqb number 1) at (readRequest s at end) _ (good-stops _ _ at end)
+    (cond-stops (eqb number 2) at (readInformation s at end) _ (good-stops _ _ at end)
+    (cond-stops (eqb number 3) at (readName s at end) _ (good-stops _ _ at end)
+    (λ b e. absurd (more-not-stop unknown end b e))))
+
+-- Row 6 passed: Code, Len, flags and one byte more.
+pub option-long : (s : List ℕ) → option? s ≡ true → 4 ≤ length s
+option-long s e = let t = option-to s e in omega (arith, t .0 .len, t .1)

@@ -10,7 +10,7 @@ use lib.ListN.{length, getD, take, drop, length-append, length-drop}
 use lib.Seq.{getD-drop, drop-drop, drop-at, take-at}
 use lib.Dec.{leb}
 use borrow.Author.Tests.{eq-eqb, le-leb, lt-leb, lt-ltb, leb-true}
-use Rattle.lists.specs.Lists.{All, all?, gather}
+use Rattle.lists.specs.Lists.{All, all?, concatMap}
 use Rattle.lists.specs.Walk.{more}
 use Rattle.lists.proofs.Tests.{and-to, all?-to, all?-of}
 use Rattle.option.specs.Values.{Entry, SuboptionValue, request, information, name, unknown, accepted}
@@ -60,17 +60,17 @@ two-back : (n : ℕ) → n / 256 * 256 + n % 256 ≡ n
 two-back n = omega arith
 
 -- At most three figures.
-figures-back : (s : List ℕ) (at : ℕ) (fs q : List ℕ) → drop at s ≡ gather twoBytes fs ++ q → length fs ≤ 3 → figuresAt s at (2 * length fs) ≡ fs
+figures-back : (s : List ℕ) (at : ℕ) (fs q : List ℕ) → drop at s ≡ concatMap twoBytes fs ++ q → length fs ≤ 3 → figuresAt s at (2 * length fs) ≡ fs
 unfolding figuresAt twoBytes
 figures-back s at [] q h le = refl
 figures-back s at (a ∷ []) q h le =
-    let xs = gather twoBytes (a ∷ []) ++ q in
+    let xs = concatMap twoBytes (a ∷ []) ++ q in
     simp (first s at xs h, byte s at xs h 1, two-back)
 figures-back s at (a ∷ b ∷ []) q h le =
-    let xs = gather twoBytes (a ∷ b ∷ []) ++ q in
+    let xs = concatMap twoBytes (a ∷ b ∷ []) ++ q in
     simp (first s at xs h, byte s at xs h 1, byte s at xs h 2, add-assoc, byte s at xs h 3, two-back)
 figures-back s at (a ∷ b ∷ d ∷ []) q h le =
-    let xs = gather twoBytes (a ∷ b ∷ d ∷ []) ++ q in
+    let xs = concatMap twoBytes (a ∷ b ∷ d ∷ []) ++ q in
     simp (first s at xs h, byte s at xs h 1, byte s at xs h 2, add-assoc, byte s at xs h 3, byte s at xs h 4, byte s at xs h 5, two-back)
 figures-back s at (a ∷ b ∷ d ∷ e ∷ fs) q h le = absurd (omega arith)
 
@@ -97,7 +97,7 @@ module _ (s : List ℕ) (end at : ℕ) (e : Entry) (q : List ℕ) (h : drop at s
   unfolding entryBytes entryHead fourBytes
   stat-back = byte s at (entryBytes e ++ q) h 6
 
-  rest-back : drop (at + 7) s ≡ gather twoBytes (e .figures) ++ q
+  rest-back : drop (at + 7) s ≡ concatMap twoBytes (e .figures) ++ q
   unfolding entryBytes entryHead fourBytes
   rest-back = sym (drop-drop 7 at s) ∙ ap (drop 7) h
 

@@ -3,6 +3,7 @@
 use Prim.Native.Nat.{ℕ}
 use mathlib.Core.List.{List, [], _∷_}
 use mathlib.Core.Bool.{false}
+use Rattle.option.specs.Sizes.{longestOption}
 use Rattle.option.specs.Values.{Entry, SuboptionValue, request, information, Outcome, refused, accepted}
 use Rattle.option.specs.Reading.{readOption}
 use Rattle.option.specs.Writing.{Writing, written, writeOption}
@@ -18,10 +19,10 @@ pub data Result : Type 0 where
   bytes : Writing → Result
   selected : selection.Selected → Result
 
--- What a task answers. The writer's buffer has 257 bytes.
+-- What a task answers. The writer's buffer holds every option.
 abbrev pub run : Task → Result
 run (reading s) = outcome (readOption s)
-run (writing subs) = bytes (writeOption 257 subs)
+run (writing subs) = bytes (writeOption longestOption subs)
 run (reading118 s) = selected (selection.readSelection s)
 
 pub record Row : Type 0 where

@@ -2,11 +2,24 @@
 -- Assumes nothing: these are definitions.
 use mathlib.Core.Bool.{Bool}
 use mathlib.Core.List.{List}
+use lib.ListN.{length}
+use Prim.Native.Nat.{ℕ}
 use Rattle.lists.specs.Lists.{all?}
-use Rattle.option.specs.Values.{Entry}
+use Rattle.lists.specs.Walk.{Turn, more, stop}
+use Rattle.option.specs.Values.{Entry, SuboptionValue}
 use Rattle.option.specs.Rules.{entryFields?}
+use Rattle.option.specs.Reading.{End}
+use Rattle.option.specs.Answers.{lastOf, suboptionOf}
+use Rattle.option.specs.declared.Body.{Body}
+use Rattle.option.specs.declared.Body.the-variants as body
 use Rattle.option.specs.declared.Scan.{Scan}
 
--- What one pass over the entries of an information finds: whether all are framed, and whether the fields of all keep the rules.
+-- What one pass over the entries of an information finds: whether all are framed, and whether the fields of all keep the rules; how
+-- many there are, and the network of the last one.
 abbrev pub scanOf : List Entry × Bool → Scan
-scanOf r = record { framed = r .1; fields = all? entryFields? (r .0) }
+scanOf r = record { framed = r .1; fields = all? entryFields? (r .0); count = length (r .0); last = lastOf (r .0) }
+
+-- The body of a suboption whose number byte is at `at`.
+abbrev pub bodyOf : ℕ → Turn SuboptionValue End → Body
+bodyOf at (more x next) = body.Good (suboptionOf x at next)
+bodyOf at (stop e) = body.Bad

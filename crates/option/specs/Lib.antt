@@ -1,6 +1,8 @@
+pub mod Sizes
 pub mod Values
 pub mod Rules
 pub mod Reading
+pub mod Contents
 pub mod Writing
 pub mod Selection
 pub mod Places

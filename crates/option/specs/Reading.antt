@@ -7,8 +7,8 @@ use mathlib.Core.Bool.{Bool, false, cond, _&&_}
 use lib.ListN.{length, getD, take, drop}
 use lib.Dec.{eqb, leb, ltb}
 use Rattle.lists.specs.Walk.{Turn, more, stop, walk}
-pub use Rattle.entries.specs.Entries.{two, four, bit1, bit2, entryEnd}
-unfoldable pub use Rattle.entries.specs.Entries.{figuresAt, entryAt, entryFramed?, readEntry}
+pub use Rattle.option_entry.specs.Entries.{two, four, bit1, bit2, entryEnd}
+unfoldable pub use Rattle.option_entry.specs.Entries.{figuresAt, entryAt, entryFramed?, readEntry}
 use Rattle.option.specs.Values.{Entry, SuboptionValue, request, information, name, unknown, Outcome, refused, accepted}
 use Rattle.option.specs.Rules.{fields?}
 

@@ -3,7 +3,7 @@
 use Prim.Native.Nat.{ℕ}
 use mathlib.Core.Bool.{Bool}
 use mathlib.Core.List.{List}
-pub use Rattle.entries.specs.Entries.{Entry}
+pub use Rattle.option_entry.specs.Entries.{Entry}
 
 -- "Each suboption read is a request, an information, a name or an unknown one"
 pub data SuboptionValue : Type 0 where

@@ -5,7 +5,7 @@ use mathlib.Core.List.{List, [], _∷_, _++_}
 use mathlib.Core.Bool.{Bool, true, false, cond, _&&_}
 use lib.ListN.{length}
 use lib.Dec.{leb}
-use Rattle.lists.specs.Lists.{all?, gather}
+use Rattle.lists.specs.Lists.{all?, concatMap}
 use Rattle.option.specs.Values.{Entry, SuboptionValue, request, information, name, unknown}
 use Rattle.option.specs.Rules.{entryFields?, fields?}
 
@@ -33,10 +33,10 @@ unfoldable pub entryHead : ℕ → ℕ → Bool → Bool → ℕ → List ℕ
 entryHead network length h d stat = fourBytes network ++ length ∷ flags h d ∷ stat ∷ []
 
 unfoldable pub entryBytes : Entry → List ℕ
-entryBytes e = entryHead (e .network) (e .length) (e .h) (e .d) (2 * length (e .figures)) ++ gather twoBytes (e .figures)
+entryBytes e = entryHead (e .network) (e .length) (e .h) (e .d) (2 * length (e .figures)) ++ concatMap twoBytes (e .figures)
 
 unfoldable pub entriesBytes : List Entry → List ℕ
-entriesBytes es = gather entryBytes es
+entriesBytes es = concatMap entryBytes es
 
 unfoldable pub informationHead : ℕ → Bool → Bool → List ℕ
 informationHead len c s = 2 ∷ len ∷ flags c s ∷ []
@@ -50,7 +50,7 @@ suboptionBytes unknown = []
 
 -- Rule 7: each suboption by itself, in order.
 unfoldable pub suboptionsBytes : List SuboptionValue → List ℕ
-suboptionsBytes subs = gather suboptionBytes subs
+suboptionsBytes subs = concatMap suboptionBytes subs
 
 -- Rule 1: Code, Len, which counts the flags and the suboptions, and the option's flags. Rule 6: these are 0.
 unfoldable pub optionHead : ℕ → List ℕ

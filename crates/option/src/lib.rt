@@ -1,12 +1,16 @@
 // Options 220 (RFC 6656) and 118 (RFC 3011), read from bytes.
-pub use entries::EntryCursor;
-pub use entries::EntryFields;
-pub use entries::EntryStep;
-pub use entries::Figures;
+pub use option_entry::EntryCursor;
+pub use option_entry::EntryFields;
+pub use option_entry::EntryStep;
+pub use option_entry::Figures;
+use option_entry::wide;
 ghost use mathlib.Core.Path.{_≡_};
+ghost use mathlib.Core.Bool.{true, _&&_};
 ghost use Prim.Native.Nat.{_+_, _≤_, _<_};
-ghost use lib.ListN.{length};
+ghost use lib.ListN.{length, set};
+ghost use Rattle.option.specs.Sizes.{longestOption};
 ghost use Rattle.option.specs.Reading.{
+  option?,
   readEntries,
   readRequest,
   readInformation,
@@ -21,10 +25,21 @@ ghost use Rattle.option.specs.Answers.{
   cursorAt,
   stepOf,
   checkedOf,
-  selectionOf,
+  selectedBy,
+  InColumns,
+  Stores,
 };
-ghost use Rattle.option.specs.Inner.{scanOf};
+ghost use Rattle.option.specs.Inner.{scanOf, bodyOf};
 ghost use Rattle.option.specs.Selection.{readSelection};
+
+// Len is a byte, and leaves out Code and Len: no option is longer.
+pub const LONGEST_OPTION: usize = 257;
+
+// "the option has 1 to 25 requests"
+pub const MOST_REQUESTS: usize = 25;
+
+// No option has more entries, and no reply shows more.
+pub const MOST_ENTRIES: usize = 35;
 
 // In each of these `at` is the place of the suboption's number byte.
 pub struct RequestFields {
@@ -34,11 +49,14 @@ pub struct RequestFields {
     pub at: usize,
 }
 
+// Of the entries: where they stand, how many they are, and the network of the last one.
 pub struct InformationFields {
     pub c: bool,
     pub s: bool,
     pub at: usize,
     pub entries: EntryCursor,
+    pub count: usize,
+    pub last: u32,
 }
 
 // The octets stand from `start` to `end`.
@@ -86,43 +104,85 @@ pub enum Selection {
     NotTheOption,
 }
 
-// What one pass over the entries of an information finds: whether all are framed, and whether the fields of all keep the rules.
+// The body of a suboption. A bad one has no place here: one that each reader wrote would keep the answer out of registers.
+enum Body {
+    Good(Suboption),
+    Bad,
+}
+
+// What one pass over the entries of an information finds: whether all are framed, and whether the fields of all keep the rules;
+// how many there are, and the network of the last one.
 struct Scan {
     framed: bool,
     fields: bool,
+    count: usize,
+    last: u32,
 }
 
-fn wide(x: u8) -> usize
-    ensures { λ r. ⌜ (r ≡ x) × (r < 256) ⌝ }
+fn both(a: bool, b: bool) -> bool
+    ensures { λ r. ⌜ r ≡ (a && b) ⌝ }
 {
-    x as usize
+    if a { b } else { false }
 }
 
-// One pass over the entries of an information.
-fn scan_entries(s: &[u8], at: usize, end: usize) -> Scan
-    requires { ⌜ at ≤ end ⌝ }
+// One byte, where the buffer has that place; one number, likewise.
+pub fn store(buf: &mut [u8], at: usize, x: u8)
+    ensures { λ _. ⌜ now (buf .exit) ≡ set (now (buf .entry)) at x ⌝ }
+{
+    if at < buf.len() {
+        buf[at] = x;
+    }
+}
+
+fn store_network(column: &mut [u32], at: usize, network: u32)
+    ensures { λ _. ⌜ now (column .exit) ≡ set (now (column .entry)) at network ⌝ }
+{
+    if at < column.len() {
+        column[at] = network;
+    }
+}
+
+// One pass over the entries of an information: they are tested, and stored in the columns after the `from` that these have.
+fn scan_entries(
+    s: &[u8],
+    at: usize,
+    end: usize,
+    from: usize,
+    networks: &mut [u32],
+    lengths: &mut [u8],
+) -> Scan
+    requires { ⌜ (at ≤ end) × (from ≤ at) ⌝ }
     ensures { λ r. ⌜ r ≡ scanOf (readEntries (now (s .entry)) end at) ⌝ }
+    ensures { λ _. ⌜ InColumns (readEntries (now (s .entry)) end at .0) from (now (networks .entry)) (now (lengths .entry)) (now (networks .exit)) (now (lengths .exit)) ⌝ }
 {
     let mut cursor = EntryCursor { at, end };
+    let mut n = from;
     let mut fields = true;
+    let mut last: u32 = 0;
     loop {
         match cursor.step(s) {
             EntryStep::Entry(e, next) => {
-                if !prefix::is_block(e.network, e.length) {
-                    fields = false;
-                }
+                fields = both(fields, prefix::is_block(e.network, e.length));
+                last = e.network;
+                store_network(networks, n, last);
+                store(lengths, n, e.length);
+                n = n + 1;
                 cursor = next;
             }
             EntryStep::Cut => {
                 return Scan {
                     framed: false,
                     fields,
+                    count: n - from,
+                    last,
                 };
             }
             EntryStep::End => {
                 return Scan {
                     framed: true,
                     fields,
+                    count: n - from,
+                    last,
                 };
             }
         }
@@ -130,90 +190,97 @@ fn scan_entries(s: &[u8], at: usize, end: usize) -> Scan
 }
 
 // A request whose number byte is at a place and that ends before `end`: framing, then fields.
-fn request_at(s: &[u8], at: usize, end: usize) -> Step
+fn request_at(s: &[u8], at: usize, end: usize) -> Body
     requires { ⌜ (at + 2 ≤ end) × (end ≤ length (now s)) ⌝ }
-    ensures { λ r. ⌜ r ≡ stepOf at (readRequest (now (s .entry)) at end) ⌝ }
+    ensures { λ r. ⌜ r ≡ bodyOf at (readRequest (now (s .entry)) at end) ⌝ }
 {
     if end != at + 4 {
-        return Step::Bad(at);
+        return Body::Bad;
     }
     let length = s[at + 3];
     if prefix::Prefix::LONGEST < length {
-        return Step::Bad(at);
+        return Body::Bad;
     }
     let flags = s[at + 2];
-    Step::Piece(
-        Suboption::Request(RequestFields {
-            h: flags % 2 == 1,
-            i: flags / 2 % 2 == 1,
-            length,
-            at,
-        }),
-        Cursor { at: end },
-    )
+    Body::Good(Suboption::Request(RequestFields {
+        h: flags % 2 == 1,
+        i: flags / 2 % 2 == 1,
+        length,
+        at,
+    }))
 }
 
-// An information, likewise.
-fn information_at(s: &[u8], at: usize, end: usize) -> Step
-    requires { ⌜ (at + 2 ≤ end) × (end ≤ length (now s)) ⌝ }
-    ensures { λ r. ⌜ r ≡ stepOf at (readInformation (now (s .entry)) at end) ⌝ }
+// An information, likewise, its entries into the columns.
+fn information_at(
+    s: &[u8],
+    at: usize,
+    end: usize,
+    from: usize,
+    networks: &mut [u32],
+    lengths: &mut [u8],
+) -> Body
+    requires { ⌜ (at + 2 ≤ end) × (end ≤ length (now s)) × (from ≤ at) ⌝ }
+    ensures { λ r. ⌜ r ≡ bodyOf at (readInformation (now (s .entry)) at end) ⌝ }
+    ensures { λ _. ⌜ Stores (readInformation (now (s .entry)) at end) from (now (networks .entry)) (now (lengths .entry)) (now (networks .exit)) (now (lengths .exit)) ⌝ }
 {
     if end <= at + 3 {
-        return Step::Bad(at);
+        return Body::Bad;
     }
-    let scan = scan_entries(s, at + 3, end);
+    let scan = scan_entries(s, at + 3, end, from, networks, lengths);
     if !scan.framed {
-        return Step::Bad(at);
+        return Body::Bad;
     }
     if !scan.fields {
-        return Step::Bad(at);
+        return Body::Bad;
     }
     let flags = s[at + 2];
-    Step::Piece(
-        Suboption::Information(InformationFields {
-            c: flags / 2 % 2 == 1,
-            s: flags % 2 == 1,
-            at,
-            entries: EntryCursor { at: at + 3, end },
-        }),
-        Cursor { at: end },
-    )
+    Body::Good(Suboption::Information(InformationFields {
+        c: flags / 2 % 2 == 1,
+        s: flags % 2 == 1,
+        at,
+        entries: EntryCursor { at: at + 3, end },
+        count: scan.count,
+        last: scan.last,
+    }))
 }
 
 // A name, likewise.
-fn name_at(s: &[u8], at: usize, end: usize) -> Step
+fn name_at(s: &[u8], at: usize, end: usize) -> Body
     requires { ⌜ (at + 2 ≤ end) × (end ≤ length (now s)) ⌝ }
-    ensures { λ r. ⌜ r ≡ stepOf at (readName (now (s .entry)) at end) ⌝ }
+    ensures { λ r. ⌜ r ≡ bodyOf at (readName (now (s .entry)) at end) ⌝ }
 {
     if end <= at + 2 {
-        return Step::Bad(at);
+        return Body::Bad;
     }
     if s[end - 1] == 0 {
-        return Step::Bad(at);
+        return Body::Bad;
     }
-    Step::Piece(
-        Suboption::Name(NameFields {
-            at,
-            start: at + 2,
-            end,
-        }),
-        Cursor { at: end },
-    )
+    Body::Good(Suboption::Name(NameFields {
+        at,
+        start: at + 2,
+        end,
+    }))
 }
 
 // Any suboption, likewise, by its number.
-fn body_at(number: u8, s: &[u8], at: usize, end: usize) -> Step
-    requires { ⌜ (at + 2 ≤ end) × (end ≤ length (now s)) ⌝ }
-    ensures { λ r. ⌜ r ≡ stepOf at (readBody number (now (s .entry)) at end) ⌝ }
+fn body_at(
+    number: u8,
+    s: &[u8],
+    at: usize,
+    end: usize,
+    from: usize,
+    networks: &mut [u32],
+    lengths: &mut [u8],
+) -> Body
+    requires { ⌜ (at + 2 ≤ end) × (end ≤ length (now s)) × (from ≤ at) ⌝ }
+    ensures { λ r. ⌜ r ≡ bodyOf at (readBody number (now (s .entry)) at end) ⌝ }
+    ensures { λ _. ⌜ Stores (readBody number (now (s .entry)) at end) from (now (networks .entry)) (now (lengths .entry)) (now (networks .exit)) (now (lengths .exit)) ⌝ }
 {
     match number {
         1 => request_at(s, at, end),
-        2 => information_at(s, at, end),
+        2 => information_at(s, at, end, from, networks, lengths),
         3 => name_at(s, at, end),
-        _ => Step::Piece(
-            Suboption::Unknown(UnknownFields { at, end }),
-            Cursor { at: end },
-        ),
+        _ => Body::Good(Suboption::Unknown(UnknownFields { at, end })),
     }
 }
 
@@ -225,9 +292,12 @@ impl Cursor {
         Cursor { at: 3 }
     }
 
-    // What stands at the cursor: at the end of the bytes or past it, the end.
-    pub fn step(self, s: &[u8]) -> Step
+    // What stands at the cursor: at the end of the bytes or past it, the end. Networks and lengths of an information's entries go into
+    // the columns, after the `from` that these have, as the entries are tested; a bad suboption may leave some there.
+    pub fn step_into(self, s: &[u8], from: usize, networks: &mut [u32], lengths: &mut [u8]) -> Step
+        requires { ⌜ from ≤ self .at ⌝ }
         ensures { λ r. ⌜ r ≡ stepOf (self .at) (readSuboption (now (s .entry)) (self .at)) ⌝ }
+        ensures { λ _. ⌜ Stores (readSuboption (now (s .entry)) (self .at)) from (now (networks .entry)) (now (lengths .entry)) (now (networks .exit)) (now (lengths .exit)) ⌝ }
     {
         let at = self.at;
         if s.len() <= at {
@@ -240,7 +310,19 @@ impl Cursor {
         if s.len() < end {
             return Step::Bad(at);
         }
-        body_at(s[at], s, at, end)
+        match body_at(s[at], s, at, end, from, networks, lengths) {
+            Body::Good(x) => Step::Piece(x, Cursor { at: end }),
+            Body::Bad => Step::Bad(at),
+        }
+    }
+
+    // The same with no columns.
+    pub fn step(self, s: &[u8]) -> Step
+        ensures { λ r. ⌜ r ≡ stepOf (self .at) (readSuboption (now (s .entry)) (self .at)) ⌝ }
+    {
+        let mut networks = [0u32; 1];
+        let mut lengths = [0u8; 1];
+        self.step_into(s, 0, &mut networks, &mut lengths)
     }
 }
 
@@ -249,7 +331,7 @@ fn check_suboptions(s: &[u8]) -> Checked
     requires { ⌜ 3 ≤ length (now s) ⌝ }
     ensures { λ r. ⌜ r ≡ checkedOf (ended (readSuboptions (now (s .entry)) 3 .0) (readSuboptions (now (s .entry)) 3 .1)) ⌝ }
 {
-    let mut cursor = Cursor { at: 3 };
+    let mut cursor = Cursor::first();
     loop {
         match cursor.step(s) {
             Step::Piece(_, next) => {
@@ -265,21 +347,31 @@ fn check_suboptions(s: &[u8]) -> Checked
     }
 }
 
+// Row 6: whether these bytes are an option 220.
+pub fn is_option(s: &[u8]) -> bool
+    ensures { λ r. ⌜ (r ≡ option? (now (s .entry))) × (r ≡ true → length (now (s .entry)) ≤ longestOption) ⌝ }
+{
+    if s.len() < 2 {
+        return false;
+    }
+    if s[0] != 220 {
+        return false;
+    }
+    let len = wide(s[1]);
+    if len + 2 != s.len() {
+        return false;
+    }
+    if len < 2 {
+        return false;
+    }
+    true
+}
+
 // The check of a whole option, in one pass: the first refusal in row order.
 pub fn check_option(s: &[u8]) -> Checked
     ensures { λ r. ⌜ r ≡ checkedOf (readOption (now (s .entry))) ⌝ }
 {
-    if s.len() < 2 {
-        return Checked::NotTheOption;
-    }
-    if s[0] != 220 {
-        return Checked::NotTheOption;
-    }
-    let len = wide(s[1]);
-    if len + 2 != s.len() {
-        return Checked::NotTheOption;
-    }
-    if len < 2 {
+    if !is_option(s) {
         return Checked::NotTheOption;
     }
     check_suboptions(s)
@@ -287,7 +379,7 @@ pub fn check_option(s: &[u8]) -> Checked
 
 // Option 118: the address of the subnet that is asked for. The address is answered as it stands.
 pub fn read_selection(s: &[u8]) -> Selection
-    ensures { λ r. ⌜ r ≡ selectionOf (readSelection (now (s .entry))) ⌝ }
+    ensures { λ r. ⌜ selectedBy r ≡ readSelection (now (s .entry)) ⌝ }
 {
     if s.len() < 2 {
         return Selection::NotTheOption;
@@ -302,5 +394,5 @@ pub fn read_selection(s: &[u8]) -> Selection
     if counted != 4 {
         return Selection::NotTheOption;
     }
-    Selection::Address(entries::four_at(s, 2))
+    Selection::Address(option_entry::four_at(s, 2))
 }

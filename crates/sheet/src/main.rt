@@ -1,8 +1,9 @@
 // Prints the sheet of the image on standard input, or `refused 5`.
+use image::FULL_IMAGE;
 use sheet_text::SheetAnswer;
 
 // One byte more than the longest image, so that a longer input is seen not to be one.
-const INPUT: usize = 4950;
+const INPUT: usize = FULL_IMAGE + 1;
 
 fn main() {
     let mut input = [0u8; INPUT];

@@ -1,44 +1,37 @@
 -- What the sheet of an image answers: how many rows are free, whether the buffer is too small, and what is written.
 -- Assumes nothing.
 use Prim.Native.Nat.{ℕ, _+_, _*_, _≤_, _<_}
-use mathlib.Core.Path.{_≡_, refl, sym, ap, subst, _∙_}
+use mathlib.Core.Path.{_≡_, sym, ap, subst, _∙_}
 use mathlib.Core.Logic.{inl, inr}
 use mathlib.Core.Bool.{Bool, true, false}
 use mathlib.Core.List.{List, _++_}
-use mathlib.Core.Option.{Option, none, some}
+use mathlib.Core.Option.{Option, some}
 use native.Mathlib.Omega.{arith}
-use lib.ListN.{length, getD, length-append}
+use lib.ListN.{length, getD, length-append, length-map}
 use lib.Dec.{ltb}
 use borrow.Author.Tests.{le-ltb, ltb-true, ltb-false}
-use Rattle.lists.proofs.PutLaws.{put-more}
-use Rattle.lists.specs.Put.{put}
+use Rattle.text.specs.Wrote.{Wrote}
+use Rattle.text.proofs.TextLaws.{wrote-as, wrote-then}
 use Rattle.table.specs.declared.LeaseTable.{LeaseTable}
-use Rattle.table.specs.Table.{poolSlots, leaseSlots}
-use Rattle.image.specs.Image.{loadImage}
+use Rattle.table.specs.Table.{poolPrefix, sound}
+use Rattle.image.specs.Image.{headSize, poolSize, usedPools, usedLeases, imageOf, loadImage, loadedTable}
 use Rattle.image.proofs.FieldLaws.{bytes-all}
-use Rattle.image.proofs.ImageLaws.{image-loaded}
-use Rattle.image_check.specs.declared.Book.{Book}
-use Rattle.image_check.specs.Book.{bookOf}
-use Rattle.sheet_text.specs.declared.Levels.{Levels}
-use Rattle.sheet_text.specs.declared.SheetAnswer.the-variants.{Written, TooSmall}
+use Rattle.image.proofs.ImageLaws.{image-loaded, length-image}
+use Rattle.image_check.specs.declared.ImageSummary.{ImageSummary}
+use Rattle.image_check.specs.ImageSummary.{summaryOf}
+use Rattle.image_check.proofs.SummaryLaws.{summary-some, summary-none}
+use Rattle.sheet_text.specs.declared.SheetAnswer.the-variants.{Written, NotSound, TooSmall}
 use Rattle.sheet_text.specs.Sheet.{freeIn, rows, headText, sheetText, sheetOfImage}
-use Rattle.sheet_text.specs.Scan.{Wrote, Sound, OfTable, text, ReadyAll}
+use Rattle.sheet_text.specs.SheetSizes.{usedMost, freeMost, headMost}
+use Rattle.sheet_text.specs.InnerScan.{SoundImage, OfTable, scanText, ReadyAll}
 use Rattle.sheet_text.proofs.ShowLaws.{scanFirst}
-use Rattle.sheet_text.proofs.LevelLaws.{levelsFirst}
-use Rattle.sheet_text.proofs.SheetLaws.{leases-number, few-pools, free-told, ready-levels, ready-sheet, sheet-is, into-small, into-written, image-sound}
+use Rattle.sheet_text.proofs.SheetLaws.{leases-number, pools-are, pools-number, into-small, into-written, image-sound, image-unsound}
 use Rattle.sheet_text.proofs.SheetHolds.{sheet-bound, sheet-fits}
+use Rattle.sheet_text.proofs.ImageRows.{ready-sheet, sheet-is}
 
--- OF THE TABLE
-
-module _ (image : List ℕ) (k n : ℕ) (s : Sound image k n) where
+module _ (image : List ℕ) (k n : ℕ) (s : SoundImage image k n) where
   abbrev base : ℕ
-  base = 13 + 9 * k
-
-  pub few : (k ≤ poolSlots) × (n ≤ leaseSlots)
-  few = (
-    few-pools (s .table) (s .sound) image (s .bytes) k n (s .pools) (s .leases),
-    omega (arith, s .leases, leases-number (s .table) (s .sound)),
-  )
+  base = headSize + poolSize * k
 
   pub of-table : (P : LeaseTable → Type 0) → P (s .table) → OfTable image P
   of-table P h t e =
@@ -46,86 +39,73 @@ module _ (image : List ℕ) (k n : ℕ) (s : Sound image k n) where
       let same : s .table ≡ t = cc in
       subst P same h
 
-  pub levels-ready : (base + 19 * n ≤ length image) × (13 + 9 * k ≤ length image) × (n ≤ leaseSlots)
-  levels-ready = ready-levels (s .table) (s .sound) image (s .bytes) k n (s .pools) (s .leases)
-
-  pub free-is : (levels : Levels) → levels ≡ levelsFirst image base n k → length (freeIn (rows (s .table))) + (levels .shared + n) ≡ k + levels .deep
-  free-is = free-told (s .table) (s .sound) image (s .bytes) k n (s .pools) (s .leases)
-
-  -- THE BUFFER
-
   -- With as many free rows as are told.
   module _ (free : ℕ) (ef : OfTable image (λ t. free ≡ length (freeIn (rows t)))) where
-    pub sheet-text : headText n free ++ text (scanFirst image base n k) ≡ sheetText (s .table)
-    sheet-text = sheet-is (s .table) (s .sound) image (s .bytes) k n (s .pools) (s .leases) free (ef (s .table) (s .loads))
+    sheet-text : headText n free ++ scanText (scanFirst image base n k) ≡ sheetText (s .table)
+    sheet-text = sheet-is image k n s free (ef (s .table) (s .loads))
 
-    pub sheet-size : length (headText n free) + length (text (scanFirst image base n k)) ≡ length (sheetText (s .table))
-    sheet-size = sym (length-append (headText n free) (text (scanFirst image base n k))) ∙ ap length sheet-text
+    sheet-size : length (headText n free) + length (scanText (scanFirst image base n k)) ≡ length (sheetText (s .table))
+    sheet-size = sym (length-append (headText n free) (scanText (scanFirst image base n k))) ∙ ap length sheet-text
 
     -- Rows as long as rows get.
-    pub surely-fits : (room : ℕ) → 26 + 60 * n + 24 * free ≤ room → OfTable image (λ t. false ≡ ltb room (length (sheetText t)))
+    pub surely-fits : (room : ℕ) → headMost + usedMost * n + freeMost * free ≤ room → OfTable image (λ t. false ≡ ltb room (length (sheetText t)))
     surely-fits room h =
         of-table (λ t. false ≡ ltb room (length (sheetText t)))
         (sym (le-ltb room (length (sheetText (s .table))) (omega (arith, sheet-bound (s .table) (s .sound), s .leases, ef (s .table) (s .loads)))))
 
-    module _ (head : ℕ) (eh : head ≡ length (headText n free)) where
+    -- After the first row, in an empty buffer or in one that has room for the sheet.
+    module _ (old new : List ℕ) (head : ℕ) (w : Wrote old 0 (headText n free) new head) where
       pub measure-ready : (out : List ℕ) → length out ≡ 0 → ReadyAll image base n k out head
       measure-ready out z =
-          ready-sheet (s .table) (s .sound) image (s .bytes) k n (s .pools) (s .leases) out head
-          (record { small = omega (arith, sheet-size, sheet-fits (s .table) (s .sound)); fits = inl z })
+          ready-sheet image k n s out head
+          (record { small = omega (arith, w .place, sheet-size, sheet-fits (s .table) (s .sound)); fits = inl z })
 
-      pub measured : (room : ℕ) (out out′ : List ℕ) (size : ℕ) → Wrote out head (text (scanFirst image base n k)) out′ size
+      pub measured : (room : ℕ) (out out′ : List ℕ) (size : ℕ) → Wrote out head (scanText (scanFirst image base n k)) out′ size
           → OfTable image (λ t. ltb room size ≡ ltb room (length (sheetText t)))
-      measured room out out′ size w =
-          let e : size ≡ length (sheetText (s .table)) = omega (arith, w .place, sheet-size) in
-          of-table (λ t. ltb room size ≡ ltb room (length (sheetText t))) (ap (ltb room) e)
+      measured room out out′ size v =
+          of-table (λ t. ltb room size ≡ ltb room (length (sheetText t))) (ap (ltb room) (omega (arith, w .place, v .place, sheet-size)))
 
-    pub refused-small : (out : List ℕ) (r : Bool) → OfTable image (λ t. r ≡ ltb (length out) (length (sheetText t))) → r ≡ true → (TooSmall, out) ≡ sheetOfImage image out
-    refused-small out r er e =
-        into-small (sheetText (s .table)) out (ltb-true (length out) (length (sheetText (s .table))) (sym (er (s .table) (s .loads)) ∙ e))
-        ∙ image-sound image out (s .table) (s .loads)
+      pub write-ready : length new ≡ length old → length (sheetText (s .table)) ≤ length old → ReadyAll image base n k new head
+      write-ready kept enough =
+          ready-sheet image k n s new head
+          (record { small = omega (arith, w .place, sheet-size, sheet-fits (s .table) (s .sound)); fits = inr (omega (arith, w .place, sheet-size)) })
 
-    module _ (out : List ℕ) (r : Bool) (er : OfTable image (λ t. r ≡ ltb (length out) (length (sheetText t)))) (e : r ≡ false) where
-      enough : length (sheetText (s .table)) ≤ length out
-      enough = ltb-false (length out) (length (sheetText (s .table))) (sym (er (s .table) (s .loads)) ∙ e)
+      pub written : length (sheetText (s .table)) ≤ length old → (out : List ℕ) (size : ℕ) → Wrote new head (scanText (scanFirst image base n k)) out size → (Written size, out) ≡ sheetOfImage image old
+      written enough out size v =
+          let all : Wrote old 0 (sheetText (s .table)) out size = wrote-as (wrote-then w v) sheet-text in
+          into-written (sheetText (s .table)) old size out (omega (arith, all .place)) (omega (arith, all .place)) (all .bytes) ∙ image-sound image old (s .table) (s .loads)
 
-      pub head-fits : length (headText n free) ≤ length out
-      head-fits = omega (arith, enough, sheet-size)
+    pub head-fits : (room : ℕ) → length (sheetText (s .table)) ≤ room → length (headText n free) ≤ room
+    head-fits room enough = omega (arith, sheet-size)
 
-      module _ (out₁ : List ℕ) (head : ℕ) (kept : length out₁ ≡ length out) (w : Wrote out 0 (headText n free) out₁ head) where
-        pub write-ready : ReadyAll image base n k out₁ head
-        write-ready =
-            ready-sheet (s .table) (s .sound) image (s .bytes) k n (s .pools) (s .leases) out₁ head
-            (record { small = omega (arith, w .place, sheet-size, sheet-fits (s .table) (s .sound)); fits = inr (omega (arith, w .place, sheet-size, enough)) })
+  pub enough : (room : ℕ) (r : Bool) → OfTable image (λ t. r ≡ ltb room (length (sheetText t))) → r ≡ false → length (sheetText (s .table)) ≤ room
+  enough room r told e = ltb-false room (length (sheetText (s .table))) (sym (told (s .table) (s .loads)) ∙ e)
 
-        pub written : (out₂ : List ℕ) (size : ℕ) → Wrote out₁ head (text (scanFirst image base n k)) out₂ size → (Written size, out₂) ≡ sheetOfImage image out
-        written out₂ size v =
-            into-written (sheetText (s .table)) out size out₂ (omega (arith, w .place, v .place, sheet-size)) (omega (arith, w .place, v .place, sheet-size, enough))
-            (put-more out out₁ out₂ 0 (headText n free) head (text (scanFirst image base n k)) (w .bytes) (w .place) (v .bytes) ∙ ap (put out 0) sheet-text)
-            ∙ image-sound image out (s .table) (s .loads)
+  pub refused-small : (out : List ℕ) (r : Bool) → OfTable image (λ t. r ≡ ltb (length out) (length (sheetText t))) → r ≡ true → (TooSmall, out) ≡ sheetOfImage image out
+  refused-small out r told e =
+      into-small (sheetText (s .table)) out (ltb-true (length out) (length (sheetText (s .table))) (sym (told (s .table) (s .loads)) ∙ e))
+      ∙ image-sound image out (s .table) (s .loads)
 
--- WHAT THE CHECK OF THE BYTES TELLS
+-- What the check of the bytes tells.
+module _ (image : List ℕ) (summary : ImageSummary) (eb : summary ≡ summaryOf 0 (loadImage image)) where
+  pub told-unsound : (l : List ℕ) → summary .sound ≡ false → (NotSound, l) ≡ sheetOfImage image l
+  told-unsound l e = image-unsound image l (summary-none 0 (loadImage image) (ap (λ (b : ImageSummary). b .sound) (sym eb) ∙ e))
 
-module _ (image : List ℕ) (book : Book) (eb : book ≡ bookOf 0 (loadImage image)) where
-  pub told-none : book .sound ≡ false → loadImage image ≡ none
-  told-none e = cases (loadImage image) eb
-    where
-      cases : (o : Option LeaseTable) → book ≡ bookOf 0 o → o ≡ none
-      cases none f = refl
-      cases (some t) f = let z : _≡_ {A = ℕ} 0 1 = cc (ap (λ (b : Book). b .sound) f) in absurd (omega arith)
-
-  pub told-sound : book .sound ≡ true → ((i : ℕ) → getD image i 0 < 256) → Sound image (book .pools) (book .leases)
-  told-sound e bytes = cases (loadImage image) refl eb
-    where
-      cases : (o : Option LeaseTable) → loadImage image ≡ o → book ≡ bookOf 0 o → Sound image (book .pools) (book .leases)
-      cases none l f = let z : _≡_ {A = ℕ} 0 1 = cc (ap (λ (b : Book). b .sound) f) in absurd (omega arith)
-      cases (some t) l f =
-          let loaded = image-loaded image t (bytes-all image bytes) l in
-          record {
-            table = t;
-            loads = l;
-            sound = loaded .0;
-            bytes = loaded .1;
-            pools = ap (λ (b : Book). b .pools) f;
-            leases = ap (λ (b : Book). b .leases) f;
-          }
+  pub told-sound : summary .sound ≡ true → ((i : ℕ) → getD image i 0 < 256) → SoundImage image (summary .pools) (summary .leases)
+  told-sound e bytes =
+      let t : LeaseTable = loadedTable (loadImage image) in
+      let loads : loadImage image ≡ some t = summary-some 0 (loadImage image) (ap (λ (b : ImageSummary). b .sound) (sym eb) ∙ e) in
+      let loaded : (sound t ≡ true) × (imageOf t ≡ image) = image-loaded image t (bytes-all image bytes) loads in
+      let pools : summary .pools ≡ length (usedPools t) = ap (λ (b : ImageSummary). b .pools) (eb ∙ ap (summaryOf 0) loads) in
+      let leases : summary .leases ≡ length (usedLeases t) = ap (λ (b : ImageSummary). b .leases) (eb ∙ ap (summaryOf 0) loads) in
+      record {
+        table = t;
+        loads = loads;
+        sound = loaded .0;
+        bytes = loaded .1;
+        pools = pools;
+        leases = leases;
+        few-pools = omega (arith, pools-number t (loaded .0), ap length (pools-are t (loaded .0)), length-map (usedPools t) poolPrefix);
+        few-leases = omega (arith, leases-number t (loaded .0));
+        size = omega (arith, ap length (loaded .1), length-image t);
+      }

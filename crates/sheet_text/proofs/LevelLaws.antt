@@ -9,9 +9,8 @@ use native.Mathlib.Numerals.{add-one}
 use native.Mathlib.Omega.{arith}
 use lib.Bits.{bitXor, differ, xor-step, xor-self, xor-block, xor-lt}
 use lib.Count.{leading-unique}
-use lib.ListN.{length, drop, getD}
+use lib.ListN.{length, drop, getD, length-drop}
 use lib.Seq.{getD-drop, drop-drop}
-use lib.Dec.{leb}
 use borrow.Author.Tests.{le-leb, lt-leb}
 use Rattle.lists.specs.Lists.{All}
 use Rattle.lists.proofs.Tests.{cond-true, cond-false}
@@ -19,9 +18,8 @@ use Rattle.prefix.specs.declared.Prefix.{Prefix}
 use Rattle.prefix.specs.Prefixes.{end, Aligned, In, lower, upper}
 use Rattle.sheet_text.specs.declared.Used.{Used}
 use Rattle.sheet_text.specs.declared.Levels.{Levels}
-use Rattle.sheet_text.specs.Scan.{leaseShown, poolShown, poolsShown, clear?}
-use Rattle.sheet_text.specs.Levels.{commonBits, withLease, laterLevels, poolLevels, allLevels, noLevels}
-use Rattle.sheet_text.proofs.ShowLaws.{told-clear}
+use Rattle.sheet_text.specs.InnerScan.{leaseShown, poolShown, poolsShown, clear?}
+use Rattle.sheet_text.specs.InnerLevels.{commonBits, withLease, laterLevels, poolLevels, allLevels, noLevels}
 
 -- BITS IN COMMON
 
@@ -106,60 +104,46 @@ Stops stop (w ∷ ws) = stop ≤ w .network
 pub levels-path : (n n′ d d′ s s′ : ℕ) → n ≡ n′ → d ≡ d′ → s ≡ s′ → _≡_ {A = Levels} (record { next = n; deep = d; shared = s }) (record { next = n′; deep = d′; shared = s′ })
 levels-path n n′ d d′ s s′ en ed es = λ i. record { next = en i; deep = ed i; shared = es i }
 
-module _ (leases : ℕ → Used) (stop left : ℕ) (from : Levels) where
-  pub later-stop : stop ≤ leases (from .next) .network → laterLevels leases stop (suc left) from ≡ from
+-- One turn over the leases: none is left, or the next one starts too late, or it is one more.
+module _ (leases : ℕ → Used) (n stop : ℕ) (from : Levels) where
+  pub turn-last : n ≤ from .next → from ≡ laterLevels leases stop (n - from .next) from
   unfolding laterLevels
-  later-stop h = cond-true (leb stop (leases (from .next) .network)) from _ (le-leb stop (leases (from .next) .network) h)
+  turn-last h = let none : n - from .next ≡ 0 = omega arith in sym (ap (λ (m : ℕ). laterLevels leases stop m from) none)
 
-  pub later-more : leases (from .next) .network < stop
-      → laterLevels leases stop (suc left) from
-      ≡ laterLevels leases stop left (withLease from (leases (from .next)) (commonBits (leases (from .next - 1) .network) (leases (from .next) .network) + 1))
-  unfolding laterLevels
-  later-more h = cond-false (leb stop (leases (from .next) .network)) from _ (lt-leb stop (leases (from .next) .network) h)
+  module _ (lt : from .next < n) (x : Used) (w : ℕ) (ex : x ≡ leases (from .next)) (ew : w ≡ x .network) where
+    one-less : n - from .next ≡ suc (n - (from .next + 1))
+    one-less = omega arith
 
-pub later-none : (leases : ℕ → Used) (stop : ℕ) (from : Levels) → laterLevels leases stop 0 from ≡ from
-unfolding laterLevels
-later-none leases stop from = refl
+    starts : w ≡ leases (from .next) .network
+    starts = ew ∙ ap (λ (y : Used). y .network) ex
 
--- One turn of the code's loop over them.
-module _ (leases : ℕ → Used) (n stop : ℕ) (from : Levels) (lt : from .next < n) (x : Used) (w : ℕ) (ex : x ≡ leases (from .next)) (ew : w ≡ x .network) where
-  one-less : n - from .next ≡ suc (n - (from .next + 1))
-  one-less = omega arith
+    pub turn-stop : stop ≤ w → from ≡ laterLevels leases stop (n - from .next) from
+    unfolding laterLevels
+    turn-stop h = sym (ap (λ (m : ℕ). laterLevels leases stop m from) one-less ∙ cond-true _ from _ (le-leb stop _ (omega (arith, starts))))
 
-  pub turn-stop : stop ≤ w → from ≡ laterLevels leases stop (n - from .next) from
-  turn-stop h =
-      sym (ap (λ (m : ℕ). laterLevels leases stop m from) one-less
-      ∙ later-stop leases stop (n - (from .next + 1)) from (omega (arith, ap (λ (y : Used). y .network) ex)))
-
-  pub turn-more : (y : Used) (c : ℕ) → y ≡ leases (from .next - 1) → c ≡ commonBits (y .network) (x .network) → w < stop
-      → laterLevels leases stop (n - (from .next + 1)) (record { next = from .next + 1; deep = from .deep + x .length; shared = from .shared + c + 1 })
-      ≡ laterLevels leases stop (n - from .next) from
-  turn-more y c ey ec h =
-      let bits : c ≡ commonBits (leases (from .next - 1) .network) (leases (from .next) .network) =
-      ec ∙ ap₂ (λ (u v : Used). commonBits (u .network) (v .network)) ey ex in
-      ap (laterLevels leases stop (n - (from .next + 1))) (levels-path _ _ _ _ _ _ refl (omega (arith, ap (λ (u : Used). u .length) ex)) (omega (arith, bits)))
-      ∙ sym (ap (λ (m : ℕ). laterLevels leases stop m from) one-less
-      ∙ later-more leases stop (n - (from .next + 1)) from (omega (arith, ap (λ (u : Used). u .network) ex)))
-
--- After the last lease.
-pub turn-last : (leases : ℕ → Used) (n stop : ℕ) (from : Levels) → n ≤ from .next → from ≡ laterLevels leases stop (n - from .next) from
-turn-last leases n stop from h =
-    let none : n - from .next ≡ 0 = omega arith in
-    sym (ap (λ (m : ℕ). laterLevels leases stop m from) none ∙ later-none leases stop from)
+    pub turn-more : (y : Used) (c : ℕ) → y ≡ leases (from .next - 1) → c ≡ commonBits (y .network) (x .network) → w < stop
+        → laterLevels leases stop (n - (from .next + 1)) (record { next = from .next + 1; deep = from .deep + x .length; shared = from .shared + c + 1 })
+        ≡ laterLevels leases stop (n - from .next) from
+    unfolding laterLevels
+    turn-more y c ey ec h =
+        let bits : c ≡ commonBits (leases (from .next - 1) .network) (leases (from .next) .network) =
+        ec ∙ ap₂ (λ (u v : Used). commonBits (u .network) (v .network)) ey ex in
+        ap (laterLevels leases stop (n - (from .next + 1))) (levels-path _ _ _ _ _ _ refl (omega (arith, ap (λ (u : Used). u .length) ex)) (omega (arith, bits)))
+        ∙ sym (ap (λ (m : ℕ). laterLevels leases stop m from) one-less ∙ cond-false _ from _ (lt-leb stop _ (omega (arith, starts))))
 
 -- The leases of a pool, as the code's test of it tells.
-module _ (leases : ℕ → Used) (n : ℕ) (p : Prefix) (from : Levels) (stop : ℕ) (r : Bool) (es : stop ≡ end p) (er : r ≡ clear? n stop (from .next) (leases (from .next) .network)) where
+module _ (leases : ℕ → Used) (n : ℕ) (p : Prefix) (from : Levels) (r : Bool) (told : r ≡ clear? n (end p) (from .next) (leases (from .next) .network)) where
   pub pool-none : r ≡ true → from ≡ poolLevels leases n p from
   unfolding poolLevels
-  pool-none e = sym (cond-true _ from _ (told-clear leases n p (from .next) stop r es er true e))
+  pool-none e = sym (cond-true _ from _ (sym told ∙ e))
 
-  pub pool-some : r ≡ false → (x : Used) → x ≡ leases (from .next) → (result : Levels)
+  pub pool-some : r ≡ false → (x : Used) → x ≡ leases (from .next) → (stop : ℕ) → stop ≡ end p → (result : Levels)
       → result ≡ laterLevels leases stop (n - (from .next + 1)) (withLease from x (p .length)) → result ≡ poolLevels leases n p from
   unfolding poolLevels
-  pool-some e x ex result el =
+  pool-some e x ex stop es result el =
       el
       ∙ ap₂ (λ (s : ℕ) (y : Used). laterLevels leases s (n - (from .next + 1)) (withLease from y (p .length))) es ex
-      ∙ sym (cond-false _ from _ (told-clear leases n p (from .next) stop r es er false e))
+      ∙ sym (cond-false _ from _ (sym told ∙ e))
 
 all-snoc : (leases : ℕ → Used) (n : ℕ) (ps : List Prefix) (p : Prefix) (from : Levels) → allLevels leases n (ps ++ (p ∷ [])) from ≡ poolLevels leases n p (allLevels leases n ps from)
 unfolding allLevels
@@ -196,33 +180,20 @@ module _ (xs : List Used) (d : Used) where
   rest-is i z rest e = sym (drop-drop 1 i xs) ∙ ap (drop 1) e
 
   -- The leases zs, then ws, where the sums stop.
-  pub later-levels : (stop : ℕ) (zs ws : List Used) (left : ℕ) (from : Levels) → drop (from .next) xs ≡ zs ++ ws → left ≡ length zs + length ws
-      → All (λ x. x .network < stop) zs → Stops stop ws
-      → laterLevels lease stop left from
+  pub later-levels : (stop : ℕ) (zs ws : List Used) (from : Levels) → drop (from .next) xs ≡ zs ++ ws → All (λ x. x .network < stop) zs → Stops stop ws
+      → laterLevels lease stop (length xs - from .next) from
       ≡ record { next = from .next + length zs; deep = from .deep + deepIn zs; shared = from .shared + sharedAfter (lease (from .next - 1) .network) zs }
-  later-levels stop [] [] left from e el a s =
-      let none : left ≡ 0 = omega arith in
-      ap (λ (m : ℕ). laterLevels lease stop m from) none
-      ∙ later-none lease stop from
+  later-levels stop [] [] from e a s =
+      sym (turn-last lease (length xs) stop from (omega (arith, ap length e, length-drop (from .next) xs)))
       ∙ levels-path _ _ _ _ _ _ (omega arith) (omega arith) (omega arith)
-  later-levels stop [] (w ∷ ws) left from e el a s =
-      let one : left ≡ suc (length ws) = omega arith in
-      ap (λ (m : ℕ). laterLevels lease stop m from) one
-      ∙ later-stop lease stop (length ws) from (subst (λ (x : Used). stop ≤ x .network) (sym (first-is (from .next) w ws e)) s)
+  later-levels stop [] (w ∷ ws) from e a s =
+      sym (turn-stop lease (length xs) stop from (omega (arith, ap length e, length-drop (from .next) xs)) w (w .network) (sym (first-is (from .next) w ws e)) refl s)
       ∙ levels-path _ _ _ _ _ _ (omega arith) (omega arith) (omega arith)
-  later-levels stop (z ∷ zs) ws left from e el a s =
-      let here : lease (from .next) ≡ z = first-is (from .next) z (zs ++ ws) e in
-      let next : Levels = withLease from (lease (from .next)) (commonBits (lease (from .next - 1) .network) (lease (from .next) .network) + 1) in
-      let one : left ≡ suc (length zs + length ws) = omega arith in
+  later-levels stop (z ∷ zs) ws from e a s =
+      let here : z ≡ lease (from .next) = sym (first-is (from .next) z (zs ++ ws) e) in
+      let bits : ℕ = commonBits (lease (from .next - 1) .network) (z .network) in
       let before : from .next + 1 - 1 ≡ from .next = omega arith in
-      let same : lease (from .next + 1 - 1) .network ≡ z .network = ap (λ (k : ℕ). lease k .network) before ∙ ap (λ (x : Used). x .network) here in
-      ap (λ (m : ℕ). laterLevels lease stop m from) one
-      ∙ later-more lease stop (length zs + length ws) from (subst (λ (x : Used). x .network < stop) (sym here) (a .0))
-      ∙ later-levels stop zs ws (length zs + length ws) next (rest-is (from .next) z (zs ++ ws) e) refl (a .1) s
-      ∙ levels-path _ _ _ _ _ _ (omega arith)
-      (omega (arith, ap (λ (x : Used). x .length) here))
-      (omega (
-        arith,
-        ap (λ (x : Used). commonBits (lease (from .next - 1) .network) (x .network)) here,
-        ap (λ (m : ℕ). sharedAfter m zs) same,
-      ))
+      let same : lease (from .next + 1 - 1) .network ≡ z .network = ap (λ (k : ℕ). lease k .network) before ∙ ap (λ (x : Used). x .network) (sym here) in
+      sym (turn-more lease (length xs) stop from (omega (arith, ap length e, length-drop (from .next) xs)) z (z .network) here refl (lease (from .next - 1)) bits refl refl (a .0))
+      ∙ later-levels stop zs ws (record { next = from .next + 1; deep = from .deep + z .length; shared = from .shared + bits + 1 }) (rest-is (from .next) z (zs ++ ws) e) (a .1) s
+      ∙ levels-path _ _ _ _ _ _ (omega arith) (omega arith) (omega (arith, ap (λ (m : ℕ). sharedAfter m zs) same))

@@ -1,9 +1,10 @@
-pub mod TextLaws
+pub mod RowTexts
 pub mod ShowLaws
 pub mod LevelLaws
 pub mod RowLaws
 pub mod PoolLaws
 pub mod SheetLaws
 pub mod SheetHolds
+pub mod ImageRows
 pub mod AnswerLaws
 mod Examples

@@ -9,24 +9,25 @@ use native.Mathlib.Nat.{mul-le-mul-right}
 use native.Mathlib.Decide.{decLe}
 use native.Mathlib.Omega.{arith}
 use lib.ListN.{length, drop, getD, length-append, length-drop, drop-of-length-le}
-use lib.Dec.{leb, ltb}
-use borrow.Author.Tests.{le-leb, lt-leb, lt-ltb, ltb-true}
-use Rattle.lists.specs.Lists.{All, Any, gather}
-use Rattle.lists.proofs.Tests.{bool-cases, cond-true, cond-false}
+use lib.Dec.{ltb}
+use borrow.Author.Tests.{lt-leb, lt-ltb}
+use Rattle.lists.specs.Lists.{All, Any, concatMap}
+use Rattle.lists.proofs.Tests.{cond-true}
 use Rattle.lists.proofs.ListLaws.{any-all, all-map}
 use Rattle.prefix.specs.declared.Prefix.{Prefix}
 use Rattle.prefix.specs.Prefixes.{longest, end, Aligned, In, Inside}
 use Rattle.prefix.proofs.PrefixLaws.{size-positive}
-use Rattle.space.specs.Space.{walk, wholes}
+use Rattle.free_space.specs.Space.{walk, wholes}
 use Rattle.table.proofs.Ascending.{Ascending, ascending-low}
 use Rattle.sheet_text.specs.declared.Used.{Used}
 use Rattle.sheet_text.specs.Sheet.{Row, usedIn, freeIn, prefixUsed, rowsIn}
+use Rattle.sheet_text.specs.SheetSizes.{halvings}
 use Rattle.sheet_text.specs.declared.Levels.{Levels}
-use Rattle.sheet_text.specs.Scan.{Scan, clear?, scanOf, scanAll}
-use Rattle.sheet_text.specs.Levels.{withLease, poolLevels, allLevels}
-use Rattle.sheet_text.proofs.ShowLaws.{free-append}
+use Rattle.sheet_text.specs.InnerScan.{Scan, clear?, scanOf, scanAll}
+use Rattle.sheet_text.specs.InnerLevels.{withLease, poolLevels, allLevels}
+use Rattle.sheet_text.proofs.ShowLaws.{used-append, free-append, length-used, length-free, clear-of}
 use Rattle.sheet_text.proofs.LevelLaws.{deepIn, sharedAfter, sharedIn, Stops, levels-path, pool-none, pool-some, first-is, rest-is, later-levels}
-use Rattle.sheet_text.proofs.RowLaws.{Blocks, Cursor, Tidy, Scanned, scanned, used-append}
+use Rattle.sheet_text.proofs.RowLaws.{Blocks, Cursor, Tidy, Scanned, scanned}
 
 module _ (xs : List Used) (d : Used) (blocks : Blocks xs d) where
   abbrev lease : ℕ → Used
@@ -37,21 +38,14 @@ module _ (xs : List Used) (d : Used) (blocks : Blocks xs d) where
   Pooled c ps = (k : ℕ) → k < length xs → (end (prefixUsed (lease k)) ≤ c) ⊎ Any (Inside (prefixUsed (lease k))) ps
 
   pub record ScannedAll (ps : List Prefix) (i : ℕ) (s : Scan) : Type 0 where
-    pub rows : s .rows ≡ gather (λ p. rowsIn xs (longest - p .length) p) ps
+    pub rows : s .rows ≡ concatMap (λ p. rowsIn xs (longest - p .length) p) ps
     pub used : drop i xs ≡ usedIn (s .rows)
     pub free : freeIn (s .rows) ≡ wholes ps (map prefixUsed xs)
-    pub few : length (freeIn (s .rows)) ≤ 22 * length (usedIn (s .rows)) + length ps
+    pub few : length (freeIn (s .rows)) ≤ halvings * length (usedIn (s .rows)) + length ps
     pub count : (from : Levels) → from .next ≡ i
         → length (s .rows) + allLevels lease (length xs) ps from .shared + from .deep ≡ length ps + allLevels lease (length xs) ps from .deep + from .shared
 
   -- THE SUMS OF A POOL
-
-  clear-of : (n stop i network : ℕ) → (i < n → stop ≤ network) → clear? n stop i network ≡ true
-  clear-of n stop i network h =
-      ⊎-elim
-      (λ (b : ltb i n ≡ true). cond-true (ltb i n) (leb stop network) true b ∙ le-leb stop network (h (ltb-true i n b)))
-      (λ (b : ltb i n ≡ false). cond-false (ltb i n) (leb stop network) true b)
-      (bool-cases (ltb i n))
 
   stops-of : (stop j : ℕ) (ws : List Used) → drop j xs ≡ ws → (j < length xs → stop ≤ lease j .network) → Stops stop ws
   stops-of stop j [] e h = tt
@@ -64,7 +58,7 @@ module _ (xs : List Used) (d : Used) (blocks : Blocks xs d) where
       → poolLevels lease (length xs) p from ≡ record { next = j; deep = from .deep + deepIn us; shared = from .shared + sharedIn p us }
   pool-sums p j from [] cursor bound e a =
       let same : from .next ≡ j = omega (arith, ap length e, length-drop (from .next) xs, length-drop j xs, cursor .bound) in
-      sym (pool-none lease (length xs) p from (end p) (clear? (length xs) (end p) (from .next) (lease (from .next) .network)) refl refl
+      sym (pool-none lease (length xs) p from (clear? (length xs) (end p) (from .next) (lease (from .next) .network)) refl
       (clear-of (length xs) (end p) (from .next) (lease (from .next) .network) (λ h. cursor .later (from .next) (omega arith) h)))
       ∙ levels-path _ _ _ _ _ _ same (omega arith) (omega arith)
   pool-sums p j from (z ∷ zs) cursor bound e a =
@@ -77,10 +71,9 @@ module _ (xs : List Used) (d : Used) (blocks : Blocks xs d) where
       ∙ lt-leb (end p) (lease (from .next) .network) (omega (arith, ap (λ (x : Used). x .network) here, a .0 .1)) in
       let before : from .next + 1 - 1 ≡ from .next = omega arith in
       let same : lease (from .next + 1 - 1) .network ≡ z .network = ap (λ (k : ℕ). lease k .network) before ∙ ap (λ (x : Used). x .network) here in
-      sym (pool-some lease (length xs) p from (end p) (clear? (length xs) (end p) (from .next) (lease (from .next) .network)) refl refl taken (lease (from .next)) refl _ refl)
-      ∙ later-levels xs d (end p) zs (drop j xs) (length xs - (from .next + 1)) (withLease from (lease (from .next)) (p .length))
+      sym (pool-some lease (length xs) p from (clear? (length xs) (end p) (from .next) (lease (from .next) .network)) refl taken (lease (from .next)) refl (end p) refl _ refl)
+      ∙ later-levels xs d (end p) zs (drop j xs) (withLease from (lease (from .next)) (p .length))
       (rest-is xs d (from .next) z (zs ++ drop j xs) e)
-      (omega (arith, size, sizes, length-drop (from .next) xs))
       (all-map (λ x (h : In (x .network) p). h .1) zs (a .1))
       (stops-of (end p) j (drop j xs) refl (λ h. cursor .later j (omega arith) h))
       ∙ levels-path _ _ _ _ _ _
@@ -123,7 +116,7 @@ module _ (xs : List Used) (d : Used) (blocks : Blocks xs d) where
         ⊎-elim (λ (e : end (prefixUsed (lease k)) ≤ c). inl (omega (arith, e, starts)))
         (λ a. ⊎-elim (λ (b : Inside (prefixUsed (lease k)) p). inl (b .1)) inr a) (pooled k h)
 
-  few-more : (left a b x y m : ℕ) → left ≤ 22 → x ≤ left * a + 1 → y ≤ 22 * b + m → x + y ≤ 22 * (a + b) + suc m
+  few-more : (left a b x y m : ℕ) → left ≤ halvings → x ≤ left * a + 1 → y ≤ halvings * b + m → x + y ≤ halvings * (a + b) + suc m
   few-more left a b x y m h i j = omega (arith, mul-le-mul-right a h)
 
   pub scanned-all : (ps : List Prefix) (i c : ℕ) → All (λ p. (8 ≤ p .length) × (p .length ≤ longest)) ps → All Aligned ps → Ascending (λ p. p) c ps
@@ -143,10 +136,6 @@ module _ (xs : List Used) (d : Used) (blocks : Blocks xs d) where
       → poolLevels lease (length xs) p from ≡ record { next = first .next; deep = from .deep + deepIn (usedIn (first .rows)); shared = from .shared + sharedIn p (usedIn (first .rows)) } =
       λ from e. pool-sums p (first .next) from (usedIn (first .rows)) (s .cursor) (omega (arith, e, cursor .bound)) (ap (λ (k : ℕ). drop k xs) e ∙ s .used) (s .inside) in
       let level : 32 - p .length ≡ suc (suc (longest - p .length)) = omega arith in
-      let u : length (usedIn (first .rows ++ later .rows)) ≡ length (usedIn (first .rows)) + length (usedIn (later .rows)) =
-      ap length (used-append (first .rows) (later .rows)) ∙ length-append (usedIn (first .rows)) (usedIn (later .rows)) in
-      let f : length (freeIn (first .rows ++ later .rows)) ≡ length (freeIn (first .rows)) + length (freeIn (later .rows)) =
-      ap length (free-append (first .rows) (later .rows)) ∙ length-append (freeIn (first .rows)) (freeIn (later .rows)) in
       record {
         rows = ap₂ (λ (a b : List Row). a ++ b) (s .rows) (t .rows);
         used = s .used ∙ ap (λ (l : List Used). usedIn (first .rows) ++ l) (t .used) ∙ sym (used-append (first .rows) (later .rows));
@@ -156,8 +145,8 @@ module _ (xs : List Used) (d : Used) (blocks : Blocks xs d) where
         few =
             omega (
               arith,
-              ap (λ (k : ℕ). 22 * k) u,
-              f,
+              ap (λ (k : ℕ). halvings * k) (length-used (first .rows) (later .rows)),
+              length-free (first .rows) (later .rows),
               few-more (longest - p .length) (length (usedIn (first .rows))) (length (usedIn (later .rows))) (length (freeIn (first .rows))) (length (freeIn (later .rows))) (length ps) (omega arith) (s .few) (t .few),
             );
         count = λ from e.

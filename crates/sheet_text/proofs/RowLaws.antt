@@ -11,8 +11,8 @@ use native.Mathlib.Nat.{suc-mul, mul-add}
 use native.Mathlib.Decide.{decLe}
 use native.Mathlib.Omega.{arith}
 use lib.ListN.{length, drop, getD, length-append, length-drop}
-use lib.Dec.{leb, ltb, eqb}
-use borrow.Author.Tests.{leb-true, lt-ltb, eqb-true, eq-eqb}
+use lib.Dec.{eqb}
+use borrow.Author.Tests.{eqb-true, eq-eqb}
 use Rattle.lists.specs.Lists.{All, any?}
 use Rattle.lists.proofs.Tests.{bool-cases, not-true⇒false, and-to, and-of, cond-true, cond-false, or-left, or-right}
 use Rattle.lists.proofs.ListLaws.{any-all, all-map, all-append}
@@ -21,12 +21,12 @@ use Rattle.prefix.specs.declared.Prefix.{Prefix}
 use Rattle.prefix.specs.Prefixes.{longest, end, Aligned, In, Inside, inside?, Apart, lower, upper}
 use Rattle.prefix.proofs.PrefixLaws.{size-positive, inside-of, lower-inside, upper-inside, upper-end}
 use Rattle.prefix.proofs.Nesting.{order, apart-sub, apart-absurd, inside-order, inside-same-order, aligned-lower, aligned-upper, in-half}
-use Rattle.space.specs.Space.{unused?, covered?, walk}
-use Rattle.space.proofs.WalkLaws.{unused-to, unused-of, covered-to, walk-unused, walk-covered, walk-halves}
+use Rattle.free_space.specs.Space.{unused?, covered?, walk}
+use Rattle.free_space.proofs.WalkLaws.{unused-to, unused-of, covered-to, walk-unused, walk-covered, walk-halves}
 use Rattle.sheet_text.specs.declared.Used.{Used}
 use Rattle.sheet_text.specs.Sheet.{Row, usedRow, freeRow, usedIn, freeIn, prefixUsed, usedAt, rowsIn}
-use Rattle.sheet_text.specs.Scan.{Scan, clear?, both, freeScan, usedScan, scan}
-use Rattle.sheet_text.proofs.ShowLaws.{free-append, scan-clear, scan-here, scan-split, clear-not}
+use Rattle.sheet_text.specs.InnerScan.{Scan, clear?, both, freeScan, usedScan, scan}
+use Rattle.sheet_text.proofs.ShowLaws.{used-append, free-append, length-used, length-free, scan-clear, scan-here, scan-split, clear-not, clear-yes}
 use Rattle.sheet_text.proofs.LevelLaws.{deepIn, sharedIn, counted-halves}
 
 -- LISTS BY INDEX
@@ -83,14 +83,6 @@ used-none : (p : Prefix) (xs : List Used) (d : Used) → ((k : ℕ) → k < leng
 used-none p [] d f = refl
 used-none p (x ∷ xs) d f =
     cond-false (same? p x) (some x) (usedAt p xs) (same-not p x (f 0 (omega arith))) ∙ used-none p xs d (λ k l. f (suc k) (omega arith))
-
-pub used-append : (rs qs : List Row) → usedIn (rs ++ qs) ≡ usedIn rs ++ usedIn qs
-used-append [] qs = refl
-used-append (usedRow x ∷ rs) qs = ap (λ (l : List Used). x ∷ l) (used-append rs qs)
-used-append (freeRow p ∷ rs) qs = used-append rs qs
-
-clear-yes : (n stop i network : ℕ) → clear? n stop i network ≡ true → i < n → stop ≤ network
-clear-yes n stop i network e h = leb-true stop network (sym (cond-true (ltb i n) (leb stop network) true (lt-ltb i n h)) ∙ e)
 
 -- Free rows of two halves with a used row.
 few-both : (m a b u x y f : ℕ) → u ≡ a + b → f ≡ x + y → 1 ≤ u → x ≤ m * a + 1 → y ≤ m * b + 1 → f ≤ suc m * u + 1
@@ -271,12 +263,7 @@ module _ (xs : List Used) (d : Used) (blocks : Blocks xs d) where
               (λ h. omega (arith, ap length halves-used, length-append (usedIn (low .rows ++ high .rows)) (drop (high .next) xs), length-drop i xs, length-drop (high .next) xs, second .cursor .bound))
 
           halves-few : length (freeIn (low .rows ++ high .rows)) ≤ suc rest * length (usedIn (low .rows ++ high .rows)) + 1
-          halves-few =
-              let u : length (usedIn (low .rows ++ high .rows)) ≡ length (usedIn (low .rows)) + length (usedIn (high .rows)) =
-              ap length (used-append (low .rows) (high .rows)) ∙ length-append (usedIn (low .rows)) (usedIn (high .rows)) in
-              let f : length (freeIn (low .rows ++ high .rows)) ≡ length (freeIn (low .rows)) + length (freeIn (high .rows)) =
-              ap length (free-append (low .rows) (high .rows)) ∙ length-append (freeIn (low .rows)) (freeIn (high .rows)) in
-              few-both rest (length (usedIn (low .rows))) (length (usedIn (high .rows))) (length (usedIn (low .rows ++ high .rows))) (length (freeIn (low .rows))) (length (freeIn (high .rows))) (length (freeIn (low .rows ++ high .rows))) u f some-used (first .few) (second .few)
+          halves-few = few-both rest _ _ _ _ _ _ (length-used (low .rows) (high .rows)) (length-free (low .rows) (high .rows)) some-used (first .few) (second .few)
 
           halves-inside : All (λ x. In (x .network) p) (usedIn (low .rows) ++ usedIn (high .rows))
           halves-inside =

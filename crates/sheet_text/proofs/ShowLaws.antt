@@ -9,29 +9,28 @@ use native.Mathlib.Decide.{decLe}
 use native.Mathlib.Numerals.{add-one}
 use native.Mathlib.Omega.{arith}
 use lib.ListN.{length, length-append}
-use lib.Dec.{leb, ltb}
-use borrow.Author.Tests.{le-leb, lt-leb, ltb-true, leb-false}
+use borrow.Author.Tests.{le-leb, lt-leb, lt-ltb, le-ltb, leb-true, leb-false}
 use Rattle.lists.specs.Put.{put}
-use Rattle.lists.proofs.Tests.{bool-cases, cond-true, cond-false}
-use Rattle.lists.proofs.GatherLaws.{gather-append, gather-one}
+use Rattle.lists.proofs.ConcatMapLaws.{concatMap-append, concatMap-one}
 use Rattle.lists.proofs.PutLaws.{put-nothing, put-more, put-past}
+use Rattle.text.specs.Wrote.{Wrote}
 use Rattle.prefix.specs.declared.Prefix.{Prefix}
 use Rattle.prefix.specs.Prefixes.{longest, end, lower, upper}
 use Rattle.prefix.proofs.PrefixLaws.{lower-inside, upper-inside}
 use Rattle.sheet_text.specs.declared.Used.{Used}
-use Rattle.sheet_text.specs.Sheet.{Row, usedRow, freeRow, freeIn, rowText}
-use Rattle.sheet_text.specs.Scan.{Wrote, Room, leaseShown, poolShown, poolsShown, Scan, clear?, both, freeScan, usedScan, scan, scanHalves, scanOf, scanAll, text, Showed, Ready, ReadyAll}
+use Rattle.sheet_text.specs.Sheet.{Row, usedRow, freeRow, usedIn, freeIn, rowText}
+use Rattle.sheet_text.specs.InnerScan.{Fits, leaseShown, poolShown, poolsShown, Scan, clear?, both, freeScan, usedScan, scan, scanHalves, scanOf, scanAll, scanText, Showed, ScanReady, ReadyAll}
 
 -- ROOM
 
 -- Room for a text is room for what does not end after it.
-pub room-part : (out out′ : List ℕ) (at mid : ℕ) (xs ys : List ℕ) → length out′ ≡ length out → mid + length ys ≤ at + length xs → Room out at xs → Room out′ mid ys
+pub room-part : (out out′ : List ℕ) (at mid : ℕ) (xs ys : List ℕ) → length out′ ≡ length out → mid + length ys ≤ at + length xs → Fits out at xs → Fits out′ mid ys
 room-part out out′ at mid xs ys e h r = record {
   small = omega (arith, r .small);
   fits = ⊎-elim (λ (z : length out ≡ 0). inl (omega arith)) (λ (f : at + length xs ≤ length out). inr (omega arith)) (r .fits);
 }
 
-pub room-fits : (out : List ℕ) (at : ℕ) (xs : List ℕ) → Room out at xs → (length out ≡ 0 → ⊥) → at + length xs ≤ length out
+pub room-fits : (out : List ℕ) (at : ℕ) (xs : List ℕ) → Fits out at xs → (length out ≡ 0 → ⊥) → at + length xs ≤ length out
 room-fits out at xs r n = ⊎-elim (λ (z : length out ≡ 0). absurd (n z)) (λ (f : at + length xs ≤ length out). f) (r .fits)
 
 -- Nothing is put into an empty buffer.
@@ -45,31 +44,47 @@ free-append [] ys = refl
 free-append (usedRow x ∷ xs) ys = free-append xs ys
 free-append (freeRow p ∷ xs) ys = ap (λ (ps : List Prefix). p ∷ ps) (free-append xs ys)
 
-pub text-both : (a b : Scan) → text (both a b) ≡ text a ++ text b
-text-both a b = gather-append rowText (a .rows) (b .rows)
+pub used-append : (rs qs : List Row) → usedIn (rs ++ qs) ≡ usedIn rs ++ usedIn qs
+used-append [] qs = refl
+used-append (usedRow x ∷ rs) qs = ap (λ (l : List Used). x ∷ l) (used-append rs qs)
+used-append (freeRow p ∷ rs) qs = used-append rs qs
 
-length-both : (a b : Scan) → length (text (both a b)) ≡ length (text a) + length (text b)
-length-both a b = ap length (text-both a b) ∙ length-append (text a) (text b)
+pub length-free : (rs qs : List Row) → length (freeIn (rs ++ qs)) ≡ length (freeIn rs) + length (freeIn qs)
+length-free rs qs = ap length (free-append rs qs) ∙ length-append (freeIn rs) (freeIn qs)
 
-pub length-one : (r : Row) (i : ℕ) → length (text (record { rows = r ∷ []; next = i })) ≡ length (rowText r)
-length-one r i = ap length (gather-one rowText r)
+pub length-used : (rs qs : List Row) → length (usedIn (rs ++ qs)) ≡ length (usedIn rs) + length (usedIn qs)
+length-used rs qs = ap length (used-append rs qs) ∙ length-append (usedIn rs) (usedIn qs)
 
-pub showed-one : (r : Row) (l l′ : List ℕ) (at q i j : ℕ) → Wrote l at (rowText r) l′ q → j ≡ i → Showed l at (record { rows = r ∷ []; next = i }) l′ q j
-showed-one r l l′ at q i j w e = record {
-  bytes = w .bytes ∙ ap (put l at) (sym (gather-one rowText r));
-  place = w .place ∙ ap (λ (n : ℕ). at + n) (sym (length-one r i));
-  cursor = e;
-}
+text-both : (a b : Scan) → scanText (both a b) ≡ scanText a ++ scanText b
+text-both a b = concatMap-append rowText (a .rows) (b .rows)
+
+length-both : (a b : Scan) → length (scanText (both a b)) ≡ length (scanText a) + length (scanText b)
+length-both a b = ap length (text-both a b) ∙ length-append (scanText a) (scanText b)
+
+-- A scan of one row: its room, and the row written.
+module _ (r : Row) (i : ℕ) {s : Scan} (one : s ≡ record { rows = r ∷ []; next = i }) where
+  row-text : scanText s ≡ rowText r
+  row-text = ap scanText one ∙ concatMap-one rowText r
+
+  pub fits-row : {l : List ℕ} {at : ℕ} → Fits l at (scanText s) → Fits l at (rowText r)
+  fits-row {l} {at} f = subst (Fits l at) row-text f
+
+  pub showed-row : {l l′ : List ℕ} {at q : ℕ} → Wrote l at (rowText r) l′ q → Showed l at s l′ q i
+  showed-row {l} {l′} {at} {q} w = record {
+    bytes = w .bytes ∙ ap (put l at) (sym row-text);
+    place = w .place ∙ ap (λ (t : List ℕ). at + length t) (sym row-text);
+    cursor = ap (λ (u : Scan). u .next) (sym one);
+  }
+
+pub showed-as : {l l′ : List ℕ} {at q j : ℕ} {s s′ : Scan} → s′ ≡ s → Showed l at s l′ q j → Showed l at s′ l′ q j
+showed-as {l} {l′} {at} {q} {j} e h = subst (λ (u : Scan). Showed l at u l′ q j) (sym e) h
 
 pub showed-both : (l l₁ l₂ : List ℕ) (at mid to i j : ℕ) (a b : Scan) → Showed l at a l₁ mid i → Showed l₁ mid b l₂ to j → Showed l at (both a b) l₂ to j
 showed-both l l₁ l₂ at mid to i j a b s t = record {
-  bytes = put-more l l₁ l₂ at (text a) mid (text b) (s .bytes) (s .place) (t .bytes) ∙ ap (put l at) (sym (text-both a b));
+  bytes = put-more l l₁ l₂ at (scanText a) mid (scanText b) (s .bytes) (s .place) (t .bytes) ∙ ap (put l at) (sym (text-both a b));
   place = omega (arith, s .place, t .place, length-both a b);
   cursor = t .cursor;
 }
-
-pub showed-as : (l l′ : List ℕ) (at q j : ℕ) (s s′ : Scan) → s′ ≡ s → Showed l at s l′ q j → Showed l at s′ l′ q j
-showed-as l l′ at q j s s′ e h = subst (λ (u : Scan). Showed l at u l′ q j) (sym e) h
 
 -- WHAT THE SCAN OF A PREFIX IS
 
@@ -98,30 +113,33 @@ module _ (leases : ℕ → Used) (n : ℕ) (p : Prefix) (i : ℕ) where
 -- Where a prefix is not clear, a lease is left, and it starts before the end.
 pub clear-not : (n stop i network : ℕ) → clear? n stop i network ≡ false → (i < n) × (network < stop)
 clear-not n stop i network e =
-    ⊎-elim
-    (λ (b : ltb i n ≡ true). (ltb-true i n b, leb-false stop network (sym (cond-true (ltb i n) (leb stop network) true b) ∙ e)))
-    (λ (b : ltb i n ≡ false). absurd (true≢false (sym (cond-false (ltb i n) (leb stop network) true b) ∙ e)))
-    (bool-cases (ltb i n))
+    by-cases (decLe n i) (λ h. absurd (true≢false (rw (le-ltb i n h) at e)))
+    (λ h. let lt : i < n = omega arith in (lt, leb-false stop network (rw (lt-ltb i n lt) at e)))
+
+pub clear-yes : (n stop i network : ℕ) → clear? n stop i network ≡ true → i < n → stop ≤ network
+clear-yes n stop i network e h = leb-true stop network (rw (lt-ltb i n h) at e)
+
+pub clear-of : (n stop i network : ℕ) → (i < n → stop ≤ network) → clear? n stop i network ≡ true
+clear-of n stop i network h =
+    by-cases (decLe n i) (λ g. rw (le-ltb i n g) refl)
+    (λ g. let lt : i < n = omega arith in rw (lt-ltb i n lt) (le-leb stop network (h lt)))
 
 -- What the code's test of a prefix tells of its scan.
-module _ (leases : ℕ → Used) (n : ℕ) (p : Prefix) (i stop : ℕ) (r : Bool) (es : stop ≡ end p) (er : r ≡ clear? n stop i (leases i .network)) where
-  pub told-clear : (b : Bool) → r ≡ b → clear? n (end p) i (leases i .network) ≡ b
-  told-clear b e = ap (λ (s : ℕ). clear? n s i (leases i .network)) (sym es) ∙ sym er ∙ e
-
+module _ (leases : ℕ → Used) (n : ℕ) (p : Prefix) (i : ℕ) (r : Bool) (told : r ≡ clear? n (end p) i (leases i .network)) where
   pub told-free : r ≡ true → scanOf leases n p i ≡ freeScan p i
-  told-free e = scan-clear leases n p i (longest - p .length) (told-clear true e)
+  told-free e = scan-clear leases n p i (longest - p .length) (sym told ∙ e)
 
   pub told-lease : r ≡ false → i < n
-  told-lease e = clear-not n (end p) i (leases i .network) (told-clear false e) .0
+  told-lease e = clear-not n (end p) i (leases i .network) (sym told ∙ e) .0
 
   module _ (e : r ≡ false) (x : Used) (ex : x ≡ leases i) where
     pub told-used : x .length ≤ p .length → scanOf leases n p i ≡ usedScan x i
     told-used h =
-        scan-here leases n p i (told-clear false e) (longest - p .length) (subst (λ (y : Used). y .length ≤ p .length) ex h)
+        scan-here leases n p i (sym told ∙ e) (longest - p .length) (subst (λ (y : Used). y .length ≤ p .length) ex h)
         ∙ ap (λ (y : Used). usedScan y i) (sym ex)
 
     pub told-halves : p .length < longest → p .length < x .length → scanOf leases n p i ≡ scanHalves leases n p i
-    told-halves s h = scan-halves leases n p i (told-clear false e) s (subst (λ (y : Used). p .length < y .length) ex h)
+    told-halves s h = scan-halves leases n p i (sym told ∙ e) s (subst (λ (y : Used). p .length < y .length) ex h)
 
 -- TWO HALVES, ONE AFTER THE OTHER
 
@@ -137,44 +155,36 @@ module _ (image : List ℕ) (base n : ℕ) where
   abbrev leases : ℕ → Used
   leases = leaseShown image base
 
-  pub ready-as : (out : List ℕ) (at : ℕ) (p : Prefix) (s s′ : Scan) → s ≡ s′ → Ready image base n out at p s → Ready image base n out at p s′
-  ready-as out at p s s′ e r = subst (Ready image base n out at p) e r
-
-  -- A scan of one row.
-  pub ready-one : (out : List ℕ) (at i : ℕ) (p : Prefix) (s : Scan) (r : Row) → s ≡ record { rows = r ∷ []; next = i } → Ready image base n out at p s → Room out at (rowText r)
-  ready-one out at i p s r e ready =
-      room-part out out at at (text s) (rowText r) refl (omega (arith, ap (λ (u : Scan). length (text u)) e, length-one r i)) (ready .room)
-
   module _ (out : List ℕ) (at i : ℕ) (p low high : Prefix) (short : p .length < longest) (el : low ≡ lower p) (eh : high ≡ upper p)
-      (ready : Ready image base n out at p (scanHalves leases n p i)) where
-    pub ready-low : Ready image base n out at low (scanOf leases n low i)
+      (ready : ScanReady image base n out at p (scanHalves leases n p i)) where
+    pub ready-low : ScanReady image base n out at low (scanOf leases n low i)
     ready-low =
-        subst (λ (q : Prefix). Ready image base n out at q (scanOf leases n q i)) (sym el)
+        subst (λ (q : Prefix). ScanReady image base n out at q (scanOf leases n q i)) (sym el)
         (record {
           long = omega arith;
           within = omega (arith, lower-inside p (omega arith) .1, ready .within);
           slots = ready .slots;
-          blocks = ready .blocks;
+          lengths = ready .lengths;
           room =
               let a : Scan = scanOf leases n (lower p) i in
               let b : Scan = scanOf leases n (upper p) (a .next) in
-              room-part out out at at (text (both a b)) (text a) refl (omega (arith, length-both a b)) (ready .room);
+              room-part out out at at (scanText (both a b)) (scanText a) refl (omega (arith, length-both a b)) (ready .room);
         })
 
-    pub ready-high : (out′ : List ℕ) (mid j : ℕ) → length out′ ≡ length out → Showed out at (scanOf leases n low i) out′ mid j → Ready image base n out′ mid high (scanOf leases n high j)
+    pub ready-high : (out′ : List ℕ) (mid j : ℕ) → length out′ ≡ length out → Showed out at (scanOf leases n low i) out′ mid j → ScanReady image base n out′ mid high (scanOf leases n high j)
     ready-high out′ mid j kept s =
         let a : Scan = scanOf leases n (lower p) i in
         let b : Scan = scanOf leases n (upper p) (a .next) in
         let first : Showed out at a out′ mid j = subst (λ (q : Prefix). Showed out at (scanOf leases n q i) out′ mid j) el s in
-        subst (λ (q : Prefix). Ready image base n out′ mid q (scanOf leases n q j)) (sym eh)
+        subst (λ (q : Prefix). ScanReady image base n out′ mid q (scanOf leases n q j)) (sym eh)
         (record {
           long = omega arith;
           within = omega (arith, upper-inside p (omega arith) .1, ready .within);
           slots = ready .slots;
-          blocks = ready .blocks;
+          lengths = ready .lengths;
           room =
-              subst (λ (m : ℕ). Room out′ mid (text (scanOf leases n (upper p) m))) (sym (first .cursor))
-              (room-part out out′ at mid (text (both a b)) (text b) kept (omega (arith, first .place, length-both a b)) (ready .room));
+              subst (λ (m : ℕ). Fits out′ mid (scanText (scanOf leases n (upper p) m))) (sym (first .cursor))
+              (room-part out out′ at mid (scanText (both a b)) (scanText b) kept (omega (arith, first .place, length-both a b)) (ready .room));
         })
 
 -- POOLS, ONE AFTER ANOTHER
@@ -211,35 +221,35 @@ module _ (image : List ℕ) (base n : ℕ) where
   pub showed-pool : (l l₁ l₂ : List ℕ) (at mid to i k j : ℕ) (p : Prefix) → p ≡ poolShown image j → Showed l at (scanFirst j) l₁ mid i
       → Showed l₁ mid (scanOf (leaseShown image base) n p i) l₂ to k → Showed l at (scanFirst (j + 1)) l₂ to k
   showed-pool l l₁ l₂ at mid to i k j p e s t =
-      showed-as l l₂ at to k (both (scanFirst j) (nextScan j (scanFirst j .next))) (scanFirst (j + 1)) (ap scanFirst (add-one j) ∙ first-more j)
+      showed-as (ap scanFirst (add-one j) ∙ first-more j)
       (showed-both l l₁ l₂ at mid to i k (scanFirst j) (nextScan j (scanFirst j .next)) s
       (subst (λ (m : ℕ). Showed l₁ mid (nextScan j m) l₂ to k) (s .cursor)
       (subst (λ (q : Prefix). Showed l₁ mid (scanOf (leaseShown image base) n q i) l₂ to k) e t)))
 
   -- All of them.
-  pub wrote-pools : (l l′ : List ℕ) (at to i j k : ℕ) → j ≡ k → Showed l at (scanFirst j) l′ to i → Wrote l at (text (scanFirst k)) l′ to
-  wrote-pools l l′ at to i j k e s = subst (λ (m : ℕ). Wrote l at (text (scanFirst m)) l′ to) e (record { bytes = s .bytes; place = s .place })
+  pub wrote-pools : (l l′ : List ℕ) (at to i j k : ℕ) → j ≡ k → Showed l at (scanFirst j) l′ to i → Wrote l at (scanText (scanFirst k)) l′ to
+  wrote-pools l l′ at to i j k e s = subst (λ (m : ℕ). Wrote l at (scanText (scanFirst m)) l′ to) e (record { bytes = s .bytes; place = s .place })
 
-  first-longer : (j k : ℕ) → j ≤ k → length (text (scanFirst j)) ≤ length (text (scanFirst k))
-  first-longer j zero h = let e : j ≡ 0 = omega arith in omega (arith, ap (λ (m : ℕ). length (text (scanFirst m))) e)
+  first-longer : (j k : ℕ) → j ≤ k → length (scanText (scanFirst j)) ≤ length (scanText (scanFirst k))
+  first-longer j zero h = let e : j ≡ 0 = omega arith in omega (arith, ap (λ (m : ℕ). length (scanText (scanFirst m))) e)
   first-longer j (suc k) h =
       by-cases (decLe j k)
-      (λ l. omega (arith, first-longer j k l, ap (λ (s : Scan). length (text s)) (first-more k), length-both (scanFirst k) (nextScan k (scanFirst k .next))))
-      (λ l. let e : j ≡ suc k = omega arith in omega (arith, ap (λ (m : ℕ). length (text (scanFirst m))) e))
+      (λ l. omega (arith, first-longer j k l, ap (λ (s : Scan). length (scanText s)) (first-more k), length-both (scanFirst k) (nextScan k (scanFirst k .next))))
+      (λ l. let e : j ≡ suc k = omega arith in omega (arith, ap (λ (m : ℕ). length (scanText (scanFirst m))) e))
 
   pub ready-pool : (k : ℕ) (out out′ : List ℕ) (at mid i j : ℕ) (p : Prefix) → ReadyAll image base n k out at → j < k → p ≡ poolShown image j → length out′ ≡ length out
-      → Showed out at (scanFirst j) out′ mid i → Ready image base n out′ mid p (scanOf (leaseShown image base) n p i)
+      → Showed out at (scanFirst j) out′ mid i → ScanReady image base n out′ mid p (scanOf (leaseShown image base) n p i)
   ready-pool k out out′ at mid i j p ready lt e kept s =
       let b : Scan = nextScan j (scanFirst j .next) in
-      subst (λ (q : Prefix). Ready image base n out′ mid q (scanOf (leaseShown image base) n q i)) (sym e)
+      subst (λ (q : Prefix). ScanReady image base n out′ mid q (scanOf (leaseShown image base) n q i)) (sym e)
       (record {
         long = ready .long j lt;
         within = ready .within j lt;
         slots = ready .slots;
-        blocks = ready .blocks;
+        lengths = ready .lengths;
         room =
-            subst (λ (m : ℕ). Room out′ mid (text (nextScan j m))) (sym (s .cursor))
-            (room-part out out′ at mid (text (scanFirst k)) (text b) kept
-            (omega (arith, s .place, ap (λ (u : Scan). length (text u)) (first-more j), length-both (scanFirst j) b, first-longer (suc j) k (omega arith)))
+            subst (λ (m : ℕ). Fits out′ mid (scanText (nextScan j m))) (sym (s .cursor))
+            (room-part out out′ at mid (scanText (scanFirst k)) (scanText b) kept
+            (omega (arith, s .place, ap (λ (u : Scan). length (scanText u)) (first-more j), length-both (scanFirst j) b, first-longer (suc j) k (omega arith)))
             (ready .room));
       })

@@ -1,5 +1,4 @@
-pub mod Ascii
-pub mod Text
 pub mod Sheet
-pub mod Scan
-pub mod Levels
+pub mod SheetSizes
+pub mod InnerScan
+pub mod InnerLevels

@@ -1,15 +1,17 @@
 -- The sheet of a lease table (document 01: of a saved book): which rows, in which order, every character.
 -- Assumes nothing: these are definitions.
-use Prim.Native.Nat.{ℕ, zero, suc, _-_}
+use Prim.Native.Nat.{ℕ, zero, suc, _-_, _/_, _%_}
 use mathlib.Core.Bool.{Bool, true, false, not, cond, _&&_}
 use mathlib.Core.List.{List, [], _∷_, _++_, map}
 use mathlib.Core.Option.{Option, none, some}
 use lib.ListN.{length, drop}
 use lib.Dec.{ltb, eqb}
-use Rattle.lists.specs.Lists.{gather}
+use Rattle.lists.specs.Lists.{concatMap}
+use Rattle.text.specs.Ascii.{ascii}
+use Rattle.text.specs.Decimal.{decimal}
 use Rattle.prefix.specs.declared.Prefix.{Prefix}
 use Rattle.prefix.specs.Prefixes.{longest, prefix, lower, upper}
-use Rattle.space.specs.Space.{unused?}
+use Rattle.free_space.specs.Space.{unused?}
 use Rattle.table.specs.declared.Lease.{Lease}
 use Rattle.table.specs.declared.LeaseTable.{LeaseTable}
 use Rattle.table.specs.Table.{poolsOf, sound}
@@ -17,8 +19,6 @@ use Rattle.image.specs.Image.{usedLeases, loadImage}
 use Rattle.sheet_text.specs.declared.Used.{Used}
 use Rattle.sheet_text.specs.declared.SheetAnswer.{SheetAnswer}
 use Rattle.sheet_text.specs.declared.SheetAnswer.the-variants.{Written, NotSound, TooSmall}
-use Rattle.sheet_text.specs.Ascii.{ascii}
-use Rattle.sheet_text.specs.Text.{decimal, prefixText}
 
 -- What a row shows of a lease.
 abbrev pub usedBy : Lease → Used
@@ -57,7 +57,7 @@ leasesShown t = map usedBy (usedLeases t)
 
 -- "Walking each root in ascending order"
 unfoldable pub rows : LeaseTable → List Row
-rows t = gather (λ p. rowsIn (leasesShown t) (longest - p .length) p) (poolsOf t)
+rows t = concatMap (λ p. rowsIn (leasesShown t) (longest - p .length) p) (poolsOf t)
 
 -- The leases of the used rows, and the prefixes of the free rows.
 abbrev pub usedIn : List Row → List Used
@@ -70,6 +70,14 @@ freeIn [] = []
 freeIn (usedRow x ∷ rs) = freeIn rs
 freeIn (freeRow p ∷ rs) = p ∷ freeIn rs
 
+-- A network as four numbers, the high byte first.
+abbrev pub addressText : ℕ → List ℕ
+addressText n = decimal (n / 16777216) ++ ascii "." ++ decimal (n / 65536 % 256) ++ ascii "." ++ decimal (n / 256 % 256) ++ ascii "." ++ decimal (n % 256)
+
+-- A.B.C.D/L
+unfoldable pub prefixText : Prefix → List ℕ
+prefixText p = addressText (p .network) ++ ascii "/" ++ decimal (p .length)
+
 -- A row as text; every row ends with one newline.
 unfoldable pub rowText : Row → List ℕ
 rowText (usedRow x) =
@@ -81,12 +89,7 @@ unfoldable pub headText : ℕ → ℕ → List ℕ
 headText leases freeRows = ascii "sheet lines=" ++ decimal leases ++ ascii " free=" ++ decimal freeRows ++ ascii "\n"
 
 unfoldable pub sheetText : LeaseTable → List ℕ
-sheetText t = headText (length (usedLeases t)) (length (freeIn (rows t))) ++ gather rowText (rows t)
-
--- A buffer of this many bytes holds the sheet of every sound table, as SHEET in the code: a first row of at most 26 bytes, 256 used rows of at most 60,
--- and 22 free rows for each lease and one for each pool, of at most 24.
-abbrev pub sheetSize : ℕ
-sheetSize = 150746
+sheetText t = headText (length (usedLeases t)) (length (freeIn (rows t))) ++ concatMap rowText (rows t)
 
 -- ANSWERS
 

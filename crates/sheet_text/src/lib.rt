@@ -1,14 +1,20 @@
 // The sheet of an image's lease table, as text into a lent buffer. The leases are read where they stand in the image.
+use image::HEAD;
+use image::LEASE;
+use image::POOL;
 use prefix::Prefix;
+use table::LEASES;
+use table::POOLS;
 ghost use mathlib.Core.Path.{_≡_};
-ghost use mathlib.Core.List.{[], _∷_};
 ghost use Prim.Native.Nat.{_+_, _-_, _*_, _≤_, _<_};
 ghost use lib.ListN.{length};
 ghost use lib.Dec.{ltb};
 ghost use Rattle.prefix.specs.Prefixes.{longest, end};
 ghost use Rattle.table.specs.Table.{leaseSlots};
-ghost use Rattle.sheet_text.specs.Text.{digit, lastFour, decimal, addressText, prefixText};
+ghost use Rattle.image.specs.Image.{headSize, poolSize, leaseSize};
+ghost use Rattle.text.specs.Wrote.{Wrote};
 ghost use Rattle.sheet_text.specs.Sheet.{
+  prefixText,
   usedRow,
   freeRow,
   freeIn,
@@ -16,37 +22,63 @@ ghost use Rattle.sheet_text.specs.Sheet.{
   rowText,
   headText,
   sheetText,
-  sheetSize,
   sheetOfImage,
 };
-ghost use Rattle.sheet_text.specs.Levels.{
+ghost use Rattle.sheet_text.specs.SheetSizes.{sheetSize};
+ghost use Rattle.sheet_text.specs.InnerLevels.{
   commonBits,
   laterLevels,
   poolLevels,
   allLevels,
   noLevels,
-  Few,
+  SumsFit,
 };
-ghost use Rattle.sheet_text.specs.Scan.{
-  Wrote,
-  Room,
+ghost use Rattle.sheet_text.specs.InnerScan.{
+  prefixSize,
+  usedSize,
+  freeSize,
+  headTextSize,
+  Fits,
   leaseShown,
   poolShown,
   poolsShown,
-  Sound,
+  SoundImage,
   OfTable,
   clear?,
   scanOf,
   scanHalves,
   scanAll,
   Showed,
-  Ready,
-  text,
+  ScanReady,
+  scanText,
   ReadyAll,
 };
 
+// SIZES: how long text gets. The digits are those of the largest numbers in the first row, LEASES and MOST_FREE.
+const PREFIX_TEXT: usize = 18;
+
+const NUMBER_TEXT: usize = 10;
+
+const LEASE_DIGITS: usize = 3;
+
+const FREE_DIGITS: usize = 4;
+
+const FIRST_ROW: usize = 19 + LEASE_DIGITS + FREE_DIGITS;
+
+const USED_ROW: usize = 22 + PREFIX_TEXT + 2 * NUMBER_TEXT;
+
+const FREE_ROW: usize = 6 + PREFIX_TEXT;
+
+// A row with each of its seven numbers as long as any.
+const ANY_ROW: usize = 26 + 7 * NUMBER_TEXT;
+
+// A pool can be halved so often, and so many free rows stand beside a lease at most.
+const HALVINGS: usize = 22;
+
+const MOST_FREE: usize = HALVINGS * LEASES + POOLS;
+
 // How long a sheet can be.
-pub const SHEET: usize = 150746;
+pub const SHEET: usize = FIRST_ROW + USED_ROW * LEASES + FREE_ROW * MOST_FREE;
 
 // A buffer that holds the sheet of every sound table.
 pub fn buffer() -> [u8; SHEET]
@@ -61,114 +93,19 @@ pub enum SheetAnswer {
     TooSmall,
 }
 
-// TEXT. Each writer puts its bytes from a place on, where the buffer has room for them, and answers the place after them.
-
-fn put_byte(out: &mut [u8], at: usize, x: u8) -> usize
-    requires { ⌜ at < length (now out) ⌝ }
-    ensures { λ r. ⌜ Wrote (now (out .entry)) at (x ∷ []) (now (out .exit)) r ⌝ }
-{
-    out[at] = x;
-    at + 1
-}
-
-fn put_text(out: &mut [u8], at: usize, s: &[u8]) -> usize
-    requires { ⌜ at + length (now s) ≤ length (now out) ⌝ }
-    ensures { λ r. ⌜ Wrote (now (out .entry)) at (now (s .entry)) (now (out .exit)) r ⌝ }
-{
-    let mut i: usize = 0;
-    while i < s.len() {
-        out[at + i] = s[i];
-        i = i + 1;
-    }
-    at + i
-}
-
-// The last digit of a number.
-fn put_digit(out: &mut [u8], at: usize, n: u32) -> usize
-    requires { ⌜ at < length (now out) ⌝ }
-    ensures { λ r. ⌜ Wrote (now (out .entry)) at (digit n ∷ []) (now (out .exit)) r ⌝ }
-{
-    out[at] = 48 + (n % 10) as u8;
-    at + 1
-}
-
-// A number of at most three digits, as those of an address: no loop, two tests.
-fn put_small(out: &mut [u8], at: usize, n: u32) -> usize
-    requires { ⌜ (n < 1000) × (at + length (decimal n) ≤ length (now out)) ⌝ }
-    ensures { λ r. ⌜ Wrote (now (out .entry)) at (decimal n) (now (out .exit)) r ⌝ }
-{
-    if n < 10 {
-        return put_digit(out, at, n);
-    }
-    if n < 100 {
-        let ten = put_digit(out, at, n / 10);
-        return put_digit(out, ten, n);
-    }
-    let hundred = put_digit(out, at, n / 100);
-    let ten = put_digit(out, hundred, n / 10);
-    put_digit(out, ten, n)
-}
-
-// The last four digits of a number.
-fn put_four(out: &mut [u8], at: usize, n: u32) -> usize
-    requires { ⌜ at + 4 ≤ length (now out) ⌝ }
-    ensures { λ r. ⌜ Wrote (now (out .entry)) at (lastFour n) (now (out .exit)) r ⌝ }
-{
-    let thousand = put_digit(out, at, n / 1000);
-    let hundred = put_digit(out, thousand, n / 100);
-    let ten = put_digit(out, hundred, n / 10);
-    put_digit(out, ten, n)
-}
-
-// A number of at most four digits.
-fn put_short(out: &mut [u8], at: usize, n: u32) -> usize
-    requires { ⌜ (n < 10000) × (at + length (decimal n) ≤ length (now out)) ⌝ }
-    ensures { λ r. ⌜ Wrote (now (out .entry)) at (decimal n) (now (out .exit)) r ⌝ }
-{
-    if n < 1000 {
-        return put_small(out, at, n);
-    }
-    put_four(out, at, n)
-}
-
-// A number in decimal, four digits at a time.
-fn put_decimal(out: &mut [u8], at: usize, n: u32) -> usize
-    requires { ⌜ at + length (decimal n) ≤ length (now out) ⌝ }
-    ensures { λ r. ⌜ Wrote (now (out .entry)) at (decimal n) (now (out .exit)) r ⌝ }
-{
-    if n < 10000 {
-        return put_short(out, at, n);
-    }
-    if n < 100000000 {
-        let front = put_short(out, at, n / 10000);
-        return put_four(out, front, n);
-    }
-    let front = put_small(out, at, n / 100000000);
-    let middle = put_four(out, front, n / 10000);
-    put_four(out, middle, n)
-}
-
-// A network as four numbers, the high byte first.
-fn put_address(out: &mut [u8], at: usize, n: u32) -> usize
-    requires { ⌜ at + length (addressText n) ≤ length (now out) ⌝ }
-    ensures { λ r. ⌜ Wrote (now (out .entry)) at (addressText n) (now (out .exit)) r ⌝ }
-{
-    let a = put_small(out, at, n / 16777216);
-    let a_dot = put_byte(out, a, 46);
-    let b = put_small(out, a_dot, n / 65536 % 256);
-    let b_dot = put_byte(out, b, 46);
-    let c = put_small(out, b_dot, n / 256 % 256);
-    let c_dot = put_byte(out, c, 46);
-    put_small(out, c_dot, n % 256)
-}
+// ROWS AS TEXT. Each writer puts its bytes from a place on, where the buffer has room for them, and answers the place after them.
 
 fn put_prefix(out: &mut [u8], at: usize, p: Prefix) -> usize
-    requires { ⌜ at + length (prefixText p) ≤ length (now out) ⌝ }
+    requires { ⌜ at + prefixSize p ≤ length (now out) ⌝ }
     ensures { λ r. ⌜ Wrote (now (out .entry)) at (prefixText p) (now (out .exit)) r ⌝ }
+    ensures { λ r. ⌜ r ≡ at + prefixSize p ⌝ }
 {
-    let address = put_address(out, at, p.network);
-    let slash = put_byte(out, address, 47);
-    put_small(out, slash, p.length as u32)
+    let n = p.network;
+    let a = text::decimal(out, at, n / 16777216);
+    let b = text::marked(out, a, b'.', n / 65536 % 256);
+    let c = text::marked(out, b, b'.', n / 256 % 256);
+    let d = text::marked(out, c, b'.', n % 256);
+    text::marked(out, d, b'/', p.length as u32)
 }
 
 // What a row shows of a lease.
@@ -180,126 +117,73 @@ pub struct Used {
 }
 
 fn put_used(out: &mut [u8], at: usize, x: Used) -> usize
-    requires { ⌜ at + length (rowText (usedRow x)) ≤ length (now out) ⌝ }
+    requires { ⌜ at + usedSize x ≤ length (now out) ⌝ }
     ensures { λ r. ⌜ Wrote (now (out .entry)) at (rowText (usedRow x)) (now (out .exit)) r ⌝ }
 {
-    let word = put_text(out, at, b"used ");
-    let place = put_prefix(
-        out,
-        word,
-        Prefix {
-            network: x.network,
-            length: x.length,
-        },
-    );
-    let station = put_text(out, place, b" station ");
-    let client = put_decimal(out, station, x.client);
-    let until = put_text(out, client, b" until ");
-    let end = put_decimal(out, until, x.expires);
-    put_byte(out, end, 10)
+    let word = text::put(out, at, b"used ");
+    let p = Prefix {
+        network: x.network,
+        length: x.length,
+    };
+    let place = put_prefix(out, word, p);
+    let station = text::put(out, place, b" station ");
+    let client = text::decimal(out, station, x.client);
+    let until = text::put(out, client, b" until ");
+    let expires = text::decimal(out, until, x.expires);
+    text::put(out, expires, b"\n")
 }
 
 fn put_free(out: &mut [u8], at: usize, p: Prefix) -> usize
-    requires { ⌜ at + length (rowText (freeRow p)) ≤ length (now out) ⌝ }
+    requires { ⌜ at + freeSize p ≤ length (now out) ⌝ }
     ensures { λ r. ⌜ Wrote (now (out .entry)) at (rowText (freeRow p)) (now (out .exit)) r ⌝ }
 {
-    let word = put_text(out, at, b"free ");
-    let end = put_prefix(out, word, p);
-    put_byte(out, end, 10)
+    let word = text::put(out, at, b"free ");
+    let place = put_prefix(out, word, p);
+    text::put(out, place, b"\n")
 }
 
 // The first row.
 fn put_head(out: &mut [u8], leases: u32, free: u32) -> usize
-    requires { ⌜ length (headText leases free) ≤ length (now out) ⌝ }
+    requires { ⌜ headTextSize leases free ≤ length (now out) ⌝ }
     ensures { λ r. ⌜ Wrote (now (out .entry)) 0 (headText leases free) (now (out .exit)) r ⌝ }
 {
-    let lines = put_text(out, 0, b"sheet lines=");
-    let count = put_decimal(out, lines, leases);
-    let word = put_text(out, count, b" free=");
-    let end = put_decimal(out, word, free);
-    put_byte(out, end, 10)
+    let lines = text::put(out, 0, b"sheet lines=");
+    let count = text::decimal(out, lines, leases);
+    let word = text::put(out, count, b" free=");
+    let rows = text::decimal(out, word, free);
+    text::put(out, rows, b"\n")
 }
 
-// SIZES: how long a text is that is not written.
-
-fn decimal_size(n: u32) -> usize
-    ensures { λ r. ⌜ (r ≡ length (decimal n)) × (r ≤ 10) ⌝ }
-{
-    let mut size: usize = 1;
-    let mut left = n;
-    while 10 <= left {
-        left = left / 10;
-        size = size + 1;
-    }
-    size
-}
-
-fn prefix_size(p: Prefix) -> usize
-    ensures { λ r. ⌜ (r ≡ length (prefixText p)) × (r ≤ 54) ⌝ }
-{
-    let n = p.network;
-    let a = decimal_size(n / 16777216);
-    let b = decimal_size(n / 65536 % 256);
-    let c = decimal_size(n / 256 % 256);
-    let d = decimal_size(n % 256);
-    let length = decimal_size(p.length as u32);
-    a + b + c + d + length + 4
-}
-
-fn used_size(x: Used) -> usize
-    ensures { λ r. ⌜ (r ≡ length (rowText (usedRow x))) × (r ≤ 96) ⌝ }
-{
-    let place = prefix_size(Prefix {
-        network: x.network,
-        length: x.length,
-    });
-    let client = decimal_size(x.client);
-    let end = decimal_size(x.expires);
-    place + client + end + 22
-}
-
-fn free_size(p: Prefix) -> usize
-    ensures { λ r. ⌜ (r ≡ length (rowText (freeRow p))) × (r ≤ 60) ⌝ }
-{
-    prefix_size(p) + 6
-}
-
-fn head_size(leases: u32, free: u32) -> usize
-    ensures { λ r. ⌜ (r ≡ length (headText leases free)) × (r ≤ 39) ⌝ }
-{
-    let lines = decimal_size(leases);
-    let rows = decimal_size(free);
-    lines + rows + 19
-}
-
-// ROWS. Each of these writes into a buffer that has room, or into an empty one, and then only tells how long the text is.
+// ROWS SHOWN. Each of these writes into a buffer that has room, or into an empty one, and then only tells how long the text is.
 
 fn show_free(out: &mut [u8], at: usize, p: Prefix) -> usize
-    requires { ⌜ Room (now out) at (rowText (freeRow p)) ⌝ }
+    requires { ⌜ Fits (now out) at (rowText (freeRow p)) ⌝ }
     ensures { λ r. ⌜ Wrote (now (out .entry)) at (rowText (freeRow p)) (now (out .exit)) r ⌝ }
 {
     if out.len() == 0 {
-        return at + free_size(p);
+        let mut row = [0u8; ANY_ROW];
+        return at + put_free(&mut row, 0, p);
     }
     put_free(out, at, p)
 }
 
 fn show_used(out: &mut [u8], at: usize, x: Used) -> usize
-    requires { ⌜ Room (now out) at (rowText (usedRow x)) ⌝ }
+    requires { ⌜ Fits (now out) at (rowText (usedRow x)) ⌝ }
     ensures { λ r. ⌜ Wrote (now (out .entry)) at (rowText (usedRow x)) (now (out .exit)) r ⌝ }
 {
     if out.len() == 0 {
-        return at + used_size(x);
+        let mut row = [0u8; ANY_ROW];
+        return at + put_used(&mut row, 0, x);
     }
     put_used(out, at, x)
 }
 
 // What the image shows of its i-th lease.
 fn lease(image: &[u8], base: usize, i: usize) -> Used
-    requires { ⌜ base + 19 * i + 19 ≤ length (now image) ⌝ }
+    requires { ⌜ base + leaseSize * i + leaseSize ≤ length (now image) ⌝ }
     ensures { λ r. ⌜ r ≡ leaseShown (now (image .entry)) base i ⌝ }
 {
-    let x = records::lease_at(image, base + 19 * i);
+    let x = image_records::lease_at(image, base + LEASE * i);
     Used {
         network: x.network,
         length: x.length,
@@ -315,15 +199,15 @@ fn wide(x: u32) -> u64
 }
 
 // None of the n leases is left, or the next one starts at or after the end of the prefix.
-fn is_free(image: &[u8], base: usize, n: usize, i: usize, end: u64) -> bool
-    requires { ⌜ base + 19 * n ≤ length (now image) ⌝ }
-    ensures { λ r. ⌜ r ≡ clear? n end i (leaseShown (now (image .entry)) base i .network) ⌝ }
+fn is_free(image: &[u8], base: usize, n: usize, i: usize, p: Prefix) -> bool
+    requires { ⌜ base + leaseSize * n ≤ length (now image) ⌝ }
+    ensures { λ r. ⌜ r ≡ clear? n (end p) i (leaseShown (now (image .entry)) base i .network) ⌝ }
 {
     if n <= i {
         return true;
     }
     let x = lease(image, base, i);
-    end <= wide(x.network)
+    p.end() <= wide(x.network)
 }
 
 // Shows a prefix: as a free row, as a used row, or as its two halves. `next` is the next lease.
@@ -336,11 +220,11 @@ fn show_prefix(
     at: usize,
     p: Prefix,
 ) -> usize
-    requires { ⌜ Ready (now image) base n (now out) at p (scanOf (leaseShown (now image) base) n p (now next)) ⌝ }
+    requires { ⌜ ScanReady (now image) base n (now out) at p (scanOf (leaseShown (now image) base) n p (now next)) ⌝ }
     ensures { λ r. ⌜ Showed (now (out .entry)) at (scanOf (leaseShown (now (image .entry)) base) n p (now (next .entry))) (now (out .exit)) r (now (next .exit)) ⌝ }
 {
     let i = *next;
-    if is_free(image, base, n, i, p.end()) {
+    if is_free(image, base, n, i, p) {
         return show_free(out, at, p);
     }
     let x = lease(image, base, i);
@@ -361,7 +245,7 @@ fn show_halves(
     at: usize,
     p: Prefix,
 ) -> usize
-    requires { ⌜ (p .length < longest) × Ready (now image) base n (now out) at p (scanHalves (leaseShown (now image) base) n p (now next)) ⌝ }
+    requires { ⌜ (p .length < longest) × ScanReady (now image) base n (now out) at p (scanHalves (leaseShown (now image) base) n p (now next)) ⌝ }
     ensures { λ r. ⌜ Showed (now (out .entry)) at (scanHalves (leaseShown (now (image .entry)) base) n p (now (next .entry))) (now (out .exit)) r (now (next .exit)) ⌝ }
 {
     let low = p.lower();
@@ -372,21 +256,16 @@ fn show_halves(
 
 // The j-th pool.
 fn pool(image: &[u8], j: usize) -> Prefix
-    requires { ⌜ 13 + 9 * j + 9 ≤ length (now image) ⌝ }
+    requires { ⌜ headSize + poolSize * j + poolSize ≤ length (now image) ⌝ }
     ensures { λ r. ⌜ r ≡ poolShown (now (image .entry)) j ⌝ }
 {
-    let at = 13 + 9 * j;
-    let bytes = &image[at..];
-    Prefix {
-        network: image::read32(bytes, 4),
-        length: bytes[8],
-    }
+    table::pool_prefix(image::pool_at(image, HEAD + POOL * j))
 }
 
 // Shows the first k pools.
 fn show_pools(out: &mut [u8], image: &[u8], base: usize, n: usize, k: usize, from: usize) -> usize
     requires { ⌜ ReadyAll (now image) base n k (now out) from ⌝ }
-    ensures { λ r. ⌜ Wrote (now (out .entry)) from (text (scanAll (leaseShown (now (image .entry)) base) n (poolsShown (now (image .entry)) k) 0)) (now (out .exit)) r ⌝ }
+    ensures { λ r. ⌜ Wrote (now (out .entry)) from (scanText (scanAll (leaseShown (now (image .entry)) base) n (poolsShown (now (image .entry)) k) 0)) (now (out .exit)) r ⌝ }
 {
     let mut next: usize = 0;
     let mut at = from;
@@ -418,9 +297,9 @@ fn common_bits(a: u32, b: u32) -> u32
 
 // The leases from the next one on that start before an end; a lease of the same pool is before the first of them.
 fn later_levels(image: &[u8], base: usize, n: usize, from: Levels, end: u64) -> Levels
-    requires { ⌜ (base + 19 * n ≤ length (now image)) × (1 ≤ from .next) × Few n from ⌝ }
+    requires { ⌜ (base + leaseSize * n ≤ length (now image)) × (1 ≤ from .next) × SumsFit n from ⌝ }
     ensures { λ r. ⌜ r ≡ laterLevels (leaseShown (now (image .entry)) base) end (n - from .next) from ⌝ }
-    ensures { λ r. ⌜ Few n r ⌝ }
+    ensures { λ r. ⌜ SumsFit n r ⌝ }
 {
     let mut i = from.next;
     let mut deep = from.deep;
@@ -448,13 +327,12 @@ fn later_levels(image: &[u8], base: usize, n: usize, from: Levels, end: u64) -> 
 
 // The leases of a pool.
 fn pool_levels(image: &[u8], base: usize, n: usize, from: Levels, p: Prefix) -> Levels
-    requires { ⌜ (base + 19 * n ≤ length (now image)) × Few n from ⌝ }
+    requires { ⌜ (base + leaseSize * n ≤ length (now image)) × SumsFit n from ⌝ }
     ensures { λ r. ⌜ r ≡ poolLevels (leaseShown (now (image .entry)) base) n p from ⌝ }
-    ensures { λ r. ⌜ Few n r ⌝ }
+    ensures { λ r. ⌜ SumsFit n r ⌝ }
 {
     let i = from.next;
-    let end = p.end();
-    if is_free(image, base, n, i, end) {
+    if is_free(image, base, n, i, p) {
         return from;
     }
     let x = lease(image, base, i);
@@ -463,14 +341,14 @@ fn pool_levels(image: &[u8], base: usize, n: usize, from: Levels, p: Prefix) -> 
         deep: from.deep + x.length as u32,
         shared: from.shared + p.length as u32,
     };
-    later_levels(image, base, n, first, end)
+    later_levels(image, base, n, first, p.end())
 }
 
 // Those of the first k pools.
 fn all_levels(image: &[u8], base: usize, n: usize, k: usize) -> Levels
-    requires { ⌜ (base + 19 * n ≤ length (now image)) × (13 + 9 * k ≤ length (now image)) × (n ≤ leaseSlots) ⌝ }
+    requires { ⌜ (base + leaseSize * n ≤ length (now image)) × (headSize + poolSize * k ≤ length (now image)) × (n ≤ leaseSlots) ⌝ }
     ensures { λ r. ⌜ r ≡ allLevels (leaseShown (now (image .entry)) base) n (poolsShown (now (image .entry)) k) noLevels ⌝ }
-    ensures { λ r. ⌜ Few n r ⌝ }
+    ensures { λ r. ⌜ SumsFit n r ⌝ }
 {
     let mut levels = Levels {
         next: 0,
@@ -489,28 +367,29 @@ fn all_levels(image: &[u8], base: usize, n: usize, k: usize) -> Levels
 
 // How many rows are free: all of them but the leases.
 fn free_rows(image: &[u8], k: usize, n: usize) -> u32
-    requires { ⌜ Sound (now image) k n ⌝ }
+    requires { ⌜ SoundImage (now image) k n ⌝ }
     ensures { λ r. ⌜ OfTable (now (image .entry)) (λ t. r ≡ length (freeIn (rows t))) ⌝ }
 {
-    let levels = all_levels(image, 13 + 9 * k, n, k);
+    let levels = all_levels(image, HEAD + POOL * k, n, k);
     (k as u32) + levels.deep - (levels.shared + n as u32)
 }
 
 // Whether so many bytes are too few. They are enough if they are with every row as long as rows get; else the rows are measured.
 fn too_small(room: usize, image: &[u8], k: usize, n: usize, free: u32) -> bool
-    requires { ⌜ Sound (now image) k n × OfTable (now image) (λ t. free ≡ length (freeIn (rows t))) ⌝ }
+    requires { ⌜ SoundImage (now image) k n × OfTable (now image) (λ t. free ≡ length (freeIn (rows t))) ⌝ }
     ensures { λ r. ⌜ OfTable (now (image .entry)) (λ t. r ≡ ltb room (length (sheetText t))) ⌝ }
 {
-    if 26 + 60 * n + 24 * (free as usize) <= room {
+    if FIRST_ROW + USED_ROW * n + FREE_ROW * (free as usize) <= room {
         return false;
     }
+    let mut row = [0u8; ANY_ROW];
+    let head = put_head(&mut row, n as u32, free);
     let mut none = [0u8; 0];
-    let head = head_size(n as u32, free);
-    room < show_pools(&mut none, image, 13 + 9 * k, n, k, head)
+    room < show_pools(&mut none, image, HEAD + POOL * k, n, k, head)
 }
 
 fn write_sheet(image: &[u8], k: usize, n: usize, out: &mut [u8]) -> SheetAnswer
-    requires { ⌜ Sound (now image) k n ⌝ }
+    requires { ⌜ SoundImage (now image) k n ⌝ }
     ensures { λ r. ⌜ (r, now (out .exit)) ≡ sheetOfImage (now (image .entry)) (now (out .entry)) ⌝ }
 {
     let free = free_rows(image, k, n);
@@ -518,7 +397,7 @@ fn write_sheet(image: &[u8], k: usize, n: usize, out: &mut [u8]) -> SheetAnswer
         return SheetAnswer::TooSmall;
     }
     let head = put_head(out, n as u32, free);
-    let size = show_pools(out, image, 13 + 9 * k, n, k, head);
+    let size = show_pools(out, image, HEAD + POOL * k, n, k, head);
     SheetAnswer::Written(size)
 }
 
@@ -526,9 +405,9 @@ fn write_sheet(image: &[u8], k: usize, n: usize, out: &mut [u8]) -> SheetAnswer
 pub fn sheet_of_image(bytes: &[u8], out: &mut [u8]) -> SheetAnswer
     ensures { λ r. ⌜ (r, now (out .exit)) ≡ sheetOfImage (now (bytes .entry)) (now (out .entry)) ⌝ }
 {
-    let book = image_check::check(bytes, 0);
-    if !book.sound {
+    let summary = image_check::check(bytes, 0);
+    if !summary.sound {
         return SheetAnswer::NotSound;
     }
-    write_sheet(bytes, book.pools, book.leases, out)
+    write_sheet(bytes, summary.pools, summary.leases, out)
 }

@@ -2,18 +2,18 @@
 -- Assumes nothing.
 use Prim.Native.Nat.{ℕ, zero, suc, _+_, _-_, _≤_, _<_}
 use mathlib.Core.Path.{_≡_, refl, sym, ap, ap₂, subst, _∙_}
-use mathlib.Core.Logic.{_⊎_, inl, inr, ⊎-elim}
+use mathlib.Core.Logic.{inl, inr, ⊎-elim}
 use mathlib.Core.Bool.{Bool, true, false, not, _&&_}
 use mathlib.Core.List.{List, [], _∷_, _++_, map}
 use native.Mathlib.Omega.{arith}
 use lib.ListN.{length, replicate}
 use lib.Dec.{leb, ltb}
 use borrow.Author.Tests.{leb-true, le-leb, ltb-true, ltb-false}
-use Rattle.lists.specs.Lists.{All, Pairwise, all?, those}
+use Rattle.lists.specs.Lists.{All, Pairwise, all?, filter}
 use Rattle.lists.specs.Sorting.{insertBy, sortBy}
 use Rattle.lists.proofs.Tests.{bool-cases, and-to, and-of, cond-true, cond-false, not-of, not-to}
 use Rattle.lists.proofs.ListLaws.{all-map}
-use Rattle.lists.proofs.ThoseLaws.{those-yes, those-no}
+use Rattle.lists.proofs.FilterLaws.{filter-yes, filter-no}
 use Rattle.lists.proofs.SortingLaws.{insertBy-before, insertBy-after, sortBy-all}
 use Rattle.prefix.specs.declared.Prefix.{Prefix}
 use Rattle.prefix.specs.Prefixes.{end, Apart}
@@ -27,7 +27,7 @@ Ascending pre from (x ∷ xs) = (from ≤ pre x .network) × Ascending pre (end 
 
 -- The slots that are used.
 abbrev pub used : {A : Type 0} → (A → Bool) → List A → List A
-used none? xs = those (λ x. not (none? x)) xs
+used none? xs = filter (λ x. not (none? x)) xs
 
 module _ {A : Type 0} (pre : A → Prefix) where
   pub ascending-weaken : (from to : ℕ) (xs : List A) → from ≤ to → Ascending pre to xs → Ascending pre from xs
@@ -35,13 +35,13 @@ module _ {A : Type 0} (pre : A → Prefix) where
   ascending-weaken from to (x ∷ xs) h s = (omega arith, s .1)
 
   -- Leaving some out keeps the rest ascending.
-  pub ascending-those : (f : A → Bool) (from : ℕ) (xs : List A) → Ascending pre from xs → Ascending pre from (those f xs)
-  ascending-those f from [] s = tt
-  ascending-those f from (x ∷ xs) s =
-      let rest = ascending-those f (end (pre x)) xs (s .1) in
+  pub ascending-filter : (f : A → Bool) (from : ℕ) (xs : List A) → Ascending pre from xs → Ascending pre from (filter f xs)
+  ascending-filter f from [] s = tt
+  ascending-filter f from (x ∷ xs) s =
+      let rest = ascending-filter f (end (pre x)) xs (s .1) in
       ⊎-elim
-      (λ (e : f x ≡ true). subst (Ascending pre from) (sym (those-yes f x xs e)) (s .0, rest))
-      (λ (e : f x ≡ false). subst (Ascending pre from) (sym (those-no f x xs e)) (ascending-weaken from (end (pre x)) (those f xs) (omega arith) rest))
+      (λ (e : f x ≡ true). subst (Ascending pre from) (sym (filter-yes f x xs e)) (s .0, rest))
+      (λ (e : f x ≡ false). subst (Ascending pre from) (sym (filter-no f x xs e)) (ascending-weaken from (end (pre x)) (filter f xs) (omega arith) rest))
       (bool-cases (f x))
 
   pub ascending-low : (from : ℕ) (xs : List A) → Ascending pre from xs → All (λ x. from ≤ pre x .network) xs
@@ -108,7 +108,7 @@ module _ {A : Type 0} (none? ok : A → Bool) (pre : A → Prefix) (blank : A) w
   nones only (x ∷ xs) e =
       let t = and-to (none? x) (all? none? xs) e in
       let r = nones only xs (t .1) in
-      (those-no (λ y. not (none? y)) x xs (not-to (none? x) (t .0)) ∙ r .0, ap₂ (λ (y : A) (l : List A). y ∷ l) (only x (t .0)) (r .1))
+      (filter-no (λ y. not (none? y)) x xs (not-to (none? x) (t .0)) ∙ r .0, ap₂ (λ (y : A) (l : List A). y ∷ l) (only x (t .0)) (r .1))
 
   slots-none : ((x : A) → none? x ≡ true → x ≡ blank) → (from : ℕ) (xs : List A) → all? none? xs ≡ true → Slots none? ok pre blank from xs
   slots-none only from xs e =
@@ -123,7 +123,7 @@ module _ {A : Type 0} (none? ok : A → Bool) (pre : A → Prefix) (blank : A) w
   slots-step : (from : ℕ) (x : A) (xs : List A) → none? x ≡ false → from ≤ pre x .network → ok x ≡ true → Slots none? ok pre blank (end (pre x)) xs
       → Slots none? ok pre blank from (x ∷ xs)
   slots-step from x xs n l o r =
-      let e = those-yes (λ y. not (none? y)) x xs (not-of (none? x) n) in
+      let e = filter-yes (λ y. not (none? y)) x xs (not-of (none? x) n) in
       let k : length (x ∷ xs) - length (used none? (x ∷ xs)) ≡ length xs - length (used none? xs) = omega (arith, ap length e) in
       record {
         good = subst (All (λ x. ok x ≡ true)) (sym e) (o, r .good);

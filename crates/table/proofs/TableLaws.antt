@@ -2,15 +2,15 @@
 -- Assumes nothing.
 use Prim.Native.Nat.{ℕ, _+_, _-_, _≤_, _<_}
 use mathlib.Core.Path.{_≡_, refl, sym, ap, ap₂, subst, _∙_}
-use mathlib.Core.Logic.{_⊎_, ⊎-elim}
+use mathlib.Core.Logic.{⊎-elim}
 use mathlib.Core.Bool.{Bool, true, false, _&&_, and-true}
 use mathlib.Core.List.{List, _∷_, _++_, map, append-nil}
 use native.Mathlib.Omega.{arith}
 use lib.ListN.{length, replicate, length-append, length-replicate, length-map}
 use lib.Dec.{ltb, eqb}
 use borrow.Author.Tests.{leb-true, le-leb, ltb-true, lt-ltb, le-ltb, eqb-true, eqb-false, eq-eqb, ne-eqb, not-true}
-use Rattle.lists.specs.Lists.{All, Any, Pairwise, those}
-use Rattle.lists.proofs.Tests.{bool-cases, not-of, every-to, every-of, any?-to, any?-of}
+use Rattle.lists.specs.Lists.{All, Any, Pairwise, filter}
+use Rattle.lists.proofs.Tests.{bool-cases, not-of, and-list-to, and-list-of, any?-to, any?-of}
 use Rattle.lists.proofs.ListLaws.{all-map, all-map₂, all-image, all-preimage, pairwise-image}
 use Rattle.prefix.specs.declared.Prefix.{Prefix}
 use Rattle.prefix.specs.Prefixes.{end, Aligned, Inside, inside?, Apart}
@@ -20,15 +20,15 @@ use Rattle.table.specs.declared.Lease.{Lease}
 use Rattle.table.specs.declared.LeaseTable.{LeaseTable}
 use Rattle.table.specs.Table.{poolSlots, leaseSlots, latest, addresses, poolPrefix, prefixOf, noPool, noLease, poolZeros, unused?, leaseZeros, empty?, poolsOf, present, headRules, headOk, poolRules, poolOk, leaseRules, leaseOk, poolsAscend?, leasesAscend?, tableRules, sound, padded, store, networkOf, insert}
 use Rattle.lists.proofs.SortingLaws.{insertBy-all}
-use Rattle.lists.proofs.ThoseLaws.{those-yes, those-no, those-all, those-fewer, those-append, those-whole, those-replicate, those-pass}
-use Rattle.table.proofs.Ascending.{Ascending, used, ascending-those, ascending-apart, ascending-map, ascending-insert, Slots, ascends-to, ascends-of}
+use Rattle.lists.proofs.FilterLaws.{filter-yes, filter-no, filter-all, filter-fewer, filter-append, filter-whole, filter-replicate, filter-pass}
+use Rattle.table.proofs.Ascending.{Ascending, used, ascending-filter, ascending-apart, ascending-map, ascending-insert, Slots, ascends-to, ascends-of}
 
 -- EMPTY SLOTS
 
 pub unused-to : (p : Pool) → unused? p ≡ true → p ≡ noPool
 unfolding unused?
 unused-to p e =
-    let t = every-to (poolZeros p) e in
+    let t = and-list-to (poolZeros p) e in
     ap₂ (λ (n l : ℕ). record { network = n; length = l }) (eqb-true (p .network) 0 (t .0)) (eqb-true (p .length) 0 (t .1 .0))
 
 pub unused-of : unused? noPool ≡ true
@@ -38,7 +38,7 @@ unused-of = refl
 pub empty-to : (x : Lease) → empty? x ≡ true → x ≡ noLease
 unfolding empty?
 empty-to x e =
-    let t = every-to (leaseZeros x) e in
+    let t = and-list-to (leaseZeros x) e in
     let n = eqb-true (x .network) 0 (t .0) in
     let l = eqb-true (x .length) 0 (t .1 .0) in
     let c = eqb-true (x .client) 0 (t .1 .1 .0) in
@@ -57,12 +57,6 @@ empty-to x e =
 pub empty-of : empty? noLease ≡ true
 unfolding empty?
 empty-of = refl
-
--- What is left to test of a slot once the other fields are zero.
-pub empty-last : (x : Lease) → eqb (x .network) 0 ≡ true → eqb (x .length) 0 ≡ true → eqb (x .client) 0 ≡ true → x .leased ≡ false → x .h ≡ false → x .d ≡ false
-    → empty? x ≡ eqb (x .expires) 0
-unfolding empty?
-empty-last x n l c le h d = rw (n, l, c, le, h, d) (and-true (eqb (x .expires) 0))
 
 -- A slot whose length is not 0 is not empty.
 pub long-not-unused : (p : Pool) → 0 < p .length → unused? p ≡ false
@@ -83,7 +77,7 @@ pub record GoodPool (p : Pool) : Type 0 where
 pub poolOk-to : (p : Pool) → poolOk p ≡ true → GoodPool p
 unfolding poolOk
 poolOk-to p e =
-    let t = every-to (poolRules p) e in
+    let t = and-list-to (poolRules p) e in
     record {
       short = leb-true 8 (p .length) (t .0);
       long = leb-true (p .length) 30 (t .1 .0);
@@ -94,7 +88,7 @@ poolOk-to p e =
 pub poolOk-of : (p : Pool) → GoodPool p → poolOk p ≡ true
 unfolding poolOk
 poolOk-of p g =
-    every-of (poolRules p)
+    and-list-of (poolRules p)
     (le-leb 8 (p .length) (g .short), (le-leb (p .length) 30 (g .long), (aligned-of (poolPrefix p) (g .aligned), (le-leb (end (poolPrefix p)) addresses (g .within), tt))))
 
 -- A lease as document 01 says it, whose end is after a time.
@@ -109,7 +103,7 @@ pub record Good (pools : List Prefix) (now : ℕ) (x : Lease) : Type 0 where
 pub leaseOk-to : (pools : List Prefix) (now : ℕ) (x : Lease) → leaseOk pools now x ≡ true → Good pools now x
 unfolding leaseOk
 leaseOk-to pools now x e =
-    let t = every-to (leaseRules pools now x) e in
+    let t = and-list-to (leaseRules pools now x) e in
     record {
       short = leb-true 1 (x .length) (t .0);
       long = leb-true (x .length) 30 (t .1 .0);
@@ -122,7 +116,7 @@ leaseOk-to pools now x e =
 pub leaseOk-of : (pools : List Prefix) (now : ℕ) (x : Lease) → Good pools now x → leaseOk pools now x ≡ true
 unfolding leaseOk
 leaseOk-of pools now x g =
-    every-of (leaseRules pools now x)
+    and-list-of (leaseRules pools now x)
     (le-leb 1 (x .length) (g .short), (le-leb (x .length) 30 (g .long), (aligned-of (prefixOf x) (g .aligned), (not-of (eqb (x .client) 0) (ne-eqb (x .client) 0 (g .client)), (lt-ltb now (x .expires) (g .later), (any?-of (inside? (prefixOf x)) (inside-of (prefixOf x)) pools (g .pooled), tt))))))
 
 -- A good lease stays good until it ends.
@@ -143,28 +137,28 @@ present? now x = ltb now (x .expires)
 
 pub present-yes : (now : ℕ) (x : Lease) (xs : List Lease) → now < x .expires → present now (x ∷ xs) ≡ x ∷ present now xs
 unfolding present
-present-yes now x xs h = those-yes (present? now) x xs (lt-ltb now (x .expires) h)
+present-yes now x xs h = filter-yes (present? now) x xs (lt-ltb now (x .expires) h)
 
 pub present-no : (now : ℕ) (x : Lease) (xs : List Lease) → x .expires ≤ now → present now (x ∷ xs) ≡ present now xs
 unfolding present
-present-no now x xs h = those-no (present? now) x xs (le-ltb now (x .expires) h)
+present-no now x xs h = filter-no (present? now) x xs (le-ltb now (x .expires) h)
 
 pub present-fewer : (now : ℕ) (xs : List Lease) → length (present now xs) ≤ length xs
 unfolding present
-present-fewer now xs = those-fewer (present? now) xs
+present-fewer now xs = filter-fewer (present? now) xs
 
 -- Empty slots are not present.
 pub present-padded : (now k : ℕ) (xs : List Lease) → present now (xs ++ replicate k noLease) ≡ present now xs
 unfolding present
 present-padded now k xs =
-    those-append (present? now) xs (replicate k noLease)
-    ∙ ap (λ (l : List Lease). those (present? now) xs ++ l) (those-replicate (present? now) k noLease (le-ltb now 0 (omega arith)))
-    ∙ append-nil (those (present? now) xs)
+    filter-append (present? now) xs (replicate k noLease)
+    ∙ ap (λ (l : List Lease). filter (present? now) xs ++ l) (filter-replicate (present? now) k noLease (le-ltb now 0 (omega arith)))
+    ∙ append-nil (filter (present? now) xs)
 
 -- What ends later is all present.
 pub present-all : (pools : List Prefix) (now : ℕ) (xs : List Lease) → All (Good pools now) xs → present now xs ≡ xs
 unfolding present
-present-all pools now xs g = those-whole (present? now) xs (all-map (λ x (h : Good pools now x). lt-ltb now (x .expires) (h .later)) xs g)
+present-all pools now xs g = filter-whole (present? now) xs (all-map (λ x (h : Good pools now x). lt-ltb now (x .expires) (h .later)) xs g)
 
 pub present-stored : (pools : List Prefix) (now : ℕ) (xs : List Lease) → All (Good pools now) xs → present now (padded xs) ≡ xs
 present-stored pools now xs g = present-padded now (leaseSlots - length xs) xs ∙ present-all pools now xs g
@@ -175,15 +169,15 @@ present-stored pools now xs g = present-padded now (leaseSlots - length xs) xs �
 abbrev pub Fine : List Prefix → ℕ → ℕ → List Lease → Type 0
 Fine pools now from xs = All (Good pools now) xs × Ascending prefixOf from xs
 
-pub fine-those : (pools : List Prefix) (now from : ℕ) (f : Lease → Bool) (xs : List Lease) → Fine pools now from xs → Fine pools now from (those f xs)
-fine-those pools now from f xs h = (those-all f (Good pools now) xs (h .0), ascending-those prefixOf f from xs (h .1))
+pub fine-filter : (pools : List Prefix) (now from : ℕ) (f : Lease → Bool) (xs : List Lease) → Fine pools now from xs → Fine pools now from (filter f xs)
+fine-filter pools now from f xs h = (filter-all f (Good pools now) xs (h .0), ascending-filter prefixOf f from xs (h .1))
 
 -- Later, those present are good still.
 pub fine-present : (pools : List Prefix) (last now from : ℕ) (xs : List Lease) → Fine pools last from xs → Fine pools now from (present now xs)
 unfolding present
 fine-present pools last now from xs h =
-    let f = fine-those pools last from (present? now) xs h in
-    (all-map₂ (λ x (g : Good pools last x) (e : present? now x ≡ true). good-at pools last now x g (ltb-true now (x .expires) e)) (those (present? now) xs) (f .0) (those-pass (present? now) xs), f .1)
+    let f = fine-filter pools last from (present? now) xs h in
+    (all-map₂ (λ x (g : Good pools last x) (e : present? now x ≡ true). good-at pools last now x g (ltb-true now (x .expires) e)) (filter (present? now) xs) (f .0) (filter-pass (present? now) xs), f .1)
 
 -- Changing leases in what does not belong to their place.
 pub fine-map : (pools : List Prefix) (now from : ℕ) (f : Lease → Lease) → ((x : Lease) → prefixOf (f x) ≡ prefixOf x) → ((x : Lease) → Good pools now x → Good pools now (f x))
@@ -207,7 +201,7 @@ pub record GoodPools (ps : List Pool) : Type 0 where
 module _ (t : LeaseTable) (e : sound t ≡ true) where
   rules : All (λ (b : Bool). b ≡ true) (tableRules t)
   unfolding sound
-  rules = every-to (tableRules t) e
+  rules = and-list-to (tableRules t) e
 
   pub sound-slots : length (t .leases) ≡ leaseSlots
   sound-slots = eqb-true (length (t .leases)) leaseSlots (rules .1 .0)
@@ -220,7 +214,7 @@ module _ (t : LeaseTable) (e : sound t ≡ true) where
 
   headed : All (λ (b : Bool). b ≡ true) (headRules (t .term) (t .«default_length») (t .last))
   unfolding headOk
-  headed = every-to (headRules (t .term) (t .«default_length») (t .last)) sound-head
+  headed = and-list-to (headRules (t .term) (t .«default_length») (t .last)) sound-head
 
   pub sound-term : (60 ≤ t .term) × (t .term ≤ 2592000)
   sound-term = (leb-true 60 (t .term) (headed .0), leb-true (t .term) 2592000 (headed .1 .0))
@@ -288,14 +282,14 @@ fine-ascends pools now from k xs f =
 pub store-sound : (t : LeaseTable) (now : ℕ) (xs : List Lease) → sound t ≡ true → now ≤ latest → length xs ≤ leaseSlots → Fine (poolsOf t) now 0 xs → sound (store t now xs) ≡ true
 unfolding sound headOk store
 store-sound t now xs e l n f =
-    let r = every-to (tableRules t) e in
-    let h = every-to (headRules (t .term) (t .«default_length») (t .last)) (r .1 .1 .0) in
-    every-of (tableRules (store t now xs)) (
+    let r = and-list-to (tableRules t) e in
+    let h = and-list-to (headRules (t .term) (t .«default_length») (t .last)) (r .1 .1 .0) in
+    and-list-of (tableRules (store t now xs)) (
       r .0,
       (
         eq-eqb (length (padded xs)) leaseSlots (length-padded xs n),
         (
-          every-of (headRules (t .term) (t .«default_length») now) (h .0, (h .1 .0, (h .1 .1 .0, (h .1 .1 .1 .0, (le-leb now latest l, tt))))),
+          and-list-of (headRules (t .term) (t .«default_length») now) (h .0, (h .1 .0, (h .1 .1 .0, (h .1 .1 .1 .0, (le-leb now latest l, tt))))),
           (r .1 .1 .1 .0, (r .1 .1 .1 .1 .0, (fine-ascends (poolsOf t) now 0 (leaseSlots - length xs) xs f, tt))),
         ),
       ),
@@ -309,10 +303,10 @@ insert-fine pools now x ys g a f =
     (insertBy-all networkOf (Good pools now) x ys g (f .0), ascending-insert prefixOf 0 x ys (omega arith) (all-preimage prefixOf (Apart (prefixOf x)) ys a) (f .1))
 
 -- Removing expired leases keeps a sound table sound, and so does leaving out any others.
-pub those-sound : (t : LeaseTable) (now : ℕ) (f : Lease → Bool) → sound t ≡ true → now ≤ latest → sound (store t now (those f (present now (t .leases)))) ≡ true
-those-sound t now f e l =
+pub filter-sound : (t : LeaseTable) (now : ℕ) (f : Lease → Bool) → sound t ≡ true → now ≤ latest → sound (store t now (filter f (present now (t .leases)))) ≡ true
+filter-sound t now f e l =
     let xs : List Lease = present now (t .leases) in
-    store-sound t now (those f xs) e l (omega (arith, those-fewer f xs, sound-fewer t e now)) (fine-those (poolsOf t) now 0 f xs (sound-fine t e now))
+    store-sound t now (filter f xs) e l (omega (arith, filter-fewer f xs, sound-fewer t e now)) (fine-filter (poolsOf t) now 0 f xs (sound-fine t e now))
 
 -- Changing leases in what does not belong to their place, if each stays good.
 pub map-sound : (t : LeaseTable) (now : ℕ) (f : Lease → Lease) → ((x : Lease) → prefixOf (f x) ≡ prefixOf x) → ((x : Lease) → Good (poolsOf t) now x → Good (poolsOf t) now (f x))

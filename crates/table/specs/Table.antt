@@ -5,7 +5,7 @@ use mathlib.Core.Bool.{Bool, true, false, not, cond, _&&_}
 use mathlib.Core.List.{List, [], _∷_, _++_, map}
 use lib.ListN.{length, replicate}
 use lib.Dec.{leb, ltb, eqb}
-use Rattle.lists.specs.Lists.{every, all?, any?, those}
+use Rattle.lists.specs.Lists.{and, all?, any?, filter}
 use Rattle.lists.specs.Sorting.{insertBy}
 use Rattle.prefix.specs.declared.Prefix.{Prefix}
 use Rattle.prefix.specs.Prefixes.{shortest, longest, prefix, end, aligned?, inside?}
@@ -49,24 +49,24 @@ abbrev pub poolZeros : Pool → List Bool
 poolZeros p = eqb (p .network) 0 ∷ eqb (p .length) 0 ∷ []
 
 unfoldable pub unused? : Pool → Bool
-unused? p = every (poolZeros p)
+unused? p = and (poolZeros p)
 
 abbrev pub leaseZeros : Lease → List Bool
 leaseZeros x = eqb (x .network) 0 ∷ eqb (x .length) 0 ∷ eqb (x .client) 0 ∷ not (x .leased) ∷ not (x .h) ∷ not (x .d) ∷ eqb (x .expires) 0 ∷ []
 
 unfoldable pub empty? : Lease → Bool
-empty? x = every (leaseZeros x)
+empty? x = and (leaseZeros x)
 
 -- The pools that are used, as prefixes.
 unfoldable pub prefixesOf : List Pool → List Prefix
-prefixesOf ps = map poolPrefix (those (λ p. not (unused? p)) ps)
+prefixesOf ps = map poolPrefix (filter (λ p. not (unused? p)) ps)
 
 abbrev pub poolsOf : LeaseTable → List Prefix
 poolsOf t = prefixesOf (t .pools)
 
 -- The leases present at a time: "lines with end at or before now count as absent, and as empty lines". An empty slot expires at 0, so it is none.
 unfoldable pub present : ℕ → List Lease → List Lease
-present now xs = those (λ x. ltb now (x .expires)) xs
+present now xs = filter (λ x. ltb now (x .expires)) xs
 
 -- Row 12, the head: "a term (60 to 2,592,000 s), a length for asks with prefix 0 (1 to 30)", "start time (above 4,292,375,295)".
 abbrev pub headRules : ℕ → ℕ → ℕ → List Bool
@@ -74,14 +74,14 @@ headRules term defaultLength last =
     leb 60 term ∷ leb term 2592000 ∷ leb shortest defaultLength ∷ leb defaultLength longest ∷ leb last latest ∷ []
 
 unfoldable pub headOk : ℕ → ℕ → ℕ → Bool
-headOk term defaultLength last = every (headRules term defaultLength last)
+headOk term defaultLength last = and (headRules term defaultLength last)
 
 -- Row 12, a pool: "A root has length 8 to 30, is aligned (its network is a multiple of its size)". Its addresses have 32 bits.
 abbrev pub poolRules : Pool → List Bool
 poolRules p = leb 8 (p .length) ∷ leb (p .length) longest ∷ aligned? (poolPrefix p) ∷ leb (end (poolPrefix p)) addresses ∷ []
 
 unfoldable pub poolOk : Pool → Bool
-poolOk p = every (poolRules p)
+poolOk p = and (poolRules p)
 
 -- A lease: "A line is a block inside one root, a station (not 0), held or leased, the bits h and d, and an end"; "each line is as just said and
 -- aligned"; "every line's end is after the last time"; "A block length runs from 1 to 30".
@@ -96,7 +96,7 @@ leaseRules pools last x =
     ∷ []
 
 unfoldable pub leaseOk : List Prefix → ℕ → Lease → Bool
-leaseOk pools last x = every (leaseRules pools last x)
+leaseOk pools last x = and (leaseRules pools last x)
 
 -- From the address `from` on the slots "ascend by network without overlap", each as `ok` says; those that are `none?` follow, and no other after them.
 unfoldable pub ascends? : {A : Type 0} → (A → Bool) → (A → Bool) → (A → Prefix) → ℕ → List A → Bool
@@ -124,7 +124,7 @@ tableRules t =
     ∷ []
 
 unfoldable pub sound : LeaseTable → Bool
-sound t = every (tableRules t)
+sound t = and (tableRules t)
 
 -- Leases in the table's slots, with empty slots behind them; the same for pools.
 abbrev pub padded : List Lease → List Lease

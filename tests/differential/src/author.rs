@@ -13,6 +13,7 @@ use tables::aligned;
 
 mod options;
 mod tables;
+mod writing;
 
 /// What the calls of a script are like.
 #[derive(Clone, Copy)]
@@ -208,9 +209,10 @@ impl Author {
             53..=65 => self.release(profile),
             66..=78 => self.list(profile),
             79..=87 => self.mark(profile),
-            88..=91 => {
+            88..=90 => {
                 self.say("sheet".to_string());
             }
+            91 => self.write_one(),
             92..=94 => self.read_one(profile),
             95 | 96 => self.load_again(),
             97 if self.fault(profile) => {

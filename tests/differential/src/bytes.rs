@@ -1,9 +1,9 @@
 //! Bytes as they go into a script: options from raw pieces, images, hexadecimal text.
 //! Nothing here keeps to the rules, so that bad options can be made as well.
 
-use reference::image::{save, FULL};
 use reference::prefix::Prefix;
-use reference::table::Table;
+pub use reference::samples::image;
+pub use reference::words::hex_text as hex;
 
 /// The longest option that Len can tell.
 pub const LONGEST_OPTION: usize = 257;
@@ -57,6 +57,33 @@ pub fn suboption_places(option: &[u8]) -> Vec<usize> {
     places
 }
 
+/// Where each entry of an information begins, by their stat-lens; what is cut is none.
+pub fn entry_places(option: &[u8], information: usize) -> Vec<usize> {
+    let end = information + 2 + usize::from(option[information + 1]);
+    let mut places = Vec::new();
+    let mut place = information + 3;
+    while place + 7 <= end.min(option.len()) {
+        places.push(place);
+        place += 7 + usize::from(option[place + 6]);
+    }
+    places
+}
+
+/// An accepted option of which nothing is lost in reading: "no unknown suboption, no
+/// ignored bit set and no figure past the third".
+pub fn nothing_ignored(option: &[u8]) -> bool {
+    let plain = |place: usize| match option[place] {
+        1 => option[place + 2] < 4,
+        2 => {
+            let entries = entry_places(option, place);
+            let plain = |entry: usize| option[entry + 5] < 4 && option[entry + 6] <= 6;
+            option[place + 2] < 4 && entries.into_iter().all(plain)
+        }
+        number => number == 3,
+    };
+    option[2] == 0 && suboption_places(option).into_iter().all(plain)
+}
+
 /// Where each record of an image begins, by their lengths, and where the last ends.
 pub fn record_places(image: &[u8]) -> Vec<usize> {
     let mut places = Vec::new();
@@ -69,37 +96,9 @@ pub fn record_places(image: &[u8]) -> Vec<usize> {
     places
 }
 
-/// The image of a table; no bytes if it is not sound.
-pub fn image(table: &Table) -> Vec<u8> {
-    let mut buffer = vec![0; FULL];
-    let bytes = save(table, &mut buffer).unwrap_or(0);
-    buffer.truncate(bytes);
-    buffer
-}
-
-/// Hexadecimal digits, `-` for no bytes.
-pub fn hex(bytes: &[u8]) -> String {
-    const DIGITS: &[u8; 16] = b"0123456789abcdef";
-    if bytes.is_empty() {
-        return "-".to_string();
-    }
-    let mut text = String::with_capacity(2 * bytes.len());
-    for byte in bytes {
-        text.push(char::from(DIGITS[usize::from(byte >> 4)]));
-        text.push(char::from(DIGITS[usize::from(byte & 15)]));
-    }
-    text
-}
-
 /// The bytes of a word of hexadecimal digits, at least two of them.
 pub fn from_hex(word: &[u8]) -> Option<Vec<u8>> {
-    if word.is_empty() || word.len() % 2 != 0 {
-        return None;
-    }
-    let digit = |byte: u8| (byte as char).to_digit(16);
-    word.chunks(2)
-        .map(|pair| Some((16 * digit(pair[0])? + digit(pair[1])?) as u8))
-        .collect()
+    reference::words::hex(word).filter(|bytes| !bytes.is_empty())
 }
 
 #[cfg(test)]
@@ -129,7 +128,32 @@ mod tests {
             &[request(0, 24), suboption(9, &[1, 2, 3]), request(2, 0)],
         );
         assert_eq!(suboption_places(&bytes), [3, 7, 12]);
+        let at = prefix(0x0a00_0100, 24);
+        let entries = [entry(at, 0, &[1, 2]), entry(at, 0, &[]), entry(at, 0, &[])];
+        let bytes = option(0, &[request(0, 24), information(0, &entries)]);
+        assert_eq!(entry_places(&bytes, 7), [10, 19, 26]);
+        assert_eq!(entry_places(&bytes[..30], 7), [10, 19]);
         let image = [4, 0, 1, 0, 9, 9, 2, 0, 2, 0];
         assert_eq!(record_places(&image), [0, 6, 10]);
+    }
+
+    #[test]
+    fn what_is_ignored_is_seen() {
+        let at = prefix(0x0a00_0100, 24);
+        let of = |flags, entry_flags, figures: &[u8]| {
+            vec![information(flags, &[entry(at, entry_flags, figures)])]
+        };
+        for (flags, pieces, plain) in [
+            (0, vec![request(3, 24), suboption(3, &[255])], true),
+            (0, of(3, 3, &[0; 6]), true),
+            (1, vec![request(0, 24)], false),
+            (0, vec![request(4, 24)], false),
+            (0, vec![request(0, 24), suboption(4, &[])], false),
+            (0, of(4, 0, &[]), false),
+            (0, of(0, 128, &[]), false),
+            (0, of(0, 0, &[0; 8]), false),
+        ] {
+            assert_eq!(nothing_ignored(&option(flags, &pieces)), plain);
+        }
     }
 }

@@ -3,11 +3,12 @@
 use std::collections::BTreeMap;
 use std::fmt::{self, Display, Formatter};
 
+use crate::rounds::Rounds;
 use crate::script::{Script, Step};
 
 /// Each command with the numbers that it can be refused with, in document 01's row
 /// order. The buffer that `save` is given holds a full book, so it has no 14.
-const COMMANDS: [(&str, &[u8]); 11] = [
+const COMMANDS: [(&str, &[u8]); 12] = [
     ("open", &[12]),
     ("ask", &[1, 5, 2, 3, 4, 6, 7, 8, 9, 10]),
     ("take", &[1, 5, 2, 3, 4, 6, 7, 8, 11]),
@@ -17,35 +18,46 @@ const COMMANDS: [(&str, &[u8]); 11] = [
     ("load", &[5]),
     ("sheet", &[5]),
     ("read", &[6, 7]),
+    ("write", &[13, 14]),
     ("save", &[5]),
     ("buffer", &[]),
 ];
 
 /// `save` and `buffer` stand between the calls and are not counted as calls.
-const CALLS: usize = 9;
+const CALLS: usize = 10;
 /// In place of a refusal's number.
 const ACCEPTED: u8 = 0;
+const ERROR: u8 = u8::MAX;
 
 #[derive(Default)]
 pub struct Counts {
     pub scripts: usize,
+    rounds: Rounds,
+    /// Answers by command and number.
     answers: BTreeMap<(usize, u8), usize>,
+    /// Error lines, also those whose first word is no command.
     errors: usize,
 }
 
 impl Counts {
-    pub fn add(&mut self, script: &Script) {
+    /// The error is a step of the reference that does not undo the one before it.
+    pub fn add(&mut self, script: &Script) -> Result<(), usize> {
         self.scripts += 1;
         for step in &script.steps {
             self.add_step(step);
         }
+        self.rounds.add(script)
     }
 
     fn add_step(&mut self, step: &Step) {
-        if step.answer.starts_with("error line") {
-            self.errors += 1;
-        } else if let Some(command) = command(&step.line) {
-            let number = refused_with(&step.answer).unwrap_or(ACCEPTED);
+        let error = step.answer.starts_with("error line");
+        self.errors += usize::from(error);
+        if let Some(command) = command(step) {
+            let number = match refused_with(&step.answer) {
+                _ if error => ERROR,
+                Some(number) => number,
+                None => ACCEPTED,
+            };
             *self.answers.entry((command, number)).or_default() += 1;
         }
     }
@@ -54,18 +66,19 @@ impl Counts {
         self.answers.get(&(command, number)).copied().unwrap_or(0)
     }
 
-    fn total(&self, command: usize) -> usize {
-        let of_command = self.answers.range((command, 0)..=(command, u8::MAX));
+    /// Error lines aside.
+    fn answered(&self, command: usize) -> usize {
+        let of_command = self.answers.range((command, 0)..(command, ERROR));
         of_command.map(|(_, count)| count).sum()
     }
 
     pub fn calls(&self) -> usize {
-        (0..CALLS).map(|command| self.total(command)).sum()
+        (0..CALLS).map(|command| self.answered(command)).sum()
     }
 
     /// The answers that a command can give and that never came, such as `ask 9`.
     pub fn missing(&self) -> Vec<String> {
-        let mut missing = Vec::new();
+        let mut missing = self.rounds.missing();
         for (command, (name, numbers)) in COMMANDS.iter().enumerate() {
             if self.count(command, ACCEPTED) == 0 {
                 missing.push(format!("{name} ok"));
@@ -75,15 +88,17 @@ impl Counts {
                     missing.push(format!("{name} {number}"));
                 }
             }
+            if self.count(command, ERROR) == 0 {
+                missing.push(format!("{name} error"));
+            }
         }
         missing
     }
 }
 
-/// Which command a line is, if it is one that is answered.
-fn command(line: &[u8]) -> Option<usize> {
-    let mut words = line.split(|byte| matches!(byte, b' ' | b'\r' | b'\n'));
-    let first = words.find(|word| !word.is_empty())?;
+/// Which command a line has as its first word, if it has one.
+fn command(step: &Step) -> Option<usize> {
+    let first = *step.words().first()?;
     COMMANDS
         .iter()
         .position(|(name, _)| name.as_bytes() == first)
@@ -94,18 +109,19 @@ fn refused_with(answer: &str) -> Option<u8> {
     rest.split_whitespace().next()?.parse().ok()
 }
 
-/// `ask 4 (2 ok, 1 refused 9, 1 refused 10), ..`
+/// `ask 5 (2 ok, 1 x 9, 1 x 10, 1 error), ..`
 impl Display for Counts {
     fn fmt(&self, out: &mut Formatter<'_>) -> fmt::Result {
         for (command, (name, numbers)) in COMMANDS.iter().enumerate() {
-            let accepted = self.count(command, ACCEPTED);
-            write!(out, "{name} {} ({accepted} ok", self.total(command))?;
+            let (accepted, errors) = (self.count(command, ACCEPTED), self.count(command, ERROR));
+            let lines = self.answered(command) + errors;
+            write!(out, "{name} {lines} ({accepted} ok")?;
             for number in *numbers {
                 write!(out, ", {} x {number}", self.count(command, *number))?;
             }
-            write!(out, "), ")?;
+            write!(out, ", {errors} error), ")?;
         }
-        write!(out, "error lines {}", self.errors)
+        write!(out, "error lines {}, {}", self.errors, self.rounds)
     }
 }
 
@@ -117,18 +133,27 @@ mod tests {
     #[test]
     fn answers_are_counted_by_command_and_number() {
         let mut counts = Counts::default();
-        counts.add(&Script::of_lines(&lines_of(
+        let script = Script::of_lines(&lines_of(
             b"save\nopen 60 28 0 10.0.0.0/30\n ask 1 0 dc05000102001e\r\nask 1 0 dc05000102001e\n\
-              # ask\nask\nsheet\nbuffer 3\nread dc05000102001f\nsave\n",
-        )));
-        assert_eq!(counts.calls(), 5);
+              # ask\nask\nsheet\nbuffer 3\nread dc05000102001f\nsave\nx\n\
+              write\nwrite name 61\nwrite x\nbuffer 6\nwrite name 61\n",
+        ));
+        assert_eq!(counts.add(&script), Ok(()));
+        assert_eq!(counts.calls(), 8);
         let text = counts.to_string();
-        assert!(text.contains("open 1 (1 ok, 0 x 12)"), "{text}");
-        assert!(text.contains("ask 2 (1 ok, 0 x 1,"), "{text}");
-        assert!(text.contains("1 x 10)"), "{text}");
-        assert!(text.contains("read 1 (0 ok, 0 x 6, 1 x 7)"), "{text}");
-        assert!(text.contains("save 2 (1 ok, 1 x 5)"), "{text}");
-        assert!(text.ends_with("error lines 1"), "{text}");
+        assert!(text.contains("open 1 (1 ok, 0 x 12, 0 error)"), "{text}");
+        assert!(text.contains("ask 3 (1 ok, 0 x 1,"), "{text}");
+        assert!(text.contains("1 x 10, 1 error)"), "{text}");
+        assert!(
+            text.contains("read 1 (0 ok, 0 x 6, 1 x 7, 0 error)"),
+            "{text}"
+        );
+        assert!(
+            text.contains("write 4 (1 ok, 1 x 13, 1 x 14, 1 error)"),
+            "{text}"
+        );
+        assert!(text.contains("save 2 (1 ok, 1 x 5, 0 error)"), "{text}");
+        assert!(text.contains("error lines 3,"), "{text}");
         assert!(counts.missing().contains(&"ask 9".to_string()));
         assert!(!counts.missing().contains(&"ask 10".to_string()));
     }

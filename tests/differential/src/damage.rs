@@ -186,17 +186,9 @@ fn damage_records(numbers: &mut Numbers, image: &mut Vec<u8>) {
     if records.is_empty() {
         return;
     }
-    let (one, other) = (numbers.below(records.len()), numbers.below(records.len()));
+    let one = numbers.below(records.len());
     match numbers.below(9) {
-        0 => records.swap(one, other),
-        1 | 2 => {
-            let moved = records.remove(one);
-            records.insert(other.min(records.len()), moved);
-        }
-        3 => {
-            records.remove(one);
-        }
-        4 => records.insert(other, records[one].clone()),
+        0..=4 => damage_order(numbers, &mut records),
         5 => records.push(records[one].clone()),
         6 | 7 => resize_record(numbers, &mut records[one]),
         _ => records.truncate(one),
@@ -234,6 +226,80 @@ pub fn damage_line(numbers: &mut Numbers, line: &mut Vec<u8>) {
     }
 }
 
+/// Words at which some rule of a `write` line turns; those with `=` are put in place of
+/// others with the same name.
+const WORDS: &str = "request information entry name unknown address ok - 61 00 6 DC 6g h=0 h=1 \
+    h=2 h=01 h= i=0 i=1 i=2 c=0 c=1 c=- s=0 s=1 s=10 d=0 d=1 d= prefix=0 prefix=030 prefix=31 \
+    prefix=255 prefix=256 prefix= 10.0.1.0/24 10.0.1.0/24/24 10.0.1.0/031 10.0.1.0/256 10.0.1.0 \
+    10.0.1.1/24 10.0.1/24 0.0.0.0/0 figures=- figures= figures=0 figures=1,2,3 figures=1,2,3,4 \
+    figures=0,0,0,0 figures=1,2,3,4,5 figures=65535 figures=65536 figures=007,1 figures=1, \
+    figures=,1 figures=1,,2 figures=-,1";
+
+/// The words that begin a suboption or an entry.
+const FIRST_WORDS: [&[u8]; 6] = [
+    b"request",
+    b"information",
+    b"entry",
+    b"name",
+    b"unknown",
+    b"address",
+];
+
+/// A `write` line: words or whole pieces left out, said twice, exchanged, or words in
+/// place of others.
+pub fn damage_words(numbers: &mut Numbers, line: &mut Vec<u8>) {
+    let mut words: Vec<&[u8]> = line.split(|byte| *byte == b' ').collect();
+    let at = numbers.below(words.len());
+    let mut edges: Vec<&[u8]> = WORDS.split_whitespace().map(str::as_bytes).collect();
+    match numbers.below(8) {
+        0 => {
+            words.remove(at);
+        }
+        1 => words.insert(at, edges[numbers.below(edges.len())]),
+        2 => words.truncate(at + 1),
+        3 => damage_order(numbers, &mut words),
+        4 | 5 => {
+            let is_first = |word: &&[u8]| FIRST_WORDS.contains(word);
+            let mut pieces: Vec<Vec<&[u8]>> = Vec::new();
+            for word in words {
+                match pieces.last_mut() {
+                    Some(piece) if !is_first(&word) => piece.push(word),
+                    _ => pieces.push(vec![word]),
+                }
+            }
+            damage_order(numbers, &mut pieces);
+            words = pieces.concat();
+        }
+        _ => {
+            let name = |word: &[u8]| word.iter().position(|byte| *byte == b'=');
+            let named = name(words[at]).map(|end| words[at][..=end].to_vec());
+            if let Some(named) = named {
+                edges.retain(|edge| edge.starts_with(&named));
+            }
+            if !edges.is_empty() {
+                words[at] = edges[numbers.below(edges.len())];
+            }
+        }
+    }
+    *line = words.join(&b' ');
+}
+
+/// One item left out, said again elsewhere, moved, or exchanged with another.
+fn damage_order<T: Clone>(numbers: &mut Numbers, items: &mut Vec<T>) {
+    let (one, other) = (numbers.below(items.len()), numbers.below(items.len()));
+    match numbers.below(4) {
+        0 => {
+            items.remove(one);
+        }
+        1 => items.insert(other, items[one].clone()),
+        2 => {
+            let moved = items.remove(one);
+            items.insert(other, moved);
+        }
+        _ => items.swap(one, other),
+    }
+}
+
 #[cfg(test)]
 mod tests {
     use super::*;
@@ -254,6 +320,28 @@ mod tests {
     }
 
     #[test]
+    fn write_lines_are_damaged_in_many_ways() {
+        let mut numbers = Numbers::new(3);
+        let good = b"write information c=0 s=0 entry 10.0.1.0/24 h=0 d=1 figures=1,2 name 61";
+        let mut seen = std::collections::BTreeSet::new();
+        for _ in 0..5_000 {
+            let mut line = good.to_vec();
+            damage_words(&mut numbers, &mut line);
+            seen.insert(String::from_utf8_lossy(&line).into_owned());
+        }
+        assert!(seen.len() > 500, "{}", seen.len());
+        for line in [
+            "write information c=0 s=0 entry 10.0.1.0/24 h=0 d=1 figures= name 61",
+            "write information c=0 s=0 entry 10.0.1.0/24 h=0 d=1 figures=1,2,3,4 name 61",
+            "write information c=0 s=0 name 61 entry 10.0.1.0/24 h=0 d=1 figures=1,2",
+            "write entry 10.0.1.0/24 h=0 d=1 figures=1,2 name 61",
+            "write information c=0 s=0 name 61",
+        ] {
+            assert!(seen.contains(line), "{line}");
+        }
+    }
+
+    #[test]
     fn damage_to_anything_ends() {
         let mut numbers = Numbers::new(2);
         for length in 0..60 {
@@ -262,6 +350,7 @@ mod tests {
                 damage_image(&mut numbers, &mut bytes);
                 damage_option(&mut numbers, &mut bytes);
                 damage_line(&mut numbers, &mut bytes);
+                damage_words(&mut numbers, &mut bytes);
                 assert!(!bytes.contains(&b'\n'));
             }
         }

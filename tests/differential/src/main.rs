@@ -9,6 +9,7 @@ mod counts;
 mod damage;
 mod plant;
 mod program;
+mod rounds;
 mod script;
 mod shapes;
 mod shrink;
@@ -120,7 +121,12 @@ fn run(program: &Program, options: &Options) -> io::Result<(Counts, Option<Failu
         let mut number = 0;
         while counts.calls() < share {
             let (script, shape) = shapes::script(*seed, number);
-            counts.add(&script);
+            if let Err(step) = counts.add(&script) {
+                let line = String::from_utf8_lossy(&script.steps[step].line);
+                return Err(io::Error::other(format!(
+                    "seed {seed}, script {number}: the reference reads or writes back otherwise: {line}"
+                )));
+            }
             if let Some(difference) = difference(&script, program)? {
                 let failure = Failure {
                     seed: *seed,

@@ -10,6 +10,16 @@ pub struct Step {
     pub answer: String,
 }
 
+impl Step {
+    /// The words of the line, as the console parts them.
+    pub fn words(&self) -> Vec<&[u8]> {
+        let line = self.line.strip_suffix(b"\n").unwrap_or(&self.line);
+        let line = line.strip_suffix(b"\r").unwrap_or(line);
+        let words = line.split(|byte| *byte == b' ');
+        words.filter(|word| !word.is_empty()).collect()
+    }
+}
+
 /// The reference answers each line as it is added, so that the next one can be chosen
 /// by what the table then is.
 pub struct Script {
@@ -87,5 +97,8 @@ mod tests {
         assert_eq!(joined.as_bytes(), answers);
         assert_eq!(script.text(), text);
         assert_eq!(script.steps[1].answer, "");
+        let script = Script::of_lines(&[b"  ask  7 \r\n".to_vec(), b" \n".to_vec()]);
+        assert_eq!(script.steps[0].words(), [&b"ask"[..], b"7"]);
+        assert!(script.steps[1].words().is_empty());
     }
 }

@@ -14,7 +14,7 @@ use crate::script::Script;
 type Shape = (&'static str, fn(&mut Author));
 
 /// Taken in turn, so that every run has all of them.
-const SHAPES: [Shape; 17] = [
+const SHAPES: [Shape; 18] = [
     ("one pool", |author| walk(author, &ONE_POOL)),
     ("small pools", |author| walk(author, &SMALL_POOLS)),
     ("many pools", |author| walk(author, &MANY_POOLS)),
@@ -30,6 +30,7 @@ const SHAPES: [Shape; 17] = [
     ("openings", openings),
     ("images", images),
     ("options", options),
+    ("writes", writes),
     ("damaged options", |author| walk(author, &DAMAGED)),
     ("lines", lines),
 ];
@@ -319,6 +320,21 @@ fn options(author: &mut Author) {
     }
 }
 
+/// Options written from words, and from what the reader printed.
+fn writes(author: &mut Author) {
+    for _ in 0..author.numbers.between(60, 180) {
+        if author.numbers.once_in(8) {
+            let mut bytes = author.any_option(&MANY_POOLS);
+            if author.numbers.once_in(4) {
+                damage_option(&mut author.numbers, &mut bytes);
+            }
+            author.read_and_write(&bytes);
+        } else {
+            author.write_one();
+        }
+    }
+}
+
 /// Bytes of no meaning with the right code, and mostly a fitting Len.
 fn any_bytes(author: &mut Author) -> Vec<u8> {
     let length = author.one_of(&[0, 1, 2, 3, 6, 20, 120, 255, 300]);
@@ -371,32 +387,10 @@ fn late_place(author: &mut Author) -> Vec<u8> {
 
 /// Damaged lines, and lines of words in no order; a table stands behind them.
 fn lines(author: &mut Author) {
-    const WORDS: [&str; 24] = [
-        "open",
-        "ask",
-        "take",
-        "list",
-        "return",
-        "mark",
-        "save",
-        "load",
-        "sheet",
-        "read",
-        "buffer",
-        "0",
-        "7",
-        "1000",
-        "3600",
-        "28",
-        "257",
-        "10.0.0.0/8",
-        "10.0.0.0/28",
-        "dc05000102001c",
-        "dc0b000208000a0000001c0000",
-        "-",
-        "#",
-        "4294967296",
-    ];
+    const WORDS: &str = "open ask take list return mark save load sheet read write buffer 0 7 \
+                         1000 3600 28 257 10.0.0.0/8 10.0.0.0/28 dc05000102001c \
+                         dc0b000208000a0000001c0000 - # 4294967296 unknown name address";
+    let any: Vec<&str> = WORDS.split_whitespace().collect();
     let mut source = Author::new(author.numbers.draw());
     source.start(&SMALL_POOLS);
     for _ in 0..author.numbers.between(10, 40) {
@@ -411,7 +405,7 @@ fn lines(author: &mut Author) {
         }
         if between && author.numbers.once_in(6) {
             let words: Vec<&str> = (0..author.numbers.below(6))
-                .map(|_| author.one_of(&WORDS))
+                .map(|_| author.one_of(&any))
                 .collect();
             author.call(words.join(" "));
         }
@@ -471,7 +465,7 @@ mod tests {
             for pair in script.steps.windows(2) {
                 let line = String::from_utf8_lossy(&pair[0].line);
                 let command = line.split_whitespace().next().unwrap_or("");
-                let same = ["save", "sheet", "read", "buffer"].contains(&command);
+                let same = ["save", "sheet", "read", "write", "buffer"].contains(&command);
                 let answered = !pair[0].answer.is_empty();
                 if answered && !same && !pair[0].answer.starts_with("error") {
                     assert!(pair[1].line.starts_with(b"save"), "{shape}: {line}");
@@ -483,8 +477,8 @@ mod tests {
     #[test]
     fn every_answer_comes_soon() {
         let mut counts = Counts::default();
-        for number in 0..6 * SHAPES.len() {
-            counts.add(&script(1, number).0);
+        for number in 0..12 * SHAPES.len() {
+            assert_eq!(counts.add(&script(1, number).0), Ok(()));
         }
         assert_eq!(counts.missing(), Vec::<String>::new());
     }

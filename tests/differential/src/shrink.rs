@@ -1,7 +1,7 @@
 //! A failing script made short: lines left out, then what is left of them shortened,
 //! as long as the two programs still differ.
 
-use crate::bytes::{from_hex, hex, record_places, suboption_places};
+use crate::bytes::{entry_places, from_hex, hex, record_places, suboption_places};
 
 /// At most so many scripts are tried.
 const MOST_TRIES: usize = 5_000;
@@ -81,32 +81,34 @@ impl Shrinking<'_> {
 
 /// Lines that are shorter or have a smaller number, so that shrinking ends.
 fn simpler(line: &[u8]) -> Vec<Vec<u8>> {
-    let newline = line.ends_with(b"\n");
     let text = line.strip_suffix(b"\n").unwrap_or(line);
+    let newline = &line[text.len()..];
     let words: Vec<&[u8]> = text.split(|byte| *byte == b' ').collect();
     let mut found = Vec::new();
+    for (start, end) in word_cuts(words.len()) {
+        found.push([&words[..start], &words[end..]].concat().join(&b' '));
+    }
     for index in 0..words.len() {
-        let others = |word: Option<&[u8]>| {
-            let mut words = words.clone();
-            match word {
-                Some(word) => words[index] = word,
-                None => {
-                    words.remove(index);
-                }
-            }
-            let mut line = words.join(&b' ');
-            if newline {
-                line.push(b'\n');
-            }
-            line
-        };
-        found.push(others(None));
         for word in simpler_words(words[index]) {
-            found.push(others(Some(&word)));
+            let mut words = words.clone();
+            words[index] = &word;
+            found.push(words.join(&b' '));
         }
     }
-    found.retain(|simpler| simpler != line);
-    found
+    let found = found.into_iter().map(|text| [&text, newline].concat());
+    found.filter(|simpler| simpler != line).collect()
+}
+
+/// Which words are left out: stretches of many, and of a few at every place, since the
+/// suboptions that `write` takes have up to five words.
+fn word_cuts(words: usize) -> Vec<(usize, usize)> {
+    let places: Vec<usize> = (0..=words).collect();
+    let many = stretches(&places).into_iter();
+    let mut cuts: Vec<(usize, usize)> = many.filter(|(start, end)| end - start > 5).collect();
+    for count in (1..=5).rev() {
+        cuts.extend((count..=words).map(|end| (end - count, end)));
+    }
+    cuts
 }
 
 fn simpler_words(word: &[u8]) -> Vec<Vec<u8>> {
@@ -116,6 +118,17 @@ fn simpler_words(word: &[u8]) -> Vec<Vec<u8>> {
         return smaller
             .filter(|small| *small < number)
             .map(|small| small.to_string().into_bytes())
+            .collect();
+    }
+    // `prefix=24`, `figures=10,7,2`.
+    if let Some((name, value)) = text.split_once('=') {
+        let values = simpler_words(value.as_bytes()).into_iter();
+        let fewer = value
+            .rsplit_once(',')
+            .map(|(fewer, _)| fewer.as_bytes().to_vec());
+        let lines = values.chain(fewer);
+        return lines
+            .map(|value| [name.as_bytes(), b"=", &value].concat())
             .collect();
     }
     let Some(bytes) = from_hex(word) else {
@@ -186,12 +199,7 @@ fn shorter_options(option: &[u8]) -> Vec<Vec<u8>> {
 
 /// What can be left out of an information: stretches of its entries.
 fn entry_cuts(option: &[u8], start: usize, end: usize) -> Vec<(usize, usize)> {
-    let mut places = Vec::new();
-    let mut entry = start + 3;
-    while entry + 7 <= end {
-        places.push(entry);
-        entry += 7 + usize::from(option[entry + 6]);
-    }
+    let mut places = entry_places(option, start);
     places.push(end);
     stretches(&places)
         .into_iter()
@@ -203,7 +211,7 @@ fn entry_cuts(option: &[u8], start: usize, end: usize) -> Vec<(usize, usize)> {
 mod tests {
     use super::*;
     use crate::bytes::{entry, information, option, request, suboption};
-    use crate::script::lines_of;
+    use crate::script::{lines_of, Script, Step};
     use reference::option::{read220, Suboption};
     use reference::prefix::prefix;
 
@@ -249,6 +257,26 @@ mod tests {
     }
 
     #[test]
+    fn written_lists_are_shortened() {
+        let line = "write request h=0 i=0 prefix=24 information c=1 s=1 \
+                    entry 10.0.0.0/24 h=1 d=0 figures=4 entry 10.0.1.0/24 h=1 d=1 figures=7,8,9 \
+                    name 616263 request h=1 i=1 prefix=30\n";
+        let short = shrink(lines_of(line.as_bytes()), &mut |lines| {
+            let script = Script::of_lines(lines);
+            let accepted = |step: &Step| step.answer.starts_with("ok bytes=");
+            let told = |step: &Step| !String::from_utf8_lossy(&step.line).contains("figures=-");
+            script
+                .steps
+                .iter()
+                .any(|step| accepted(step) && told(step) && step.words().contains(&&b"entry"[..]))
+        });
+        assert_eq!(
+            String::from_utf8_lossy(&short.concat()),
+            "write information c=0 s=0 entry 10.0.1.0/24 h=0 d=0 figures=0\n"
+        );
+    }
+
+    #[test]
     fn a_simpler_line_is_another_line() {
         for line in [
             "\n",
@@ -258,6 +286,8 @@ mod tests {
             "ask 0 0 -\n",
             "read dc\n",
             "read 00\n",
+            "write request h=1 i=0 prefix=24\n",
+            "write a= =b = figures=1,2 ,\n",
         ] {
             for simpler in simpler(line.as_bytes()) {
                 assert_ne!(simpler, line.as_bytes());

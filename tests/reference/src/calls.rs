@@ -54,12 +54,13 @@ fn check_sound(table: &Table) -> Result<(), Refusal> {
     Ok(())
 }
 
-/// Row 2.
-fn check_client(client: u32) -> Result<(), Refusal> {
+/// Rows 5, 2, 3 and 4.
+fn check_call(table: &Table, client: u32, now: u32) -> Result<(), Refusal> {
+    check_sound(table)?;
     if client == 0 {
         return Err(refusal(2));
     }
-    Ok(())
+    check_time(table, now)
 }
 
 /// Rows 3 and 4.
@@ -137,9 +138,7 @@ pub fn ask(
     buffer: &mut [u8],
 ) -> Result<Answer, Refusal> {
     check_buffer(buffer)?;
-    check_sound(table)?;
-    check_client(client)?;
-    check_time(table, now)?;
+    check_call(table, client, now)?;
     let requests = requests(&read220(option)?);
     // "the option has 1 to 25 requests, none with i".
     if requests.is_empty() || requests.len() > MOST_REQUESTS || requests.iter().any(|r| r.i) {
@@ -211,9 +210,7 @@ fn entries_only(
     now: u32,
     option: &[u8],
 ) -> Result<Vec<Prefix>, Refusal> {
-    check_sound(table)?;
-    check_client(client)?;
-    check_time(table, now)?;
+    check_call(table, client, now)?;
     let list = read220(option)?;
     let prefixes = entry_prefixes(&list);
     if !requests(&list).is_empty() || prefixes.is_empty() {
@@ -272,9 +269,7 @@ pub fn list(
     buffer: &mut [u8],
 ) -> Result<Answer, Refusal> {
     check_buffer(buffer)?;
-    check_sound(table)?;
-    check_client(client)?;
-    check_time(table, now)?;
+    check_call(table, client, now)?;
     let pieces = read220(option)?;
     // "at least one request, all with i".
     let requests = requests(&pieces);

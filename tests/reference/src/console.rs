@@ -5,11 +5,13 @@ use std::io::{self, BufRead, Write};
 
 use crate::calls::{self, Answer};
 use crate::image;
-use crate::option::{read118, read220, Suboption, SUBNET_SELECTION};
-use crate::prefix::{dotted, Prefix};
+use crate::option::{read118, read220, write118, write220, SUBNET_SELECTION};
+use crate::prefix::dotted;
 use crate::refusal::Refusal;
 use crate::sheet::sheet;
+use crate::suboptions::{list_of, text_of};
 use crate::table::Table;
+use crate::words::{address_of, bit, byte, hex, hex_text, number, prefix_of};
 
 /// "Longest line: 100,000 bytes."
 pub const LONGEST_LINE: usize = 100_000;
@@ -117,10 +119,8 @@ impl Console {
             }
             (b"save", []) => {
                 let mut buffer = vec![0; image::FULL];
-                Some(match image::save(&self.table, &mut buffer) {
-                    Ok(bytes) => format!("ok bytes={bytes} {}\n", hex_text(&buffer[..bytes])),
-                    Err(refusal) => refused(refusal),
-                })
+                let saved = image::save(&self.table, &mut buffer);
+                Some(written(saved, &buffer))
             }
             (b"load", [image]) => {
                 let image = hex(image)?;
@@ -131,6 +131,15 @@ impl Console {
                 Err(refusal) => refused(refusal),
             }),
             (b"read", [option]) => Some(read(&hex(option)?)),
+            // "`write address` writes option 118 and takes nothing else."
+            (b"write", [b"address", address]) => {
+                let bytes = write118(address_of(address)?, &mut self.buffer);
+                Some(written(bytes, &self.buffer))
+            }
+            (b"write", words) => {
+                let bytes = write220(&list_of(words)?, &mut self.buffer);
+                Some(written(bytes, &self.buffer))
+            }
             (b"buffer", [length]) => {
                 let length = number(length)?;
                 if length > LONGEST_BUFFER {
@@ -168,43 +177,15 @@ fn read(option: &[u8]) -> String {
         Ok(list) => list,
         Err(refusal) => return refused(refusal),
     };
-    let mut text = String::new();
-    for suboption in list {
-        match suboption {
-            Suboption::Request(request) => text.push_str(&format!(
-                "request h={} i={} prefix={}\n",
-                u8::from(request.h),
-                u8::from(request.i),
-                request.prefix
-            )),
-            Suboption::Information(information) => {
-                text.push_str(&format!(
-                    "information c={} s={}\n",
-                    u8::from(information.c),
-                    u8::from(information.s)
-                ));
-                for entry in information.entries {
-                    let figures: Vec<String> = entry.figures.iter().map(u16::to_string).collect();
-                    text.push_str(&format!(
-                        "entry {}/{} h={} d={} figures={}\n",
-                        dotted(entry.network),
-                        entry.prefix,
-                        u8::from(entry.h),
-                        u8::from(entry.d),
-                        if figures.is_empty() {
-                            "-".to_string()
-                        } else {
-                            figures.join(",")
-                        }
-                    ));
-                }
-            }
-            Suboption::Name(name) => text.push_str(&format!("name {}\n", hex_text(&name))),
-            Suboption::Unknown => text.push_str("unknown\n"),
-        }
+    format!("{}ok\n", text_of(&list))
+}
+
+/// The bytes written to the front of a buffer.
+fn written(bytes: Result<usize, Refusal>, buffer: &[u8]) -> String {
+    match bytes {
+        Ok(bytes) => format!("ok bytes={bytes} {}\n", hex_text(&buffer[..bytes])),
+        Err(refusal) => refused(refusal),
     }
-    text.push_str("ok\n");
-    text
 }
 
 fn ok_or_refused<T>(answer: Result<T, Refusal>) -> String {
@@ -220,73 +201,4 @@ fn refused(refusal: Refusal) -> String {
     } else {
         format!("refused {}\n", refusal.number)
     }
-}
-
-/// "decimal digits with a value below 2^32"; leading zeros do no harm.
-fn number(word: &[u8]) -> Option<u32> {
-    if word.is_empty() {
-        return None;
-    }
-    let mut value: u32 = 0;
-    for digit in word {
-        if !digit.is_ascii_digit() {
-            return None;
-        }
-        value = value
-            .checked_mul(10)?
-            .checked_add(u32::from(digit - b'0'))?;
-    }
-    Some(value)
-}
-
-/// A number below 256.
-fn byte(word: &[u8]) -> Option<u8> {
-    u8::try_from(number(word)?).ok()
-}
-
-/// "D is 0 or 1".
-fn bit(word: &[u8]) -> Option<bool> {
-    match word {
-        b"0" => Some(false),
-        b"1" => Some(true),
-        _ => None,
-    }
-}
-
-/// "`A.B.C.D/L`, A to D 0 to 255 and L below 256, in decimal, whatever its alignment".
-fn prefix_of(word: &[u8]) -> Option<Prefix> {
-    let parts: Vec<&[u8]> = word.split(|&byte| byte == b'/').collect();
-    let [address, length] = parts[..] else {
-        return None;
-    };
-    let parts: Vec<&[u8]> = address.split(|&byte| byte == b'.').collect();
-    let [a, b, c, d] = parts[..] else {
-        return None;
-    };
-    Some(Prefix {
-        network: u32::from_be_bytes([byte(a)?, byte(b)?, byte(c)?, byte(d)?]),
-        length: byte(length)?,
-    })
-}
-
-/// "hexadecimal digits, upper or lower case, an even number of them; `-` stands for no
-/// bytes".
-fn hex(word: &[u8]) -> Option<Vec<u8>> {
-    if word == b"-" {
-        return Some(Vec::new());
-    }
-    if word.len() % 2 != 0 {
-        return None;
-    }
-    let mut bytes = Vec::new();
-    for pair in word.chunks(2) {
-        let high = (pair[0] as char).to_digit(16)?;
-        let low = (pair[1] as char).to_digit(16)?;
-        bytes.push((16 * high + low) as u8);
-    }
-    Some(bytes)
-}
-
-fn hex_text(bytes: &[u8]) -> String {
-    bytes.iter().map(|byte| format!("{byte:02x}")).collect()
 }

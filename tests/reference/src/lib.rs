@@ -15,5 +15,8 @@ pub mod numbers;
 pub mod option;
 pub mod prefix;
 pub mod refusal;
+pub mod samples;
 pub mod sheet;
+pub mod suboptions;
 pub mod table;
+pub mod words;

@@ -50,7 +50,8 @@ pub struct Entry {
     pub prefix: u8,
     pub h: bool,
     pub d: bool,
-    /// High water, in use, unusable: as many as were told, at most three.
+    /// High water, in use, unusable: as many as were told. Reading gives at most three,
+    /// and writing takes no more.
     pub figures: Vec<u16>,
 }
 

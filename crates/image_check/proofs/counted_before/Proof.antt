@@ -7,9 +7,6 @@ use borrow.Author.Needs.{needs}
 use Rattle.image_check.proofs.counted_before.Statement.{statement}
 use Rattle.image_check.proofs.counted_before.Tie as tie
 
-pool-unused-requires : tie.Need-pool-unused-requires
-pool-unused-requires c κs = search needs
-
 returns : tie.Need-returns
 returns c = let a = c .before .before .args in sym (cond-true (unused? (a .p)) (a .n) 0 (sym (c .before .pool-unused .ensures) ∙ c .if1 .taken))
 
@@ -17,4 +14,6 @@ returns-2 : tie.Need-returns-2
 returns-2 c = let a = c .before .before .args in sym (cond-false (unused? (a .p)) (a .n) 0 (sym (c .before .pool-unused .ensures) ∙ c .if1 .left))
 
 pub counted-before-spec : {M : Type 1} → statement M
-counted-before-spec = tie.close (tie.spec pool-unused-requires returns returns-2)
+counted-before-spec =
+    tie.close
+    (tie.spec (λ c κs. search needs) returns returns-2)

@@ -12,4 +12,6 @@ returns-2 : tie.Need-returns-2
 returns-2 c = simp (lt-leb (c .before .args .expires) (c .before .args .time) (omega arith))
 
 pub due-spec : {M : Type 1} → statement M
-due-spec = tie.close (tie.spec returns returns-2)
+due-spec =
+    tie.close
+    (tie.spec returns returns-2)

@@ -9,9 +9,10 @@ use Rattle.prefix.specs.declared.Prefix.{Prefix}
 use Rattle.prefix.specs.Prefixes.{end}
 use Rattle.image.specs.declared.Head.{Head}
 use Rattle.image.proofs.FieldLaws.{Bytes}
+use Rattle.image.specs.Image.{leaseSize}
 use Rattle.image_check.specs.declared.Pass.{Pass}
 use Rattle.image_check.specs.Inner.{nthPool, fitAt, due, Begun}
-use Rattle.image_check.specs.Pass.{Left, Reached}
+use Rattle.image_check.specs.InnerPass.{Left, Reached}
 use Rattle.image_check.proofs.FitLaws.{Fits, Met, other-unfit, lease-met}
 use Rattle.image_check.proofs.RunLaws.{part-rest}
 use Rattle.image_check.proofs.ScanLaws.{due-few, Along, along-start, along-lease, stop-end, stop-unfit, stop-low, stop-high}
@@ -54,37 +55,16 @@ met c last e =
     let at = loop-at c .loop .at in
     lease-met last (drop at s) _ _ _ (ap (λ (l : ℕ). fitAt l (drop at s)) e ∙ ap (fitAt (start-at (loop-at c) .args .last)) (sym (part-rest s at)) ∙ sym (c .before .before .before .fit-at .ensures) ∙ c .before .network .given .1)
 
-end-requires : tie.Need-end-requires Inv-loop μ-loop
-end-requires c κs = search needs
-
-cast-low : tie.Need-cast-low Inv-loop μ-loop
-cast-low c = search needs
-
 loop-holds : tie.Need-loop-holds Inv-loop μ-loop
 loop-holds c =
     let a = c .before .before .before .args in
     (c .before .before .before .pre, λ x n k begun same lt low stop r. subst (λ (l : ℕ). Along x (a .s .now) n (a .time) k l (a .from)) (sym low) (along-start x (a .s .now) n (a .time) begun k lt (a .from) r))
 
-sub-fit-at : tie.Need-sub-fit-at Inv-loop μ-loop
-sub-fit-at c = search needs
-
-part-fit-at-start : tie.Need-part-fit-at-start Inv-loop μ-loop
-part-fit-at-start c = search needs
-
-part-fit-at-end : tie.Need-part-fit-at-end Inv-loop μ-loop
-part-fit-at-end c = search needs
-
 fit-at-requires : tie.Need-fit-at-requires Inv-loop μ-loop
 fit-at-requires c κs =
     let at = c .before .before in
     let s = start-at at .args .s .now in
-    subst (λ (u : List ℕ). 19 ≤ length u) (sym (part-rest s (at .loop .at))) (omega (arith, length-drop (at .loop .at) s, at .loop .inv .0 .ends))
-
-enum-known-network : tie.Need-enum-known-network Inv-loop μ-loop
-enum-known-network c = search needs
-
-enum-told : tie.Need-enum-told Inv-loop μ-loop
-enum-told c = search needs
+    subst (λ (u : List ℕ). leaseSize ≤ length u) (sym (part-rest s (at .loop .at))) (omega (arith, length-drop (at .loop .at) s, at .loop .inv .0 .ends))
 
 returns : tie.Need-returns Inv-loop μ-loop
 returns c =
@@ -94,9 +74,6 @@ returns c =
     let l = at .loop in
     let other = ap (fitAt (a .last)) (sym (part-rest s (l .at))) ∙ sym (c .before .before .fit-at .ensures) ∙ c .enum-told .given .1 in
     (l .inv .0, λ x n k begun same lt pool r. stop-unfit x s n (a .time) begun k lt (l .low) (passed (l .at) (l .expired)) (known at x n k begun same lt pool r) (λ f. other-unfit (a .last) (drop (l .at) s) other (subst (λ (m : ℕ). Fits m (drop (l .at) s)) same f)))
-
-cast-if1 : tie.Need-cast-if1 Inv-loop μ-loop
-cast-if1 c = search needs
 
 returns-2 : tie.Need-returns-2 Inv-loop μ-loop
 returns-2 c =
@@ -112,19 +89,10 @@ returns-3 c =
     let l = at .loop in
     (l .inv .0, λ x n k begun same lt pool r. stop-high x (a .s .now) n (a .time) begun k lt (l .low) (passed (l .at) (l .expired)) (known at x n k begun same lt pool r) _ _ _ (met (c .before .before) (x .last) same) (omega (arith, at .before .before .end .ensures .0, ap end pool)))
 
-due-requires : tie.Need-due-requires Inv-loop μ-loop
-due-requires c κs = search needs
-
 add-expired : tie.Need-add-expired Inv-loop μ-loop
 add-expired c =
     let at = loop-at (c .before .before .before) in
     omega (arith, c .due .ensures, due-few (c .before .before .before .before .network .given .0 .1 .1 .0) (start-at at .args .time), at .loop .inv .0 .few, at .loop .inv .0 .ends)
-
-add-at : tie.Need-add-at Inv-loop μ-loop
-add-at c = search needs
-
-loop-less : tie.Need-loop-less Inv-loop μ-loop
-loop-less c = search needs
 
 loop-again : tie.Need-loop-again Inv-loop μ-loop
 loop-again c =
@@ -137,7 +105,7 @@ loop-again c =
     let bytes : Bytes s = λ i. omega (arith, at .before .before .before .shared-slice-known .given i) in (
       record { left = l .inv .0 .left - 1; ends = omega (arith, l .inv .0 .ends); few = omega (arith, l .inv .0 .few, c .due .ensures, due-few expires (a .time)) },
       λ x n k begun same lt low stop r.
-          subst (λ (e : ℕ). Along x s n (a .time) k (told .before .network .given .0 .1 .0) (passed (l .at + 19) (l .expired + e))) (sym (c .due .ensures))
+          subst (λ (e : ℕ). Along x s n (a .time) k (told .before .network .given .0 .1 .0) (passed (l .at + leaseSize) (l .expired + e))) (sym (c .due .ensures))
           (along-lease x s n (a .time) begun k lt (l .low) (passed (l .at) (l .expired)) (l .inv .1 x n k begun same lt low stop r) bytes (omega (arith, l .inv .0 .ends)) _ _ _ (met told (x .last) same) (omega arith) (omega (arith, stop))),
     )
 
@@ -151,25 +119,6 @@ returns-4 c =
 pub in-pool-spec : {M : Type 1} → statement M
 in-pool-spec =
     tie.close
-    (tie.spec
-    Inv-loop
-    μ-loop
-    end-requires
-    cast-low
-    loop-holds
-    sub-fit-at
-    part-fit-at-start
-    part-fit-at-end
-    fit-at-requires
-    enum-known-network
-    enum-told
-    returns
-    cast-if1
-    returns-2
-    returns-3
-    due-requires
-    add-expired
-    add-at
-    loop-less
-    loop-again
-    returns-4)
+    (tie.spec Inv-loop μ-loop (λ c κs. search needs) (λ c. search needs) loop-holds (λ c. search needs) (λ c. search needs) (λ c. search needs)
+    fit-at-requires (λ c. search needs) (λ c. search needs) returns (λ c. search needs) returns-2 returns-3 (λ c κs. search needs)
+    add-expired (λ c. search needs) (λ c. search needs) loop-again returns-4)

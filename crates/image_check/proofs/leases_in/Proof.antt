@@ -4,7 +4,8 @@ use Prim.Native.Nat.{ℕ, _-_, _*_, _/_, _≤_}
 use mathlib.Core.Path.{refl, sym, ap, _∙_}
 use lib.ListN.{length}
 use native.Mathlib.Omega.{arith}
-use Rattle.image_check.specs.Pass.{bookWith, Left, Reached}
+use Rattle.image.specs.Image.{leaseSize, poolSize}
+use Rattle.image_check.specs.InnerPass.{summaryWith, Left, Reached}
 use Rattle.image_check.proofs.ScanLaws.{pools-inside, scanned-size, reached-start, reached-end, reached-none}
 use borrow.Author.Needs.{needs}
 use Rattle.image_check.proofs.leases_in.Statement.{statement}
@@ -22,9 +23,6 @@ mul-from c = omega (arith, pools-inside _ _ _ (c .before .args .time) (c .before
 sub-count : tie.Need-sub-count Inv-loop μ-loop
 sub-count c = pools-inside _ _ _ (c .before .args .time) (c .before .pre)
 
-unsound-requires : tie.Need-unsound-requires Inv-loop μ-loop
-unsound-requires c κs = search needs
-
 returns : tie.Need-returns Inv-loop μ-loop
 returns c =
     let a = c .before .before .before .args in
@@ -36,9 +34,6 @@ mul-if2 c = omega (arith, pools-inside _ _ _ (c .before .before .args .time) (c 
 add-if2 : tie.Need-add-if2 Inv-loop μ-loop
 add-if2 c = omega (arith, pools-inside _ _ _ (c .before .before .args .time) (c .before .before .pre))
 
-unsound-requires-2 : tie.Need-unsound-requires-2 Inv-loop μ-loop
-unsound-requires-2 c κs = search needs
-
 returns-2 : tie.Need-returns-2 Inv-loop μ-loop
 returns-2 c =
     let a = c .before .before .before .before .args in
@@ -47,10 +42,7 @@ returns-2 c =
 loop-holds : tie.Need-loop-holds Inv-loop μ-loop
 loop-holds c =
     let a = c .before .before .before .args in
-    (record { left = (length (a .s .now) - 9 * a .n) / 19; ends = omega arith; few = omega arith }, omega arith, reached-start (a .head) (a .s .now) (a .n) (a .time) (c .before .before .before .pre) (omega arith))
-
-unsound-requires-3 : tie.Need-unsound-requires-3 Inv-loop μ-loop
-unsound-requires-3 c κs = search needs
+    (record { left = (length (a .s .now) - poolSize * a .n) / leaseSize; ends = omega arith; few = omega arith }, omega arith, reached-start (a .head) (a .s .now) (a .n) (a .time) (c .before .before .before .pre) (omega arith))
 
 returns-3 : tie.Need-returns-3 Inv-loop μ-loop
 returns-3 c =
@@ -67,12 +59,6 @@ pool-requires c κs =
 in-pool-requires : tie.Need-in-pool-requires Inv-loop μ-loop
 in-pool-requires c κs = c .before .before .before .before .loop .inv .0
 
-add-k : tie.Need-add-k Inv-loop μ-loop
-add-k c = search needs
-
-loop-less : tie.Need-loop-less Inv-loop μ-loop
-loop-less c = search needs
-
 loop-again : tie.Need-loop-again Inv-loop μ-loop
 loop-again c =
     let at = c .before .before .before .before .before in
@@ -85,28 +71,10 @@ returns-4 c =
     let at = c .before .before in
     let a = at .before .before .before .before .args in
     let l = at .loop in
-    ap (λ (m : ℕ). bookWith (a .head) (a .n) m (l .pass .expired)) (omega (arith, l .inv .0 .ends, l .inv .2 .place)) ∙ sym (reached-end (a .head) (a .s .now) (a .n) (a .time) (at .before .before .before .before .pre) (l .k) (l .pass) (l .inv .2) (omega arith))
+    ap (λ (m : ℕ). summaryWith (a .head) (a .n) m (l .pass .expired)) (omega (arith, l .inv .0 .ends, l .inv .2 .place)) ∙ sym (reached-end (a .head) (a .s .now) (a .n) (a .time) (at .before .before .before .before .pre) (l .k) (l .pass) (l .inv .2) (omega arith))
 
 pub leases-in-spec : {M : Type 1} → statement M
 leases-in-spec =
     tie.close
-    (tie.spec
-    Inv-loop
-    μ-loop
-    mul-from
-    sub-count
-    unsound-requires
-    returns
-    mul-if2
-    add-if2
-    unsound-requires-2
-    returns-2
-    loop-holds
-    unsound-requires-3
-    returns-3
-    pool-requires
-    in-pool-requires
-    add-k
-    loop-less
-    loop-again
-    returns-4)
+    (tie.spec Inv-loop μ-loop mul-from sub-count (λ c κs. search needs) returns mul-if2 add-if2 (λ c κs. search needs) returns-2 loop-holds
+    (λ c κs. search needs) returns-3 pool-requires in-pool-requires (λ c. search needs) (λ c. search needs) loop-again returns-4)

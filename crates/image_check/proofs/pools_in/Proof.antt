@@ -7,7 +7,7 @@ use mathlib.Core.List.{List}
 use lib.ListN.{drop, length-drop}
 use borrow.Author.Tests.{not-true, not-false}
 use Rattle.table.specs.Table.{poolSlots}
-use Rattle.image.specs.Image.{poolIn}
+use Rattle.image.specs.Image.{poolIn, poolSize}
 use Rattle.image.proofs.FieldLaws.{Bytes, bytes-drop}
 use Rattle.image_check.specs.Inner.{poolBegins?}
 use Rattle.image_check.proofs.PoolLaws.{end-bad, begins-long, begins-not, PoolsRead, pools-none, pools-stop, pools-full, pools-stopped, pools-good}
@@ -23,7 +23,7 @@ abbrev μ-loop : tie.MeasureT-loop
 μ-loop s from₀ n₀ from n = poolSlots - n
 
 -- Places further back in the code: where a pool was read, and the loop.
-abbrev begun-at : tie.After-pool-in Inv-loop μ-loop → tie.After-pool-begins Inv-loop μ-loop
+abbrev begun-at : tie.After-pool-at Inv-loop μ-loop → tie.After-pool-begins Inv-loop μ-loop
 begun-at c = c .before .before
 
 abbrev loop-at : tie.After-pool-begins Inv-loop μ-loop → tie.At-loop Inv-loop μ-loop
@@ -36,55 +36,37 @@ bytes : (c : tie.At-loop Inv-loop μ-loop) → Bytes (bytes-of c)
 bytes c = λ i. omega (arith, c .before .shared-slice-known .given i)
 
 -- A pool record begins, and the pool is read from it.
-begins : (c : tie.Else1 Inv-loop μ-loop) → let at = loop-at (c .before) in poolBegins? (drop (9 * at .loop .n) (bytes-of at)) ≡ true
+begins : (c : tie.Else1 Inv-loop μ-loop) → let at = loop-at (c .before) in poolBegins? (drop (poolSize * at .loop .n) (bytes-of at)) ≡ true
 begins c =
     let at = loop-at (c .before) in
     sym (c .before .pool-begins .ensures) ∙ not-false _ (c .if1 .left)
 
-pool : (c : tie.After-pool-in Inv-loop μ-loop) → let at = loop-at (begun-at c) in c .pool-in .result ≡ poolIn (drop (9 * at .loop .n) (bytes-of at))
-pool c = c .pool-in .ensures
+pool : (c : tie.After-pool-at Inv-loop μ-loop) → let at = loop-at (begun-at c) in c .pool-at .result ≡ poolIn (drop (poolSize * at .loop .n) (bytes-of at))
+pool c = c .pool-at .ensures
 
 loop-holds : tie.Need-loop-holds Inv-loop μ-loop
 loop-holds c = pools-none (c .before .args .s .now)
-
-mul-at : tie.Need-mul-at Inv-loop μ-loop
-mul-at c = search needs
-
-pool-begins-requires : tie.Need-pool-begins-requires Inv-loop μ-loop
-pool-begins-requires c κs = search needs
 
 returns : tie.Need-returns Inv-loop μ-loop
 returns c =
     let at = loop-at (c .before) in
     let s = bytes-of at in
     let l = at .loop in
-    let none : poolBegins? (drop (9 * l .n) s) ≡ false = sym (c .before .pool-begins .ensures) ∙ not-true _ (c .if1 .taken) in
-    pools-stop s (l .from) (l .n) (l .inv) (begins-not (drop (9 * l .n) s) (bytes-drop (9 * l .n) s (bytes at)) none)
+    let none : poolBegins? (drop (poolSize * l .n) s) ≡ false = sym (c .before .pool-begins .ensures) ∙ not-true _ (c .if1 .taken) in
+    pools-stop s (l .from) (l .n) (l .inv) (begins-not (drop (poolSize * l .n) s) (bytes-drop (poolSize * l .n) s (bytes at)) none)
 
-pool-in-requires : tie.Need-pool-in-requires Inv-loop μ-loop
-pool-in-requires c κs =
+pool-at-requires : tie.Need-pool-at-requires Inv-loop μ-loop
+pool-at-requires c κs =
     let at = loop-at (c .before) in
     let s = bytes-of at in
-    omega (arith, begins-long (drop (9 * at .loop .n) s) (begins c), length-drop (9 * at .loop .n) s)
-
-cast-if2 : tie.Need-cast-if2 Inv-loop μ-loop
-cast-if2 c = search needs
-
-counted-before-requires : tie.Need-counted-before-requires Inv-loop μ-loop
-counted-before-requires c κs = search needs
+    omega (arith, begins-long (drop (poolSize * at .loop .n) s) (begins c), length-drop (poolSize * at .loop .n) s)
 
 returns-2 : tie.Need-returns-2 Inv-loop μ-loop
 returns-2 c =
     let read = c .before .before .before in
     let at = loop-at (begun-at read) in
     let l = at .loop in
-    c .counted-before .ensures ∙ pools-stopped (bytes-of at) (bytes at) (l .from) (l .n) (l .inv) (omega arith) (begins (read .before)) (read .pool-in .result) (pool read) (λ a o. omega arith)
-
-pool-end-requires : tie.Need-pool-end-requires Inv-loop μ-loop
-pool-end-requires c κs = search needs
-
-counted-before-requires-2 : tie.Need-counted-before-requires-2 Inv-loop μ-loop
-counted-before-requires-2 c κs = search needs
+    c .counted-before .ensures ∙ pools-stopped (bytes-of at) (bytes at) (l .from) (l .n) (l .inv) (omega arith) (begins (read .before)) (read .pool-at .result) (pool read) (λ a o. omega arith)
 
 returns-3 : tie.Need-returns-3 Inv-loop μ-loop
 returns-3 c =
@@ -92,14 +74,8 @@ returns-3 c =
     let read = ended .before .before .before in
     let at = loop-at (begun-at read) in
     let l = at .loop in
-    let p = read .pool-in .result in
+    let p = read .pool-at .result in
     c .counted-before2 .ensures ∙ pools-stopped (bytes-of at) (bytes at) (l .from) (l .n) (l .inv) (omega arith) (begins (read .before)) p (pool read) (λ a o. end-bad p (sym (c .before .if3 .taken) ∙ ended .pool-end .ensures) o)
-
-add-n : tie.Need-add-n Inv-loop μ-loop
-add-n c = search needs
-
-loop-less : tie.Need-loop-less Inv-loop μ-loop
-loop-less c = search needs
 
 loop-again : tie.Need-loop-again Inv-loop μ-loop
 loop-again c =
@@ -107,7 +83,7 @@ loop-again c =
     let read = ended .before .before .before in
     let at = loop-at (begun-at read) in
     let l = at .loop in
-    pools-good (bytes-of at) (bytes at) (l .from) (l .n) (l .inv) (omega arith) (begins (read .before)) (read .pool-in .result) (pool read) (ended .pool-end .result) (ended .pool-end .ensures) (c .if3 .left) (omega arith)
+    pools-good (bytes-of at) (bytes at) (l .from) (l .n) (l .inv) (omega arith) (begins (read .before)) (read .pool-at .result) (pool read) (ended .pool-end .result) (ended .pool-end .ensures) (c .if3 .left) (omega arith)
 
 returns-4 : tie.Need-returns-4 Inv-loop μ-loop
 returns-4 c = let l = c .before .loop in pools-full (bytes-of (c .before)) (l .from) (l .n) (l .inv) (omega arith)
@@ -115,21 +91,6 @@ returns-4 c = let l = c .before .loop in pools-full (bytes-of (c .before)) (l .f
 pub pools-in-spec : {M : Type 1} → statement M
 pools-in-spec =
     tie.close
-    (tie.spec
-    Inv-loop
-    μ-loop
-    loop-holds
-    mul-at
-    pool-begins-requires
-    returns
-    pool-in-requires
-    cast-if2
-    counted-before-requires
-    returns-2
-    pool-end-requires
-    counted-before-requires-2
-    returns-3
-    add-n
-    loop-less
-    loop-again
-    returns-4)
+    (tie.spec Inv-loop μ-loop loop-holds (λ c. search needs) (λ c κs. search needs) returns pool-at-requires (λ c. search needs)
+    (λ c κs. search needs) returns-2 (λ c κs. search needs) (λ c κs. search needs) returns-3 (λ c. search needs) (λ c. search needs)
+    loop-again returns-4)

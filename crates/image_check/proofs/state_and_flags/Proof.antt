@@ -5,9 +5,6 @@ use borrow.Author.Needs.{needs}
 use Rattle.image_check.proofs.state_and_flags.Statement.{statement}
 use Rattle.image_check.proofs.state_and_flags.Tie as tie
 
-add-next : tie.Need-add-next
-add-next c = search needs
-
 returns : tie.Need-returns
 returns c = state-bad (c .before .args .word) (c .if1 .taken)
 
@@ -15,4 +12,6 @@ returns-2 : tie.Need-returns-2
 returns-2 c = flags-tell (c .before .args .word) (c .if1 .left)
 
 pub state-and-flags-spec : {M : Type 1} → statement M
-state-and-flags-spec = tie.close (tie.spec add-next returns returns-2)
+state-and-flags-spec =
+    tie.close
+    (tie.spec (λ c. search needs) returns returns-2)

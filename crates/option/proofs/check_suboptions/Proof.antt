@@ -2,7 +2,7 @@
 -- The measure is what is left of the option. Assumes nothing.
 use Prim.Native.Nat.{ℕ, _-_, _≤_}
 use native.Mathlib.Omega.{arith}
-use mathlib.Core.Path.{_≡_, refl, sym, ap, _∙_}
+use mathlib.Core.Path.{_≡_, sym, ap, _∙_}
 use mathlib.Core.List.{List}
 use lib.ListN.{length}
 use denote.Ref.{now}
@@ -11,6 +11,7 @@ use Rattle.lists.specs.Walk.{more, stop}
 use Rattle.option.specs.Values.{SuboptionValue}
 use Rattle.option.specs.Reading.{End, whole, badAt, readSuboption, readSuboptions, ended}
 use Rattle.option.specs.Answers.{checkedOf}
+use Rattle.option.specs.declared.Cursor.{Cursor}
 use Rattle.option.proofs.SuboptionLaws.{suboption-moves, suboptions-more, suboptions-stop, told-piece, told-bad, told-end, checkedEnd, checked-ended}
 use Rattle.option.proofs.check_suboptions.Statement.{statement}
 use Rattle.option.proofs.check_suboptions.Tie as tie
@@ -22,16 +23,12 @@ abbrev μ-loop : tie.MeasureT-loop
 μ-loop s cursor₀ cursor = length s - cursor .at
 
 loop-holds : tie.Need-loop-holds Inv-loop μ-loop
-loop-holds c = (search needs, refl)
-
-step-requires : tie.Need-step-requires Inv-loop μ-loop
-step-requires c κs = search needs
-
-enum-known-next : tie.Need-enum-known-next Inv-loop μ-loop
-enum-known-next c = search needs
+loop-holds c =
+    let place : c .first .result .at ≡ 3 = ap (λ (k : Cursor). k .at) (c .first .ensures) in
+    (omega arith, ap (λ (n : ℕ). readSuboptions (c .before .before .args .s .now) n .1) (sym place))
 
 -- What the turn's answer tells: the suboption, and the position after it.
-read : (c : tie.After-known-told Inv-loop μ-loop) → (x : SuboptionValue) × (readSuboption (c .before .before .before .before .before .before .args .s .now) (c .before .before .before .before .loop .cursor .at) ≡ more x (c .before .next .given .0 .1 .0 .at))
+read : (c : tie.After-known-told Inv-loop μ-loop) → (x : SuboptionValue) × (readSuboption (c .before .before .before .before .before .before .before .args .s .now) (c .before .before .before .before .loop .cursor .at) ≡ more x (c .before .next .given .0 .1 .0 .at))
 read c = let t = told-piece _ _ _ _ (sym (c .before .next .given .1) ∙ c .before .before .before .step .ensures) in (t .0, t .1)
 
 -- The answer, from how the reading ends.
@@ -52,16 +49,10 @@ loop-again c =
     let l = c .before .before .before .before .loop .inv in
     (suboption-moves _ _ (t .0) _ (t .1) .1, l .1 ∙ ap (λ (r : List SuboptionValue × End). r .1) (suboptions-more _ _ (l .0) (t .0) _ (t .1)))
 
-enum-known-place : tie.Need-enum-known-place Inv-loop μ-loop
-enum-known-place c = search needs
-
 returns : tie.Need-returns Inv-loop μ-loop
 returns c =
     let l = c .before .before .before .before .loop .inv in
     answer _ _ (badAt _) (l .0) (l .1) (told-bad _ _ _ (sym (c .before .place .given .1) ∙ c .before .before .before .step .ensures))
-
-enum-told : tie.Need-enum-told Inv-loop μ-loop
-enum-told c = search needs
 
 returns-2 : tie.Need-returns-2 Inv-loop μ-loop
 returns-2 c =
@@ -71,15 +62,5 @@ returns-2 c =
 pub check-suboptions-spec : {M : Type 1} → statement M
 check-suboptions-spec =
     tie.close
-    (tie.spec
-    Inv-loop
-    μ-loop
-    loop-holds
-    step-requires
-    enum-known-next
-    loop-less
-    loop-again
-    enum-known-place
-    returns
-    enum-told
-    returns-2)
+    (tie.spec Inv-loop μ-loop (λ c κs. search needs) loop-holds (λ c κs. search needs) (λ c. search needs) loop-less loop-again
+    (λ c. search needs) returns (λ c. search needs) returns-2)

@@ -15,18 +15,9 @@ use Rattle.option.proofs.name_at.Tie as tie
 -- `name_at` meets its contract: the framing, then the final octet.
 -- Assumes nothing.
 
-add-if1 : tie.Need-add-if1
-add-if1 c = search needs
-
 returns : tie.Need-returns
 unfolding readName whenGood
 returns c = simp (le-ltb _ _ (c .if1 .taken))
-
-sub-if2 : tie.Need-sub-if2
-sub-if2 c = search needs
-
-shared-slice-read-if2 : tie.Need-shared-slice-read-if2
-shared-slice-read-if2 c = search needs
 
 returns-2 : tie.Need-returns-2
 unfolding readName whenGood fields?
@@ -34,9 +25,6 @@ returns-2 c =
     let a = c .before .before .before .args in
     let last = final-byte (now (a .s)) (a .at + 2) (a .end) (omega arith) (omega arith) in
     simp (last, eq-eqb _ _ (c .if2 .taken), and-false)
-
-add-t4 : tie.Need-add-t4
-add-t4 c = search needs
 
 returns-3 : tie.Need-returns-3
 unfolding readName whenGood fields?
@@ -47,4 +35,5 @@ returns-3 c =
 
 pub name-at-spec : {M : Type 1} → statement M
 name-at-spec =
-    tie.close (tie.spec add-if1 returns sub-if2 shared-slice-read-if2 returns-2 add-t4 returns-3)
+    tie.close
+    (tie.spec (λ c. search needs) returns (λ c. search needs) (λ c. search needs) returns-2 (λ c. search needs) returns-3)

@@ -11,21 +11,9 @@ returns : tie.Need-returns
 unfolding readSelection selection?
 returns c = simp (lt-leb _ _ (c .if1 .taken))
 
-shared-slice-read-if2 : tie.Need-shared-slice-read-if2
-shared-slice-read-if2 c = search needs
-
 returns-2 : tie.Need-returns-2
 unfolding readSelection selection?
 returns-2 c = simp (ne-eqb _ _ (c .if2 .taken), and-false)
-
-shared-slice-read-wide : tie.Need-shared-slice-read-wide
-shared-slice-read-wide c = search needs
-
-wide-requires : tie.Need-wide-requires
-wide-requires c κs = search needs
-
-add-if3 : tie.Need-add-if3
-add-if3 c = search needs
 
 returns-3 : tie.Need-returns-3
 unfolding readSelection selection?
@@ -39,9 +27,6 @@ returns-4 c =
     let other = simp (c .before .before .wide .ensures .0) at (c .if4 .taken) in
     simp (ne-eqb _ _ other, and-false)
 
-four-at-requires : tie.Need-four-at-requires
-four-at-requires c κs = search needs
-
 returns-5 : tie.Need-returns-5
 unfolding readSelection selection?
 returns-5 c =
@@ -53,14 +38,5 @@ returns-5 c =
 pub read-selection-spec : {M : Type 1} → statement M
 read-selection-spec =
     tie.close
-    (tie.spec
-    returns
-    shared-slice-read-if2
-    returns-2
-    shared-slice-read-wide
-    wide-requires
-    add-if3
-    returns-3
-    returns-4
-    four-at-requires
-    returns-5)
+    (tie.spec returns (λ c. search needs) returns-2 (λ c. search needs) (λ c κs. search needs) (λ c. search needs) returns-3 returns-4
+    (λ c κs. search needs) returns-5)

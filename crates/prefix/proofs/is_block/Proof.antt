@@ -5,18 +5,6 @@ use borrow.Author.Needs.{needs}
 use Rattle.prefix.proofs.is_block.Statement.{statement}
 use Rattle.prefix.proofs.is_block.Tie as tie
 
-new-requires : tie.Need-new-requires
-new-requires c κs = search needs
-
-enum-told : tie.Need-enum-told
-enum-told c = search needs
-
-enum-told-2 : tie.Need-enum-told-2
-enum-told-2 c = search needs
-
-enum-told-3 : tie.Need-enum-told-3
-enum-told-3 c = search needs
-
 returns : tie.Need-returns
 returns c = rw (sym (c .before .before .new .ensures) ∙ c .enum-told .given .1)
 
@@ -28,4 +16,5 @@ returns-3 c = rw (sym (c .before .before .new .ensures) ∙ c .enum-told3 .given
 
 pub is-block-spec : {M : Type 1} → statement M
 is-block-spec =
-    tie.close (tie.spec new-requires enum-told enum-told-2 enum-told-3 returns returns-2 returns-3)
+    tie.close
+    (tie.spec (λ c κs. search needs) (λ c. search needs) (λ c. search needs) (λ c. search needs) returns returns-2 returns-3)

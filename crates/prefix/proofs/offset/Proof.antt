@@ -9,9 +9,6 @@ use Rattle.prefix.proofs.PrefixLaws.{size-positive}
 use Rattle.prefix.proofs.offset.Statement.{statement}
 use Rattle.prefix.proofs.offset.Tie as tie
 
-size-requires : tie.Need-size-requires
-size-requires c κs = search needs
-
 sub-result : tie.Need-sub-result
 sub-result c = omega (arith, size-positive (c .before .args .length))
 
@@ -21,4 +18,6 @@ returns c =
     ∙ and-mask (c .before .args .address) (32 - c .before .args .length)
 
 pub offset-spec : {M : Type 1} → statement M
-offset-spec = tie.close (tie.spec size-requires sub-result returns)
+offset-spec =
+    tie.close
+    (tie.spec (λ c κs. search needs) sub-result returns)

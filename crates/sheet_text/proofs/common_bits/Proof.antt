@@ -2,7 +2,7 @@
 -- Assumes nothing.
 use mathlib.Core.Path.{refl}
 use lib.Count.{leading-le}
-use Rattle.sheet_text.specs.Levels.{commonBits}
+use Rattle.sheet_text.specs.InnerLevels.{commonBits}
 use Rattle.sheet_text.proofs.common_bits.Statement.{statement}
 use Rattle.sheet_text.proofs.common_bits.Tie as tie
 
@@ -11,4 +11,6 @@ unfolding commonBits
 returns c = (refl, leading-le 32 _)
 
 pub common-bits-spec : {M : Type 1} → statement M
-common-bits-spec = tie.close (tie.spec returns)
+common-bits-spec =
+    tie.close
+    (tie.spec returns)

@@ -3,19 +3,10 @@
 use mathlib.Core.Path.{ap}
 use borrow.Author.Needs.{needs}
 use Rattle.table.specs.declared.Lease.{Lease}
-use Rattle.sheet_text.specs.Scan.{leaseShown}
+use Rattle.sheet_text.specs.InnerScan.{leaseShown}
 use Rattle.sheet_text.specs.Sheet.{usedBy}
 use Rattle.sheet_text.proofs.lease.Statement.{statement}
 use Rattle.sheet_text.proofs.lease.Tie as tie
-
-mul-lease-at : tie.Need-mul-lease-at
-mul-lease-at c = search needs
-
-add-lease-at : tie.Need-add-lease-at
-add-lease-at c = search needs
-
-lease-at-requires : tie.Need-lease-at-requires
-lease-at-requires c κs = search needs
 
 returns : tie.Need-returns
 unfolding leaseShown
@@ -24,4 +15,6 @@ returns c =
     ap (λ (x : Lease). usedBy x) (lease-at .ensures)
 
 pub lease-spec : {M : Type 1} → statement M
-lease-spec = tie.close (tie.spec mul-lease-at add-lease-at lease-at-requires returns)
+lease-spec =
+    tie.close
+    (tie.spec (λ c. search needs) (λ c. search needs) (λ c κs. search needs) returns)

@@ -1,33 +1,22 @@
--- `sheet_text::show_used` meets its contract.
+-- `sheet_text::show_used` meets its contract: told from a row of its own, or written.
 -- Assumes nothing.
 use native.Mathlib.Omega.{arith}
 use borrow.Author.Needs.{needs}
+use Rattle.sheet_text.proofs.RowTexts.{used-length, any-used}
 use Rattle.sheet_text.proofs.ShowLaws.{room-fits, wrote-empty}
 use Rattle.sheet_text.proofs.show_used.Statement.{statement}
 use Rattle.sheet_text.proofs.show_used.Tie as tie
 
-used-size-requires : tie.Need-used-size-requires
-used-size-requires c κs = search needs
-
-add-result : tie.Need-add-result
-add-result c = search needs
+put-used-requires : tie.Need-put-used-requires
+put-used-requires c κs = omega (arith, any-used (c .before .before .before .args .x))
 
 returns : tie.Need-returns
-returns c = wrote-empty _ _ _ _ (omega arith) (omega arith)
+returns c = wrote-empty _ _ _ _ (omega arith) (omega (arith, c .before .put-used .ensures .place))
 
-put-used-requires : tie.Need-put-used-requires
-put-used-requires c κs =
-    let pre = c .before .before .before .pre in
-    let if1 = c .before .if1 in
-    room-fits _ _ _ pre (if1 .left)
-
-same-length : tie.Need-same-length
-same-length c = search needs
-
-returns-2 : tie.Need-returns-2
-returns-2 c = search needs
+put-used-requires-2 : tie.Need-put-used-requires-2
+put-used-requires-2 c κs = omega (arith, used-length (c .before .before .before .args .x), room-fits _ _ _ (c .before .before .before .pre) (c .before .if1 .left))
 
 pub show-used-spec : {M : Type 1} → statement M
 show-used-spec =
     tie.close
-    (tie.spec used-size-requires add-result returns put-used-requires same-length returns-2)
+    (tie.spec (λ c. search needs) put-used-requires (λ c. search needs) returns put-used-requires-2 (λ c. search needs) (λ c. search needs))

@@ -2,10 +2,12 @@
 
 use reference::calls::{self, Answer};
 pub use reference::numbers::Numbers;
-use reference::option::{write220, Entry, Information, Request, Suboption};
+use reference::option::{Entry, Information, Request, Suboption};
 use reference::prefix::{prefix, Prefix};
 use reference::refusal::Refusal;
-use reference::table::{Lease, State, Table};
+use reference::samples;
+pub use reference::samples::{asking, entries, entry, image, information, lease, request_i};
+use reference::table::{Lease, Table};
 
 /// `10.0.1.0/24`.
 pub fn p(text: &str) -> Prefix {
@@ -29,114 +31,88 @@ pub fn hex(text: &str) -> Vec<u8> {
 }
 
 pub fn request(length: u8) -> Suboption {
-    Suboption::Request(Request {
-        h: false,
-        i: false,
-        prefix: length,
-    })
+    samples::request(length, false)
 }
 
 pub fn request_h(length: u8) -> Suboption {
-    Suboption::Request(Request {
-        h: true,
-        i: false,
-        prefix: length,
-    })
+    samples::request(length, true)
 }
 
-pub fn request_i() -> Suboption {
-    Suboption::Request(Request {
-        h: false,
-        i: true,
-        prefix: 0,
-    })
+/// The option that the writer makes of these pieces, which it must not refuse.
+pub fn option(list: &[Suboption]) -> Vec<u8> {
+    let bytes = samples::option(list);
+    assert!(!bytes.is_empty());
+    bytes
 }
 
-pub fn entry(at: Prefix) -> Entry {
+fn random_entry(numbers: &mut Numbers) -> Entry {
+    let length = numbers.between(1, 30) as u8;
+    let network = (numbers.draw() as u32) & (u32::MAX << (32 - length));
+    let figures = (0..numbers.below(4))
+        .map(|_| numbers.draw() as u16)
+        .collect();
     Entry {
-        network: at.network,
-        prefix: at.length,
-        h: false,
-        d: false,
-        figures: Vec::new(),
+        network,
+        prefix: length,
+        h: numbers.once_in(2),
+        d: numbers.once_in(2),
+        figures,
     }
 }
 
-pub fn information(c: bool, s: bool, prefixes: &[Prefix]) -> Suboption {
-    let entries = prefixes.iter().map(|at| entry(*at)).collect();
-    Suboption::Information(Information { c, s, entries })
+fn random_suboption(numbers: &mut Numbers) -> Suboption {
+    match numbers.below(3) {
+        0 => Suboption::Request(Request {
+            h: numbers.once_in(2),
+            i: numbers.once_in(2),
+            prefix: numbers.between(0, 30) as u8,
+        }),
+        1 => Suboption::Information(Information {
+            c: numbers.once_in(2),
+            s: numbers.once_in(2),
+            entries: (0..numbers.between(1, 6))
+                .map(|_| random_entry(numbers))
+                .collect(),
+        }),
+        _ => {
+            let mut name: Vec<u8> = (0..numbers.between(0, 9))
+                .map(|_| numbers.draw() as u8)
+                .collect();
+            name.push(numbers.between(1, 255) as u8);
+            Suboption::Name(name)
+        }
+    }
 }
 
-/// The option that the writer makes of these pieces.
-pub fn option(list: &[Suboption]) -> Vec<u8> {
-    let mut buffer = [0; 257];
-    let bytes = write220(list, &mut buffer).unwrap();
-    buffer[..bytes].to_vec()
+/// One to `most` suboptions that keep the rules; together they may be too long.
+pub fn random_list(numbers: &mut Numbers, most: usize) -> Vec<Suboption> {
+    (0..numbers.between(1, most))
+        .map(|_| random_suboption(numbers))
+        .collect()
 }
 
-pub fn entries(prefixes: &[Prefix]) -> Vec<u8> {
-    option(&[information(false, false, prefixes)])
+/// The count of an accepted answer and the bytes written, or the refusal.
+pub type Reply = Result<(usize, Vec<u8>), Refusal>;
+
+pub fn ask(table: &mut Table, client: u32, now: u32, option: &[u8]) -> Reply {
+    replied(|buffer| calls::ask(table, client, now, option, buffer))
 }
 
-pub fn asking(lengths: &[u8]) -> Vec<u8> {
-    option(
-        &lengths
-            .iter()
-            .map(|length| request(*length))
-            .collect::<Vec<_>>(),
-    )
+pub fn take(table: &mut Table, client: u32, now: u32, option: &[u8]) -> Reply {
+    replied(|buffer| calls::take(table, client, now, option, buffer))
 }
 
-/// A call with a fresh buffer: the answer and the bytes written.
-pub fn ask(
-    table: &mut Table,
-    client: u32,
-    now: u32,
-    option: &[u8],
-) -> Result<(usize, Vec<u8>), Refusal> {
+pub fn list(table: &Table, client: u32, now: u32, option: &[u8]) -> Reply {
+    replied(|buffer| calls::list(table, client, now, option, buffer))
+}
+
+/// A call with a fresh buffer, of which the rest keeps its content.
+fn replied(call: impl FnOnce(&mut [u8]) -> Result<Answer, Refusal>) -> Reply {
     let mut buffer = [0xa5; 300];
-    let answer = calls::ask(table, client, now, option, &mut buffer);
-    written(answer, &buffer)
-}
-
-pub fn take(
-    table: &mut Table,
-    client: u32,
-    now: u32,
-    option: &[u8],
-) -> Result<(usize, Vec<u8>), Refusal> {
-    let mut buffer = [0xa5; 300];
-    let answer = calls::take(table, client, now, option, &mut buffer);
-    written(answer, &buffer)
-}
-
-pub fn list(
-    table: &Table,
-    client: u32,
-    now: u32,
-    option: &[u8],
-) -> Result<(usize, Vec<u8>), Refusal> {
-    let mut buffer = [0xa5; 300];
-    let answer = calls::list(table, client, now, option, &mut buffer);
-    written(answer, &buffer)
-}
-
-/// Count and bytes of an accepted answer; the rest of the buffer keeps its content.
-fn written(answer: Result<Answer, Refusal>, buffer: &[u8]) -> Result<(usize, Vec<u8>), Refusal> {
+    let answer = call(&mut buffer);
     let bytes = answer.map_or(0, |answer| answer.bytes);
     assert!(buffer[bytes..].iter().all(|byte| *byte == 0xa5));
     answer.map(|answer| (answer.count, buffer[..bytes].to_vec()))
-}
-
-pub fn lease(at: Prefix, client: u32, state: State, expires: u32) -> Lease {
-    Lease {
-        prefix: at,
-        client,
-        state,
-        h: false,
-        d: false,
-        expires,
-    }
 }
 
 /// A table with these leases, in ascending order.
@@ -149,16 +125,7 @@ pub fn table_with(texts: &[&str], last: u32, leases: &[Lease]) -> Table {
 
 /// `count` leased /30s from the start of 10.0.0.0/16, all of client 7.
 pub fn row_of_leases(count: u32, expires: u32) -> Vec<Lease> {
-    (0..count)
-        .map(|index| {
-            lease(
-                prefix(0x0a00_0000 + 4 * index, 30),
-                7,
-                State::Leased,
-                expires,
-            )
-        })
-        .collect()
+    samples::row_of_leases(count, 7, expires)
 }
 
 /// Number and place of a refusal.

@@ -144,28 +144,10 @@ fn long_lines() {
 #[test]
 fn any_bytes_do_no_harm() {
     let mut numbers = Numbers::new(11);
-    let words: [&[u8]; 20] = [
-        b"open",
-        b"ask",
-        b"take",
-        b"list",
-        b"return",
-        b"mark",
-        b"save",
-        b"load",
-        b"sheet",
-        b"read",
-        b"buffer",
-        b"0",
-        b"7",
-        b"1000",
-        b"3600",
-        b"28",
-        b"10.0.0.0/8",
-        b"dc05000102001a",
-        b"dc05000102021a",
-        b"-",
-    ];
+    let words =
+        "open ask take list return mark save load sheet read write buffer 0 7 1000 3600 28 \
+                 10.0.0.0/8 dc05000102001a dc05000102021a - unknown name address 10.0.0.0";
+    let words: Vec<&[u8]> = words.split_whitespace().map(str::as_bytes).collect();
     let mut script = Vec::new();
     for _ in 0..60_000 {
         match numbers.below(12) {

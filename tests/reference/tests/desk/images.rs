@@ -2,9 +2,9 @@
 
 use reference::calls;
 use reference::image::{load, save, FULL};
-use reference::prefix::prefix;
+use reference::samples::full_table;
 use reference::sheet::{sheet, sheet_of_image};
-use reference::table::{Lease, State, Table, LATEST};
+use reference::table::{State, Table};
 
 use crate::common::*;
 
@@ -15,33 +15,6 @@ const EXAMPLE_SHEET: &str = "sheet lines=1 free=2\n\
                              used 10.0.1.0/26 station 7 until 1120\n\
                              free 10.0.1.64/26\n\
                              free 10.0.1.128/25\n";
-
-pub fn image(table: &Table) -> Vec<u8> {
-    let mut buffer = [0; FULL];
-    let bytes = save(table, &mut buffer).unwrap();
-    buffer[..bytes].to_vec()
-}
-
-/// Eight pools and 256 leases.
-fn full_table() -> Table {
-    let texts: Vec<String> = (0..8).map(|index| format!("10.{index}.0.0/16")).collect();
-    let texts: Vec<&str> = texts.iter().map(String::as_str).collect();
-    let leases: Vec<Lease> = (0..256u32)
-        .map(|index| Lease {
-            prefix: prefix(0x0a00_0000 + (index << 11), 21 + (index % 10) as u8),
-            client: 1 + index,
-            state: if index % 2 == 0 {
-                State::Leased
-            } else {
-                State::Offered
-            },
-            h: index % 3 == 0,
-            d: index % 5 == 0,
-            expires: u32::MAX - index,
-        })
-        .collect();
-    table_with(&texts, LATEST, &leases)
-}
 
 #[test]
 fn the_sheet_example() {

@@ -8,7 +8,6 @@ use reference::refusal::Refusal;
 use reference::table::{Lease, State, Table};
 
 use crate::common::*;
-use crate::images::image;
 
 fn addresses<'a>(leases: impl Iterator<Item = &'a Lease>) -> u64 {
     leases.map(|lease| lease.prefix.size()).sum()

@@ -9,3 +9,4 @@ mod options;
 mod packing;
 mod refusals;
 mod rfc6656;
+mod writing;

@@ -7,53 +7,12 @@ use reference::prefix::prefix;
 
 use crate::common::*;
 
-fn random_entry(numbers: &mut Numbers) -> Entry {
-    let length = numbers.between(1, 30) as u8;
-    let network = (numbers.draw() as u32) & (u32::MAX << (32 - length));
-    let figures = (0..numbers.below(4))
-        .map(|_| numbers.draw() as u16)
-        .collect();
-    Entry {
-        network,
-        prefix: length,
-        h: numbers.once_in(2),
-        d: numbers.once_in(2),
-        figures,
-    }
-}
-
-fn random_suboption(numbers: &mut Numbers) -> Suboption {
-    match numbers.below(3) {
-        0 => Suboption::Request(Request {
-            h: numbers.once_in(2),
-            i: numbers.once_in(2),
-            prefix: numbers.between(0, 30) as u8,
-        }),
-        1 => Suboption::Information(Information {
-            c: numbers.once_in(2),
-            s: numbers.once_in(2),
-            entries: (0..numbers.between(1, 6))
-                .map(|_| random_entry(numbers))
-                .collect(),
-        }),
-        _ => {
-            let mut name: Vec<u8> = (0..numbers.between(0, 9))
-                .map(|_| numbers.draw() as u8)
-                .collect();
-            name.push(numbers.between(1, 255) as u8);
-            Suboption::Name(name)
-        }
-    }
-}
-
 #[test]
 fn a_written_option_reads_back_as_the_same_list() {
     let mut numbers = Numbers::new(1);
     let mut written = 0;
     for _ in 0..20_000 {
-        let list: Vec<Suboption> = (0..numbers.between(1, 7))
-            .map(|_| random_suboption(&mut numbers))
-            .collect();
+        let list = random_list(&mut numbers, 7);
         let mut buffer = [0xa5; 257];
         match write220(&list, &mut buffer) {
             Ok(bytes) => {
@@ -84,9 +43,7 @@ fn an_accepted_option_is_written_back_as_the_same_bytes() {
     let mut numbers = Numbers::new(2);
     let (mut same, mut refused, mut other) = (0, 0, 0);
     for _ in 0..60_000 {
-        let list: Vec<Suboption> = (0..numbers.between(1, 4))
-            .map(|_| random_suboption(&mut numbers))
-            .collect();
+        let list = random_list(&mut numbers, 4);
         let mut buffer = [0; 257];
         let Ok(bytes) = write220(&list, &mut buffer) else {
             continue;

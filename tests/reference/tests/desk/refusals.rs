@@ -1,9 +1,10 @@
 //! Every refusal number in every call that has it, the row order, and that a refusal
 //! changes nothing.
 
-use reference::calls;
+use reference::calls::{self, Answer};
 use reference::image::{load, save};
 use reference::prefix::{prefix, Prefix};
+use reference::refusal::Refusal;
 use reference::table::{State, Table, LATEST};
 
 use crate::common::*;
@@ -58,6 +59,21 @@ impl Case {
         }
         table
     }
+
+    /// A table with a lease of client 7 at 10.0.0.0/25.
+    fn one_lease(self, state: State) -> Table {
+        let leases = [lease(p("10.0.0.0/25"), 7, state, u32::MAX)];
+        self.spoil(table_with(&["10.0.0.0/22"], 1000, &leases))
+    }
+
+    /// That lease's prefix, or where 11 is the outcome another.
+    fn named(self, other: &str) -> Prefix {
+        p(if self.outcome == 11 {
+            other
+        } else {
+            "10.0.0.0/25"
+        })
+    }
 }
 
 fn cases(outcomes: &[u8]) -> Vec<Case> {
@@ -107,7 +123,7 @@ fn bad_option(row: u8, good: &[u8], wrong_piece: &[u8]) -> Vec<u8> {
     bytes
 }
 
-fn expect(case: Case, answer: Result<calls::Answer, reference::refusal::Refusal>) -> bool {
+fn expect(case: Case, answer: Result<Answer, Refusal>) -> bool {
     match first_row(&case.rows()) {
         Some(number) => {
             let refusal = answer.unwrap_err();
@@ -122,6 +138,22 @@ fn expect(case: Case, answer: Result<calls::Answer, reference::refusal::Refusal>
     }
 }
 
+/// The call of a case, with a reply buffer: a refusal leaves table and buffer.
+fn try_case(
+    case: Case,
+    before: &Table,
+    bytes: &[u8],
+    call: impl Fn(&mut Table, u32, u32, &[u8], &mut [u8]) -> Result<Answer, Refusal>,
+) {
+    let mut table = before.clone();
+    let mut buffer = vec![0x5a; if case.short_buffer { 256 } else { 257 }];
+    let answer = call(&mut table, case.client, case.now(), bytes, &mut buffer);
+    if !expect(case, answer) {
+        assert_eq!(table, *before);
+        assert!(buffer.iter().all(|byte| *byte == 0x5a));
+    }
+}
+
 #[test]
 fn ask_rows_in_every_combination() {
     let good = asking(&[30]);
@@ -133,35 +165,18 @@ fn ask_rows_in_every_combination() {
             _ => vec![],
         };
         let before = case.spoil(table_with(&["10.0.0.0/22"], 1000, &leases));
-        let mut table = before.clone();
         let bytes = bad_option(case.option, &good, &hex("01 02 02 00"));
-        let mut buffer = vec![0x5a; if case.short_buffer { 256 } else { 257 }];
-        let answer = calls::ask(&mut table, case.client, case.now(), &bytes, &mut buffer);
-        if !expect(case, answer) {
-            assert_eq!(table, before);
-            assert!(buffer.iter().all(|byte| *byte == 0x5a));
-        }
+        try_case(case, &before, &bytes, calls::ask);
     }
 }
 
 #[test]
 fn take_rows_in_every_combination() {
     for case in cases(&[0, 11]) {
-        let at = p(if case.outcome == 11 {
-            "10.0.0.128/25"
-        } else {
-            "10.0.0.0/25"
-        });
-        let leases = [lease(p("10.0.0.0/25"), 7, State::Offered, u32::MAX)];
-        let before = case.spoil(table_with(&["10.0.0.0/22"], 1000, &leases));
-        let mut table = before.clone();
+        let at = case.named("10.0.0.128/25");
+        let before = case.one_lease(State::Offered);
         let bytes = bad_option(case.option, &entries(&[at]), &hex("01 02 00 18"));
-        let mut buffer = vec![0x5a; if case.short_buffer { 256 } else { 257 }];
-        let answer = calls::take(&mut table, case.client, case.now(), &bytes, &mut buffer);
-        if !expect(case, answer) {
-            assert_eq!(table, before);
-            assert!(buffer.iter().all(|byte| *byte == 0x5a));
-        }
+        try_case(case, &before, &bytes, calls::take);
     }
 }
 
@@ -173,14 +188,14 @@ fn list_rows_in_every_combination() {
         } else {
             State::Leased
         };
-        let leases = [lease(p("10.0.0.0/25"), 7, state, u32::MAX)];
-        let table = case.spoil(table_with(&["10.0.0.0/22"], 1000, &leases));
+        let before = case.one_lease(state);
         let bytes = bad_option(case.option, &option(&[request_i()]), &hex("01 02 00 18"));
-        let mut buffer = vec![0x5a; if case.short_buffer { 256 } else { 257 }];
-        let answer = calls::list(&table, case.client, case.now(), &bytes, &mut buffer);
-        if !expect(case, answer) {
-            assert!(buffer.iter().all(|byte| *byte == 0x5a));
-        }
+        try_case(
+            case,
+            &before,
+            &bytes,
+            |table, client, now, bytes, buffer| calls::list(table, client, now, bytes, buffer),
+        );
     }
 }
 
@@ -191,19 +206,12 @@ fn return_rows_in_every_combination() {
         .into_iter()
         .filter(|case| !case.short_buffer)
     {
-        let at = p(if case.outcome == 11 {
-            "10.0.0.0/26"
-        } else {
-            "10.0.0.0/25"
-        });
-        let leases = [lease(p("10.0.0.0/25"), 7, State::Offered, u32::MAX)];
-        let before = case.spoil(table_with(&["10.0.0.0/22"], 1000, &leases));
-        let mut table = before.clone();
+        let at = case.named("10.0.0.0/26");
+        let before = case.one_lease(State::Offered);
         let bytes = bad_option(case.option, &entries(&[at]), &hex("01 02 00 18"));
-        let answer = calls::release(&mut table, case.client, case.now(), &bytes);
-        if !expect(case, answer) {
-            assert_eq!(table, before);
-        }
+        try_case(case, &before, &bytes, |table, client, now, bytes, _| {
+            calls::release(table, client, now, bytes)
+        });
     }
 }
 
@@ -212,13 +220,8 @@ fn mark_rows_in_every_combination() {
     // "Mark has no station"; its rows are 5, 3, 4 and 11.
     let all = cases(&[0, 11]).into_iter();
     for case in all.filter(|case| !case.short_buffer && case.client != 0 && case.option == 0) {
-        let at = p(if case.outcome == 11 {
-            "10.0.0.0/26"
-        } else {
-            "10.0.0.0/25"
-        });
-        let leases = [lease(p("10.0.0.0/25"), 7, State::Offered, u32::MAX)];
-        let before = case.spoil(table_with(&["10.0.0.0/22"], 1000, &leases));
+        let at = case.named("10.0.0.0/26");
+        let before = case.one_lease(State::Offered);
         let mut table = before.clone();
         if !expect(case, calls::mark(&mut table, case.now(), at, true)) {
             assert_eq!(table, before);
@@ -359,7 +362,7 @@ fn every_way_to_be_unsound() {
         // not look at it.
         assert_eq!(load(&mut table, &[]), Err(no(5, 0)));
         assert_eq!(table, before);
-        assert_eq!(load(&mut table, &crate::images::image(&good)), Ok(()));
+        assert_eq!(load(&mut table, &image(&good)), Ok(()));
         assert_eq!(table, good);
     }
 }

@@ -3,7 +3,6 @@
 use mathlib.Core.Logic.{inl, inr, ⊎-elim}
 use native.Mathlib.Omega.{arith}
 use borrow.Author.Needs.{needs}
-use Rattle.prefix.specs.declared.Prefix.{Prefix}
 use Rattle.prefix.proofs.PrefixLaws.{apart-of, apart-not}
 use Rattle.prefix.proofs.Prefix.overlaps.Statement.{statement}
 use Rattle.prefix.proofs.Prefix.overlaps.Tie as tie

@@ -1,2 +1,0 @@
--- Laws of the rows that calls have in common.
-pub mod CommonRows

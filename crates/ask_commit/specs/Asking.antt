@@ -1,0 +1,26 @@
+-- What is known where an ask has passed every row before 9.
+-- Assumes nothing: these are definitions.
+use Prim.Native.Nat.{ℕ, _≤_}
+use mathlib.Core.Path.{_≡_}
+use mathlib.Core.List.{List, map}
+use lib.ListN.{length}
+use Rattle.option.specs.Sizes.{mostRequests}
+use Rattle.option.specs.Contents.{requestsIn}
+use Rattle.image_check.specs.declared.ImageSummary.{ImageSummary}
+use Rattle.ledger.specs.Ledger.{Call, firstOf, leastReply, grantRows, askRows}
+use Rattle.option_scan.specs.Scanned.{flagOf}
+use Rattle.call_spec.specs.ImageCalls.{Lent, stateIn}
+use Rattle.call_rows.specs.Admission.{Admitted}
+
+-- The call is admitted, the reply has room for every offer, and two columns have as many requests.
+pub record Ready (h : Lent) (now client : ℕ) (reply : List ℕ) (summary : ImageSummary) (askLengths askH : List ℕ) : Type 0 where
+  pub admitted : Admitted h now client summary
+  pub room : leastReply ≤ length reply
+  pub few : length askLengths ≤ mostRequests
+  pub same : length askH ≡ length askLengths
+
+-- Rows 9 and 10 are left, and the columns hold the requests.
+pub record Asking (h : Lent) (now : ℕ) (c : Call) (askLengths askH : List ℕ) : Type 0 where
+  pub left-rows : firstOf (askRows (stateIn h) now c) ≡ firstOf (grantRows (stateIn h) now c)
+  pub lengths : askLengths ≡ map (λ r. r .length) (requestsIn (c .option))
+  pub flags : askH ≡ map (λ r. flagOf (r .h)) (requestsIn (c .option))

@@ -1,0 +1,4 @@
+pub mod AddLaws
+pub mod PlacesLaws
+pub mod MergeLaws
+pub mod CommitLaws

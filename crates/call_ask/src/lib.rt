@@ -1,0 +1,73 @@
+// Ask as a call on an image, in place.
+use ledger::Answer;
+use option_scan::MOST_ENTRIES;
+use option_scan::MOST_REQUESTS;
+ghost use mathlib.Core.Path.{_≡_};
+ghost use mathlib.Core.List.{[], _∷_};
+ghost use lib.Dec.{leb, eqb};
+ghost use Rattle.lists.specs.Lists.{and};
+ghost use Rattle.option.specs.Sizes.{mostRequests};
+ghost use Rattle.ledger.specs.Ledger.{call, result};
+ghost use Rattle.call_spec.specs.ImageCalls.{lent, askImage};
+
+// Row 8: "the option has 1 to 25 requests, none with i".
+fn for_ask(requests: usize, listing: usize) -> bool
+    ensures { λ r. ⌜ r ≡ and (leb 1 requests ∷ leb requests mostRequests ∷ eqb listing 0 ∷ []) ⌝ }
+{
+    if requests == 0 {
+        return false;
+    }
+    if MOST_REQUESTS < requests {
+        return false;
+    }
+    listing == 0
+}
+
+pub fn ask(
+    image: &mut [u8],
+    image_bytes: &mut usize,
+    client: u32,
+    time: u32,
+    option: &[u8],
+    reply: &mut [u8],
+) -> Answer
+    ensures { λ r. ⌜ result r (lent (now (image .exit)) (now («image_bytes» .exit))) (now (reply .exit))
+        ≡ askImage (lent (now (image .entry)) (now («image_bytes» .entry))) time (call client (now (option .entry)) (now (reply .entry))) ⌝ }
+{
+    let bytes = *image_bytes;
+    let admission = call_rows::admit(image, bytes, reply.len(), client, time);
+    if admission.number != 0 {
+        return call_spec::refused(admission.number, 0);
+    }
+    let mut ask_lengths = [0u8; MOST_REQUESTS];
+    let mut ask_h = [0u8; MOST_REQUESTS];
+    let mut networks = [0u32; MOST_ENTRIES];
+    let mut lengths = [0u8; MOST_ENTRIES];
+    let contents = option_scan::read(
+        option,
+        &mut ask_lengths,
+        &mut ask_h,
+        &mut networks,
+        &mut lengths,
+    );
+    let checked = contents.checked;
+    let refusal = call_rows::option_refusal(checked);
+    if refusal.number != 0 {
+        return refusal;
+    }
+    let n = contents.requests;
+    if !for_ask(n, contents.listing) {
+        return call_spec::refused(8, 0);
+    }
+    let summary = admission.summary;
+    ask_commit::grant(
+        image,
+        image_bytes,
+        client,
+        time,
+        reply,
+        summary,
+        &ask_lengths[..n],
+        &ask_h[..n],
+    )
+}

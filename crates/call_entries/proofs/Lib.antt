@@ -1,0 +1,4 @@
+pub mod NamedLaws
+pub mod ManyLaws
+pub mod EntriesLaws
+pub mod RowLaws

@@ -1,0 +1,62 @@
+// Mark as a call on an image, in place.
+use image::HEAD;
+use image::LEASE;
+use image::POOL;
+use ledger::Answer;
+use prefix::Checked;
+use prefix::Prefix;
+ghost use mathlib.Core.Path.{_≡_};
+ghost use mathlib.Core.Bool.{not};
+ghost use mathlib.Core.List.{[]};
+ghost use lib.Dec.{eqb};
+ghost use Rattle.ledger.specs.Ledger.{result};
+ghost use Rattle.call_spec.specs.ImageCalls.{lent, markImage};
+
+// Mark has no client and no reply: what stands for them at the admission is refused by no row.
+const ANY_CLIENT: u32 = 1;
+
+// d is set or cleared in the lease's record; then the expired leases are removed. Nothing is written before the call is
+// sure to be accepted.
+pub fn mark(
+    image: &mut [u8],
+    image_bytes: &mut usize,
+    network: u32,
+    length: u32,
+    deprecated: u32,
+    time: u32,
+) -> Answer
+    ensures { λ r. ⌜ result r (lent (now (image .exit)) (now («image_bytes» .exit))) []
+        ≡ markImage (lent (now (image .entry)) (now («image_bytes» .entry))) time network length (not (eqb deprecated 0)) ⌝ }
+{
+    let bytes = *image_bytes;
+    let admission = call_rows::admit(image, bytes, call_rows::SHORTEST_REPLY, ANY_CLIENT, time);
+    if admission.number != 0 {
+        return call_spec::refused(admission.number, 0);
+    }
+    // Every lease is a block, so what is none is no lease's prefix.
+    let Checked::Good(p) = Prefix::new(network, call_spec::length_of(length)) else {
+        return call_spec::refused(11, 0);
+    };
+    let summary = admission.summary;
+    let from = HEAD + POOL * summary.pools;
+    let n = summary.leases;
+    let place = image_records::place_after(image, from, n, p.network);
+    if place == 0 {
+        return call_spec::refused(11, 0);
+    }
+    let at = from + LEASE * (place - 1);
+    let mut x = image_records::lease_at(image, at);
+    if x.network != p.network {
+        return call_spec::refused(11, 0);
+    }
+    if x.length != p.length {
+        return call_spec::refused(11, 0);
+    }
+    if x.expires <= time {
+        return call_spec::refused(11, 0);
+    }
+    x.d = deprecated != 0;
+    image_records::put_lease(image, at, x);
+    *image_bytes = call_rows::remove_expired(image, from, n, summary.expired, time);
+    call_spec::accepted(0, 0)
+}

@@ -1,0 +1,114 @@
+-- Laws of open as a call: its rows, and that what is written is the image of the table that open makes, with zeros after it.
+-- Assumes nothing.
+use Prim.Native.Nat.{ℕ, _+_, _-_, _*_, _≤_, _<_}
+use mathlib.Core.Path.{_≡_, sym, ap, ap₂, _∙_}
+use mathlib.Core.Bool.{true, false, cond}
+use mathlib.Core.List.{List, [], _++_, append-nil}
+use native.Mathlib.Omega.{arith}
+use lib.ListN.{length, take, replicate}
+use lib.Seq.{take-at}
+use lib.Dec.{ltb}
+use borrow.Author.Tests.{lt-ltb, le-ltb}
+use Rattle.lists.specs.Lists.{concatMap}
+use Rattle.lists.specs.Put.{put}
+use Rattle.lists.proofs.Tests.{cond-false}
+use Rattle.lists.proofs.ListLaws.{all-map}
+use Rattle.lists.proofs.SortingLaws.{sortBy-all, sortBy-length}
+use Rattle.table.specs.declared.Pool.{Pool}
+use Rattle.table.specs.declared.Lease.{Lease}
+use Rattle.table.specs.declared.LeaseTable.{LeaseTable}
+use Rattle.table.specs.Table.{poolSlots, noPool, sound, paddedPools}
+use Rattle.table.proofs.TableLaws.{GoodPool, long-not-unused, sound-default}
+use Rattle.image.specs.Image.{headSize, poolSize, fullImage, headRecord, poolRecord, leaseRecord, usedPools, usedLeases, headOf, imageOf}
+use Rattle.image.proofs.ImageLaws.{used-pools, length-head, length-image}
+use Rattle.image.proofs.WriteLaws.{then-put}
+use Rattle.table_open.specs.Open.{given, poolNetwork, sortPools, openOk, fresh}
+use Rattle.table_open.proofs.OpenLaws.{OpenRules, given-length, openOk-to, open-sound, fresh-none}
+use Rattle.ledger.specs.Ledger.{result, refusal, acceptance}
+use Rattle.call_spec.specs.ImageCalls.{Lent, lent, stored, openImage}
+use Rattle.call_spec.proofs.StoreLaws.{stores}
+use Rattle.call_spec.proofs.OpenLength.{open-length}
+
+-- A TABLE WITH NO LEASE
+
+module _ (t : LeaseTable) (ps : List Pool) (pools : usedPools t ≡ ps) (none : usedLeases t ≡ []) where
+  image-is : imageOf t ≡ headRecord (headOf t) ++ concatMap poolRecord ps
+  unfolding imageOf
+  image-is =
+      ap₂ (λ (qs : List Pool) (xs : List Lease). headRecord (headOf t) ++ (concatMap poolRecord qs ++ concatMap leaseRecord xs)) pools none
+      ∙ ap (λ (s : List ℕ). headRecord (headOf t) ++ s) (append-nil (concatMap poolRecord ps))
+
+  image-size : length (imageOf t) ≡ headSize + poolSize * length ps
+  image-size = length-image t ∙ omega (arith, ap length pools, ap length none)
+
+  module _ (buffer : List ℕ) (s : sound t ≡ true) (room : fullImage ≤ length buffer) where
+    image-stored : (n : ℕ) → n ≡ length ps → (l₁ l₂ l₃ : List ℕ) → l₁ ≡ put buffer 0 (headRecord (headOf t)) → l₂ ≡ put l₁ headSize (concatMap poolRecord ps)
+        → l₃ ≡ put l₂ (headSize + poolSize * n) (replicate (fullImage - (headSize + poolSize * n)) 0) → l₃ ≡ stored t fullImage buffer
+    image-stored n many l₁ l₂ l₃ e₁ e₂ e₃ =
+        let written : l₂ ≡ put buffer 0 (imageOf t) =
+        then-put headSize buffer l₁ 0 (headRecord (headOf t)) (length-head (headOf t)) e₁ l₂ (concatMap poolRecord ps) e₂ ∙ ap (put buffer 0) (sym image-is) in
+        stores t s buffer room fullImage (headSize + poolSize * n) room (omega (arith, image-size, many)) l₂ l₃ written e₃
+
+-- THE TABLE THAT OPEN MAKES
+
+module _ (ns ls : List ℕ) (term len start : ℕ) (ok : openOk ns ls term len start ≡ true) where
+  abbrev sorted : List Pool
+  sorted = sortPools (given ns ls)
+
+  rules : OpenRules ns ls term len start
+  rules = openOk-to ns ls term len start ok
+
+  pub pools-few : length ns ≤ poolSlots
+  pools-few = rules .few
+
+  many : length sorted ≡ length ns
+  many = sortBy-length poolNetwork (given ns ls) ∙ given-length ns ls (rules .equal)
+
+  its-pools : usedPools (fresh (given ns ls) term len start) ≡ sorted
+  its-pools =
+      used-pools (poolSlots - length sorted) sorted
+      (all-map (λ p (g : GoodPool p). long-not-unused p (omega (arith, g .short))) sorted (sortBy-all poolNetwork GoodPool (given ns ls) (rules .good)))
+
+  its-size : length (imageOf (fresh (given ns ls) term len start)) ≡ headSize + poolSize * length ns
+  its-size = image-size (fresh (given ns ls) term len start) sorted its-pools (fresh-none (given ns ls) term len start) ∙ ap (λ (n : ℕ). headSize + poolSize * n) many
+
+  its-image : (buffer : List ℕ) → fullImage ≤ length buffer → (l₁ l₂ l₃ : List ℕ) → l₁ ≡ put buffer 0 (headRecord (record { term = term; «default_length» = len; last = start }))
+      → l₂ ≡ put l₁ headSize (concatMap poolRecord (take (length ns) (paddedPools sorted)))
+      → l₃ ≡ put l₂ (headSize + poolSize * length ns) (replicate (fullImage - (headSize + poolSize * length ns)) 0) → l₃ ≡ stored (fresh (given ns ls) term len start) fullImage buffer
+  its-image buffer room l₁ l₂ l₃ e₁ e₂ e₃ =
+      let first : take (length ns) (paddedPools sorted) ≡ sorted = take-at sorted (replicate (poolSlots - length sorted) noPool) (length ns) many in
+      image-stored (fresh (given ns ls) term len start) sorted its-pools (fresh-none (given ns ls) term len start) buffer (open-sound ns ls term len start ok) room (length ns) (sym many) l₁ l₂ l₃ e₁
+      (e₂ ∙ ap (λ (ps : List Pool). put l₁ headSize (concatMap poolRecord ps)) first) e₃
+
+-- THE CALL. A default length that a byte cannot hold is taken as 0.
+
+module _ (h : Lent) (ns ls : List ℕ) (term len start : ℕ) where
+  abbrev short : ℕ
+  short = cond (ltb 255 len) 0 len
+
+  pub open-outside : openOk ns ls term (cond (ltb 255 len) 0 len) start ≡ false → result (refusal 12 0) h [] ≡ openImage h ns ls term len start
+  unfolding openImage
+  open-outside e = rw (sym (open-length ns ls term start len) ∙ e)
+
+  module _ (ok : openOk ns ls term (cond (ltb 255 len) 0 len) start ≡ true) where
+    is-ok : openOk ns ls term len start ≡ true
+    is-ok = sym (open-length ns ls term start len) ∙ ok
+
+    pub open-small : length (h .image) < fullImage → result (refusal 14 0) h [] ≡ openImage h ns ls term len start
+    unfolding openImage
+    open-small small = rw (is-ok, lt-ltb (length (h .image)) fullImage small)
+
+    open-made : fullImage ≤ length (h .image) → result (acceptance 0 0) (lent (stored (fresh (given ns ls) term len start) fullImage (h .image)) (length (imageOf (fresh (given ns ls) term len start)))) [] ≡ openImage h ns ls term len start
+    unfolding openImage
+    open-made room = rw (is-ok, le-ltb (length (h .image)) fullImage room)
+
+    short-is : cond (ltb 255 len) 0 len ≡ len
+    short-is = cond-false (ltb 255 len) 0 len (le-ltb 255 len (omega (arith, sound-default (fresh (given ns ls) term len start) (open-sound ns ls term len start is-ok) .1)))
+
+    pub open-accepted : fullImage ≤ length (h .image) → (l₁ l₂ l₃ : List ℕ) → l₁ ≡ put (h .image) 0 (headRecord (record { term = term; «default_length» = cond (ltb 255 len) 0 len; last = start }))
+        → l₂ ≡ put l₁ headSize (concatMap poolRecord (take (length ns) (paddedPools (sortPools (given ns ls)))))
+        → l₃ ≡ put l₂ (headSize + poolSize * length ns) (replicate (fullImage - (headSize + poolSize * length ns)) 0)
+        → result (acceptance 0 0) (lent l₃ (headSize + poolSize * length ns)) [] ≡ openImage h ns ls term len start
+    open-accepted room l₁ l₂ l₃ e₁ e₂ e₃ =
+        let kept = its-image ns ls term short start ok (h .image) room l₁ l₂ l₃ e₁ e₂ e₃ ∙ ap (λ (n : ℕ). stored (fresh (given ns ls) term n start) fullImage (h .image)) short-is in
+        ap₂ (λ (l : List ℕ) (n : ℕ). result (acceptance 0 0) (lent l n) []) kept (sym (its-size ns ls term len start is-ok)) ∙ open-made room

@@ -1,0 +1,66 @@
+// Open as a call: the table that pools, a term, a default length and a start time make, as an image in a lent buffer.
+use image::FULL_IMAGE;
+use image::HEAD;
+use image::Head;
+use image::POOL;
+use ledger::Answer;
+use table::POOLS;
+use table::Pool;
+ghost use mathlib.Core.Path.{_≡_};
+ghost use mathlib.Core.List.{[]};
+ghost use Prim.Native.Nat.{_+_, _*_, _≤_};
+ghost use lib.ListN.{length, take};
+ghost use Rattle.lists.specs.Lists.{concatMap};
+ghost use Rattle.lists.specs.Put.{put};
+ghost use Rattle.table.specs.Table.{poolSlots};
+ghost use Rattle.image.specs.Image.{headSize, poolSize, poolRecord};
+ghost use Rattle.ledger.specs.Ledger.{result};
+ghost use Rattle.call_spec.specs.ImageCalls.{lent, openImage};
+
+// The records of the first n pools, after the head.
+fn put_pools(image: &mut [u8], pools: [Pool; POOLS], n: usize)
+    requires { ⌜ (headSize + poolSize * n ≤ length (now image)) × (n ≤ poolSlots) ⌝ }
+    ensures { λ _. ⌜ now (image .exit) ≡ put (now (image .entry)) headSize (concatMap poolRecord (take n pools)) ⌝ }
+{
+    let mut i: usize = 0;
+    while i < n {
+        let p = pools[i];
+        image_records::put_pool(image, HEAD + POOL * i, p);
+        i = i + 1;
+    }
+}
+
+// The fresh table is empty at every index, so its image is its head and its pools; zeros follow up to the end of a full one.
+pub fn open(
+    image: &mut [u8],
+    image_bytes: &mut usize,
+    networks: &[u32],
+    lengths: &[u8],
+    term: u32,
+    default_length: u32,
+    start: u32,
+) -> Answer
+    ensures { λ r. ⌜ result r (lent (now (image .exit)) (now («image_bytes» .exit))) [] ≡ openImage (lent (now (image .entry)) (now («image_bytes» .entry))) (now (networks .entry)) (now (lengths .entry)) term «default_length» start ⌝ }
+{
+    let length = call_spec::length_of(default_length);
+    let mut keys = [0u64; POOLS];
+    if !table_open::admits(&mut keys, networks, lengths, term, length, start) {
+        return call_spec::refused(12, 0);
+    }
+    if image.len() < FULL_IMAGE {
+        return call_spec::refused(14, 0);
+    }
+    let n = networks.len();
+    let t = table_open::open(&keys, n, term, length, start);
+    let head = Head {
+        term: t.term,
+        default_length: t.default_length,
+        last: t.last,
+    };
+    let pools = t.pools;
+    image_records::put_head(image, head);
+    put_pools(image, pools, n);
+    image_records::clear(image, HEAD + POOL * n, FULL_IMAGE);
+    *image_bytes = HEAD + POOL * n;
+    call_spec::accepted(0, 0)
+}

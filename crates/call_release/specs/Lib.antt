@@ -1,0 +1,2 @@
+pub mod Struck
+pub mod InnerReleasing

@@ -1,0 +1,4 @@
+pub mod SummaryLaws
+pub mod RowLaws
+pub mod AdmitLaws
+pub mod FinishLaws

@@ -1,0 +1,126 @@
+// What the calls have in common that work on an image in place: the rows that come before a call's own, and the end of an
+// accepted call.
+use image::LAST;
+use image::LEASE;
+use image_check::ImageSummary;
+use ledger::Answer;
+use option::Checked;
+ghost use mathlib.Core.Path.{_≡_};
+ghost use mathlib.Core.Bool.{not};
+ghost use mathlib.Core.List.{List, [], _∷_};
+ghost use Prim.Native.Nat.{_+_, _*_, _≤_};
+ghost use lib.ListN.{length};
+ghost use lib.Dec.{ltb, eqb};
+ghost use Rattle.table.specs.declared.Lease.{Lease};
+ghost use Rattle.table.specs.Table.{latest, present};
+ghost use Rattle.image.specs.Image.{headSize, leaseSize};
+ghost use Rattle.option.specs.Sizes.{longestOption};
+ghost use Rattle.option.specs.Answers.{placeOf};
+ghost use Rattle.image_records.specs.Records.{Records, ExpiredIn};
+ghost use Rattle.ledger.specs.Ledger.{firstOf};
+ghost use Rattle.ledger.specs.Answers.{checkedAnswer};
+ghost use Rattle.call_spec.specs.ImageCalls.{lent};
+ghost use Rattle.call_rows.specs.Admission.{numberOf, Admits, Finished};
+ghost use Rattle.call_rows.specs.InnerSummary.{SummaryIn};
+
+// Row 1: no reply buffer is below this size.
+pub const SHORTEST_REPLY: usize = option::LONGEST_OPTION;
+
+// ADMISSION
+
+// The number of the first row up to the option that applies, or 0; then what the check of the image found.
+pub struct Admission {
+    pub number: u32,
+    pub summary: ImageSummary,
+}
+
+// What the check says of the first `bytes` of the buffer; of none of them, if it has fewer or cannot hold a full table.
+fn summary_in(image: &[u8], bytes: usize, time: u32) -> ImageSummary
+    ensures { λ r. ⌜ SummaryIn (lent (now (image .entry)) bytes) time r ⌝ }
+{
+    if image.len() < image::FULL_IMAGE {
+        return image_check::check(&image[..0], time);
+    }
+    if image.len() < bytes {
+        return image_check::check(&image[..0], time);
+    }
+    image_check::check(&image[..bytes], time)
+}
+
+// The number of the first of rows 5, 2, 3 and 4 that applies, or 0.
+fn first_row(summary: ImageSummary, client: u32, time: u32) -> u32
+    ensures { λ r. ⌜ r ≡ numberOf (firstOf ((5, not (summary .sound)) ∷ (2, eqb client 0) ∷ (3, ltb time (summary .last)) ∷ (4, ltb latest time) ∷ [])) ⌝ }
+{
+    if !summary.sound {
+        return 5;
+    }
+    if client == 0 {
+        return 2;
+    }
+    if time < summary.last {
+        return 3;
+    }
+    if table::LATEST < time {
+        return 4;
+    }
+    0
+}
+
+// The rows up to the option, in their order. `room` is the length of the reply buffer.
+pub fn admit(image: &[u8], image_bytes: usize, room: usize, client: u32, time: u32) -> Admission
+    ensures { λ r. ⌜ Admits room (lent (now (image .entry)) «image_bytes») time client r ⌝ }
+{
+    if room < SHORTEST_REPLY {
+        let summary = image_check::check(&image[..0], time);
+        return Admission { number: 1, summary };
+    }
+    let summary = summary_in(image, image_bytes, time);
+    let number = first_row(summary, client, time);
+    Admission { number, summary }
+}
+
+// Rows 6 and 7, as the reader found them; number 0 where the option is good.
+pub fn option_refusal(c: Checked) -> Answer
+    requires { ⌜ placeOf c ≤ longestOption ⌝ }
+    ensures { λ r. ⌜ r ≡ checkedAnswer c ⌝ }
+{
+    match c {
+        Checked::Good => call_spec::refused(0, 0),
+        Checked::NotTheOption => call_spec::refused(6, 0),
+        Checked::BadSuboption(place) => call_spec::refused(7, place as u32),
+    }
+}
+
+// WHAT AN ACCEPTED CALL LEAVES
+
+// Removes the leases that have expired, all of which stand from the place `first` up to `last`, with zeros up to where the n
+// leases ended; the time becomes the last time. Answers the length of the image.
+pub fn remove_expired_between(
+    image: &mut [u8],
+    from: usize,
+    n: usize,
+    first: usize,
+    last: usize,
+    time: u32,
+) -> usize
+    requires { ⌜ (headSize ≤ from) × (first ≤ last) × (last ≤ n) × (from + leaseSize * n ≤ length (now image)) ⌝ }
+    ensures { λ r. ⌜ ((xs : List Lease) → Records (now (image .entry)) from xs → n ≡ length xs → ExpiredIn time first last xs
+        → Finished (now (image .entry)) from xs time (now (image .exit)) r) ⌝ }
+{
+    let kept = image_records::remove_expired(image, from, n, first, last, time);
+    image_records::put32(image, LAST, time);
+    from + LEASE * kept
+}
+
+// The same where they can stand anywhere, if there are any.
+pub fn remove_expired(image: &mut [u8], from: usize, n: usize, expired: usize, time: u32) -> usize
+    requires { ⌜ (headSize ≤ from) × (from + leaseSize * n ≤ length (now image)) ⌝ }
+    ensures { λ r. ⌜ ((xs : List Lease) → Records (now (image .entry)) from xs → n ≡ length xs → (expired ≡ 0 → present time xs ≡ xs)
+        → Finished (now (image .entry)) from xs time (now (image .exit)) r) ⌝ }
+{
+    if expired == 0 {
+        image_records::put32(image, LAST, time);
+        return from + LEASE * n;
+    }
+    remove_expired_between(image, from, n, 0, n, time)
+}

@@ -1,0 +1,156 @@
+-- THE THEOREMS ON WHAT THE CODE IS LENT. The calls on images follow the ledger's, from every start, sound or not; so demand 3, conservation, that no address
+-- is shared and what a list depends on hold of histories of calls in which buffer and length go from call to call.
+-- Assumes nothing.
+use Prim.Native.Nat.{ℕ, _≤_}
+use mathlib.Core.Path.{_≡_, refl, sym, ap, subst, _∙_}
+use mathlib.Core.Logic.{⊎-elim}
+use mathlib.Core.Bool.{true, false, true≢false}
+use mathlib.Core.List.{List, [], _∷_, _++_}
+use mathlib.Core.Option.{Option, none, some}
+use lib.ListN.{length}
+use lib.Dec.{eqb}
+use borrow.Author.Tests.{eqb-true, eqb-false, ltb-false, not-false}
+use Rattle.lists.proofs.Tests.{bool-cases}
+use Rattle.table.specs.declared.LeaseTable.{LeaseTable}
+use Rattle.table.specs.Table.{sound}
+use Rattle.table_open.specs.Open.{given, openOk, fresh}
+use Rattle.table_open.proofs.OpenLaws.{open-sound}
+use Rattle.image.specs.Image.{fullImage, loadImage, loadedTable}
+use Rattle.image.proofs.ImageLaws.{image-loaded}
+use Rattle.ledger.specs.Sizes.{Bytes}
+use Rattle.ledger.specs.Ledger.{State, state, Result, Row, firstOf, orElse, refuse, accept, openRows, openTable, ask, take, list, release, mark, ledger}
+use Rattle.ledger.specs.Demand3.{none?, Demand3}
+use Rattle.ledger.specs.Histories.{NeverShared}
+use Rattle.ledger.specs.Conservation.{Conserved, FromLoad}
+use Rattle.ledger.specs.ListDepends.{DependsOnly}
+use Rattle.ledger.proofs.RowLaws.{first-none, accepted-none}
+use Rattle.ledger.proofs.SoundKept.{ask-keeps, take-keeps, list-keeps, release-keeps, mark-keeps, ask-refused-unchanged, take-refused-unchanged, list-refused-unchanged, release-refused-unchanged, mark-refused-unchanged, ask-accepted-sound, take-accepted-sound, list-accepted-sound, release-accepted-sound, mark-accepted-sound}
+use Rattle.ledger.proofs.ConservationHolds.{conservation-open}
+use Rattle.ledger.proofs.Following.{Follows, FollowsAll, demand3-followed, never-shared-followed, conserved-followed, conservation-followed, list-depends-followed}
+use Rattle.call_spec.specs.ImageCalls.{Lent, tableIn, stateIn, storedIn, settled, askImage, imageCalls, openImage, loadInto, roomRows}
+use Rattle.call_spec.specs.OnImages.{Begins, opened, loaded, FromOpen}
+use Rattle.call_spec.proofs.StoreLaws.{settled-refused, settled-accepted}
+use Rattle.call_spec.proofs.TableLaws.{held-room}
+use Rattle.call_spec.proofs.Images.{found-again}
+
+-- A CALL FOLLOWS, if the ledger's leaves a sound table where it is accepted, and all as it was where it is not.
+follow : (h : Lent) (r : Result State) → (r .answer .number ≡ 0 → (sound (tableIn h) ≡ true) × (sound (r .state .table) ≡ true)) → ((r .answer .number ≡ 0 → ⊥) → r .state ≡ stateIn h)
+    → Follows stateIn h r (settled r h)
+follow h r good same =
+    ⊎-elim
+    (λ (e : eqb (r .answer .number) 0 ≡ true).
+    let z = eqb-true (r .answer .number) 0 e in
+    subst (Follows stateIn h r) (sym (settled-accepted r h z))
+    (record {
+      answer = refl;
+      reply = refl;
+      holds = ap state (found-again (r .state .table) (good z .1) (h .bytes) h (held-room h (good z .0)));
+      refused = λ k. absurd (k z);
+    }))
+    (λ (e : eqb (r .answer .number) 0 ≡ false).
+    let k = eqb-false (r .answer .number) 0 e in
+    subst (Follows stateIn h r) (sym (settled-refused r h k)) (record { answer = refl; reply = refl; holds = sym (same k); refused = λ _. refl }))
+    (bool-cases (eqb (r .answer .number) 0))
+
+pub follows-all : FollowsAll imageCalls
+follows-all = record {
+  asks =
+      λ h now c. follow h (ask (stateIn h) now c) (λ z. let s = ask-accepted-sound (stateIn h) now c z in (s, ask-keeps (stateIn h) now c s)) (λ k. ask-refused-unchanged (stateIn h) now c k .stays);
+  takes =
+      λ h now c. follow h (take (stateIn h) now c) (λ z. let s = take-accepted-sound (stateIn h) now c z in (s, take-keeps (stateIn h) now c s)) (λ k. take-refused-unchanged (stateIn h) now c k .stays);
+  lists =
+      λ h now c. follow h (list (stateIn h) now c) (λ z. let s = list-accepted-sound (stateIn h) now c z in (s, subst (λ (u : State). sound (u .table) ≡ true) (sym (list-keeps (stateIn h) now c)) s))
+      (λ k. list-refused-unchanged (stateIn h) now c k .stays);
+  releases =
+      λ h now c. follow h (release (stateIn h) now c) (λ z. let s = release-accepted-sound (stateIn h) now c z in (s, release-keeps (stateIn h) now c s)) (λ k. release-refused-unchanged (stateIn h) now c k .stays);
+  marks =
+      λ h now network len d. follow h (mark (stateIn h) now network len d) (λ z. let s = mark-accepted-sound (stateIn h) now network len d z in (s, mark-keeps (stateIn h) now network len d s))
+      (λ k. mark-refused-unchanged (stateIn h) now network len d k .stays);
+}
+
+-- DEMAND 3 OF THE CODE'S ASK: `askImage` is what `flockdrift_ask` is proved to be.
+pub demand3-on-images : Demand3 stateIn askImage
+demand3-on-images = demand3-followed stateIn askImage (follows-all .asks)
+
+-- CONSERVATION over histories of calls on what is lent, and WHAT A LIST DEPENDS ON.
+pub conservation-on-images : FromLoad imageCalls
+conservation-on-images = conservation-followed imageCalls follows-all
+
+pub list-depends-on-images : DependsOnly imageCalls
+list-depends-on-images = list-depends-followed imageCalls follows-all
+
+-- WHERE HISTORIES BEGIN: an accepted open or load leaves what holds the table that it makes.
+
+module _ (h : Lent) (networks lengths : List ℕ) (term defaultLength start : ℕ) (z : openImage h networks lengths term defaultLength start .answer .number ≡ 0) where
+  rows : List Row
+  rows = openRows networks lengths term defaultLength start ++ roomRows h
+
+  none-applies : firstOf rows ≡ none
+  unfolding openImage rows
+  none-applies = accepted-none rows (λ n. 0) h [] _ (refl, (refl, tt)) z
+
+  open-ok : openOk networks lengths term defaultLength start ≡ true
+  unfolding rows
+  open-ok = not-false (openOk networks lengths term defaultLength start) (first-none rows none-applies .0)
+
+  room : fullImage ≤ length (h .image)
+  unfolding rows
+  room = ltb-false (length (h .image)) fullImage (first-none rows none-applies .1 .0)
+
+  left : openImage h networks lengths term defaultLength start .state ≡ storedIn (fresh (given networks lengths) term defaultLength start) fullImage h
+  unfolding openImage rows
+  left = ap (λ (o : Option ℕ). orElse o (λ number. refuse number 0 h []) (accept (storedIn (fresh (given networks lengths) term defaultLength start) fullImage h) [] 0 []) .state) none-applies
+
+  -- What is left holds the ledger's table.
+  pub opened-holds : stateIn (openImage h networks lengths term defaultLength start .state) ≡ state (fresh (given networks lengths) term defaultLength start)
+  opened-holds =
+      ap stateIn left
+      ∙ ap state (found-again (fresh (given networks lengths) term defaultLength start) (open-sound networks lengths term defaultLength start open-ok) fullImage h room)
+
+  pub opened-sound : sound (tableIn (openImage h networks lengths term defaultLength start .state)) ≡ true
+  opened-sound = ap (λ (s : State). sound (s .table)) opened-holds ∙ open-sound networks lengths term defaultLength start open-ok
+
+  -- And it is what the ledger's open makes.
+  pub opened-as : (openTable networks lengths term defaultLength start .answer .number ≡ 0)
+      × (stateIn (openImage h networks lengths term defaultLength start .state) ≡ openTable networks lengths term defaultLength start .state)
+  unfolding openTable
+  opened-as = rw open-ok (refl, opened-holds)
+
+is-some : (o : Option LeaseTable) → none? o ≡ false → o ≡ some (loadedTable o)
+is-some none e = absurd (true≢false e)
+is-some (some t) e = refl
+
+module _ (h : Lent) (saved : List ℕ) (b : Bytes saved) (z : loadInto h saved .answer .number ≡ 0) where
+  load-rows : List Row
+  load-rows = (5, none? (loadImage saved)) ∷ roomRows h
+
+  none-of-load : firstOf load-rows ≡ none
+  unfolding loadInto load-rows
+  none-of-load = accepted-none load-rows (λ n. 0) h [] _ (refl, (refl, tt)) z
+
+  table-sound : sound (loadedTable (loadImage saved)) ≡ true
+  unfolding load-rows
+  table-sound = image-loaded saved (loadedTable (loadImage saved)) b (is-some (loadImage saved) (first-none load-rows none-of-load .0)) .0
+
+  pub loaded-holds : tableIn (loadInto h saved .state) ≡ loadedTable (loadImage saved)
+  unfolding loadInto load-rows
+  loaded-holds =
+      ap (λ (o : Option ℕ). tableIn (orElse o (λ number. refuse number 0 h []) (accept (storedIn (loadedTable (loadImage saved)) fullImage h) [] 0 []) .state)) none-of-load
+      ∙ found-again (loadedTable (loadImage saved)) table-sound fullImage h (ltb-false (length (h .image)) fullImage (first-none load-rows none-of-load .1 .0))
+
+  pub loaded-sound : sound (tableIn (loadInto h saved .state)) ≡ true
+  loaded-sound = ap sound loaded-holds ∙ table-sound
+
+begins-sound : (h : Lent) → Begins h → sound (tableIn h) ≡ true
+begins-sound h (opened g networks lengths term defaultLength start z) = opened-sound g networks lengths term defaultLength start z
+begins-sound h (loaded g saved b z) = loaded-sound g saved b z
+
+-- NO TWO LEASES SHARE AN ADDRESS, in all that a history of calls on what is lent can reach.
+pub never-shared-on-images : NeverShared imageCalls Begins
+never-shared-on-images = never-shared-followed imageCalls follows-all Begins begins-sound
+
+pub conservation-open-on-images : FromOpen
+conservation-open-on-images h networks lengths term defaultLength start es z =
+    let o = opened-as h networks lengths term defaultLength start z in
+    conserved-followed imageCalls follows-all 0 (openImage h networks lengths term defaultLength start .state) es
+    (subst (λ (s : State). Conserved ledger 0 s es) (sym (o .1)) (conservation-open networks lengths term defaultLength start es (o .0)))

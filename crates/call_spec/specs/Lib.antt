@@ -1,0 +1,2 @@
+pub mod ImageCalls
+pub mod OnImages

@@ -1,3 +1,0 @@
-mod CallLaws
-mod LoadLaws
-mod OpenLaws

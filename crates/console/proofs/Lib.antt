@@ -1,0 +1,2 @@
+-- Laws of the program's own functions.
+pub mod RunLaws

@@ -1,0 +1,141 @@
+-- What a command does, from what its call ensures and what was written of its answer.
+-- Assumes nothing.
+use Prim.Native.Nat.{ℕ, _+_, _-_, _≤_, _<_}
+use native.Mathlib.Omega.{arith}
+use mathlib.Core.Path.{_≡_, refl, sym, ap, ap₂, subst, _∙_}
+use mathlib.Core.Bool.{Bool, true, false, cond}
+use mathlib.Core.Option.{Option, none, some}
+use mathlib.Core.Logic.{inl, inr}
+use mathlib.Core.List.{List, [], _++_}
+use lib.ListN.{length, take, drop, length-append, length-drop}
+use lib.Seq.{take-at, length-take-le, take-append-le, take-append-add, take-all}
+use lib.Dec.{leb}
+use borrow.Author.Tests.{leb-true, leb-false, eq-eqb, ne-eqb}
+use Rattle.lists.proofs.PutLaws.{put-fits}
+use Rattle.text.specs.Wrote.{Wrote}
+use Rattle.ledger.specs.declared.Answer.{Answer}
+use Rattle.ledger.specs.Ledger.{Result, result}
+use Rattle.call_spec.specs.ImageCalls.{Lent, openImage}
+use Rattle.call_sheet.specs.SheetImage.{sheetImage}
+use Rattle.console_words.specs.Prefixes.{Columns, prefixesIn}
+use Rattle.console_words.specs.declared.Prefixes.{Prefixes}
+use Rattle.console_script.specs.declared.OptionCall.{OptionCall}
+use Rattle.console_script.specs.Commands.{CommandValue, call, «open», sheet, withPrefixes}
+use Rattle.console_lines.specs.Lines.{errorLine, refusedLine, doneLine, writtenLine}
+use Rattle.console_write.specs.declared.Outcome.{Outcome}
+use Rattle.console_write.specs.declared.Outcome.the-variants as outcome
+use Rattle.console_write.specs.Writes.{Writes, WroteOne}
+use Rattle.console_commands.specs.Commands.{Given, callOn, callLine, With, Done, Appended, Ran, WroteOption, sheetText}
+
+-- OUTPUT
+
+pub appended : (old : List ℕ) (at : ℕ) (text new : List ℕ) (next : ℕ) → next ≤ length old → Wrote old at text new next → Appended old at text new next
+appended old at text new next inside w =
+    let fits : at + length text ≤ length old = omega (arith, w .place) in
+    let size : length (take at old ++ text) ≡ next = omega (arith, length-append (take at old) text, length-take-le at old (omega arith), w .place) in
+    record { output = ap (take next) (w .bytes ∙ put-fits text old at fits) ∙ take-at (take at old ++ text) (drop (at + length text) old) next size; place = w .place }
+
+-- What was written into a part of the output that was lent from a place on.
+pub part-appended : (old : List ℕ) (at n : ℕ) (part post : List ℕ) → at ≤ length old → n ≤ length part → Appended old at (take n part) (take at old ++ (part ++ post)) (at + n)
+part-appended old at n part post le few =
+    let size : length (take at old) ≡ at = length-take-le at old le in
+    record {
+      output =
+          ap (λ (k : ℕ). take (k + n) (take at old ++ (part ++ post))) (sym size)
+          ∙ take-append-add (take at old) (part ++ post) n
+          ∙ ap (λ (l : List ℕ). take at old ++ l) (take-append-le n part post few);
+      place = omega (arith, length-take-le n part few);
+    }
+
+pub front-appended : (old : List ℕ) (at : ℕ) (part post text new : List ℕ) (next : ℕ) → at ≤ length old → next ≤ length (take at old ++ (part ++ post)) → Wrote (take at old ++ (part ++ post)) at text new next → Appended old at text new next
+front-appended old at part post text new next le inside w =
+    let a = appended (take at old ++ (part ++ post)) at text new next inside w in
+    record { output = a .output ∙ ap (λ (l : List ℕ). l ++ text) (take-at (take at old) (part ++ post) at (length-take-le at old le)); place = a .place }
+
+-- CALLS
+
+pub done-does : (a : Answer) (h : Lent) (q : Result Lent) → result a h [] ≡ q → Done q h (doneLine a)
+done-does a h q same = record { leaves = ap (λ (r : Result Lent). r .state) same; says = ap (λ (r : Result Lent). doneLine (r .answer)) same }
+
+module _ (g : Given) (a : Answer) (h : Lent) (old : List ℕ) (at : ℕ) (new : List ℕ) (next : ℕ) (inside : next ≤ length old) where
+  pub call-ran : (x y : OptionCall) (client time : ℕ) (option reply after : List ℕ) → x ≡ y → length reply ≡ g .replyLength → result a h after ≡ callOn y (g .book) client time option reply
+      → Wrote old at (callLine y (result a h after)) new next → Ran (call x client time option) g h old at new next
+  call-ran x y client time option reply after e size same w =
+      record {
+        text = callLine y (result a h after);
+        does = subst (λ (z : OptionCall). With (g .replyLength) (callOn z (g .book) client time option) (callLine z) h (callLine y (result a h after))) (sym e)
+            (record { buffer = reply; size = size; leaves = ap (λ (q : Result Lent). q .state) same; says = ap (callLine y) same });
+        wrote = appended old at _ new next inside w;
+      }
+
+  pub open-ran : (o : Option Columns) (p : Prefixes) (networks lengths networks₁ lengths₁ : List ℕ) (term len start : ℕ) → prefixesIn p networks lengths ≡ o → p .good ≡ true
+      → networks₁ ≡ take (p .count) networks → lengths₁ ≡ take (p .count) lengths
+      → result a h [] ≡ openImage (g .book) networks₁ lengths₁ term len start → Wrote old at (doneLine a) new next → Ran (withPrefixes o («open» term len start)) g h old at new next
+  open-ran o p networks lengths networks₁ lengths₁ term len start is good first second same w =
+      subst (λ (x : Option Columns). Ran (withPrefixes x («open» term len start)) g h old at new next)
+      (sym (ap (λ (b : Bool). cond b (some (take (p .count) networks, take (p .count) lengths)) none) good) ∙ is)
+      (record {
+        text = doneLine a;
+        does = done-does a h (openImage (g .book) (take (p .count) networks) (take (p .count) lengths) term len start) (same ∙ ap₂ (λ (x y : List ℕ). openImage (g .book) x y term len start) first second);
+        wrote = appended old at _ new next inside w;
+      })
+
+pub open-bad : (g : Given) (old : List ℕ) (at : ℕ) (new : List ℕ) (next : ℕ) (o : Option Columns) (p : Prefixes) (networks lengths : List ℕ) (f : List ℕ → List ℕ → CommandValue)
+    → next ≤ length old → prefixesIn p networks lengths ≡ o → p .good ≡ false → Wrote old at (errorLine (g .line)) new next → Ran (withPrefixes o f) g (g .book) old at new next
+open-bad g old at new next o p networks lengths f inside is bad w =
+    subst (λ (x : Option Columns). Ran (withPrefixes x f) g (g .book) old at new next)
+    (sym (ap (λ (b : Bool). cond b (some (take (p .count) networks, take (p .count) lengths)) none) bad) ∙ is)
+    (record { text = errorLine (g .line); does = (refl, refl); wrote = appended old at _ new next inside w })
+
+-- WRITE
+
+pub write-bad : (line n : ℕ) (old : List ℕ) (at : ℕ) (new : List ℕ) (next : ℕ) → next ≤ length old → Wrote old at (errorLine line) new next → WroteOption line n old at new next
+write-bad line n old at new next inside w = record { text = errorLine line; says = inl refl; wrote = appended old at _ new next inside w }
+
+pub write-of : (line n : ℕ) (o : Outcome) (a : Answer) (buffer after old : List ℕ) (at : ℕ) (new : List ℕ) (next : ℕ) → next ≤ length old → length buffer ≡ n → o ≡ outcome.Of a → Writes o buffer after
+    → Wrote old at (writtenLine a after) new next → WroteOption line n old at new next
+write-of line n o a buffer after old at new next inside size e h w =
+    let one : WroteOne a buffer after = subst (λ (x : Outcome). Writes x buffer after) e h in
+    record {
+      text = writtenLine a after;
+      says = inr (record { option = one .option; buffer = buffer; size = size; says = ap (λ (p : Answer × List ℕ). writtenLine (p .0) (p .1)) (one .same) });
+      wrote = appended old at _ new next inside w;
+    }
+
+-- SHEET
+
+-- What is lent from a place to the end is all that is left.
+pub rest-of : (l : List ℕ) (at : ℕ) → take (length l - at) (drop at l) ≡ drop at l
+rest-of l at = take-all (length l - at) (drop at l) (omega (arith, length-drop at l))
+
+pub first-bytes : (bytes k : ℕ) (l : List ℕ) → (length l < bytes → k ≡ length l) → (bytes ≤ length l → k ≡ bytes) → take (k - 0) l ≡ take bytes l
+first-bytes bytes k l over under = by (leb bytes (length l)) refl
+  where
+    by : (b : Bool) → leb bytes (length l) ≡ b → take (k - 0) l ≡ take bytes l
+    by true e = let z : k - 0 ≡ bytes = omega (arith, under (leb-true bytes (length l) e)) in ap (λ (i : ℕ). take i l) z
+    by false e =
+        let past : length l < bytes = leb-false bytes (length l) e in
+        take-all (k - 0) l (omega (arith, over past)) ∙ sym (take-all bytes l (omega arith))
+
+-- The front of a column, as it is lent.
+pub column : (n : ℕ) (l : List ℕ) → take (n - 0) l ≡ take n l
+column n l = let z : n - 0 ≡ n = omega arith in ap (λ (k : ℕ). take k l) z
+
+pub sheet-refused : (p : Answer × List ℕ) → (p .0 .number ≡ 0 → ⊥) → refusedLine (p .0 .number) (p .0 .place) ≡ sheetText p
+sheet-refused p k = sym (ap (λ (b : Bool). cond b (take (p .0 .bytes) (p .1)) (refusedLine (p .0 .number) (p .0 .place))) (ne-eqb (p .0 .number) 0 k))
+
+pub sheet-shown : (p : Answer × List ℕ) → p .0 .number ≡ 0 → take (p .0 .bytes) (p .1) ≡ sheetText p
+sheet-shown p e = sym (ap (λ (b : Bool). cond b (take (p .0 .bytes) (p .1)) (refusedLine (p .0 .number) (p .0 .place))) (eq-eqb (p .0 .number) 0 e))
+
+module _ (g : Given) (a : Answer) (part : List ℕ) (x y : List ℕ) (first : x ≡ take (g .book .bytes) (g .book .image)) (second : y ≡ g .room) (same : _≡_ {A = Answer × List ℕ} (a, part) (sheetImage x y))
+    (old : List ℕ) (at : ℕ) (le : at ≤ length old) (post : List ℕ) where
+  here : _≡_ {A = Answer × List ℕ} (a, part) (sheetImage (take (g .book .bytes) (g .book .image)) (g .room))
+  here = same ∙ ap₂ (λ (l m : List ℕ). sheetImage l m) first second
+
+  pub sheet-refuses : (new : List ℕ) (next : ℕ) → (a .number ≡ 0 → ⊥) → next ≤ length (take at old ++ (part ++ post)) → Wrote (take at old ++ (part ++ post)) at (refusedLine (a .number) (a .place)) new next → Ran sheet g (g .book) old at new next
+  sheet-refuses new next k inside w =
+      record { text = refusedLine (a .number) (a .place); does = (refl, sheet-refused (a, part) k ∙ ap sheetText here); wrote = front-appended old at part post _ new next le inside w }
+
+  pub sheet-shows : (n : ℕ) → a .number ≡ 0 → n ≤ length part → (length part < a .bytes → n ≡ length part) → (a .bytes ≤ length part → n ≡ a .bytes) → Ran sheet g (g .book) old at (take at old ++ (part ++ post)) (at + n)
+  sheet-shows n e few over under =
+      record { text = take n part; does = (refl, sym (column n part) ∙ first-bytes (a .bytes) n part over under ∙ sheet-shown (a, part) e ∙ ap sheetText here); wrote = part-appended old at n part post le few }

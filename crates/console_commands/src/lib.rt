@@ -1,0 +1,202 @@
+// The commands of a script: each is its call with the arguments of its line, and the line of its answer in the output.
+use console_script::CallLine;
+use console_script::MarkLine;
+use console_script::OpenLine;
+use console_script::OptionCall;
+use console_session::State;
+use console_write::Outcome;
+use image::FULL_IMAGE;
+ghost use mathlib.Core.Path.{_≡_};
+ghost use Prim.Native.Nat.{_≤_, _<_};
+ghost use lib.ListN.{length, drop};
+ghost use Rattle.call_spec.specs.ImageCalls.{lent};
+ghost use Rattle.console_script.specs.Commands.{
+  call as callValue,
+  mark as markValue,
+  «open» as openValue,
+  load as loadValue,
+  save as saveValue,
+  sheet as sheetValue,
+  mostPrefixes,
+  withPrefixes,
+};
+ghost use Rattle.console_words.specs.Prefixes.{prefixesOf};
+ghost use Rattle.console_session.specs.States.{AnswerFits};
+ghost use Rattle.console_commands.specs.Commands.{given, Ran, Read, WroteOption};
+
+// The most prefixes that an open may have.
+const PREFIXES: usize = 16;
+
+// ask, take, list, return: STATION NOW OPTION
+pub fn call(
+    s: State,
+    c: CallLine,
+    option: &[u8],
+    image: &mut [u8],
+    image_bytes: &mut usize,
+    reply: &mut [u8],
+    out: &mut [u8],
+) -> usize
+    requires { ⌜ AnswerFits (s .at) (now out) × (length (now reply) ≡ s .«reply_length») × (length (now reply) ≤ 1024) ⌝ }
+    ensures { λ r. ⌜ r ≤ length (now (out .entry)) ⌝ }
+    ensures { λ r. ⌜ Ran (callValue (c .call) (c .client) (c .time) (now (option .entry)))
+        (given (lent (now (image .entry)) (now («image_bytes» .entry))) (s .«reply_length») (s .lines) (drop (s .at) (now (out .entry))))
+        (lent (now (image .exit)) (now («image_bytes» .exit))) (now (out .entry)) (s .at) (now (out .exit)) r ⌝ }
+{
+    let call = c.call;
+    match call {
+        OptionCall::Ask => {
+            let a = call_ask::ask(image, image_bytes, c.client, c.time, option, reply);
+            console_lines::replied(out, s.at, a, reply)
+        }
+        OptionCall::Take => {
+            let a = call_take::take(image, image_bytes, c.client, c.time, option, reply);
+            console_lines::replied(out, s.at, a, reply)
+        }
+        OptionCall::List => {
+            let a = call_list::list(image, *image_bytes, c.client, c.time, option, reply);
+            console_lines::replied(out, s.at, a, reply)
+        }
+        OptionCall::Return => {
+            let a = call_release::release(image, image_bytes, c.client, c.time, option);
+            console_lines::counted(out, s.at, a)
+        }
+    }
+}
+
+// NOW PREFIX D
+pub fn mark(
+    s: State,
+    c: MarkLine,
+    image: &mut [u8],
+    image_bytes: &mut usize,
+    out: &mut [u8],
+) -> usize
+    requires { ⌜ AnswerFits (s .at) (now out) ⌝ }
+    ensures { λ r. ⌜ r ≤ length (now (out .entry)) ⌝ }
+    ensures { λ r. ⌜ Ran (markValue (c .time) (c .network) (c .length) (c .deprecated))
+        (given (lent (now (image .entry)) (now («image_bytes» .entry))) (s .«reply_length») (s .lines) (drop (s .at) (now (out .entry))))
+        (lent (now (image .exit)) (now («image_bytes» .exit))) (now (out .entry)) (s .at) (now (out .exit)) r ⌝ }
+{
+    let a = call_mark::mark(
+        image,
+        image_bytes,
+        c.network,
+        c.length as u32,
+        c.deprecated,
+        c.time,
+    );
+    console_lines::done(out, s.at, a)
+}
+
+// TERM DEFAULT START PREFIX..: the words are prefixes.
+pub fn open(
+    s: State,
+    c: OpenLine,
+    words: &[u8],
+    image: &mut [u8],
+    image_bytes: &mut usize,
+    out: &mut [u8],
+) -> usize
+    requires { ⌜ AnswerFits (s .at) (now out) ⌝ }
+    ensures { λ r. ⌜ r ≤ length (now (out .entry)) ⌝ }
+    ensures { λ r. ⌜ Ran (withPrefixes (prefixesOf mostPrefixes (now (words .entry))) (openValue (c .term) (c .«default_length») (c .start)))
+        (given (lent (now (image .entry)) (now («image_bytes» .entry))) (s .«reply_length») (s .lines) (drop (s .at) (now (out .entry))))
+        (lent (now (image .exit)) (now («image_bytes» .exit))) (now (out .entry)) (s .at) (now (out .exit)) r ⌝ }
+{
+    let mut networks = [0u32; PREFIXES];
+    let mut lengths = [0u8; PREFIXES];
+    let pools = console_words::read_prefixes(words, 0, &mut networks, &mut lengths);
+    if !pools.good {
+        return console_lines::error(out, s.at, s.lines);
+    }
+    let n = pools.count;
+    let a = call_open::open(
+        image,
+        image_bytes,
+        &networks[0..n],
+        &lengths[0..n],
+        c.term,
+        c.default_length,
+        c.start,
+    );
+    console_lines::done(out, s.at, a)
+}
+
+// IMAGE
+pub fn load(
+    s: State,
+    saved: &[u8],
+    image: &mut [u8],
+    image_bytes: &mut usize,
+    out: &mut [u8],
+) -> usize
+    requires { ⌜ AnswerFits (s .at) (now out) ⌝ }
+    ensures { λ r. ⌜ r ≤ length (now (out .entry)) ⌝ }
+    ensures { λ r. ⌜ Ran (loadValue (now (saved .entry)))
+        (given (lent (now (image .entry)) (now («image_bytes» .entry))) (s .«reply_length») (s .lines) (drop (s .at) (now (out .entry))))
+        (lent (now (image .exit)) (now («image_bytes» .exit))) (now (out .entry)) (s .at) (now (out .exit)) r ⌝ }
+{
+    let a = call_load::load(image, image_bytes, saved);
+    console_lines::done(out, s.at, a)
+}
+
+// "save into a buffer that holds a full book"
+pub fn save(s: State, image: &[u8], image_bytes: usize, out: &mut [u8]) -> usize
+    requires { ⌜ AnswerFits (s .at) (now out) ⌝ }
+    ensures { λ r. ⌜ r ≤ length (now (out .entry)) ⌝ }
+    ensures { λ r. ⌜ Ran saveValue
+        (given (lent (now (image .entry)) «image_bytes») (s .«reply_length») (s .lines) (drop (s .at) (now (out .entry))))
+        (lent (now (image .entry)) «image_bytes») (now (out .entry)) (s .at) (now (out .exit)) r ⌝ }
+{
+    let mut buffer = [0u8; FULL_IMAGE];
+    let a = call_save::save(image, image_bytes, &mut buffer);
+    console_lines::written(out, s.at, a, &buffer)
+}
+
+fn least(a: usize, b: usize) -> usize
+    ensures { λ r. ⌜ (r ≤ b) × (b < a → r ≡ b) × (a ≤ b → r ≡ a) ⌝ }
+{
+    if a < b { a } else { b }
+}
+
+// The sheet's rows stand in the output as they are.
+pub fn sheet(s: State, image: &[u8], image_bytes: usize, out: &mut [u8]) -> usize
+    requires { ⌜ AnswerFits (s .at) (now out) ⌝ }
+    ensures { λ r. ⌜ r ≤ length (now (out .entry)) ⌝ }
+    ensures { λ r. ⌜ Ran sheetValue
+        (given (lent (now (image .entry)) «image_bytes») (s .«reply_length») (s .lines) (drop (s .at) (now (out .entry))))
+        (lent (now (image .entry)) «image_bytes») (now (out .entry)) (s .at) (now (out .exit)) r ⌝ }
+{
+    let n = least(image_bytes, image.len());
+    let at = s.at;
+    let left = out.len() - at;
+    let a = call_sheet::sheet(&image[0..n], &mut out[at..]);
+    if a.number != 0 {
+        return console_lines::refusal(out, at, a.number, a.place);
+    }
+    at + least(a.bytes as usize, left)
+}
+
+// OPTION: what the reader finds.
+pub fn read(s: State, octets: &[u8], out: &mut [u8]) -> usize
+    requires { ⌜ AnswerFits (s .at) (now out) ⌝ }
+    ensures { λ r. ⌜ r ≤ length (now (out .entry)) ⌝ }
+    ensures { λ r. ⌜ Read (now (out .entry)) (s .at) (now (out .exit)) r ⌝ }
+{
+    let at = s.at;
+    let n = console_lines::read(&mut out[at..], 0, octets);
+    at + n
+}
+
+// The words that `read` prints, made into an option.
+pub fn write(s: State, words: &mut [u8], buffer: &mut [u8], out: &mut [u8]) -> usize
+    requires { ⌜ AnswerFits (s .at) (now out) × (length (now buffer) ≡ s .«reply_length») × (length (now buffer) ≤ 1024) ⌝ }
+    ensures { λ r. ⌜ r ≤ length (now (out .entry)) ⌝ }
+    ensures { λ r. ⌜ WroteOption (s .lines) (s .«reply_length») (now (out .entry)) (s .at) (now (out .exit)) r ⌝ }
+{
+    match console_write::write(words, buffer) {
+        Outcome::Bad => console_lines::error(out, s.at, s.lines),
+        Outcome::Of(a) => console_lines::written(out, s.at, a, buffer),
+    }
+}

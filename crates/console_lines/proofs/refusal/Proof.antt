@@ -1,0 +1,20 @@
+-- `lines::refusal` meets its contract.
+-- Assumes nothing.
+use native.Mathlib.Omega.{arith}
+use Rattle.console_lines.proofs.TextLaws.{filled-wrote, wrote-as}
+use Rattle.console_lines.proofs.AnswerLaws.{refused-place, refused-number}
+use borrow.Author.Needs.{needs}
+use Rattle.console_lines.proofs.refusal.Statement.{statement}
+use Rattle.console_lines.proofs.refusal.Tie as tie
+
+returns : tie.Need-returns
+returns c = (omega (arith, c .before .before .fill .ensures .0), wrote-as _ _ _ _ _ _ (refused-place (c .before .before .before .before .before .before .before .before .args .number) (c .before .before .before .before .before .before .before .before .args .place) (c .before .before .before .before .before .before .if1 .taken)) (filled-wrote _ _ _ _ _ _ (omega arith, tt) (c .before .before .fill .ensures .1)))
+
+returns-2 : tie.Need-returns-2
+returns-2 c = (omega (arith, c .before .before .fill2 .ensures .0), wrote-as _ _ _ _ _ _ (refused-number (c .before .before .before .before .before .before .before .before .args .number) (c .before .before .before .before .before .before .before .before .args .place) (c .before .before .before .before .before .before .if1 .left)) (filled-wrote _ _ _ _ _ _ (omega arith, tt) (c .before .before .fill2 .ensures .1)))
+
+pub refusal-spec : {M : Type 1} → statement M
+refusal-spec =
+    tie.close
+    (tie.spec (λ c. search needs) (λ c. search needs) (λ c κs. search needs) (λ c. search needs) returns (λ c. search needs) (λ c. search needs)
+    (λ c κs. search needs) (λ c. search needs) returns-2)

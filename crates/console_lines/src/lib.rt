@@ -1,0 +1,313 @@
+// What calls answer and what the reader finds, as lines of text in a lent buffer.
+use ledger::Answer;
+use option::Checked;
+use option::Cursor;
+use option::InformationFields;
+use option::NameFields;
+use option::RequestFields;
+use option::Selection;
+use option::Step;
+use option::Suboption;
+use option_entry::EntryCursor;
+use option_entry::EntryFields;
+use option_entry::EntryStep;
+ghost use mathlib.Core.Path.{_≡_};
+ghost use Prim.Native.Nat.{_+_, _-_, _*_, _≤_, _<_};
+ghost use mathlib.Core.List.{_++_};
+ghost use lib.ListN.{length, take};
+ghost use Rattle.text.specs.Ascii.{ascii};
+ghost use Rattle.option.specs.declared.Suboption.the-variants as Suboption;
+ghost use Rattle.console_lines.specs.Sizes.{most, Within};
+ghost use Rattle.text.specs.Wrote.{Wrote};
+ghost use Rattle.console_lines.specs.Lines.{
+  okLine,
+  refusedLine,
+  errorLine,
+  octetText,
+  doneLine,
+  countedLine,
+  repliedLine,
+  writtenLine,
+};
+
+// ANSWERS
+
+pub fn ok(out: &mut [u8], at: usize) -> usize
+    requires { ⌜ at + 3 ≤ length (now out) ⌝ }
+    ensures { λ r. ⌜ Wrote (now (out .entry)) at okLine (now (out .exit)) r ⌝ }
+{
+    console_text::text(out, at, b"ok\n")
+}
+
+// A line that is no command.
+pub fn error(out: &mut [u8], at: usize, line: u64) -> usize
+    requires { ⌜ at + 32 ≤ length (now out) ⌝ }
+    ensures { λ r. ⌜ r ≤ at + 32 ⌝ }
+    ensures { λ r. ⌜ Wrote (now (out .entry)) at (errorLine line) (now (out .exit)) r ⌝ }
+{
+    let a = console_text::text(out, at, b"error line ");
+    let b = console_text::number(out, a, line);
+    console_text::text(out, b, b"\n")
+}
+
+// A refusal by its number, with its place if it is the one that has a place.
+pub fn refusal(out: &mut [u8], at: usize, number: u32, place: u32) -> usize
+    requires { ⌜ at + 37 ≤ length (now out) ⌝ }
+    ensures { λ r. ⌜ r ≤ at + 37 ⌝ }
+    ensures { λ r. ⌜ Wrote (now (out .entry)) at (refusedLine number place) (now (out .exit)) r ⌝ }
+{
+    if number == 7 {
+        return console_text::fill(out, at, b"refused 7 place=%\n", &[place]);
+    }
+    console_text::fill(out, at, b"refused %\n", &[number])
+}
+
+fn least(a: usize, b: usize) -> usize
+    ensures { λ r. ⌜ (r ≤ a) × (r ≤ b) × (b < a → r ≡ b) × (a ≤ b → r ≡ a) ⌝ }
+{
+    if a < b { a } else { b }
+}
+
+// Octets after a word, to the end of the line.
+fn octets(out: &mut [u8], at: usize, word: &[u8], s: &[u8]) -> usize
+    requires { ⌜ at + length (now word) + 2 * length (now s) + 1 ≤ length (now out) ⌝ }
+    ensures { λ r. ⌜ r ≤ at + length (now (word .entry)) + 2 * length (now (s .entry)) + 1 ⌝ }
+    ensures { λ r. ⌜ Wrote (now (out .entry)) at (now (word .entry) ++ (octetText (now (s .entry)) ++ ascii "\n")) (now (out .exit)) r ⌝ }
+{
+    let a = console_text::text(out, at, word);
+    let b = console_text::octets(out, a, s);
+    console_text::text(out, b, b"\n")
+}
+
+// The answer of an open, a load or a mark.
+pub fn done(out: &mut [u8], at: usize, a: Answer) -> usize
+    requires { ⌜ at + 37 ≤ length (now out) ⌝ }
+    ensures { λ r. ⌜ r ≤ at + 37 ⌝ }
+    ensures { λ r. ⌜ Wrote (now (out .entry)) at (doneLine a) (now (out .exit)) r ⌝ }
+{
+    if a.number != 0 {
+        return refusal(out, at, a.number, a.place);
+    }
+    ok(out, at)
+}
+
+// The answer of a return.
+pub fn counted(out: &mut [u8], at: usize, a: Answer) -> usize
+    requires { ⌜ at + 37 ≤ length (now out) ⌝ }
+    ensures { λ r. ⌜ r ≤ at + 37 ⌝ }
+    ensures { λ r. ⌜ Wrote (now (out .entry)) at (countedLine a) (now (out .exit)) r ⌝ }
+{
+    if a.number != 0 {
+        return refusal(out, at, a.number, a.place);
+    }
+    console_text::fill(out, at, b"ok count=%\n", &[a.count])
+}
+
+// The answer of an ask, a take or a list, with the bytes that it wrote to its reply buffer.
+pub fn replied(out: &mut [u8], at: usize, a: Answer, reply: &[u8]) -> usize
+    requires { ⌜ at + 2 * length (now reply) + 58 ≤ length (now out) ⌝ }
+    ensures { λ r. ⌜ r ≤ at + 2 * length (now (reply .entry)) + 58 ⌝ }
+    ensures { λ r. ⌜ Wrote (now (out .entry)) at (repliedLine a (now (reply .entry))) (now (out .exit)) r ⌝ }
+{
+    if a.number != 0 {
+        return refusal(out, at, a.number, a.place);
+    }
+    let k = least(a.bytes as usize, reply.len());
+    let b = console_text::fill(out, at, b"ok bytes=% count=%", &[a.bytes, a.count]);
+    octets(out, b, b" ", &reply[0..k])
+}
+
+// The answer of a save or a write, with the bytes that it wrote to its buffer.
+pub fn written(out: &mut [u8], at: usize, a: Answer, buffer: &[u8]) -> usize
+    requires { ⌜ at + 2 * length (now buffer) + 58 ≤ length (now out) ⌝ }
+    ensures { λ r. ⌜ r ≤ at + 2 * length (now (buffer .entry)) + 58 ⌝ }
+    ensures { λ r. ⌜ Wrote (now (out .entry)) at (writtenLine a (now (buffer .entry))) (now (out .exit)) r ⌝ }
+{
+    if a.number != 0 {
+        return refusal(out, at, a.number, a.place);
+    }
+    let k = least(a.bytes as usize, buffer.len());
+    let b = console_text::fill(out, at, b"ok bytes=%", &[a.bytes]);
+    octets(out, b, b" ", &buffer[0..k])
+}
+
+// OPTIONS
+
+// The figures that an entry has, to the end of its line.
+fn figures(out: &mut [u8], at: usize, count: usize, numbers: &[u32]) -> usize
+    requires { ⌜ (length (now numbers) ≤ 3) × (at + 33 ≤ length (now out)) ⌝ }
+    ensures { λ r. ⌜ r ≤ at + 33 ⌝ }
+{
+    if count == 0 {
+        return console_text::text(out, at, b"-\n");
+    }
+    if count == 1 {
+        return console_text::fill(out, at, b"%\n", numbers);
+    }
+    if count == 2 {
+        return console_text::fill(out, at, b"%,%\n", numbers);
+    }
+    console_text::fill(out, at, b"%,%,%\n", numbers)
+}
+
+// An entry's line up to its figures.
+fn entry_head(out: &mut [u8], at: usize, e: EntryFields) -> usize
+    requires { ⌜ at + 95 ≤ length (now out) ⌝ }
+    ensures { λ r. ⌜ r ≤ at + 95 ⌝ }
+{
+    let n = e.network;
+    let numbers = [
+        n / 16777216,
+        n / 65536 % 256,
+        n / 256 % 256,
+        n % 256,
+        e.length as u32,
+        e.h as u32,
+        e.d as u32,
+    ];
+    console_text::fill(out, at, b"entry %.%.%.%/% h=% d=% figures=", &numbers)
+}
+
+fn entry(out: &mut [u8], at: usize, e: EntryFields) -> usize
+    requires { ⌜ at + 190 ≤ length (now out) ⌝ }
+    ensures { λ r. ⌜ r ≤ at + 190 ⌝ }
+{
+    let f = e.figures;
+    let a = entry_head(out, at, e);
+    let numbers = [f.high_water as u32, f.in_use as u32, f.unusable as u32];
+    figures(out, a, f.count, &numbers)
+}
+
+// The entries of an information. An entry takes 7 bytes or more, so that 28 for each byte hold the text.
+fn entries(out: &mut [u8], at: usize, s: &[u8], first: EntryCursor) -> usize
+    requires { ⌜ at + 28 * (first .end - first .at) ≤ length (now out) ⌝ }
+    ensures { λ r. ⌜ r ≤ at + 28 * (first .end - first .at) ⌝ }
+{
+    let mut cursor = first;
+    let mut end = at;
+    loop {
+        match cursor.step(s) {
+            EntryStep::Entry(e, next) => {
+                end = entry(out, end, e);
+                cursor = next;
+            }
+            EntryStep::Cut => {
+                return end;
+            }
+            EntryStep::End => {
+                return end;
+            }
+        }
+    }
+}
+
+fn request(out: &mut [u8], at: usize, r: RequestFields) -> usize
+    requires { ⌜ at + 52 ≤ length (now out) ⌝ }
+    ensures { λ r. ⌜ r ≤ at + 52 ⌝ }
+{
+    let numbers = [r.h as u32, r.i as u32, r.length as u32];
+    console_text::fill(out, at, b"request h=% i=% prefix=%\n", &numbers)
+}
+
+fn information(out: &mut [u8], at: usize, s: &[u8], f: InformationFields) -> usize
+    requires { ⌜ at + most (Suboption.Information f) ≤ length (now out) ⌝ }
+    ensures { λ r. ⌜ r ≤ at + most (Suboption.Information f) ⌝ }
+{
+    let first = f.entries;
+    let a = console_text::fill(out, at, b"information c=% s=%\n", &[f.c as u32, f.s as u32]);
+    entries(out, a, s, first)
+}
+
+fn name(out: &mut [u8], at: usize, s: &[u8], n: NameFields) -> usize
+    requires { ⌜ at + most (Suboption.Name n) ≤ length (now out) ⌝ }
+    requires { ⌜ Within (now s) (Suboption.Name n) ⌝ }
+    ensures { λ r. ⌜ r ≤ at + most (Suboption.Name n) ⌝ }
+{
+    let start = n.start;
+    let end = n.end;
+    octets(out, at, b"name ", &s[start..end])
+}
+
+fn suboption(out: &mut [u8], at: usize, s: &[u8], x: Suboption) -> usize
+    requires { ⌜ at + most x ≤ length (now out) ⌝ }
+    requires { ⌜ Within (now s) x ⌝ }
+    ensures { λ r. ⌜ r ≤ at + most x ⌝ }
+{
+    match x {
+        Suboption::Request(r) => request(out, at, r),
+        Suboption::Information(f) => information(out, at, s, f),
+        Suboption::Name(n) => name(out, at, s, n),
+        Suboption::Unknown(_) => console_text::text(out, at, b"unknown\n"),
+    }
+}
+
+// The suboptions of an option that was checked, and then ok.
+fn suboptions(out: &mut [u8], at: usize, s: &[u8]) -> usize
+    requires { ⌜ at + 28 * length (now s) + 3 ≤ length (now out) ⌝ }
+    ensures { λ r. ⌜ r ≤ at + 28 * length (now (s .entry)) + 3 ⌝ }
+{
+    let mut cursor = Cursor::first();
+    let mut end = at;
+    loop {
+        match cursor.step(s) {
+            Step::Piece(x, next) => {
+                end = suboption(out, end, s, x);
+                cursor = next;
+            }
+            Step::Bad(_) => {
+                return end;
+            }
+            Step::End => {
+                return ok(out, end);
+            }
+        }
+    }
+}
+
+// What the reader of option 220 finds. No option is longer than 257 bytes.
+fn option(out: &mut [u8], at: usize, s: &[u8]) -> usize
+    requires { ⌜ at + 7199 ≤ length (now out) ⌝ }
+    ensures { λ r. ⌜ r ≤ at + 7199 ⌝ }
+{
+    if 257 < s.len() {
+        return refusal(out, at, 6, 0);
+    }
+    match option::check_option(s) {
+        Checked::Good => suboptions(out, at, s),
+        Checked::NotTheOption => refusal(out, at, 6, 0),
+        // No place is past the end.
+        Checked::BadSuboption(place) => refusal(out, at, 7, least(place, s.len()) as u32),
+    }
+}
+
+fn address(out: &mut [u8], at: usize, n: u32) -> usize
+    requires { ⌜ at + 95 ≤ length (now out) ⌝ }
+    ensures { λ r. ⌜ r ≤ at + 95 ⌝ }
+{
+    let numbers = [n / 16777216, n / 65536 % 256, n / 256 % 256, n % 256];
+    console_text::fill(out, at, b"address %.%.%.%\nok\n", &numbers)
+}
+
+// What the reader of option 118 finds.
+fn selection(out: &mut [u8], at: usize, s: &[u8]) -> usize
+    requires { ⌜ at + 95 ≤ length (now out) ⌝ }
+    ensures { λ r. ⌜ r ≤ at + 95 ⌝ }
+{
+    match option::read_selection(s) {
+        Selection::Address(n) => address(out, at, n),
+        Selection::NotTheOption => refusal(out, at, 6, 0),
+    }
+}
+
+// What the reader finds: of option 118 if the first byte is 118, otherwise of option 220.
+pub fn read(out: &mut [u8], at: usize, s: &[u8]) -> usize
+    requires { ⌜ at + 7199 ≤ length (now out) ⌝ }
+    ensures { λ r. ⌜ r ≤ at + 7199 ⌝ }
+{
+    if 0 < s.len() {
+        if s[0] == 118 {
+            return selection(out, at, s);
+        }
+    }
+    option(out, at, s)
+}

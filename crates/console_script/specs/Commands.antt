@@ -1,0 +1,68 @@
+-- Commands as values, and what a command of the code stands for: the octets and words at its places in the line.
+-- Assumes nothing: these are definitions.
+use Prim.Native.Nat.{ℕ, _≤_}
+use mathlib.Core.Option.{Option, none, some}
+use mathlib.Core.List.{List}
+use lib.ListN.{drop}
+use Rattle.console_words.specs.Words.{between}
+use Rattle.console_words.specs.Prefixes.{Columns, prefixesOf}
+use Rattle.console_script.specs.declared.OptionCall.{OptionCall}
+use Rattle.console_script.specs.declared.Command.{Command}
+use Rattle.console_script.specs.declared.Command.the-variants as command
+
+pub data CommandValue : Type 0 where
+  -- ask, take, list and return: client, time, the option's octets
+  call : OptionCall → ℕ → ℕ → List ℕ → CommandValue
+  -- time, network, length, D
+  mark : ℕ → ℕ → ℕ → ℕ → CommandValue
+  -- term, default length, start, and networks and lengths of the pools
+  «open» : ℕ → ℕ → ℕ → List ℕ → List ℕ → CommandValue
+  -- the image's octets
+  load : List ℕ → CommandValue
+  save : CommandValue
+  sheet : CommandValue
+  -- the option's octets
+  read : List ℕ → CommandValue
+  -- what stands behind the word `write`
+  write : List ℕ → CommandValue
+  -- the reply buffer's length
+  buffer : ℕ → CommandValue
+  -- no word, or a comment
+  nothing : CommandValue
+  -- "a line that is no command: it changes nothing"
+  bad : CommandValue
+
+-- The most prefixes: "open takes 0 to 16 prefixes as arguments (more than 16: an error)".
+abbrev pub mostPrefixes : ℕ
+mostPrefixes = 16
+
+abbrev pub withPrefixes : Option Columns → (List ℕ → List ℕ → CommandValue) → CommandValue
+withPrefixes none f = bad
+withPrefixes (some p) f = f (p .0) (p .1)
+
+abbrev pub valueIn : List ℕ → Command → CommandValue
+valueIn s (command.Call c) = call (c .call) (c .client) (c .time) (between (c .from) (c .to) s)
+valueIn s (command.Mark c) = mark (c .time) (c .network) (c .length) (c .deprecated)
+valueIn s (command.Open c) = withPrefixes (prefixesOf mostPrefixes (drop (c .from) s)) («open» (c .term) (c .«default_length») (c .start))
+valueIn s (command.Load c) = load (between (c .from) (c .to) s)
+valueIn s command.Save = save
+valueIn s command.Sheet = sheet
+valueIn s (command.Read c) = read (between (c .from) (c .to) s)
+valueIn s (command.Write c) = write (drop (c .from) s)
+valueIn s (command.Buffer c) = buffer (c .length)
+valueIn s command.Nothing = nothing
+valueIn s command.Bad = bad
+
+-- The places of a command are within a line of n bytes.
+abbrev pub Within : ℕ → Command → Type 0
+Within n (command.Call c) = (c .from ≤ c .to) × (c .to ≤ n)
+Within n (command.Mark c) = Unit {0}
+Within n (command.Open c) = c .from ≤ n
+Within n (command.Load c) = (c .from ≤ c .to) × (c .to ≤ n)
+Within n command.Save = Unit {0}
+Within n command.Sheet = Unit {0}
+Within n (command.Read c) = (c .from ≤ c .to) × (c .to ≤ n)
+Within n (command.Write c) = c .from ≤ n
+Within n (command.Buffer c) = c .length ≤ 1024
+Within n command.Nothing = Unit {0}
+Within n command.Bad = Unit {0}

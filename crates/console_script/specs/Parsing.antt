@@ -1,0 +1,133 @@
+-- What a line of a script says: the table of commands.
+-- Assumes nothing: these are definitions.
+use Prim.Native.Nat.{ℕ, _-_}
+use mathlib.Core.Bool.{Bool, true, false, cond, _&&_}
+use mathlib.Core.Option.{Option, none, some}
+use mathlib.Core.List.{List, [], _∷_}
+use lib.ListN.{length, getD}
+use lib.Dec.{ltb, eqb}
+use Rattle.console_words.specs.declared.Number.{Number}
+use Rattle.console_words.specs.declared.Number.the-variants as number
+use Rattle.console_words.specs.declared.PrefixWord.{PrefixWord}
+use Rattle.console_words.specs.declared.PrefixWord.the-variants as prefix
+use Rattle.text.specs.Ascii.{ascii}
+use Rattle.console_words.specs.Words.{firstWord, afterWord, empty?, last?}
+use Rattle.console_words.specs.Numbers.{numberOf, flagOf}
+use Rattle.console_words.specs.Prefixes.{prefixOf, prefixesOf}
+use Rattle.console_words.specs.Octets.{lastOctets}
+use Rattle.console_script.specs.declared.OptionCall.{OptionCall}
+use Rattle.console_script.specs.declared.OptionCall.the-variants.{Ask, Take, List as ListCall, Return}
+use Rattle.console_script.specs.declared.Lone.{Lone}
+use Rattle.console_script.specs.declared.Lone.the-variants as lone
+use Rattle.console_script.specs.declared.Name.{Name}
+use Rattle.console_script.specs.declared.Name.the-variants as name
+use Rattle.console_script.specs.Commands.{CommandValue, call, mark, «open», load, save, sheet, read, write, buffer, nothing, bad, mostPrefixes, withPrefixes}
+
+-- NAMES
+
+-- The same bytes.
+unfoldable pub same? : List ℕ → List ℕ → Bool
+same? [] [] = true
+same? [] (y ∷ ys) = false
+same? (x ∷ xs) [] = false
+same? (x ∷ xs) (y ∷ ys) = eqb x y && same? xs ys
+
+-- The command that a word names.
+unfoldable pub nameOf : List ℕ → Name
+nameOf w =
+    cond (same? w (ascii "ask")) (name.Call Ask)
+    (cond (same? w (ascii "take")) (name.Call Take)
+    (cond (same? w (ascii "list")) (name.Call ListCall)
+    (cond (same? w (ascii "return")) (name.Call Return)
+    (cond (same? w (ascii "mark")) name.Mark
+    (cond (same? w (ascii "open")) name.Open
+    (cond (same? w (ascii "load")) name.Load
+    (cond (same? w (ascii "save")) (name.Lone lone.Save)
+    (cond (same? w (ascii "sheet")) (name.Lone lone.Sheet)
+    (cond (same? w (ascii "read")) name.Read
+    (cond (same? w (ascii "write")) name.Write
+    (cond (same? w (ascii "buffer")) name.Buffer name.Other)))))))))))
+
+-- ARGUMENTS: each of xs, what is left of a line behind the name.
+
+abbrev pub withNumber : Number → (ℕ → CommandValue) → CommandValue
+withNumber (number.Of n) f = f n
+withNumber number.Bad f = bad
+
+abbrev pub withPrefix : PrefixWord → (ℕ → ℕ → CommandValue) → CommandValue
+withPrefix (prefix.Of n l) f = f n l
+withPrefix prefix.Bad f = bad
+
+abbrev pub withOctets : Option (List ℕ) → (List ℕ → CommandValue) → CommandValue
+withOctets none f = bad
+withOctets (some octets) f = f octets
+
+-- A command whose last word has been read.
+abbrev pub atEnd : List ℕ → CommandValue → CommandValue
+atEnd xs v = cond (last? xs) v bad
+
+-- STATION NOW OPTION
+unfoldable pub parseCall : OptionCall → List ℕ → CommandValue
+parseCall c xs =
+    withNumber (numberOf (firstWord xs)) (λ client.
+    withNumber (numberOf (firstWord (afterWord xs))) (λ time.
+    withOctets (lastOctets (afterWord (afterWord xs))) (λ option. call c client time option)))
+
+-- NOW PREFIX D
+unfoldable pub parseMark : List ℕ → CommandValue
+parseMark xs =
+    withNumber (numberOf (firstWord xs)) (λ time.
+    withPrefix (prefixOf (firstWord (afterWord xs))) (λ network len.
+    withNumber (flagOf (firstWord (afterWord (afterWord xs)))) (λ d.
+    atEnd (afterWord (afterWord (afterWord xs))) (mark time network len d))))
+
+-- TERM DEFAULT START PREFIX.., "DEFAULT below 256"
+unfoldable pub parseOpen : List ℕ → CommandValue
+parseOpen xs =
+    withNumber (numberOf (firstWord xs)) (λ term.
+    withNumber (numberOf (firstWord (afterWord xs))) (λ len.
+    cond (ltb 255 len) bad
+    (withNumber (numberOf (firstWord (afterWord (afterWord xs)))) (λ start.
+    withPrefixes (prefixesOf mostPrefixes (afterWord (afterWord (afterWord xs)))) («open» term len start)))))
+
+-- IMAGE
+unfoldable pub parseLoad : List ℕ → CommandValue
+parseLoad xs = withOctets (lastOctets xs) load
+
+-- OPTION
+unfoldable pub parseRead : List ℕ → CommandValue
+parseRead xs = withOctets (lastOctets xs) read
+
+-- N, "0 to 1,024"
+unfoldable pub parseBuffer : List ℕ → CommandValue
+parseBuffer xs = withNumber (numberOf (firstWord xs)) (λ n. cond (ltb 1024 n) bad (atEnd (afterWord xs) (buffer n)))
+
+-- Nothing more.
+unfoldable pub parseLone : Lone → List ℕ → CommandValue
+parseLone lone.Save xs = atEnd xs save
+parseLone lone.Sheet xs = atEnd xs sheet
+
+abbrev pub parseWords : Name → List ℕ → CommandValue
+parseWords (name.Call c) xs = parseCall c xs
+parseWords name.Mark xs = parseMark xs
+parseWords name.Open xs = parseOpen xs
+parseWords name.Load xs = parseLoad xs
+parseWords (name.Lone c) xs = parseLone c xs
+parseWords name.Read xs = parseRead xs
+parseWords name.Write xs = write xs
+parseWords name.Buffer xs = parseBuffer xs
+parseWords name.Other xs = bad
+
+-- LINES
+
+-- "a carriage return before it is ignored": how many bytes of a line are left without one (13) at its end.
+unfoldable pub unreturned : List ℕ → ℕ
+unreturned s = cond (eqb (getD s (length s - 1) 0) 13) (length s - 1) (length s)
+
+-- "A line with no word, or whose first word begins with #, is passed over"; "Longest line: 100,000 bytes."
+unfoldable pub parseLine : List ℕ → CommandValue
+parseLine s =
+    cond (ltb 100000 (length s)) bad
+    (cond (empty? (firstWord s)) nothing
+    (cond (eqb (getD (firstWord s) 0 0) 35) nothing
+    (parseWords (nameOf (firstWord s)) (afterWord s))))

@@ -1,0 +1,376 @@
+// The lines of a script: the command of each, with the numbers that its words spell and the places where its octets and other words stand.
+use console_words::Number;
+use console_words::PrefixWord;
+ghost use mathlib.Core.Path.{_≡_};
+ghost use Prim.Native.Nat.{_≤_};
+ghost use lib.ListN.{length, drop};
+ghost use Rattle.console_script.specs.Commands.{valueIn, Within};
+ghost use Rattle.console_script.specs.Parsing.{
+  same?,
+  nameOf,
+  parseCall,
+  parseMark,
+  parseOpen,
+  parseLoad,
+  parseRead,
+  parseBuffer,
+  parseLone,
+  parseWords,
+  parseLine,
+  unreturned,
+};
+
+// The longest line, without its newline and a carriage return before that.
+const LONGEST: usize = 100000;
+
+// The longest reply buffer.
+const LONGEST_REPLY: u32 = 1024;
+
+// The calls that are given an option.
+pub enum OptionCall {
+    Ask,
+    Take,
+    List,
+    Return,
+}
+
+// STATION NOW OPTION: the option's octets stand in the line from a place to before another.
+pub struct CallLine {
+    pub call: OptionCall,
+    pub client: u32,
+    pub time: u32,
+    pub from: usize,
+    pub to: usize,
+}
+
+// NOW PREFIX D
+pub struct MarkLine {
+    pub time: u32,
+    pub network: u32,
+    pub length: u8,
+    pub deprecated: u32,
+}
+
+// TERM DEFAULT START, and the place after which all words are prefixes.
+pub struct OpenLine {
+    pub term: u32,
+    pub default_length: u32,
+    pub start: u32,
+    pub from: usize,
+}
+
+// OPTION or IMAGE: where its octets stand.
+pub struct OctetLine {
+    pub from: usize,
+    pub to: usize,
+}
+
+// The place after which all words are those of an option that is to be written.
+pub struct WriteLine {
+    pub from: usize,
+}
+
+// N
+pub struct BufferLine {
+    pub length: u32,
+}
+
+// A line that has no word, or whose first word begins with `#`, has nothing to do; a bad one is no command.
+pub enum Command {
+    Call(CallLine),
+    Mark(MarkLine),
+    Open(OpenLine),
+    Load(OctetLine),
+    Save,
+    Sheet,
+    Read(OctetLine),
+    Write(WriteLine),
+    Buffer(BufferLine),
+    Nothing,
+    Bad,
+}
+
+// The commands that are alone on their line.
+enum Lone {
+    Save,
+    Sheet,
+}
+
+// What the first word names.
+enum Name {
+    Call(OptionCall),
+    Mark,
+    Open,
+    Load,
+    Lone(Lone),
+    Read,
+    Write,
+    Buffer,
+    Other,
+}
+
+// NAMES
+
+// Whether a word is this name.
+fn is(word: &[u8], name: &[u8]) -> bool
+    ensures { λ r. ⌜ r ≡ same? (now (word .entry)) (now (name .entry)) ⌝ }
+{
+    check::same(word, name)
+}
+
+fn read_name(word: &[u8]) -> Name
+    ensures { λ r. ⌜ r ≡ nameOf (now (word .entry)) ⌝ }
+{
+    if is(word, b"ask") {
+        return Name::Call(OptionCall::Ask);
+    }
+    if is(word, b"take") {
+        return Name::Call(OptionCall::Take);
+    }
+    if is(word, b"list") {
+        return Name::Call(OptionCall::List);
+    }
+    if is(word, b"return") {
+        return Name::Call(OptionCall::Return);
+    }
+    if is(word, b"mark") {
+        return Name::Mark;
+    }
+    if is(word, b"open") {
+        return Name::Open;
+    }
+    if is(word, b"load") {
+        return Name::Load;
+    }
+    if is(word, b"save") {
+        return Name::Lone(Lone::Save);
+    }
+    if is(word, b"sheet") {
+        return Name::Lone(Lone::Sheet);
+    }
+    if is(word, b"read") {
+        return Name::Read;
+    }
+    if is(word, b"write") {
+        return Name::Write;
+    }
+    if is(word, b"buffer") {
+        return Name::Buffer;
+    }
+    Name::Other
+}
+
+// LINES: what the words after a name spell.
+
+// STATION NOW OPTION
+fn call_line(call: OptionCall, s: &mut [u8], from: usize) -> Command
+    requires { ⌜ from ≤ length (now s) ⌝ }
+    ensures { λ r. ⌜ Within (length (now (s .entry))) r ⌝ }
+    ensures { λ r. ⌜ valueIn (now (s .exit)) r ≡ parseCall call (drop from (now (s .entry))) ⌝ }
+{
+    let a = console_words::next_number(s, from);
+    let station = a.number;
+    let Number::Of(client) = station else {
+        return Command::Bad;
+    };
+    let b = console_words::next_number(s, a.end);
+    let now = b.number;
+    let Number::Of(time) = now else {
+        return Command::Bad;
+    };
+    let octets = console_words::last_octets(s, b.end);
+    if !octets.good {
+        return Command::Bad;
+    }
+    Command::Call(CallLine {
+        call,
+        client,
+        time,
+        from: octets.start,
+        to: octets.end,
+    })
+}
+
+// NOW PREFIX D
+fn mark_line(s: &[u8], from: usize) -> Command
+    requires { ⌜ from ≤ length (now s) ⌝ }
+    ensures { λ r. ⌜ Within (length (now (s .entry))) r ⌝ }
+    ensures { λ r. ⌜ valueIn (now (s .entry)) r ≡ parseMark (drop from (now (s .entry))) ⌝ }
+{
+    let a = console_words::next_number(s, from);
+    let now = a.number;
+    let Number::Of(time) = now else {
+        return Command::Bad;
+    };
+    let b = console_words::next_prefix(s, a.end);
+    let prefix = b.prefix;
+    let PrefixWord::Of(network, length) = prefix else {
+        return Command::Bad;
+    };
+    let d = console_words::next_flag(s, b.end);
+    let flag = d.number;
+    let Number::Of(deprecated) = flag else {
+        return Command::Bad;
+    };
+    if !console_words::ends(s, d.end) {
+        return Command::Bad;
+    }
+    Command::Mark(MarkLine {
+        time,
+        network,
+        length,
+        deprecated,
+    })
+}
+
+// TERM DEFAULT START PREFIX..
+fn open_line(s: &[u8], from: usize) -> Command
+    requires { ⌜ from ≤ length (now s) ⌝ }
+    ensures { λ r. ⌜ Within (length (now (s .entry))) r ⌝ }
+    ensures { λ r. ⌜ valueIn (now (s .entry)) r ≡ parseOpen (drop from (now (s .entry))) ⌝ }
+{
+    let a = console_words::next_number(s, from);
+    let first = a.number;
+    let Number::Of(term) = first else {
+        return Command::Bad;
+    };
+    let b = console_words::next_number(s, a.end);
+    let second = b.number;
+    let Number::Of(default_length) = second else {
+        return Command::Bad;
+    };
+    if 255 < default_length {
+        return Command::Bad;
+    }
+    let c = console_words::next_number(s, b.end);
+    let third = c.number;
+    let Number::Of(start) = third else {
+        return Command::Bad;
+    };
+    Command::Open(OpenLine {
+        term,
+        default_length,
+        start,
+        from: c.end,
+    })
+}
+
+// IMAGE
+fn load_line(s: &mut [u8], from: usize) -> Command
+    requires { ⌜ from ≤ length (now s) ⌝ }
+    ensures { λ r. ⌜ Within (length (now (s .entry))) r ⌝ }
+    ensures { λ r. ⌜ valueIn (now (s .exit)) r ≡ parseLoad (drop from (now (s .entry))) ⌝ }
+{
+    let octets = console_words::last_octets(s, from);
+    if !octets.good {
+        return Command::Bad;
+    }
+    Command::Load(OctetLine {
+        from: octets.start,
+        to: octets.end,
+    })
+}
+
+// OPTION
+fn read_line(s: &mut [u8], from: usize) -> Command
+    requires { ⌜ from ≤ length (now s) ⌝ }
+    ensures { λ r. ⌜ Within (length (now (s .entry))) r ⌝ }
+    ensures { λ r. ⌜ valueIn (now (s .exit)) r ≡ parseRead (drop from (now (s .entry))) ⌝ }
+{
+    let octets = console_words::last_octets(s, from);
+    if !octets.good {
+        return Command::Bad;
+    }
+    Command::Read(OctetLine {
+        from: octets.start,
+        to: octets.end,
+    })
+}
+
+// N, at most the longest reply buffer.
+fn buffer_line(s: &[u8], from: usize) -> Command
+    requires { ⌜ from ≤ length (now s) ⌝ }
+    ensures { λ r. ⌜ Within (length (now (s .entry))) r ⌝ }
+    ensures { λ r. ⌜ valueIn (now (s .entry)) r ≡ parseBuffer (drop from (now (s .entry))) ⌝ }
+{
+    let a = console_words::next_number(s, from);
+    let number = a.number;
+    let Number::Of(length) = number else {
+        return Command::Bad;
+    };
+    if LONGEST_REPLY < length {
+        return Command::Bad;
+    }
+    if !console_words::ends(s, a.end) {
+        return Command::Bad;
+    }
+    Command::Buffer(BufferLine { length })
+}
+
+// No further word.
+fn lone_line(name: Lone, s: &[u8], from: usize) -> Command
+    requires { ⌜ from ≤ length (now s) ⌝ }
+    ensures { λ r. ⌜ Within (length (now (s .entry))) r ⌝ }
+    ensures { λ r. ⌜ valueIn (now (s .entry)) r ≡ parseLone name (drop from (now (s .entry))) ⌝ }
+{
+    if !console_words::ends(s, from) {
+        return Command::Bad;
+    }
+    match name {
+        Lone::Save => Command::Save,
+        Lone::Sheet => Command::Sheet,
+    }
+}
+
+// What the words after a name spell.
+fn read_words(name: Name, s: &mut [u8], from: usize) -> Command
+    requires { ⌜ from ≤ length (now s) ⌝ }
+    ensures { λ r. ⌜ Within (length (now (s .entry))) r ⌝ }
+    ensures { λ r. ⌜ valueIn (now (s .exit)) r ≡ parseWords name (drop from (now (s .entry))) ⌝ }
+{
+    match name {
+        Name::Call(c) => call_line(c, s, from),
+        Name::Mark => mark_line(s, from),
+        Name::Open => open_line(s, from),
+        Name::Load => load_line(s, from),
+        Name::Lone(c) => lone_line(c, s, from),
+        Name::Read => read_line(s, from),
+        Name::Write => Command::Write(WriteLine { from }),
+        Name::Buffer => buffer_line(s, from),
+        Name::Other => Command::Bad,
+    }
+}
+
+// How many bytes of a line there are without a carriage return at its end.
+pub fn without_return(line: &[u8]) -> usize
+    ensures { λ r. ⌜ (r ≡ unreturned (now (line .entry))) × (r ≤ length (now (line .entry))) ⌝ }
+{
+    let n = line.len();
+    if 0 < n {
+        if line[n - 1] == b'\r' {
+            return n - 1;
+        }
+    }
+    n
+}
+
+// Reads a line without its newline and a carriage return before that. Octets are written over the words that spell them.
+pub fn read_command(s: &mut [u8]) -> Command
+    ensures { λ r. ⌜ Within (length (now (s .entry))) r ⌝ }
+    ensures { λ r. ⌜ valueIn (now (s .exit)) r ≡ parseLine (now (s .entry)) ⌝ }
+{
+    if LONGEST < s.len() {
+        return Command::Bad;
+    }
+    let w = console_words::next_word(s, 0);
+    let start = w.start;
+    let end = w.end;
+    if start == end {
+        return Command::Nothing;
+    }
+    if s[start] == b'#' {
+        return Command::Nothing;
+    }
+    let name = read_name(&s[start..end]);
+    read_words(name, s, end)
+}

@@ -1,0 +1,105 @@
+// What goes from line to line of a script beside the book, and the output written out.
+ghost use mathlib.Core.Path.{_≡_};
+ghost use Prim.Native.Nat.{_≤_};
+ghost use lib.ListN.{length};
+ghost use Rattle.console_session.specs.States.{
+  Unchanged,
+  nextLine,
+  AnswerFits,
+  OutputHolds,
+};
+
+// The output is written out once it has more than this: what is left holds any answer.
+const FULL: usize = 65536;
+
+// The reply buffer's length at first.
+const REPLY_AT_FIRST: usize = 257;
+
+pub struct State {
+    // The reply buffer's length.
+    pub reply_length: usize,
+    // How many lines have ended.
+    pub lines: u64,
+    // How much of the output waits to be written out.
+    pub at: usize,
+    // The output cannot be written.
+    pub failed: bool,
+}
+
+pub fn first_state() -> State
+    ensures { λ r. ⌜ (r .«reply_length» ≡ 257) × (r .lines ≡ 0) × (r .at ≡ 0) ⌝ }
+{
+    State {
+        reply_length: REPLY_AT_FIRST,
+        lines: 0,
+        at: 0,
+        failed: false,
+    }
+}
+
+// The state at the next line.
+pub fn next_line(s: State) -> State
+    ensures { λ r. ⌜ (r .«reply_length» ≡ s .«reply_length») × (r .lines ≡ nextLine (s .lines)) × (r .at ≡ s .at) ⌝ }
+{
+    let mut next = s;
+    if s.lines < u64::MAX {
+        next.lines = s.lines + 1;
+        return next;
+    }
+    next
+}
+
+// The state with more output.
+pub fn with_output(s: State, at: usize) -> State
+    ensures { λ r. ⌜ (r .at ≡ at) × Unchanged s r ⌝ }
+{
+    let mut next = s;
+    next.at = at;
+    next
+}
+
+// The state with another length of the reply buffer.
+pub fn with_reply_length(s: State, length: u32) -> State
+    ensures { λ r. ⌜ (r .«reply_length» ≡ length) × (r .lines ≡ s .lines) × (r .at ≡ s .at) ⌝ }
+{
+    let mut next = s;
+    next.reply_length = length as usize;
+    next
+}
+
+// OUTPUT
+
+// Space for the output: what may wait and one answer more.
+pub fn output() -> [u8; 262144]
+    ensures { λ r. ⌜ 262144 ≡ length r ⌝ }
+{
+    [0; 262144]
+}
+
+// Writes the output out.
+pub fn flush(s: State, out: &[u8]) -> State
+    requires { ⌜ s .at ≤ length (now out) ⌝ }
+    ensures { λ r. ⌜ (r .at ≡ 0) × Unchanged s r ⌝ }
+{
+    let n = s.at;
+    let mut next = with_output(s, 0);
+    if !io::write_all(1, &out[0..n]) {
+        io::write_all(2, b"console: the output cannot be written\n");
+        next.failed = true;
+    }
+    next
+}
+
+// Writes the output out before more is read, so that whoever types sees each answer at once, and before it has less room than any answer takes.
+pub fn make_room(s: State, reads: bool, out: &[u8]) -> State
+    requires { ⌜ (s .at ≤ length (now out)) × OutputHolds (now out) ⌝ }
+    ensures { λ r. ⌜ AnswerFits (r .at) (now (out .entry)) × Unchanged s r ⌝ }
+{
+    if reads {
+        return flush(s, out);
+    }
+    if FULL < s.at {
+        return flush(s, out);
+    }
+    s
+}

@@ -1,0 +1,4 @@
+pub mod NumberLaws
+pub mod WordLaws
+pub mod PrefixLaws
+pub mod OctetLaws

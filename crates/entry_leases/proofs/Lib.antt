@@ -1,5 +1,0 @@
-pub mod NamedLaws
-pub mod ManyLaws
-pub mod EntriesLaws
-pub mod RowLaws
-pub mod CallLaws

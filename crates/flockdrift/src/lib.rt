@@ -1,0 +1,142 @@
+// The calls as functions for C and Rust: include/flockdrift.h documents them. Each is one equation with the ledger on the
+// image that it is lent. A slice is a pointer and a length; nothing is allocated and nothing is kept between two calls.
+use ledger::Answer;
+ghost use mathlib.Core.Path.{_≡_};
+ghost use mathlib.Core.Bool.{not};
+ghost use mathlib.Core.List.{[]};
+ghost use lib.Dec.{eqb};
+ghost use Rattle.ledger.specs.Ledger.{call, result};
+ghost use Rattle.call_spec.specs.ImageCalls.{
+  lent,
+  openImage,
+  loadInto,
+  saveFrom,
+  askImage,
+  takeImage,
+  listImage,
+  releaseImage,
+  markImage,
+};
+ghost use Rattle.call_sheet.specs.SheetImage.{sheetImage};
+
+#[no_mangle]
+pub extern "C" fn flockdrift_open(
+    image: &mut [u8],
+    image_bytes: &mut usize,
+    networks: &[u32],
+    lengths: &[u8],
+    term: u32,
+    default_length: u32,
+    start: u32,
+) -> Answer
+    ensures { λ r. ⌜ result r (lent (now (image .exit)) (now («image_bytes» .exit))) []
+        ≡ openImage (lent (now (image .entry)) (now («image_bytes» .entry))) (now (networks .entry)) (now (lengths .entry)) term «default_length» start ⌝ }
+{
+    call_open::open(
+        image,
+        image_bytes,
+        networks,
+        lengths,
+        term,
+        default_length,
+        start,
+    )
+}
+
+#[no_mangle]
+pub extern "C" fn flockdrift_load(image: &mut [u8], image_bytes: &mut usize, saved: &[u8]) -> Answer
+    ensures { λ r. ⌜ result r (lent (now (image .exit)) (now («image_bytes» .exit))) []
+        ≡ loadInto (lent (now (image .entry)) (now («image_bytes» .entry))) (now (saved .entry)) ⌝ }
+{
+    call_load::load(image, image_bytes, saved)
+}
+
+// Save changes nothing, so the image is only read; and so with list.
+#[no_mangle]
+pub extern "C" fn flockdrift_save(image: &[u8], image_bytes: usize, buffer: &mut [u8]) -> Answer
+    ensures { λ r. ⌜ result r (lent (now (image .entry)) «image_bytes») (now (buffer .exit))
+        ≡ saveFrom (lent (now (image .entry)) «image_bytes») (now (buffer .entry)) ⌝ }
+{
+    call_save::save(image, image_bytes, buffer)
+}
+
+#[no_mangle]
+pub extern "C" fn flockdrift_ask(
+    image: &mut [u8],
+    image_bytes: &mut usize,
+    client: u32,
+    time: u32,
+    option: &[u8],
+    reply: &mut [u8],
+) -> Answer
+    ensures { λ r. ⌜ result r (lent (now (image .exit)) (now («image_bytes» .exit))) (now (reply .exit))
+        ≡ askImage (lent (now (image .entry)) (now («image_bytes» .entry))) time (call client (now (option .entry)) (now (reply .entry))) ⌝ }
+{
+    call_ask::ask(image, image_bytes, client, time, option, reply)
+}
+
+#[no_mangle]
+pub extern "C" fn flockdrift_take(
+    image: &mut [u8],
+    image_bytes: &mut usize,
+    client: u32,
+    time: u32,
+    option: &[u8],
+    reply: &mut [u8],
+) -> Answer
+    ensures { λ r. ⌜ result r (lent (now (image .exit)) (now («image_bytes» .exit))) (now (reply .exit))
+        ≡ takeImage (lent (now (image .entry)) (now («image_bytes» .entry))) time (call client (now (option .entry)) (now (reply .entry))) ⌝ }
+{
+    call_take::take(image, image_bytes, client, time, option, reply)
+}
+
+#[no_mangle]
+pub extern "C" fn flockdrift_list(
+    image: &[u8],
+    image_bytes: usize,
+    client: u32,
+    time: u32,
+    option: &[u8],
+    reply: &mut [u8],
+) -> Answer
+    ensures { λ r. ⌜ result r (lent (now (image .entry)) «image_bytes») (now (reply .exit))
+        ≡ listImage (lent (now (image .entry)) «image_bytes») time (call client (now (option .entry)) (now (reply .entry))) ⌝ }
+{
+    call_list::list(image, image_bytes, client, time, option, reply)
+}
+
+#[no_mangle]
+pub extern "C" fn flockdrift_release(
+    image: &mut [u8],
+    image_bytes: &mut usize,
+    client: u32,
+    time: u32,
+    option: &[u8],
+) -> Answer
+    ensures { λ r. ⌜ result r (lent (now (image .exit)) (now («image_bytes» .exit))) []
+        ≡ releaseImage (lent (now (image .entry)) (now («image_bytes» .entry))) time (call client (now (option .entry)) []) ⌝ }
+{
+    call_release::release(image, image_bytes, client, time, option)
+}
+
+#[no_mangle]
+pub extern "C" fn flockdrift_mark(
+    image: &mut [u8],
+    image_bytes: &mut usize,
+    network: u32,
+    length: u32,
+    deprecated: u32,
+    time: u32,
+) -> Answer
+    ensures { λ r. ⌜ result r (lent (now (image .exit)) (now («image_bytes» .exit))) []
+        ≡ markImage (lent (now (image .entry)) (now («image_bytes» .entry))) time network length (not (eqb deprecated 0)) ⌝ }
+{
+    call_mark::mark(image, image_bytes, network, length, deprecated, time)
+}
+
+#[no_mangle]
+pub extern "C" fn flockdrift_sheet(image: &[u8], text: &mut [u8]) -> Answer
+    ensures { λ r. ⌜ (r, now (text .exit)) ≡ sheetImage (now (image .entry)) (now (text .entry)) ⌝ }
+{
+    call_sheet::sheet(image, text)
+}

@@ -1,5 +1,0 @@
-pub mod StoreLaws
-pub mod TableLaws
-pub mod CallLaws
-pub mod Images
-pub mod InPlace

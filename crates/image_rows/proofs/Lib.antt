@@ -1,4 +1,0 @@
-pub mod BookLaws
-pub mod RowLaws
-pub mod CallRows
-pub mod FinishLaws

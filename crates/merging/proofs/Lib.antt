@@ -1,4 +1,0 @@
-pub mod AddLaws
-pub mod PlacesLaws
-pub mod MergeLaws
-pub mod KeepLaws

@@ -1,4 +1,0 @@
-pub mod ColumnLaws
-pub mod MoveLaws
-pub mod OrderLaws
-pub mod OpenImageLaws

@@ -1,3 +1,0 @@
--- Laws of bytes stored one by one.
-pub mod StoreLaws
-pub mod SelectionPuts

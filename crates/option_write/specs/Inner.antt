@@ -1,0 +1,25 @@
+-- What the private functions of the writer promise each other. Nothing here stands in the promise of a public one.
+-- Assumes nothing: these are definitions.
+use Prim.Native.Nat.{ℕ, _+_, _≤_}
+use mathlib.Core.Path.{_≡_}
+use mathlib.Core.Bool.{true}
+use mathlib.Core.List.{List}
+use lib.ListN.{length}
+use Rattle.lists.specs.Lists.{all?}
+use Rattle.lists.specs.Put.{put}
+use Rattle.option.specs.Values.{SuboptionValue}
+use Rattle.option.specs.Writing.{suboptionBytes, suboptionsBytes, writable?}
+
+-- What the writer knows of a suboption that has been measured, and of a list of them: it can be written, in at most 254 bytes.
+pub record Fitting (x : SuboptionValue) : Type 0 where
+  pub good : writable? x ≡ true
+  pub short : length (suboptionBytes x) ≤ 254
+
+pub record FittingList (subs : List SuboptionValue) : Type 0 where
+  pub good : all? writable? subs ≡ true
+  pub short : length (suboptionsBytes subs) ≤ 254
+
+-- Bytes put at a place, and the place after them.
+pub record PutAt (before after : List ℕ) (at next : ℕ) (bytes : List ℕ) : Type 0 where
+  pub stored : after ≡ put before at bytes
+  pub place : next ≡ at + length bytes

@@ -1,3 +1,0 @@
-pub mod EntryWalk
-pub mod Adding
-pub mod SuboptionWalk

@@ -1,0 +1,527 @@
+/*
+ * What include/flockdrift.h says, tried from C: the layout of the answer, sizes at their limits, null pointers, the
+ * order of the refusals, what a refusal leaves, what an accepted call leaves behind the image, load and save, and
+ * several threads. Prints a line for each difference.
+ */
+#define _POSIX_C_SOURCE 200809L
+
+#include "flockdrift.h"
+
+#include <pthread.h>
+#include <stdio.h>
+#include <stdlib.h>
+#include <string.h>
+
+enum {
+    FULL = FLOCKDRIFT_IMAGE_CAPACITY,
+    BUFFER = FULL + 64, /* the last bytes stand outside of every image */
+    REPLY = FLOCKDRIFT_REPLY_CAPACITY,
+    THREADS = 4,
+    STACK = 32 * 1024 /* what the header says of a call's stack, and the rest for the thread itself */
+};
+
+/* What the buffers hold where no call has written. */
+enum { IMAGE_FILL = 0xa5, REPLY_FILL = 0x5a, SAVED_FILL = 0x69, TEXT_FILL = 0x3c };
+
+static int differences;
+
+/* Each trial names the line that it stands on. */
+static void same(int line, const char *what, unsigned long got, unsigned long wanted)
+{
+    if (got != wanted) {
+        printf("header.c:%d: %s is %lu and not %lu\n", line, what, got, wanted);
+        differences++;
+    }
+}
+
+#define SAME(what, got, wanted) same(__LINE__, what, (unsigned long)(got), (unsigned long)(wanted))
+#define REFUSED(s, a, number, place) refused(__LINE__, s, a, number, place)
+#define ACCEPTED(s, a, bytes, count, image_bytes) accepted(__LINE__, s, a, bytes, count, image_bytes)
+#define READ(s, a, bytes, count) accepted_reading(__LINE__, s, a, bytes, count)
+#define FILLED(from, n, value) filled(__LINE__, from, n, value)
+
+/* All that is lent to the calls. Where a function has `s`, they get s[0], and s[1] is as s[0] was before the call. */
+struct lent {
+    uint8_t image[BUFFER];
+    size_t bytes;
+    uint8_t reply[REPLY + 8];
+    uint8_t saved[BUFFER];
+    char text[FLOCKDRIFT_TEXT_CAPACITY];
+};
+
+static const uint32_t network[2] = {0x0a000800, 0x0a000100};
+static const uint8_t length[2] = {26, 24};
+
+static const uint8_t ask_26[] = {0xdc, 5, 0, 1, 2, 0, 26};
+static const uint8_t ask_two[] = {0xdc, 9, 0, 1, 2, 0, 25, 1, 2, 0, 28};
+static const uint8_t ask_25[] = {0xdc, 5, 0, 1, 2, 0, 25};
+static const uint8_t ask_8[] = {0xdc, 5, 0, 1, 2, 0, 8};
+static const uint8_t ask_31[] = {0xdc, 5, 0, 1, 2, 0, 31};
+static const uint8_t list_all[] = {0xdc, 5, 0, 1, 2, 2, 0};
+static const uint8_t name_26[] = {0xdc, 11, 0, 2, 8, 0, 10, 0, 8, 0, 26, 0, 0};
+static const uint8_t name_and_bad[] = {0xdc, 13, 0, 2, 8, 0, 10, 0, 8, 0, 26, 0, 0, 1, 0};
+
+/* What stands in s[0] is what the next refusal has to leave. */
+static void keep(struct lent *s)
+{
+    memcpy(&s[1], &s[0], sizeof s[0]);
+}
+
+static void fill(struct lent *s)
+{
+    memset(s, 0, sizeof *s);
+    memset(s->image, IMAGE_FILL, sizeof s->image);
+    memset(s->reply, REPLY_FILL, sizeof s->reply);
+    memset(s->saved, SAVED_FILL, sizeof s->saved);
+    memset(s->text, TEXT_FILL, sizeof s->text);
+    s->bytes = 77; /* nothing that open and load look at */
+    keep(s);
+}
+
+static void set_bytes(struct lent *s, size_t bytes)
+{
+    s->bytes = bytes;
+    keep(s);
+}
+
+/* A refusal has no counts, and nothing that was lent has changed. */
+static void refused(int line, struct lent *s, struct flockdrift_answer a, uint32_t number, uint32_t place)
+{
+    same(line, "number", a.number, number);
+    same(line, "place", a.place, place);
+    same(line, "bytes", a.bytes, 0);
+    same(line, "count", a.count, 0);
+    same(line, "what a refusal changed", memcmp(&s[0], &s[1], sizeof s[0]) != 0, 0);
+}
+
+static void accepted(int line, struct lent *s, struct flockdrift_answer a, size_t bytes, uint32_t count,
+                     size_t image_bytes)
+{
+    same(line, "number", a.number, 0);
+    same(line, "place", a.place, 0);
+    same(line, "bytes", a.bytes, bytes);
+    same(line, "count", a.count, count);
+    same(line, "the image's length", s->bytes, image_bytes);
+    same(line, "what changed past every image", memcmp(s->image + FULL, s[1].image + FULL, BUFFER - FULL) != 0, 0);
+    keep(s);
+}
+
+/* For list, save and sheet. */
+static void accepted_reading(int line, struct lent *s, struct flockdrift_answer a, size_t bytes, uint32_t count)
+{
+    same(line, "what a call that reads changed", memcmp(s->image, s[1].image, BUFFER) != 0, 0);
+    accepted(line, s, a, bytes, count, s[1].bytes);
+}
+
+static void filled(int line, const void *from, size_t n, uint8_t value)
+{
+    size_t i;
+
+    for (i = 0; i < n; i++)
+        same(line, "a byte", ((const uint8_t *)from)[i], value);
+}
+
+/* THE CALLS, each with buffers that are large enough */
+
+static struct flockdrift_answer open_at(struct lent *s, size_t capacity)
+{
+    return flockdrift_open(s->image, capacity, &s->bytes, network, 2, length, 2, 3600, 28, 1000);
+}
+
+static struct flockdrift_answer ask(struct lent *s, uint32_t client, uint32_t now, const uint8_t *option, size_t n)
+{
+    return flockdrift_ask(s->image, BUFFER, &s->bytes, client, now, option, n, s->reply, REPLY);
+}
+
+static struct flockdrift_answer take(struct lent *s, uint32_t client, uint32_t now, const uint8_t *option, size_t n)
+{
+    return flockdrift_take(s->image, BUFFER, &s->bytes, client, now, option, n, s->reply, REPLY);
+}
+
+static struct flockdrift_answer list(struct lent *s, uint32_t client, uint32_t now, const uint8_t *option, size_t n)
+{
+    return flockdrift_list(s->image, BUFFER, s->bytes, client, now, option, n, s->reply, REPLY);
+}
+
+static struct flockdrift_answer release(struct lent *s, uint32_t client, uint32_t now, const uint8_t *option, size_t n)
+{
+    return flockdrift_release(s->image, BUFFER, &s->bytes, client, now, option, n);
+}
+
+static struct flockdrift_answer mark(struct lent *s, uint32_t of, uint32_t prefix, uint32_t deprecated, uint32_t now)
+{
+    return flockdrift_mark(s->image, BUFFER, &s->bytes, of, prefix, deprecated, now);
+}
+
+static struct flockdrift_answer load(struct lent *s, size_t capacity, size_t saved_bytes)
+{
+    return flockdrift_load(s->image, capacity, &s->bytes, s->saved, saved_bytes);
+}
+
+static struct flockdrift_answer save(struct lent *s, size_t buffer_capacity)
+{
+    return flockdrift_save(s->image, BUFFER, s->bytes, s->saved, buffer_capacity);
+}
+
+/* The table that most trials begin with: one lease, at 10.0.8.0/26, an image of 50 bytes. */
+static void begin(struct lent *s)
+{
+    fill(s);
+    ACCEPTED(s, open_at(s, BUFFER), 0, 0, 31);
+    ACCEPTED(s, ask(s, 7, 1000, ask_26, sizeof ask_26), 13, 1, 50);
+}
+
+/* An image that the caller puts into the buffer, with other bytes after it. */
+static void put(struct lent *s, const uint8_t *image, size_t bytes)
+{
+    memset(s->image, IMAGE_FILL, sizeof s->image);
+    memcpy(s->image, image, bytes);
+    set_bytes(s, bytes);
+}
+
+/* THE PROMISES */
+
+static void layout(void)
+{
+    SAME("the answer's size", sizeof(struct flockdrift_answer), 16);
+    SAME("the offset of number", offsetof(struct flockdrift_answer, number), 0);
+    SAME("the offset of place", offsetof(struct flockdrift_answer, place), 4);
+    SAME("the offset of bytes", offsetof(struct flockdrift_answer, bytes), 8);
+    SAME("the offset of count", offsetof(struct flockdrift_answer, count), 12);
+}
+
+/* A null pointer is one of no elements. */
+static void nulls(struct lent *s)
+{
+    size_t *b = &s->bytes;
+
+    begin(s);
+    REFUSED(s, flockdrift_open(NULL, 0, b, NULL, 0, NULL, 0, 3600, 28, 1000), 12, 0);
+    REFUSED(s, flockdrift_open(NULL, 0, b, network, 2, length, 2, 3600, 28, 1000), 14, 0);
+    REFUSED(s, flockdrift_ask(NULL, 0, b, 0, 0, NULL, 0, NULL, 0), 1, 0);
+    REFUSED(s, flockdrift_ask(NULL, 0, b, 0, 0, NULL, 0, s->reply, REPLY), 5, 0);
+    REFUSED(s, flockdrift_take(NULL, 0, b, 0, 0, NULL, 0, NULL, 0), 1, 0);
+    REFUSED(s, flockdrift_take(NULL, 0, b, 0, 0, NULL, 0, s->reply, REPLY), 5, 0);
+    REFUSED(s, flockdrift_list(NULL, 0, 0, 0, 0, NULL, 0, NULL, 0), 1, 0);
+    REFUSED(s, flockdrift_list(NULL, 0, 0, 0, 0, NULL, 0, s->reply, REPLY), 5, 0);
+    REFUSED(s, flockdrift_release(NULL, 0, b, 0, 0, NULL, 0), 5, 0);
+    REFUSED(s, flockdrift_mark(NULL, 0, b, 0, 0, 0, 0), 5, 0);
+    REFUSED(s, flockdrift_load(NULL, 0, b, NULL, 0), 5, 0);
+    REFUSED(s, flockdrift_load(NULL, 0, b, s->image, 50), 14, 0);
+    REFUSED(s, flockdrift_save(NULL, 0, 0, NULL, 0), 5, 0);
+    REFUSED(s, save(s, 0), 14, 0);
+    REFUSED(s, flockdrift_save(s->image, BUFFER, 50, NULL, 0), 14, 0);
+    REFUSED(s, flockdrift_sheet(NULL, 0, NULL, 0), 5, 0);
+    REFUSED(s, flockdrift_sheet(s->image, 50, NULL, 0), 14, 0);
+}
+
+/* A buffer below the size of a full image holds none, nor does one below the length that the image is said to have. */
+static void sizes(struct lent *s)
+{
+    static const size_t no_image[] = {0, 1, 30, 32, 49, 51, FULL, BUFFER, BUFFER + 1, SIZE_MAX};
+    size_t *b = &s->bytes, i;
+
+    begin(s);
+    REFUSED(s, flockdrift_ask(s->image, FULL - 1, b, 7, 1000, ask_26, sizeof ask_26, s->reply, REPLY), 5, 0);
+    REFUSED(s, flockdrift_take(s->image, FULL - 1, b, 7, 1000, name_26, sizeof name_26, s->reply, REPLY), 5, 0);
+    REFUSED(s, flockdrift_list(s->image, FULL - 1, 50, 7, 1000, list_all, sizeof list_all, s->reply, REPLY), 5, 0);
+    REFUSED(s, flockdrift_release(s->image, FULL - 1, b, 7, 1000, name_26, sizeof name_26), 5, 0);
+    REFUSED(s, flockdrift_mark(s->image, FULL - 1, b, network[0], 26, 1, 1000), 5, 0);
+    REFUSED(s, flockdrift_save(s->image, FULL - 1, 50, s->saved, BUFFER), 5, 0);
+    for (i = 0; i < sizeof no_image / sizeof no_image[0]; i++) {
+        set_bytes(s, no_image[i]);
+        REFUSED(s, ask(s, 7, 1000, ask_26, sizeof ask_26), 5, 0);
+        REFUSED(s, take(s, 7, 1000, name_26, sizeof name_26), 5, 0);
+        REFUSED(s, list(s, 7, 1000, list_all, sizeof list_all), 5, 0);
+        REFUSED(s, release(s, 7, 1000, name_26, sizeof name_26), 5, 0);
+        REFUSED(s, mark(s, network[0], 26, 1, 1000), 5, 0);
+        REFUSED(s, save(s, BUFFER), 5, 0);
+    }
+
+    /* in a buffer of a full image's size and no more all of them work */
+    set_bytes(s, 50);
+    ACCEPTED(s, flockdrift_mark(s->image, FULL, b, network[0], 26, 1, 1000), 0, 0, 50);
+    ACCEPTED(s, flockdrift_ask(s->image, FULL, b, 8, 1000, ask_two, sizeof ask_two, s->reply, REPLY), 23, 2, 88);
+    ACCEPTED(s, flockdrift_take(s->image, FULL, b, 7, 1000, name_26, sizeof name_26, s->reply, REPLY), 13, 1, 88);
+    READ(s, flockdrift_list(s->image, FULL, 88, 7, 1000, list_all, sizeof list_all, s->reply, REPLY), 13, 1);
+    READ(s, flockdrift_save(s->image, FULL, 88, s->saved, 88), 88, 0);
+    ACCEPTED(s, flockdrift_release(s->image, FULL, b, 7, 1000, name_26, sizeof name_26), 0, 1, 69);
+    ACCEPTED(s, load(s, FULL, 88), 0, 0, 88);
+    ACCEPTED(s, open_at(s, FULL), 0, 0, 31);
+}
+
+/* Several things are wrong with each call, one less from line to line: the first row that applies is given. */
+static void order(struct lent *s)
+{
+    size_t *b = &s->bytes;
+    uint32_t late = 4292375296u;
+
+    fill(s);
+    REFUSED(s, flockdrift_open(s->image, FULL - 1, b, network, 2, length, 2, 59, 28, 1000), 12, 0);
+    REFUSED(s, open_at(s, FULL - 1), 14, 0);
+    REFUSED(s, flockdrift_open(s->image, BUFFER, b, network, 2, length, 1, 3600, 28, 1000), 12, 0);
+    REFUSED(s, flockdrift_open(s->image, BUFFER, b, network, 1, length, 2, 3600, 28, 1000), 12, 0);
+    REFUSED(s, flockdrift_open(s->image, BUFFER, b, network, 2, length, 2, 3600, 256 + 28, 1000), 12, 0);
+    REFUSED(s, flockdrift_open(s->image, BUFFER, b, network, 2, length, 2, 3600, 28, late), 12, 0);
+    REFUSED(s, load(s, FULL - 1, 50), 5, 0);
+
+    begin(s);
+    set_bytes(s, 49);
+    REFUSED(s, flockdrift_ask(s->image, BUFFER, b, 0, 999, NULL, 0, s->reply, REPLY - 1), 1, 0);
+    REFUSED(s, ask(s, 0, 999, NULL, 0), 5, 0);
+    REFUSED(s, flockdrift_take(s->image, BUFFER, b, 0, 999, NULL, 0, s->reply, REPLY - 1), 1, 0);
+    REFUSED(s, take(s, 0, 999, NULL, 0), 5, 0);
+    REFUSED(s, flockdrift_list(s->image, BUFFER, 49, 0, 999, NULL, 0, s->reply, REPLY - 1), 1, 0);
+    REFUSED(s, list(s, 0, 999, NULL, 0), 5, 0);
+    REFUSED(s, release(s, 0, 999, NULL, 0), 5, 0);
+    REFUSED(s, mark(s, 0, 0, 0, 999), 5, 0);
+    REFUSED(s, save(s, 0), 5, 0);
+    REFUSED(s, flockdrift_sheet(s->image, 49, s->text, 0), 5, 0);
+    set_bytes(s, 50);
+    REFUSED(s, ask(s, 0, 999, NULL, 0), 2, 0);
+    REFUSED(s, ask(s, 7, 999, NULL, 0), 3, 0);
+    REFUSED(s, ask(s, 7, late, NULL, 0), 4, 0);
+    REFUSED(s, ask(s, 7, 1000, NULL, 0), 6, 0);
+    REFUSED(s, ask(s, 7, 1000, name_and_bad, sizeof name_and_bad), 7, 13);
+    REFUSED(s, ask(s, 7, 1000, ask_31, sizeof ask_31), 7, 3);
+    REFUSED(s, ask(s, 7, 1000, name_26, sizeof name_26), 8, 0);
+    REFUSED(s, ask(s, 7, 1000, ask_8, sizeof ask_8), 10, 0);
+    REFUSED(s, take(s, 0, 999, NULL, 0), 2, 0);
+    REFUSED(s, take(s, 8, 999, NULL, 0), 3, 0);
+    REFUSED(s, take(s, 8, late, NULL, 0), 4, 0);
+    REFUSED(s, take(s, 8, 1000, NULL, 0), 6, 0);
+    REFUSED(s, take(s, 8, 1000, ask_31, sizeof ask_31), 7, 3);
+    REFUSED(s, take(s, 8, 1000, ask_26, sizeof ask_26), 8, 0);
+    REFUSED(s, take(s, 8, 1000, name_26, sizeof name_26), 11, 0);
+    REFUSED(s, list(s, 0, 999, NULL, 0), 2, 0);
+    REFUSED(s, list(s, 8, 999, NULL, 0), 3, 0);
+    REFUSED(s, list(s, 8, late, NULL, 0), 4, 0);
+    REFUSED(s, list(s, 8, 1000, NULL, 0), 6, 0);
+    REFUSED(s, list(s, 8, 1000, ask_31, sizeof ask_31), 7, 3);
+    REFUSED(s, list(s, 8, 1000, ask_26, sizeof ask_26), 8, 0);
+    REFUSED(s, list(s, 8, 1000, list_all, sizeof list_all), 11, 0);
+    REFUSED(s, release(s, 0, 999, NULL, 0), 2, 0);
+    REFUSED(s, release(s, 8, 999, NULL, 0), 3, 0);
+    REFUSED(s, release(s, 8, late, NULL, 0), 4, 0);
+    REFUSED(s, release(s, 8, 1000, NULL, 0), 6, 0);
+    REFUSED(s, release(s, 8, 1000, ask_31, sizeof ask_31), 7, 3);
+    REFUSED(s, release(s, 8, 1000, ask_26, sizeof ask_26), 8, 0);
+    REFUSED(s, release(s, 8, 1000, name_26, sizeof name_26), 11, 0);
+    REFUSED(s, mark(s, network[0], 25, 1, 999), 3, 0);
+    REFUSED(s, mark(s, network[0], 25, 1, late), 4, 0);
+    REFUSED(s, mark(s, network[0], 25, 1, 1000), 11, 0);
+    REFUSED(s, mark(s, network[0], 256 + 26, 1, 1000), 11, 0);
+    REFUSED(s, save(s, 49), 14, 0);
+}
+
+/* Each call, what it leaves in the buffers, and nothing of what was removed. */
+static void calls(struct lent *s)
+{
+    fill(s);
+    ACCEPTED(s, open_at(s, BUFFER), 0, 0, 31);
+    FILLED(s->image + 31, FULL - 31, 0);
+    ACCEPTED(s, ask(s, 7, 1000, ask_26, sizeof ask_26), 13, 1, 50);
+    SAME("the reply", memcmp(s->reply, name_26, sizeof name_26) != 0, 0);
+    FILLED(s->reply + 13, sizeof s->reply - 13, REPLY_FILL);
+    ACCEPTED(s, ask(s, 8, 1000, ask_two, sizeof ask_two), 23, 2, 88);
+    FILLED(s->image + 88, FULL - 88, 0);
+    ACCEPTED(s, take(s, 7, 1010, name_26, sizeof name_26), 13, 1, 88);
+    READ(s, list(s, 7, 1020, list_all, sizeof list_all), 13, 1);
+
+    ACCEPTED(s, mark(s, network[0], 26, 256, 1030), 0, 0, 88);
+    READ(s, list(s, 7, 1030, list_all, sizeof list_all), 13, 1);
+    SAME("the entry's flags", s->reply[11], 1);
+    ACCEPTED(s, mark(s, network[0], 26, 0, 1030), 0, 0, 88);
+    READ(s, list(s, 7, 1030, list_all, sizeof list_all), 13, 1);
+    SAME("the entry's flags", s->reply[11], 0);
+    FILLED(s->reply + 23, sizeof s->reply - 23, REPLY_FILL);
+
+    FILLED(s->saved, sizeof s->saved, SAVED_FILL);
+    FILLED(s->text, sizeof s->text, TEXT_FILL);
+}
+
+/*
+ * At 1130 the two leases that nobody took have ended. Where a call removes leases zeros follow the image up to the end
+ * of the old one, and what a caller put past that stays.
+ */
+static void removed(struct lent *s)
+{
+    uint8_t image[88];
+
+    begin(s);
+    ACCEPTED(s, take(s, 7, 1010, name_26, sizeof name_26), 13, 1, 50);
+    ACCEPTED(s, ask(s, 8, 1010, ask_two, sizeof ask_two), 23, 2, 88);
+    memcpy(image, s->image, sizeof image);
+
+    put(s, image, sizeof image);
+    ACCEPTED(s, ask(s, 9, 1130, ask_25, sizeof ask_25), 13, 1, 69);
+    FILLED(s->image + 69, 88 - 69, 0);
+    FILLED(s->image + 88, BUFFER - 88, IMAGE_FILL);
+    put(s, image, sizeof image);
+    ACCEPTED(s, take(s, 7, 1130, name_26, sizeof name_26), 13, 1, 50);
+    FILLED(s->image + 50, 88 - 50, 0);
+    FILLED(s->image + 88, BUFFER - 88, IMAGE_FILL);
+    put(s, image, sizeof image);
+    ACCEPTED(s, mark(s, network[0], 26, 1, 1130), 0, 0, 50);
+    FILLED(s->image + 50, 88 - 50, 0);
+    FILLED(s->image + 88, BUFFER - 88, IMAGE_FILL);
+    /* removes three and counts the one that its entry names */
+    put(s, image, sizeof image);
+    ACCEPTED(s, release(s, 7, 1130, name_26, sizeof name_26), 0, 1, 31);
+    FILLED(s->image + 31, 88 - 31, 0);
+    FILLED(s->image + 88, BUFFER - 88, IMAGE_FILL);
+
+    /* of an older image, and of what is past it, open leaves nothing up to a full image's size */
+    put(s, image, sizeof image);
+    ACCEPTED(s, open_at(s, BUFFER), 0, 0, 31);
+    FILLED(s->image + 31, FULL - 31, 0);
+    FILLED(s->image + FULL, BUFFER - FULL, IMAGE_FILL);
+    set_bytes(s, sizeof image);
+    REFUSED(s, save(s, BUFFER), 5, 0);
+}
+
+static void load_and_save(struct lent *s)
+{
+    uint8_t image[50];
+    struct flockdrift_answer a;
+    size_t i;
+
+    begin(s);
+    memcpy(image, s->image, sizeof image);
+    REFUSED(s, save(s, 49), 14, 0);
+    READ(s, save(s, 50), 50, 0);
+    SAME("what is saved", memcmp(s->saved, image, sizeof image) != 0, 0);
+    FILLED(s->saved + 50, sizeof s->saved - 50, SAVED_FILL);
+    READ(s, save(s, BUFFER), 50, 0);
+    FILLED(s->saved + 50, sizeof s->saved - 50, SAVED_FILL);
+
+    /* over a longer image, which need not even be one */
+    memset(s->image, IMAGE_FILL, sizeof s->image);
+    set_bytes(s, SIZE_MAX);
+    REFUSED(s, load(s, BUFFER, 49), 5, 0);
+    REFUSED(s, load(s, BUFFER, 51), 5, 0);
+    REFUSED(s, load(s, BUFFER, BUFFER), 5, 0);
+    REFUSED(s, load(s, FULL - 1, 49), 5, 0);
+    REFUSED(s, load(s, FULL - 1, 50), 14, 0);
+    ACCEPTED(s, load(s, BUFFER, 50), 0, 0, 50);
+    SAME("what is loaded", memcmp(s->image, image, sizeof image) != 0, 0);
+    FILLED(s->image + 50, FULL - 50, 0);
+
+    /* an image has no checksum: without its last record, or with another bit, it may be that of another table */
+    ACCEPTED(s, load(s, BUFFER, 31), 0, 0, 31);
+    FILLED(s->image + 31, FULL - 31, 0);
+    for (i = 0; i < 8 * sizeof image; i++) {
+        s->saved[i / 8] ^= (uint8_t)(1 << i % 8);
+        keep(s);
+        a = load(s, BUFFER, 50);
+        if (a.number == 0) {
+            ACCEPTED(s, a, 0, 0, 50);
+            SAME("what is loaded", memcmp(s->image, s->saved, 50) != 0, 0);
+        } else {
+            REFUSED(s, a, 5, 0);
+        }
+        s->saved[i / 8] ^= (uint8_t)(1 << i % 8);
+    }
+}
+
+/* The sheet, in a text buffer of no byte less than it has, and in one of one byte less. */
+static void sheet(struct lent *s)
+{
+    static const char rows[] = "sheet lines=1 free=1\nfree 10.0.1.0/24\nused 10.0.8.0/26 station 7 until 1120\n";
+    size_t n = sizeof rows - 1;
+    uint8_t image[50];
+
+    begin(s);
+    memcpy(image, s->image, sizeof image);
+    REFUSED(s, flockdrift_sheet(image, 49, s->text, sizeof s->text), 5, 0);
+    REFUSED(s, flockdrift_sheet(s->image, 51, s->text, sizeof s->text), 5, 0);
+    REFUSED(s, flockdrift_sheet(image, 50, s->text, n - 1), 14, 0);
+    READ(s, flockdrift_sheet(image, 50, s->text, n), n, 0);
+    SAME("the sheet", memcmp(s->text, rows, n) != 0, 0);
+    FILLED(s->text + n, sizeof s->text - n, TEXT_FILL);
+}
+
+/* A full table: 256 leases, an image of 4,949 bytes in a buffer that has no byte more. */
+static void full(struct lent *s)
+{
+    static const uint32_t pools[8] = {0, 1u << 30, 2u << 30, 3u << 30, 5u << 28, 6u << 28, 7u << 28, 9u << 28};
+    static const uint8_t eights[8] = {8, 8, 8, 8, 8, 8, 8, 8};
+    size_t *b = &s->bytes;
+    struct flockdrift_answer a;
+    uint32_t i;
+
+    fill(s);
+    ACCEPTED(s, flockdrift_open(s->image, FULL, b, pools, 8, eights, 8, 60, 30, 0), 0, 0, 85);
+    for (i = 1; i <= 256; i++) {
+        a = flockdrift_ask(s->image, FULL, b, 7, 0, ask_26, sizeof ask_26, s->reply, REPLY);
+        ACCEPTED(s, a, 13, 1, 85 + 19 * i);
+    }
+    SAME("the length of a full image", s->bytes, FULL);
+    /* neither a lease more nor a prefix of this length */
+    REFUSED(s, flockdrift_ask(s->image, FULL, b, 7, 0, ask_8, sizeof ask_8, s->reply, REPLY), 9, 0);
+
+    REFUSED(s, save(s, FULL - 1), 14, 0);
+    READ(s, save(s, FULL), FULL, 0);
+    FILLED(s->saved + FULL, sizeof s->saved - FULL, SAVED_FILL);
+    REFUSED(s, load(s, FULL, FULL - 1), 5, 0);
+    REFUSED(s, load(s, FULL, FULL + 1), 5, 0);
+    ACCEPTED(s, load(s, FULL, FULL), 0, 0, FULL);
+    a = flockdrift_sheet(s->image, s->bytes, s->text, sizeof s->text);
+    SAME("the sheet's number", a.number, 0);
+    READ(s, a, a.bytes, 0);
+
+    /* all of them end at 120 */
+    a = flockdrift_ask(s->image, FULL, b, 7, 120, ask_26, sizeof ask_26, s->reply, REPLY);
+    ACCEPTED(s, a, 13, 1, 104);
+    FILLED(s->image + 104, FULL - 104, 0);
+    ACCEPTED(s, load(s, FULL, FULL), 0, 0, FULL);
+    ACCEPTED(s, open_at(s, FULL), 0, 0, 31);
+    FILLED(s->image + 31, FULL - 31, 0);
+    ACCEPTED(s, ask(s, 7, 1000, ask_26, sizeof ask_26), 13, 1, 50);
+}
+
+/* The same history on an image of each thread's own, on a small stack. */
+static void *history(void *own)
+{
+    int i;
+
+    for (i = 0; i < 4; i++)
+        full(own);
+    return NULL;
+}
+
+static void threads(void)
+{
+    static struct lent own[THREADS][2];
+    pthread_t thread[THREADS];
+    pthread_attr_t attributes;
+    int i;
+
+    SAME("the attributes", pthread_attr_init(&attributes), 0);
+    SAME("the stack", pthread_attr_setstacksize(&attributes, STACK), 0);
+    for (i = 0; i < THREADS; i++)
+        if (pthread_create(&thread[i], &attributes, history, own[i]) != 0)
+            exit(EXIT_FAILURE);
+    for (i = 0; i < THREADS; i++)
+        SAME("the join", pthread_join(thread[i], NULL), 0);
+    for (i = 1; i < THREADS; i++)
+        SAME("what another thread has", memcmp(own[0], own[i], sizeof own[0]) != 0, 0);
+    pthread_attr_destroy(&attributes);
+}
+
+int main(void)
+{
+    static struct lent s[2];
+
+    layout();
+    nulls(s);
+    sizes(s);
+    order(s);
+    calls(s);
+    removed(s);
+    load_and_save(s);
+    sheet(s);
+    full(s);
+    threads();
+    return differences == 0 ? EXIT_SUCCESS : EXIT_FAILURE;
+}

@@ -1,0 +1,115 @@
+//! What the tests and the scripts are made of: plain pieces, leases and tables.
+
+use crate::image::{save, FULL};
+use crate::option::{write220, Entry, Information, Request, Suboption};
+use crate::prefix::{prefix, Prefix};
+use crate::table::{Lease, State, Table, LATEST};
+
+/// 10.0.0.0.
+pub const TEN: u32 = 0x0a00_0000;
+
+pub fn request(length: u8, h: bool) -> Suboption {
+    Suboption::Request(Request {
+        h,
+        i: false,
+        prefix: length,
+    })
+}
+
+pub fn request_i() -> Suboption {
+    Suboption::Request(Request {
+        h: false,
+        i: true,
+        prefix: 0,
+    })
+}
+
+pub fn entry(at: Prefix) -> Entry {
+    Entry {
+        network: at.network,
+        prefix: at.length,
+        h: false,
+        d: false,
+        figures: Vec::new(),
+    }
+}
+
+pub fn information(c: bool, s: bool, prefixes: &[Prefix]) -> Suboption {
+    let entries = prefixes.iter().map(|at| entry(*at)).collect();
+    Suboption::Information(Information { c, s, entries })
+}
+
+/// The option that these pieces make; no bytes if the writer refuses them.
+pub fn option(list: &[Suboption]) -> Vec<u8> {
+    let mut buffer = vec![0; 257];
+    let bytes = write220(list, &mut buffer).unwrap_or(0);
+    buffer.truncate(bytes);
+    buffer
+}
+
+pub fn entries(prefixes: &[Prefix]) -> Vec<u8> {
+    option(&[information(false, false, prefixes)])
+}
+
+pub fn asking(lengths: &[u8]) -> Vec<u8> {
+    let requests: Vec<Suboption> = lengths.iter().map(|at| request(*at, false)).collect();
+    option(&requests)
+}
+
+pub fn lease(at: Prefix, client: u32, state: State, expires: u32) -> Lease {
+    Lease {
+        prefix: at,
+        client,
+        state,
+        h: false,
+        d: false,
+        expires,
+    }
+}
+
+/// So many leased /30s from 10.0.0.0 on.
+pub fn row_of_leases(count: u32, client: u32, expires: u32) -> Vec<Lease> {
+    (0..count)
+        .map(|index| lease(prefix(TEN + 4 * index, 30), client, State::Leased, expires))
+        .collect()
+}
+
+/// A sound table of these pools, which ascend, and these leases.
+pub fn table(pools: &[Prefix], last_time: u32, leases: Vec<Lease>) -> Table {
+    let mut table = Table::zero();
+    (table.term, table.default_length, table.last_time) = (3600, 28, last_time);
+    table.pools[..pools.len()].copy_from_slice(pools);
+    table.set_leases(leases);
+    assert!(table.sound());
+    table
+}
+
+/// Eight pools and 256 leases of different lengths.
+pub fn full_table() -> Table {
+    let pools: Vec<Prefix> = (0..8)
+        .map(|index| prefix(TEN + (index << 16), 16))
+        .collect();
+    let leases = (0..256u32)
+        .map(|index| Lease {
+            prefix: prefix(TEN + (index << 11), 21 + (index % 10) as u8),
+            client: 1 + index,
+            state: if index % 2 == 0 {
+                State::Leased
+            } else {
+                State::Offered
+            },
+            h: index % 3 == 0,
+            d: index % 5 == 0,
+            expires: u32::MAX - index,
+        })
+        .collect();
+    table(&pools, LATEST, leases)
+}
+
+/// The image of a table; no bytes if it is not sound.
+pub fn image(table: &Table) -> Vec<u8> {
+    let mut buffer = vec![0; FULL];
+    let bytes = save(table, &mut buffer).unwrap_or(0);
+    buffer.truncate(bytes);
+    buffer
+}
