@@ -4,19 +4,27 @@
  *     cc -std=c99 -Iinclude examples/embed.c target/staticlib/libflockdrift.a -o embed
  *     ./embed DIRECTORY [STOP-AFTER] < messages
  *
- * The lease table is the file `leases` in DIRECTORY, as the library saves it. Each line of standard input stands for a
- * message or for a word from the operator, and its answer goes to standard output, both in the console's words:
+ * The book is the file `leases` in DIRECTORY, as the library saves it. Each line of standard input stands for a message
+ * or for a word from the operator, and its answer goes to standard output, both in the console's words:
  *
- *     open TERM DEFAULT START PREFIX..       a new table
+ *     open TERM DEFAULT START PREFIX..       a new book, where there is none yet
  *     ask|take|list|return CLIENT NOW OPTION the option in hexadecimal
  *     mark NOW PREFIX 0|1
- *     sheet                                  the table as text
+ *     sheet                                  the book as text
  *
  * A client gets its answer only after the new image is on the disk: it is written to another file, which is synced and
  * then renamed over the old one, and the directory is synced. So a server that is killed between any two steps finds at
- * its next start the image from before the message or the one from after it, whole, and it has promised no lease that is
- * not in it. A client whose answer was lost asks again: a take then gets the same answer, and the prefix of an ask that
- * nobody takes is free again after 120 seconds. STOP-AFTER shows this: the server kills itself after so many steps.
+ * its next start the image from before the message or the one from after it, whole, and it has promised no lease that
+ * is not in it. A client whose answer was lost asks again: a take then gets the same answer, and the prefix of an ask
+ * that nobody takes is free again after 120 seconds. STOP-AFTER shows this: the server kills itself after so many
+ * steps.
+ *
+ * If the image cannot be written the server goes back to the book from before the message, gives no answer, says why on
+ * standard error and goes on. A new book takes the place of no other: open is no word where there is a book, and its
+ * file is linked into place, which fails where a file has come to stand there. A file that is no image is named with
+ * its number, and stays as it is: the server does not start on it.
+ *
+ * One server at a time works on a directory.
  */
 #define _POSIX_C_SOURCE 200809L
 
@@ -39,10 +47,10 @@ enum {
 };
 
 struct server {
-    int directory; /* where the image is kept */
+    const char *name; /* of the directory where the image is kept */
+    int directory;
     unsigned long stop_after;
-    uint8_t image[FLOCKDRIFT_IMAGE_CAPACITY];
-    size_t bytes; /* the length of the image; 0 where there is none yet, which no call takes for an image */
+    struct flockdrift_book book;
     uint8_t saved[FLOCKDRIFT_IMAGE_CAPACITY + 1]; /* one byte more shows a file that is longer than any image */
     char text[FLOCKDRIFT_TEXT_CAPACITY];
 };
@@ -56,6 +64,20 @@ static void step(struct server *s)
 
 /* THE IMAGE FILE */
 
+/* Says what could not be done with a file of the directory, in errno's words. */
+static int complain(const struct server *s, const char *file)
+{
+    fprintf(stderr, "embed: %s/%s: %s\n", s->name, file, strerror(errno));
+    return -1;
+}
+
+/* The same of a refusal, with its number. */
+static int complain_refused(const struct server *s, struct flockdrift_answer a)
+{
+    fprintf(stderr, "embed: %s/leases: refused %lu: %s\n", s->name, (unsigned long)a.number, flockdrift_text(a.number));
+    return -1;
+}
+
 /* Closes a file after a failure, whose errno is the one to report. */
 static int failed(int fd)
 {
@@ -66,26 +88,33 @@ static int failed(int fd)
     return -1;
 }
 
-/* Loads the image, or finds that there is none yet. A file that is no image is an error, and stays for the operator. */
-static int read_image(struct server *s)
+/* Reads a file as far as the buffer goes. */
+static int read_all(int fd, uint8_t *to, size_t room, size_t *bytes)
 {
-    size_t bytes = 0;
     ssize_t n;
-    int fd = openat(s->directory, "leases", O_RDONLY | O_CLOEXEC);
 
-    s->bytes = 0;
-    if (fd < 0)
-        return errno == ENOENT ? 0 : -1;
-    while ((n = read(fd, s->saved + bytes, sizeof s->saved - bytes)) != 0)
+    *bytes = 0;
+    while ((n = read(fd, to + *bytes, room - *bytes)) != 0)
         if (n > 0)
-            bytes += (size_t)n;
+            *bytes += (size_t)n;
         else if (errno != EINTR)
             return failed(fd);
-    if (flockdrift_load(s->image, sizeof s->image, &s->bytes, s->saved, bytes).number != 0) {
-        errno = EBADMSG;
-        return failed(fd);
-    }
     return close(fd);
+}
+
+/* Loads the book, or finds that there is none yet. A file that is no image is an error, and stays for the operator. */
+static int read_book(struct server *s)
+{
+    struct flockdrift_answer a;
+    size_t bytes;
+    int fd = openat(s->directory, "leases", O_RDONLY | O_CLOEXEC);
+
+    if (fd < 0 && errno == ENOENT)
+        return 0;
+    if (fd < 0 || read_all(fd, s->saved, sizeof s->saved, &bytes) != 0)
+        return complain(s, "leases");
+    a = flockdrift_book_load(&s->book, s->saved, bytes);
+    return a.number == 0 ? 0 : complain_refused(s, a);
 }
 
 static int write_all(struct server *s, int fd, const uint8_t *from, size_t bytes)
@@ -105,35 +134,58 @@ static int write_all(struct server *s, int fd, const uint8_t *from, size_t bytes
 }
 
 /*
- * Puts the image in the place of the old one: after this returns 0 it is there, and after a crash it is one of the two.
- * Save checks once more what goes to the disk, so that a fault elsewhere in the server does not take the good file's place.
+ * Writes the bytes to the new file, all of them on the disk. A file that was left there loses its name first: it may be
+ * the image itself, which open links.
  */
-static int write_image(struct server *s)
+static int write_new(struct server *s, size_t bytes)
 {
-    struct flockdrift_answer a = flockdrift_save(s->image, sizeof s->image, s->bytes, s->saved, sizeof s->saved);
     int fd;
 
-    if (a.number != 0) {
-        errno = EBADMSG;
+    if (unlinkat(s->directory, "leases.new", 0) != 0 && errno != ENOENT)
         return -1;
-    }
-    fd = openat(s->directory, "leases.new", O_WRONLY | O_CREAT | O_TRUNC | O_CLOEXEC, 0600);
+    step(s);
+    fd = openat(s->directory, "leases.new", O_WRONLY | O_CREAT | O_EXCL | O_CLOEXEC, 0600);
     if (fd < 0)
         return -1;
     step(s);
-    if (write_all(s, fd, s->saved, a.bytes) != 0 || fsync(fd) != 0)
+    if (write_all(s, fd, s->saved, bytes) != 0 || fsync(fd) != 0)
         return failed(fd);
     step(s);
     if (close(fd) != 0)
         return -1;
     step(s);
-    if (renameat(s->directory, "leases.new", s->directory, "leases") != 0)
+    return 0;
+}
+
+/* Puts the new file in the place of the old one; where there is to be none yet, only if there is none. */
+static int put_in_place(struct server *s, int first)
+{
+    int e = first ? linkat(s->directory, "leases.new", s->directory, "leases", 0)
+                  : renameat(s->directory, "leases.new", s->directory, "leases");
+
+    if (e != 0)
         return -1;
     step(s);
     if (fsync(s->directory) != 0)
         return -1;
     step(s);
     return 0;
+}
+
+/*
+ * Puts the book's image in the place of the old one: after this returns 0 it is there, and after a crash or a failure
+ * it is one of the two. Save checks once more what goes to the disk, so that a fault elsewhere in the server does not
+ * take the good file's place.
+ */
+static int write_book(struct server *s, int first)
+{
+    struct flockdrift_answer a = flockdrift_book_save(&s->book, s->saved, sizeof s->saved);
+
+    if (a.number != 0)
+        return complain_refused(s, a);
+    if (write_new(s, a.bytes) != 0)
+        return complain(s, "leases.new");
+    return put_in_place(s, first) == 0 ? 0 : complain(s, "leases");
 }
 
 /* MESSAGES AS LINES */
@@ -237,62 +289,79 @@ static void show(const struct server *s, struct flockdrift_answer a, const char 
 
 /* THE LOOP */
 
+/* open TERM DEFAULT START PREFIX.. */
+static int call_open(struct server *s, char *rest, struct flockdrift_answer *a)
+{
+    uint32_t networks[POOLS], term, length, start;
+    uint8_t lengths[POOLS];
+    size_t n = 0;
+    char *text;
+
+    if (number(word(&rest), &term) != 0 || number(word(&rest), &length) != 0 || number(word(&rest), &start) != 0)
+        return -1;
+    while ((text = word(&rest)) != NULL) {
+        if (n == POOLS || prefix(text, &networks[n], &lengths[n]) != 0)
+            return -1;
+        n++;
+    }
+    if (flockdrift_book_check(&s->book).number == 0) {
+        fprintf(stderr, "embed: %s/leases: there is a book, which open would lose\n", s->name);
+        return -1;
+    }
+    *a = flockdrift_book_open(&s->book, networks, n, lengths, n, term, length, start);
+    return 0;
+}
+
+/* mark NOW PREFIX 0|1 */
+static int call_mark(struct server *s, char *rest, struct flockdrift_answer *a)
+{
+    uint32_t now, network, flag;
+    uint8_t length;
+
+    if (number(word(&rest), &now) != 0 || prefix(word(&rest), &network, &length) != 0 ||
+        number(word(&rest), &flag) != 0 || flag > 1 || word(&rest) != NULL)
+        return -1;
+    *a = flockdrift_book_mark(&s->book, network, length, flag, now);
+    return 0;
+}
+
 /* The call that a message asks for; -1 where the line is none. */
 static int call(struct server *s, const char *verb, char *rest, struct flockdrift_answer *a, uint8_t *reply)
 {
-    uint32_t client, now, network, term, length, flag;
     uint8_t option[OPTION_CAPACITY];
-    uint32_t networks[POOLS];
-    uint8_t lengths[POOLS];
-    size_t bytes, n = 0;
-    char *text;
+    uint32_t client, now;
+    size_t bytes;
 
-    if (strcmp(verb, "open") == 0) {
-        if (number(word(&rest), &term) != 0 || number(word(&rest), &length) != 0 || number(word(&rest), &now) != 0)
-            return -1;
-        while ((text = word(&rest)) != NULL) {
-            if (n == POOLS || prefix(text, &networks[n], &lengths[n]) != 0)
-                return -1;
-            n++;
-        }
-        *a = flockdrift_open(s->image, sizeof s->image, &s->bytes, networks, n, lengths, n, term, length, now);
-        return 0;
-    }
-    if (strcmp(verb, "mark") == 0) {
-        if (number(word(&rest), &now) != 0 || prefix(word(&rest), &network, &lengths[0]) != 0 ||
-            number(word(&rest), &flag) != 0 || flag > 1 || word(&rest) != NULL)
-            return -1;
-        *a = flockdrift_mark(s->image, sizeof s->image, &s->bytes, network, lengths[0], flag, now);
-        return 0;
-    }
+    if (strcmp(verb, "open") == 0)
+        return call_open(s, rest, a);
+    if (strcmp(verb, "mark") == 0)
+        return call_mark(s, rest, a);
     if (strcmp(verb, "sheet") == 0) {
         if (word(&rest) != NULL)
             return -1;
-        *a = flockdrift_sheet(s->image, s->bytes, s->text, sizeof s->text);
+        *a = flockdrift_book_sheet(&s->book, s->text, sizeof s->text);
         return 0;
     }
     if (number(word(&rest), &client) != 0 || number(word(&rest), &now) != 0 ||
         octets(word(&rest), option, &bytes) != 0 || word(&rest) != NULL)
         return -1;
     if (strcmp(verb, "ask") == 0)
-        *a = flockdrift_ask(s->image, sizeof s->image, &s->bytes, client, now, option, bytes, reply,
-                            FLOCKDRIFT_REPLY_CAPACITY);
+        *a = flockdrift_book_ask(&s->book, client, now, option, bytes, reply, FLOCKDRIFT_REPLY_CAPACITY);
     else if (strcmp(verb, "take") == 0)
-        *a = flockdrift_take(s->image, sizeof s->image, &s->bytes, client, now, option, bytes, reply,
-                             FLOCKDRIFT_REPLY_CAPACITY);
+        *a = flockdrift_book_take(&s->book, client, now, option, bytes, reply, FLOCKDRIFT_REPLY_CAPACITY);
     else if (strcmp(verb, "list") == 0)
-        *a = flockdrift_list(s->image, sizeof s->image, s->bytes, client, now, option, bytes, reply,
-                             FLOCKDRIFT_REPLY_CAPACITY);
+        *a = flockdrift_book_list(&s->book, client, now, option, bytes, reply, FLOCKDRIFT_REPLY_CAPACITY);
     else if (strcmp(verb, "return") == 0)
-        *a = flockdrift_release(s->image, sizeof s->image, &s->bytes, client, now, option, bytes);
+        *a = flockdrift_book_release(&s->book, client, now, option, bytes);
     else
         return -1;
     return 0;
 }
 
-/* Answers one message; -1 where the image or the answer could not be written. */
+/* Answers one message; -1 where the answer could not be written. */
 static int serve(struct server *s, char *line, unsigned long count)
 {
+    const struct flockdrift_book before = s->book;
     uint8_t reply[FLOCKDRIFT_REPLY_CAPACITY];
     struct flockdrift_answer a;
     char *rest;
@@ -305,8 +374,11 @@ static int serve(struct server *s, char *line, unsigned long count)
         return fflush(stdout);
     }
     step(s);
-    if (a.number == 0 && strcmp(verb, "list") != 0 && strcmp(verb, "sheet") != 0 && write_image(s) != 0)
-        return -1;
+    if (a.number == 0 && strcmp(verb, "list") != 0 && strcmp(verb, "sheet") != 0 &&
+        write_book(s, strcmp(verb, "open") == 0) != 0) {
+        s->book = before;
+        return 0;
+    }
     show(s, a, verb, reply);
     if (fflush(stdout) != 0)
         return -1;
@@ -328,14 +400,17 @@ int main(int argc, char **argv)
         return EXIT_FAILURE;
     }
     s.stop_after = stop_after;
-    s.directory = open(argv[1], O_RDONLY | O_DIRECTORY | O_CLOEXEC);
-    if (s.directory < 0 || read_image(&s) != 0) {
-        perror(argv[1]);
+    s.name = argv[1];
+    s.directory = open(s.name, O_RDONLY | O_DIRECTORY | O_CLOEXEC);
+    if (s.directory < 0) {
+        perror(s.name);
         return EXIT_FAILURE;
     }
+    if (read_book(&s) != 0)
+        goto done;
     while (getline(&line, &room, stdin) >= 0)
         if (serve(&s, line, ++count) != 0) {
-            perror(argv[0]);
+            perror("standard output");
             goto done;
         }
     if (feof(stdin))

@@ -1,268 +1,114 @@
 //! The loop of a DHCP server in small, with Flockdrift embedded: the same as embed.c, from Rust. Build it with
 //!
-//!     rustc --edition 2021 -O -L native=target/staticlib -l static=flockdrift examples/embed.rs -o embed
-//!     ./embed DIRECTORY < messages
+//!     cargo build --example embed --manifest-path rust/flockdrift/Cargo.toml
+//!     rust/flockdrift/target/debug/examples/embed DIRECTORY [STOP-AFTER] < messages
 //!
-//! embed.c says what the messages are, and why a client gets its answer only after the new image is on the disk.
+//! embed.c says what the messages are, why a client gets its answer only after the new image is on the disk, and what
+//! the server does where that fails.
 #![deny(unsafe_code)]
 
 use std::env;
+use std::error::Error;
+use std::ffi::OsString;
 use std::fs::{self, File, OpenOptions};
 use std::io::{self, BufRead, Write};
 use std::os::unix::fs::OpenOptionsExt;
-use std::path::Path;
-use std::process::ExitCode;
+use std::path::{Path, PathBuf};
+use std::process::{self, ExitCode};
 
-#[allow(unsafe_code)]
-#[path = "../include/flockdrift.rs"]
-mod raw;
+use flockdrift::{Book, Refusal, Reply};
 
-/// A safe wrapper of include/flockdrift.h: buffers have the sizes that the library asks for, slices carry their lengths,
-/// and a refusal is an error. The borrow checker sees to the rest: no two arguments overlap, and no two threads work on
-/// one table.
-#[allow(unsafe_code)]
-mod flockdrift {
-    use crate::raw::*;
+/// Bytes for one write: few, so that a kill can leave half an image in the new file.
+const PIECE: usize = 32;
 
-    /// Why a call was refused; `place` is that of a bad suboption (7), and 0 otherwise.
-    #[derive(Clone, Copy, Debug, PartialEq, Eq)]
-    pub struct Refusal {
-        pub number: u32,
-        pub place: u32,
-    }
+/// Ends the server after so many steps, as a kill would: nothing is flushed and no destructor runs.
+struct Steps(Option<u32>);
 
-    fn accepted(a: Answer) -> Result<Answer, Refusal> {
-        match a.number {
-            0 => Ok(a),
-            number => Err(Refusal {
-                number,
-                place: a.place,
-            }),
-        }
-    }
-
-    /// The option that answers a client, and how many entries it has.
-    pub struct Reply {
-        buffer: [u8; REPLY_CAPACITY],
-        bytes: usize,
-        pub count: u32,
-    }
-
-    impl Reply {
-        /// What a call writes.
-        fn of(call: impl FnOnce(&mut [u8]) -> Answer) -> Result<Reply, Refusal> {
-            let mut buffer = [0; REPLY_CAPACITY];
-            let a = accepted(call(&mut buffer))?;
-            Ok(Reply {
-                buffer,
-                bytes: a.bytes as usize,
-                count: a.count,
-            })
-        }
-
-        pub fn option(&self) -> &[u8] {
-            &self.buffer[..self.bytes]
-        }
-    }
-
-    /// A lease table, held as its image.
-    pub struct Table {
-        image: [u8; IMAGE_CAPACITY],
-        bytes: usize,
-    }
-
-    // SAFETY of every call below: each pointer with a size is that of a live slice, with its length; the one without is
-    // that of the image's length; and the library keeps none of them.
-    impl Table {
-        /// No table yet: every call is refused with 5.
-        pub fn none() -> Table {
-            Table {
-                image: [0; IMAGE_CAPACITY],
-                bytes: 0,
+impl Steps {
+    /// Stands between any two steps after which the world may look different.
+    fn step(&mut self) {
+        if let Some(left) = &mut self.0 {
+            *left -= 1;
+            if *left == 0 {
+                process::abort();
             }
-        }
-
-        pub fn open(
-            networks: &[u32],
-            lengths: &[u8],
-            term: u32,
-            default_length: u32,
-            start: u32,
-        ) -> Result<Table, Refusal> {
-            let mut table = Table::none();
-            accepted(unsafe {
-                flockdrift_open(
-                    table.image.as_mut_ptr(),
-                    table.image.len(),
-                    &mut table.bytes,
-                    networks.as_ptr(),
-                    networks.len(),
-                    lengths.as_ptr(),
-                    lengths.len(),
-                    term,
-                    default_length,
-                    start,
-                )
-            })?;
-            Ok(table)
-        }
-
-        /// The table that was saved; bytes that are no image are refused with 5.
-        pub fn load(saved: &[u8]) -> Result<Table, Refusal> {
-            let mut table = Table::none();
-            accepted(unsafe {
-                flockdrift_load(
-                    table.image.as_mut_ptr(),
-                    table.image.len(),
-                    &mut table.bytes,
-                    saved.as_ptr(),
-                    saved.len(),
-                )
-            })?;
-            Ok(table)
-        }
-
-        /// The bytes that load takes.
-        pub fn save(&self) -> Result<Vec<u8>, Refusal> {
-            let mut saved = vec![0; IMAGE_CAPACITY];
-            let a = accepted(unsafe {
-                flockdrift_save(
-                    self.image.as_ptr(),
-                    self.image.len(),
-                    self.bytes,
-                    saved.as_mut_ptr(),
-                    saved.len(),
-                )
-            })?;
-            saved.truncate(a.bytes as usize);
-            Ok(saved)
-        }
-
-        pub fn ask(&mut self, client: u32, now: u32, option: &[u8]) -> Result<Reply, Refusal> {
-            Reply::of(|reply| unsafe {
-                flockdrift_ask(
-                    self.image.as_mut_ptr(),
-                    self.image.len(),
-                    &mut self.bytes,
-                    client,
-                    now,
-                    option.as_ptr(),
-                    option.len(),
-                    reply.as_mut_ptr(),
-                    reply.len(),
-                )
-            })
-        }
-
-        pub fn take(&mut self, client: u32, now: u32, option: &[u8]) -> Result<Reply, Refusal> {
-            Reply::of(|reply| unsafe {
-                flockdrift_take(
-                    self.image.as_mut_ptr(),
-                    self.image.len(),
-                    &mut self.bytes,
-                    client,
-                    now,
-                    option.as_ptr(),
-                    option.len(),
-                    reply.as_mut_ptr(),
-                    reply.len(),
-                )
-            })
-        }
-
-        pub fn list(&self, client: u32, now: u32, option: &[u8]) -> Result<Reply, Refusal> {
-            Reply::of(|reply| unsafe {
-                flockdrift_list(
-                    self.image.as_ptr(),
-                    self.image.len(),
-                    self.bytes,
-                    client,
-                    now,
-                    option.as_ptr(),
-                    option.len(),
-                    reply.as_mut_ptr(),
-                    reply.len(),
-                )
-            })
-        }
-
-        /// Removes leases; how many.
-        pub fn release(&mut self, client: u32, now: u32, option: &[u8]) -> Result<u32, Refusal> {
-            let a = accepted(unsafe {
-                flockdrift_release(
-                    self.image.as_mut_ptr(),
-                    self.image.len(),
-                    &mut self.bytes,
-                    client,
-                    now,
-                    option.as_ptr(),
-                    option.len(),
-                )
-            })?;
-            Ok(a.count)
-        }
-
-        pub fn mark(
-            &mut self,
-            network: u32,
-            length: u8,
-            deprecated: bool,
-            now: u32,
-        ) -> Result<(), Refusal> {
-            accepted(unsafe {
-                flockdrift_mark(
-                    self.image.as_mut_ptr(),
-                    self.image.len(),
-                    &mut self.bytes,
-                    network,
-                    length.into(),
-                    deprecated.into(),
-                    now,
-                )
-            })?;
-            Ok(())
-        }
-
-        /// The table as text for an operator.
-        pub fn sheet(&self) -> Result<String, Refusal> {
-            let mut text = vec![0; TEXT_CAPACITY];
-            let image = &self.image[..self.bytes];
-            let a = accepted(unsafe {
-                flockdrift_sheet(image.as_ptr(), image.len(), text.as_mut_ptr(), text.len())
-            })?;
-            text.truncate(a.bytes as usize);
-            Ok(String::from_utf8(text).expect("a sheet is ASCII"))
         }
     }
 }
-
-use flockdrift::{Refusal, Reply, Table};
 
 // THE IMAGE FILE
 
-fn read_table(directory: &Path) -> io::Result<Table> {
-    match fs::read(directory.join("leases")) {
-        Ok(saved) => Table::load(&saved).map_err(|_| io::ErrorKind::InvalidData.into()),
-        Err(e) if e.kind() == io::ErrorKind::NotFound => Ok(Table::none()),
-        Err(e) => Err(e),
+/// The directory where the book is kept.
+struct Directory(PathBuf);
+
+impl Directory {
+    fn leases(&self) -> PathBuf {
+        self.0.join("leases")
+    }
+
+    fn new_leases(&self) -> PathBuf {
+        self.0.join("leases.new")
+    }
+
+    /// The book, or none yet. A file that is no image is an error, and stays for the operator.
+    fn read(&self) -> Result<Book, Box<dyn Error>> {
+        match fs::read(self.leases()) {
+            Ok(saved) => Ok(Book::load(&saved).map_err(|e| named(&self.leases(), e))?),
+            Err(e) if e.kind() == io::ErrorKind::NotFound => Ok(Book::none()),
+            Err(e) => Err(named(&self.leases(), e).into()),
+        }
+    }
+
+    /// Writes the bytes to the new file, all of them on the disk. A file that was left there loses its name first: it
+    /// may be the image itself, which open links.
+    fn write_new(&self, saved: &[u8], steps: &mut Steps) -> io::Result<()> {
+        match fs::remove_file(self.new_leases()) {
+            Err(e) if e.kind() != io::ErrorKind::NotFound => return Err(e),
+            _ => steps.step(),
+        }
+        let mut file = OpenOptions::new()
+            .write(true)
+            .create_new(true)
+            .mode(0o600)
+            .open(self.new_leases())?;
+        steps.step();
+        for piece in saved.chunks(PIECE) {
+            file.write_all(piece)?;
+            steps.step();
+        }
+        file.sync_all()?;
+        steps.step();
+        drop(file);
+        steps.step();
+        Ok(())
+    }
+
+    /// Puts the new file in the place of the old one; where there is to be none yet, only if there is none.
+    fn put_in_place(&self, first: bool, steps: &mut Steps) -> io::Result<()> {
+        if first {
+            fs::hard_link(self.new_leases(), self.leases())?;
+        } else {
+            fs::rename(self.new_leases(), self.leases())?;
+        }
+        steps.step();
+        File::open(&self.0)?.sync_all()?;
+        steps.step();
+        Ok(())
+    }
+
+    /// Puts the book's image in the place of the old one: after a crash or a failure it is one of the two.
+    fn write(&self, book: &Book, first: bool, steps: &mut Steps) -> Result<(), String> {
+        let saved = book.save().map_err(|e| named(&self.leases(), e))?;
+        self.write_new(&saved, steps)
+            .map_err(|e| named(&self.new_leases(), e))?;
+        self.put_in_place(first, steps)
+            .map_err(|e| named(&self.leases(), e))
     }
 }
 
-/// Puts the image in the place of the old one.
-fn write_table(directory: &Path, table: &Table) -> io::Result<()> {
-    let saved = table.save().map_err(|_| io::ErrorKind::InvalidData)?;
-    let new = directory.join("leases.new");
-    let mut file = OpenOptions::new()
-        .write(true)
-        .create(true)
-        .truncate(true)
-        .mode(0o600)
-        .open(&new)?;
-    file.write_all(&saved)?;
-    file.sync_all()?;
-    drop(file);
-    fs::rename(&new, directory.join("leases"))?;
-    File::open(directory)?.sync_all()
+/// What is wrong with a file.
+fn named(file: &Path, e: impl Error) -> String {
+    format!("{}: {e}", file.display())
 }
 
 // MESSAGES AS LINES
@@ -353,12 +199,12 @@ fn shown(reply: Reply) -> String {
     format!(
         "ok bytes={} count={} {octets}",
         reply.option().len(),
-        reply.count
+        reply.count()
     )
 }
 
-/// Makes the call; the answer's words, and whether the table may have changed.
-fn call(table: &mut Table, message: Message) -> Result<(String, bool), Refusal> {
+/// Makes the call; the words of its answer.
+fn call(book: &mut Book, message: &Message) -> Result<String, Refusal> {
     match message {
         Message::Open {
             networks,
@@ -367,57 +213,115 @@ fn call(table: &mut Table, message: Message) -> Result<(String, bool), Refusal> 
             default_length,
             start,
         } => {
-            *table = Table::open(&networks, &lengths, term, default_length, start)?;
-            Ok(("ok".into(), true))
+            *book = Book::open(networks, lengths, *term, *default_length, *start)?;
+            Ok("ok".into())
         }
-        Message::Ask(client, now, option) => Ok((shown(table.ask(client, now, &option)?), true)),
-        Message::Take(client, now, option) => Ok((shown(table.take(client, now, &option)?), true)),
-        Message::List(client, now, option) => Ok((shown(table.list(client, now, &option)?), false)),
-        Message::Return(client, now, option) => Ok((
-            format!("ok count={}", table.release(client, now, &option)?),
-            true,
-        )),
+        Message::Ask(client, now, option) => Ok(shown(book.ask(*client, *now, option)?)),
+        Message::Take(client, now, option) => Ok(shown(book.take(*client, *now, option)?)),
+        Message::List(client, now, option) => Ok(shown(book.list(*client, *now, option)?)),
+        Message::Return(client, now, option) => {
+            Ok(format!("ok count={}", book.release(*client, *now, option)?))
+        }
         Message::Mark(now, (network, length), deprecated) => {
-            table.mark(network, length, deprecated, now)?;
-            Ok(("ok".into(), true))
+            book.mark(*network, *length, *deprecated, *now)?;
+            Ok("ok".into())
         }
-        Message::Sheet => Ok((table.sheet()?.trim_end().into(), false)),
+        Message::Sheet => Ok(book.sheet()?.trim_end().into()),
     }
 }
 
-fn serve(directory: &Path) -> io::Result<()> {
-    let mut table = read_table(directory)?;
-    let mut out = io::stdout().lock();
-    for (count, line) in io::stdin().lock().lines().enumerate() {
-        let line = line?;
-        let words: Vec<&str> = line.split_ascii_whitespace().collect();
-        if words.first().is_none_or(|word| word.starts_with('#')) {
-            continue;
-        }
-        match message(&words).map(|message| call(&mut table, message)) {
-            None => writeln!(out, "error line {}", count + 1)?,
-            Some(Err(Refusal { number: 7, place })) => writeln!(out, "refused 7 place={place}")?,
-            Some(Err(Refusal { number, .. })) => writeln!(out, "refused {number}")?,
-            Some(Ok((answer, changed))) => {
-                // no answer before its image is on the disk
-                if changed {
-                    write_table(directory, &table)?;
-                }
-                writeln!(out, "{answer}")?;
+/// The server: where its book is kept, and the book.
+struct Server {
+    directory: Directory,
+    steps: Steps,
+    book: Book,
+}
+
+impl Server {
+    /// The answer to a message; none where its image could not be written, and then the book is the one from before.
+    fn answer(&mut self, message: &Message) -> Option<String> {
+        let before = self.book.clone();
+        let answer = call(&mut self.book, message);
+        self.steps.step();
+        let words = match answer {
+            Ok(words) => words,
+            Err(Refusal { number: 7, place }) => return Some(format!("refused 7 place={place}")),
+            Err(Refusal { number, .. }) => return Some(format!("refused {number}")),
+        };
+        if !matches!(message, Message::List(..) | Message::Sheet) {
+            let first = matches!(message, Message::Open { .. });
+            if let Err(e) = self.directory.write(&self.book, first, &mut self.steps) {
+                eprintln!("embed: {e}");
+                self.book = before;
+                return None;
             }
         }
-        out.flush()?;
+        Some(words)
     }
-    Ok(())
+
+    /// What a line means; none where it is no message. Open is none where there is a book, which it would lose.
+    fn message(&self, words: &[&str]) -> Option<Message> {
+        let message = message(words)?;
+        if matches!(message, Message::Open { .. }) && self.book.check().is_ok() {
+            let leases = self.directory.leases();
+            eprintln!(
+                "embed: {}: there is a book, which open would lose",
+                leases.display()
+            );
+            return None;
+        }
+        Some(message)
+    }
+
+    fn serve(&mut self) -> io::Result<()> {
+        let mut out = io::stdout().lock();
+        for (count, line) in io::stdin().lock().lines().enumerate() {
+            let line = line?;
+            let words: Vec<&str> = line.split_ascii_whitespace().collect();
+            if words.first().is_none_or(|word| word.starts_with('#')) {
+                continue;
+            }
+            let Some(message) = self.message(&words) else {
+                writeln!(out, "error line {}", count + 1)?;
+                out.flush()?;
+                continue;
+            };
+            if let Some(answer) = self.answer(&message) {
+                writeln!(out, "{answer}")?;
+                out.flush()?;
+                self.steps.step();
+            }
+        }
+        Ok(())
+    }
+}
+
+fn start(directory: &OsString, steps: Steps) -> Result<(), Box<dyn Error>> {
+    let directory = Directory(directory.into());
+    let book = directory.read()?;
+    let mut server = Server {
+        directory,
+        steps,
+        book,
+    };
+    Ok(server.serve()?)
 }
 
 fn main() -> ExitCode {
     let arguments: Vec<_> = env::args_os().skip(1).collect();
-    let [directory] = arguments.as_slice() else {
-        eprintln!("usage: embed DIRECTORY < messages");
+    let stop_after = match &arguments[..] {
+        [_] => Some(None),
+        [_, steps] => steps
+            .to_str()
+            .and_then(number)
+            .map(|n| (n != 0).then_some(n)),
+        _ => None,
+    };
+    let Some(stop_after) = stop_after else {
+        eprintln!("usage: embed DIRECTORY [STOP-AFTER] < messages");
         return ExitCode::FAILURE;
     };
-    match serve(Path::new(directory)) {
+    match start(&arguments[0], Steps(stop_after)) {
         Ok(()) => ExitCode::SUCCESS,
         Err(e) => {
             eprintln!("embed: {e}");

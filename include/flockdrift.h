@@ -1,30 +1,50 @@
 /*
  * Flockdrift: leases of subnets over DHCP option 220 (RFC 6656), embedded in a server.
  *
- * The server holds the lease table as its image: bytes at the front of a buffer that the server owns, and beside it the
- * image's length. Both are lent to each call: one that accepts leaves the new image and its length in them, one that
- * refuses has changed neither. The image is also the saved form, which the server writes to a file and loads from it.
+ * The server holds the lease table as a book: its image, at the front of a buffer, and the image's length. Both are
+ * lent to each call: one that accepts leaves the new image and its length in them, one that refuses has changed
+ * neither. The image is also the saved form, which the server writes to a file and loads from it.
  *
- *     uint8_t image[FLOCKDRIFT_IMAGE_CAPACITY];
- *     size_t bytes = 0;                              no table yet: open or load makes one
- *     struct flockdrift_answer a = flockdrift_load(image, sizeof image, &bytes, saved, saved_bytes);
+ *     static struct flockdrift_book book;            all zeros: no table yet, open or load makes one
+ *     struct flockdrift_answer a = flockdrift_book_load(&book, saved, saved_bytes);
  *     if (a.number == 0)
- *         a = flockdrift_ask(image, sizeof image, &bytes, ...);
+ *         a = flockdrift_book_ask(&book, client, now, option, option_bytes, reply, sizeof reply);
+ *     if (a.number != 0)
+ *         puts(flockdrift_text(a.number));
  *
- * Each function is proved to do what docs and specifications say of it, for all arguments; what that needs of a caller:
+ * The functions flockdrift_book_.. hand the book's fields to those that the library exports, which take them one by
+ * one. A later version may need more fields: what goes through the struct stays as it is.
+ *
+ * Each exported function is proved to do what docs and specifications say of it, for all arguments; what that needs of
+ * a caller:
  *
  * - A pointer points to as many elements as the size after it says (`networks` to n, `lengths` to m); where the size is
- *   0 it may be null. Where `image_bytes` is a pointer it is never null. What a call writes overlaps no other argument.
+ *   0 it may be null. Where `image_bytes` is a pointer it is never null, nor is a book. What a call writes overlaps no
+ *   other argument.
  * - Nothing is kept between two calls: no pointer, no allocation, no global. Any number of threads may call at once,
- *   each with buffers of its own; two calls on one image need a lock around them, unless both only read it (list, save,
- *   sheet). A call takes up to 6 KiB of stack (measured on x86-64; a proof says nothing of the stack).
+ *   each with buffers of its own; two calls on one book need a lock around them, unless both only read it (list, save,
+ *   sheet, check, head, pool, lease). A call takes up to 6 KiB of stack (measured on x86-64; a proof says nothing of
+ *   the stack).
  *
  * Networks are IPv4 addresses as numbers, 10.0.1.0 being 0x0a000100, and lengths are prefix lengths. Times are seconds
  * of the server's clock, which does not run backwards. A client is a number that the server gives it, not 0. Options
- * are whole options 220, from the code byte to the last byte that the length byte counts.
+ * are whole options, from the code byte to the last byte that the length byte counts: 220, and 118 where it says so.
  *
- * C99 or later, C++ too; flockdrift.rs beside this file has the same for Rust. Link with libflockdrift.a, which
- * `rt staticlib flockdrift` makes in target/staticlib.
+ * C99 or later, C++ too; flockdrift.rs beside this file has the same for Rust, rust/flockdrift a safe wrapper. Link
+ * with libflockdrift.a, which `rt staticlib flockdrift` makes in target/staticlib.
+ *
+ * THE IMAGE is records, one after another with nothing between or after them: one head, then 1 to 8 pools, then up to
+ * 256 leases, pools and leases each ascending by network. All numbers are little-endian. One table has one image.
+ *
+ * A record is its length (2 bytes, which count what follows them), its kind (2 bytes) and its fields:
+ *
+ *     kind       length  fields, with the bytes of each
+ *     1, head    11      term 4, default length 1, last time 4
+ *     2, pool    7       network 4, prefix length 1
+ *     3, lease   17      network 4, prefix length 1, state 1 (1 held, 2 leased), flags 1 (h 1 + d 2), client 4, end 4
+ *
+ * flockdrift_head, flockdrift_pool and flockdrift_lease answer the fields as numbers, so that a server need not read
+ * them itself.
  */
 #ifndef FLOCKDRIFT_H
 #define FLOCKDRIFT_H
@@ -36,6 +56,9 @@
 extern "C" {
 #endif
 
+/* Of this header and of the library that belongs to it. */
+#define FLOCKDRIFT_VERSION "0.9.0"
+
 /*
  * The image of a full table: 8 pools and 256 leases. No image is longer, and an image buffer must not be smaller. After
  * open and load the rest of a buffer of this size is zeros, and every other call that accepts zeroes what the new image
@@ -45,6 +68,9 @@ extern "C" {
 
 /* What the smallest reply buffer has. No reply is longer. */
 #define FLOCKDRIFT_REPLY_CAPACITY 257
+
+/* An option 118 has this size. */
+#define FLOCKDRIFT_SELECTION_CAPACITY 6
 
 /* A text buffer of this size holds every sheet; most are far shorter. */
 #define FLOCKDRIFT_TEXT_CAPACITY 150746
@@ -72,16 +98,40 @@ enum {
     FLOCKDRIFT_TOO_LATE = 4,          /* now is above 4,292,375,295 */
     FLOCKDRIFT_NOT_AN_IMAGE = 5,      /* the bytes are not the image of a table, whole and sound; or their buffer is
                                          below FLOCKDRIFT_IMAGE_CAPACITY or below image_bytes */
-    FLOCKDRIFT_NOT_THE_OPTION = 6,    /* the input is not exactly one option 220 */
+    FLOCKDRIFT_NOT_THE_OPTION = 6,    /* the input is not exactly one option 220; read_selection: one option 118 */
     FLOCKDRIFT_BAD_SUBOPTION = 7,     /* a suboption breaks the format: `place` says which */
     FLOCKDRIFT_WRONG_SUBOPTIONS = 8,  /* requests or entries are not those that this call takes */
     FLOCKDRIFT_TABLE_FULL = 9,        /* ask: 256 leases are present */
     FLOCKDRIFT_NO_SPACE = 10,         /* ask: no free prefix of the length */
-    FLOCKDRIFT_NOT_FOUND = 11,        /* take, list, release, mark: no such lease */
+    FLOCKDRIFT_NOT_FOUND = 11,        /* take, list, release, mark: no such lease; pool, lease: none with the index */
     FLOCKDRIFT_OUTSIDE_RULES = 12,    /* open: pools, term, default length or start */
-    FLOCKDRIFT_BUFFER_TOO_SMALL = 14  /* open, load: the image buffer is below FLOCKDRIFT_IMAGE_CAPACITY; save, sheet:
-                                         the image or the text is longer than its buffer */
+    FLOCKDRIFT_BUFFER_TOO_SMALL = 14  /* open, load: the image buffer is below FLOCKDRIFT_IMAGE_CAPACITY; save, sheet,
+                                         write_selection: what is written is longer than its buffer */
 };
+
+/* A number in words, for a log; never null. */
+static inline const char *flockdrift_text(uint32_t number)
+{
+    switch (number) {
+    case FLOCKDRIFT_ACCEPTED: return "accepted";
+    case FLOCKDRIFT_REPLY_TOO_SMALL: return "the reply buffer is too small";
+    case FLOCKDRIFT_NO_CLIENT: return "there is no client 0";
+    case FLOCKDRIFT_TOO_EARLY: return "the time is before the last time of the table";
+    case FLOCKDRIFT_TOO_LATE: return "the time is too late";
+    case FLOCKDRIFT_NOT_AN_IMAGE: return "not the image of a sound table";
+    case FLOCKDRIFT_NOT_THE_OPTION: return "not exactly the option";
+    case FLOCKDRIFT_BAD_SUBOPTION: return "a bad suboption";
+    case FLOCKDRIFT_WRONG_SUBOPTIONS: return "the suboptions are not those that the call takes";
+    case FLOCKDRIFT_TABLE_FULL: return "the table is full";
+    case FLOCKDRIFT_NO_SPACE: return "no free prefix of the length";
+    case FLOCKDRIFT_NOT_FOUND: return "nothing found";
+    case FLOCKDRIFT_OUTSIDE_RULES: return "pools, term, default length or start are outside the rules";
+    case FLOCKDRIFT_BUFFER_TOO_SMALL: return "the buffer is too small";
+    default: return "no number of this library";
+    }
+}
+
+/* THE CALLS */
 
 /*
  * Makes the image of a table without leases, whatever the buffer held before. There are 1 to 8 pools, in any order:
@@ -152,6 +202,164 @@ struct flockdrift_answer flockdrift_save(const uint8_t *image, size_t capacity, 
  * file is one. Numbers: 5, 14.
  */
 struct flockdrift_answer flockdrift_sheet(const uint8_t *image, size_t image_bytes, char *text, size_t text_capacity);
+
+/*
+ * WHAT A BOOK HOLDS. These change nothing and have no time: a lease that has ended stands there until the next accepted
+ * call that changes the table. Each checks the whole image, as every call does. In the structs all but `number` are 0
+ * after a refusal.
+ */
+
+/* Whether what is lent is a sound book: what every call but open and load finds out first. Numbers: 5. */
+struct flockdrift_answer flockdrift_check(const uint8_t *image, size_t capacity, size_t image_bytes);
+
+struct flockdrift_head_answer {
+    uint32_t number;
+    uint32_t term;           /* seconds of a lease */
+    uint32_t default_length; /* of a request that suggests none */
+    uint32_t last_time;      /* of the last accepted call that changed the table */
+    uint32_t pools;          /* how many there are, 1 to 8 */
+    uint32_t leases;         /* how many there are, up to 256 */
+};
+
+/* The head of the table, and how many pools and leases it has. Numbers: 5. */
+struct flockdrift_head_answer flockdrift_head(const uint8_t *image, size_t capacity, size_t image_bytes);
+
+struct flockdrift_pool_answer {
+    uint32_t number;
+    uint32_t network;
+    uint32_t length;
+};
+
+/* The pool with this index, which counts from 0; they ascend by network. Numbers: 5, 11. */
+struct flockdrift_pool_answer flockdrift_pool(const uint8_t *image, size_t capacity, size_t image_bytes, size_t index);
+
+enum {
+    FLOCKDRIFT_HELD = 1,  /* offered, until it is taken or 120 seconds have passed */
+    FLOCKDRIFT_LEASED = 2
+};
+
+struct flockdrift_lease_answer {
+    uint32_t number;
+    uint32_t network;
+    uint32_t length;
+    uint32_t client;
+    uint32_t state;   /* FLOCKDRIFT_HELD or FLOCKDRIFT_LEASED */
+    uint32_t h;       /* 1 if its request had h set, otherwise 0 */
+    uint32_t d;       /* 1 if it is deprecated, otherwise 0 */
+    uint32_t expires; /* the time of its end: from then on it is none */
+};
+
+/* The lease with this index, which counts from 0; they ascend by network. Numbers: 5, 11. */
+struct flockdrift_lease_answer flockdrift_lease(const uint8_t *image, size_t capacity, size_t image_bytes,
+                                                size_t index);
+
+/* OPTIONS, with no book. */
+
+/* Checks an option 220, as ask, take, list and release do before they look at what it asks for. Numbers: 6, 7. */
+struct flockdrift_answer flockdrift_check_option(const uint8_t *option, size_t option_bytes);
+
+struct flockdrift_selection_answer {
+    uint32_t number;
+    uint32_t address; /* 0 after a refusal */
+};
+
+/* Reads an option 118 (RFC 3011): the address of the subnet that a client is to be served from. Numbers: 6. */
+struct flockdrift_selection_answer flockdrift_read_selection(const uint8_t *option, size_t option_bytes);
+
+/* Writes an option 118 with this address, FLOCKDRIFT_SELECTION_CAPACITY bytes. Numbers: 14. */
+struct flockdrift_answer flockdrift_write_selection(uint32_t address, uint8_t *buffer, size_t buffer_capacity);
+
+/*
+ * A BOOK IN ONE STRUCT. All zeros is no book: every call but open and load refuses it with 5. It has no pointer: a copy
+ * of the struct is a copy of the book, to which a server can go back. Each function is the one above of that name.
+ */
+struct flockdrift_book {
+    size_t bytes; /* the image's length */
+    uint8_t image[FLOCKDRIFT_IMAGE_CAPACITY];
+};
+
+static inline struct flockdrift_answer flockdrift_book_open(struct flockdrift_book *book, const uint32_t *networks,
+                                                            size_t n, const uint8_t *lengths, size_t m, uint32_t term,
+                                                            uint32_t default_length, uint32_t start)
+{
+    return flockdrift_open(book->image, sizeof book->image, &book->bytes, networks, n, lengths, m, term, default_length,
+                           start);
+}
+
+static inline struct flockdrift_answer flockdrift_book_ask(struct flockdrift_book *book, uint32_t client, uint32_t now,
+                                                           const uint8_t *option, size_t option_bytes, uint8_t *reply,
+                                                           size_t reply_capacity)
+{
+    return flockdrift_ask(book->image, sizeof book->image, &book->bytes, client, now, option, option_bytes, reply,
+                          reply_capacity);
+}
+
+static inline struct flockdrift_answer flockdrift_book_take(struct flockdrift_book *book, uint32_t client, uint32_t now,
+                                                            const uint8_t *option, size_t option_bytes, uint8_t *reply,
+                                                            size_t reply_capacity)
+{
+    return flockdrift_take(book->image, sizeof book->image, &book->bytes, client, now, option, option_bytes, reply,
+                           reply_capacity);
+}
+
+static inline struct flockdrift_answer flockdrift_book_list(const struct flockdrift_book *book, uint32_t client,
+                                                            uint32_t now, const uint8_t *option, size_t option_bytes,
+                                                            uint8_t *reply, size_t reply_capacity)
+{
+    return flockdrift_list(book->image, sizeof book->image, book->bytes, client, now, option, option_bytes, reply,
+                           reply_capacity);
+}
+
+static inline struct flockdrift_answer flockdrift_book_release(struct flockdrift_book *book, uint32_t client,
+                                                               uint32_t now, const uint8_t *option, size_t option_bytes)
+{
+    return flockdrift_release(book->image, sizeof book->image, &book->bytes, client, now, option, option_bytes);
+}
+
+static inline struct flockdrift_answer flockdrift_book_mark(struct flockdrift_book *book, uint32_t network,
+                                                            uint32_t length, uint32_t deprecated, uint32_t now)
+{
+    return flockdrift_mark(book->image, sizeof book->image, &book->bytes, network, length, deprecated, now);
+}
+
+static inline struct flockdrift_answer flockdrift_book_load(struct flockdrift_book *book, const uint8_t *saved,
+                                                            size_t saved_bytes)
+{
+    return flockdrift_load(book->image, sizeof book->image, &book->bytes, saved, saved_bytes);
+}
+
+static inline struct flockdrift_answer flockdrift_book_save(const struct flockdrift_book *book, uint8_t *buffer,
+                                                            size_t buffer_capacity)
+{
+    return flockdrift_save(book->image, sizeof book->image, book->bytes, buffer, buffer_capacity);
+}
+
+/* A length that is past the buffer is no image's: none of it is read. */
+static inline struct flockdrift_answer flockdrift_book_sheet(const struct flockdrift_book *book, char *text,
+                                                             size_t text_capacity)
+{
+    return flockdrift_sheet(book->image, book->bytes <= sizeof book->image ? book->bytes : 0, text, text_capacity);
+}
+
+static inline struct flockdrift_answer flockdrift_book_check(const struct flockdrift_book *book)
+{
+    return flockdrift_check(book->image, sizeof book->image, book->bytes);
+}
+
+static inline struct flockdrift_head_answer flockdrift_book_head(const struct flockdrift_book *book)
+{
+    return flockdrift_head(book->image, sizeof book->image, book->bytes);
+}
+
+static inline struct flockdrift_pool_answer flockdrift_book_pool(const struct flockdrift_book *book, size_t index)
+{
+    return flockdrift_pool(book->image, sizeof book->image, book->bytes, index);
+}
+
+static inline struct flockdrift_lease_answer flockdrift_book_lease(const struct flockdrift_book *book, size_t index)
+{
+    return flockdrift_lease(book->image, sizeof book->image, book->bytes, index);
+}
 
 #ifdef __cplusplus
 }

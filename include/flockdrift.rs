@@ -1,10 +1,12 @@
 //! include/flockdrift.h for Rust, as it is: raw pointers with their sizes. What each function does, and what it needs of
-//! its caller, is in the header. examples/embed.rs has a safe wrapper.
+//! its caller, is in the header. The crate rust/flockdrift is a safe wrapper.
 
 /// The image of a full table.
 pub const IMAGE_CAPACITY: usize = 4949;
 /// What the smallest reply buffer has.
 pub const REPLY_CAPACITY: usize = 257;
+/// An option 118 has this size.
+pub const SELECTION_CAPACITY: usize = 6;
 /// A text buffer of this size holds every sheet.
 pub const TEXT_CAPACITY: usize = 150746;
 
@@ -16,6 +18,49 @@ pub struct Answer {
     pub place: u32,
     pub bytes: u32,
     pub count: u32,
+}
+
+/// The head of a table. After a refusal all but the number is 0, here and below.
+#[repr(C)]
+#[derive(Clone, Copy, Debug, Default, PartialEq, Eq)]
+pub struct HeadAnswer {
+    pub number: u32,
+    pub term: u32,
+    pub default_length: u32,
+    pub last_time: u32,
+    pub pools: u32,
+    pub leases: u32,
+}
+
+/// A pool of a table.
+#[repr(C)]
+#[derive(Clone, Copy, Debug, Default, PartialEq, Eq)]
+pub struct PoolAnswer {
+    pub number: u32,
+    pub network: u32,
+    pub length: u32,
+}
+
+/// A lease of a table: its state is 1 for held and 2 for leased, h and d are 0 or 1.
+#[repr(C)]
+#[derive(Clone, Copy, Debug, Default, PartialEq, Eq)]
+pub struct LeaseAnswer {
+    pub number: u32,
+    pub network: u32,
+    pub length: u32,
+    pub client: u32,
+    pub state: u32,
+    pub h: u32,
+    pub d: u32,
+    pub expires: u32,
+}
+
+/// The address of an option 118.
+#[repr(C)]
+#[derive(Clone, Copy, Debug, Default, PartialEq, Eq)]
+pub struct SelectionAnswer {
+    pub number: u32,
+    pub address: u32,
 }
 
 unsafe extern "C" {
@@ -101,5 +146,26 @@ unsafe extern "C" {
         image_bytes: usize,
         text: *mut u8,
         text_capacity: usize,
+    ) -> Answer;
+    pub fn flockdrift_check(image: *const u8, capacity: usize, image_bytes: usize) -> Answer;
+    pub fn flockdrift_head(image: *const u8, capacity: usize, image_bytes: usize) -> HeadAnswer;
+    pub fn flockdrift_pool(
+        image: *const u8,
+        capacity: usize,
+        image_bytes: usize,
+        index: usize,
+    ) -> PoolAnswer;
+    pub fn flockdrift_lease(
+        image: *const u8,
+        capacity: usize,
+        image_bytes: usize,
+        index: usize,
+    ) -> LeaseAnswer;
+    pub fn flockdrift_check_option(option: *const u8, option_bytes: usize) -> Answer;
+    pub fn flockdrift_read_selection(option: *const u8, option_bytes: usize) -> SelectionAnswer;
+    pub fn flockdrift_write_selection(
+        address: u32,
+        buffer: *mut u8,
+        buffer_capacity: usize,
     ) -> Answer;
 }

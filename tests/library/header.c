@@ -1,7 +1,7 @@
 /*
- * What include/flockdrift.h says, tried from C: the layout of the answer, sizes at their limits, null pointers, the
- * order of the refusals, what a refusal leaves, what an accepted call leaves behind the image, load and save, and
- * several threads. Prints a line for each difference.
+ * What include/flockdrift.h says, tried from C: the layout of the answers, sizes at their limits, null pointers, the
+ * order of the refusals, what a refusal leaves, what an accepted call leaves behind the image, load and save, what a
+ * book holds, options with no book, the struct of a book, and several threads. Prints a line for each difference.
  */
 #define _POSIX_C_SOURCE 200809L
 
@@ -39,6 +39,12 @@ static void same(int line, const char *what, unsigned long got, unsigned long wa
 #define ACCEPTED(s, a, bytes, count, image_bytes) accepted(__LINE__, s, a, bytes, count, image_bytes)
 #define READ(s, a, bytes, count) accepted_reading(__LINE__, s, a, bytes, count)
 #define FILLED(from, n, value) filled(__LINE__, from, n, value)
+#define HEAD(a, number, term, length, last, pools, leases) \
+    head_is(__LINE__, a, (const uint32_t[6]){number, term, length, last, pools, leases})
+#define POOL(a, number, network, length) pool_is(__LINE__, a, (const uint32_t[3]){number, network, length})
+#define LEASE(a, number, network, length, client, state, h, d, expires) \
+    lease_is(__LINE__, a, (const uint32_t[8]){number, network, length, client, state, h, d, expires})
+#define SELECTION(a, number, address) selection_is(__LINE__, a, (const uint32_t[2]){number, address})
 
 /* All that is lent to the calls. Where a function has `s`, they get s[0], and s[1] is as s[0] was before the call. */
 struct lent {
@@ -121,6 +127,37 @@ static void filled(int line, const void *from, size_t n, uint8_t value)
         same(line, "a byte", ((const uint8_t *)from)[i], value);
 }
 
+/* The fields of an answer, in their order. */
+static void same_fields(int line, const void *answer, size_t n, const uint32_t *wanted)
+{
+    uint32_t field[8];
+    size_t i;
+
+    memcpy(field, answer, n * sizeof field[0]);
+    for (i = 0; i < n; i++)
+        same(line, "a field", field[i], wanted[i]);
+}
+
+static void head_is(int line, struct flockdrift_head_answer a, const uint32_t *wanted)
+{
+    same_fields(line, &a, 6, wanted);
+}
+
+static void pool_is(int line, struct flockdrift_pool_answer a, const uint32_t *wanted)
+{
+    same_fields(line, &a, 3, wanted);
+}
+
+static void lease_is(int line, struct flockdrift_lease_answer a, const uint32_t *wanted)
+{
+    same_fields(line, &a, 8, wanted);
+}
+
+static void selection_is(int line, struct flockdrift_selection_answer a, const uint32_t *wanted)
+{
+    same_fields(line, &a, 2, wanted);
+}
+
 /* THE CALLS, each with buffers that are large enough */
 
 static struct flockdrift_answer open_at(struct lent *s, size_t capacity)
@@ -163,6 +200,26 @@ static struct flockdrift_answer save(struct lent *s, size_t buffer_capacity)
     return flockdrift_save(s->image, BUFFER, s->bytes, s->saved, buffer_capacity);
 }
 
+static struct flockdrift_answer check(const struct lent *s)
+{
+    return flockdrift_check(s->image, BUFFER, s->bytes);
+}
+
+static struct flockdrift_head_answer head(const struct lent *s, size_t capacity)
+{
+    return flockdrift_head(s->image, capacity, s->bytes);
+}
+
+static struct flockdrift_pool_answer pool(const struct lent *s, size_t capacity, size_t index)
+{
+    return flockdrift_pool(s->image, capacity, s->bytes, index);
+}
+
+static struct flockdrift_lease_answer lease(const struct lent *s, size_t capacity, size_t index)
+{
+    return flockdrift_lease(s->image, capacity, s->bytes, index);
+}
+
 /* The table that most trials begin with: one lease, at 10.0.8.0/26, an image of 50 bytes. */
 static void begin(struct lent *s)
 {
@@ -188,6 +245,15 @@ static void layout(void)
     SAME("the offset of place", offsetof(struct flockdrift_answer, place), 4);
     SAME("the offset of bytes", offsetof(struct flockdrift_answer, bytes), 8);
     SAME("the offset of count", offsetof(struct flockdrift_answer, count), 12);
+    SAME("the head's size", sizeof(struct flockdrift_head_answer), 24);
+    SAME("the offset of leases", offsetof(struct flockdrift_head_answer, leases), 20);
+    SAME("the pool's size", sizeof(struct flockdrift_pool_answer), 12);
+    SAME("the offset of length", offsetof(struct flockdrift_pool_answer, length), 8);
+    SAME("the lease's size", sizeof(struct flockdrift_lease_answer), 32);
+    SAME("the offset of state", offsetof(struct flockdrift_lease_answer, state), 16);
+    SAME("the offset of expires", offsetof(struct flockdrift_lease_answer, expires), 28);
+    SAME("the selection's size", sizeof(struct flockdrift_selection_answer), 8);
+    SAME("the offset of address", offsetof(struct flockdrift_selection_answer, address), 4);
 }
 
 /* A null pointer is one of no elements. */
@@ -213,6 +279,13 @@ static void nulls(struct lent *s)
     REFUSED(s, flockdrift_save(s->image, BUFFER, 50, NULL, 0), 14, 0);
     REFUSED(s, flockdrift_sheet(NULL, 0, NULL, 0), 5, 0);
     REFUSED(s, flockdrift_sheet(s->image, 50, NULL, 0), 14, 0);
+    REFUSED(s, flockdrift_check(NULL, 0, 0), 5, 0);
+    SAME("the head of nothing", flockdrift_head(NULL, 0, 0).number, 5);
+    SAME("a pool of nothing", flockdrift_pool(NULL, 0, 0, 0).number, 5);
+    SAME("a lease of nothing", flockdrift_lease(NULL, 0, 0, 0).number, 5);
+    REFUSED(s, flockdrift_check_option(NULL, 0), 6, 0);
+    SELECTION(flockdrift_read_selection(NULL, 0), 6, 0);
+    REFUSED(s, flockdrift_write_selection(1, NULL, 0), 14, 0);
 }
 
 /* A buffer below the size of a full image holds none, nor does one below the length that the image is said to have. */
@@ -228,6 +301,10 @@ static void sizes(struct lent *s)
     REFUSED(s, flockdrift_release(s->image, FULL - 1, b, 7, 1000, name_26, sizeof name_26), 5, 0);
     REFUSED(s, flockdrift_mark(s->image, FULL - 1, b, network[0], 26, 1, 1000), 5, 0);
     REFUSED(s, flockdrift_save(s->image, FULL - 1, 50, s->saved, BUFFER), 5, 0);
+    REFUSED(s, flockdrift_check(s->image, FULL - 1, 50), 5, 0);
+    HEAD(head(s, FULL - 1), 5, 0, 0, 0, 0, 0);
+    POOL(pool(s, FULL - 1, 0), 5, 0, 0);
+    LEASE(lease(s, FULL - 1, 0), 5, 0, 0, 0, 0, 0, 0, 0);
     for (i = 0; i < sizeof no_image / sizeof no_image[0]; i++) {
         set_bytes(s, no_image[i]);
         REFUSED(s, ask(s, 7, 1000, ask_26, sizeof ask_26), 5, 0);
@@ -236,10 +313,18 @@ static void sizes(struct lent *s)
         REFUSED(s, release(s, 7, 1000, name_26, sizeof name_26), 5, 0);
         REFUSED(s, mark(s, network[0], 26, 1, 1000), 5, 0);
         REFUSED(s, save(s, BUFFER), 5, 0);
+        REFUSED(s, check(s), 5, 0);
+        HEAD(head(s, BUFFER), 5, 0, 0, 0, 0, 0);
+        POOL(pool(s, BUFFER, 0), 5, 0, 0);
+        LEASE(lease(s, BUFFER, 0), 5, 0, 0, 0, 0, 0, 0, 0);
     }
 
     /* in a buffer of a full image's size and no more all of them work */
     set_bytes(s, 50);
+    READ(s, flockdrift_check(s->image, FULL, 50), 0, 0);
+    HEAD(head(s, FULL), 0, 3600, 28, 1000, 2, 1);
+    POOL(pool(s, FULL, 1), 0, 0x0a000800, 26);
+    LEASE(lease(s, FULL, 0), 0, 0x0a000800, 26, 7, 1, 0, 0, 1120);
     ACCEPTED(s, flockdrift_mark(s->image, FULL, b, network[0], 26, 1, 1000), 0, 0, 50);
     ACCEPTED(s, flockdrift_ask(s->image, FULL, b, 8, 1000, ask_two, sizeof ask_two, s->reply, REPLY), 23, 2, 88);
     ACCEPTED(s, flockdrift_take(s->image, FULL, b, 7, 1000, name_26, sizeof name_26, s->reply, REPLY), 13, 1, 88);
@@ -441,6 +526,108 @@ static void sheet(struct lent *s)
     FILLED(s->text + n, sizeof s->text - n, TEXT_FILL);
 }
 
+/* What a book holds, in fields; and that it stays as it is. */
+static void queries(struct lent *s)
+{
+    static const uint8_t ask_h[] = {0xdc, 5, 0, 1, 2, 1, 25};
+
+    begin(s);
+    HEAD(head(s, BUFFER), 0, 3600, 28, 1000, 2, 1);
+    POOL(pool(s, BUFFER, 0), 0, 0x0a000100, 24);
+    POOL(pool(s, BUFFER, 1), 0, 0x0a000800, 26);
+    POOL(pool(s, BUFFER, 2), 11, 0, 0);
+    POOL(pool(s, BUFFER, SIZE_MAX), 11, 0, 0);
+    LEASE(lease(s, BUFFER, 0), 0, 0x0a000800, 26, 7, FLOCKDRIFT_HELD, 0, 0, 1120);
+    LEASE(lease(s, BUFFER, 1), 11, 0, 0, 0, 0, 0, 0, 0);
+    LEASE(lease(s, BUFFER, SIZE_MAX), 11, 0, 0, 0, 0, 0, 0, 0);
+    READ(s, check(s), 0, 0);
+
+    ACCEPTED(s, ask(s, 8, 1005, ask_h, sizeof ask_h), 13, 1, 69);
+    ACCEPTED(s, take(s, 7, 1010, name_26, sizeof name_26), 13, 1, 69);
+    ACCEPTED(s, mark(s, 0x0a000100, 25, 1, 1015), 0, 0, 69);
+    HEAD(head(s, BUFFER), 0, 3600, 28, 1015, 2, 2);
+    LEASE(lease(s, BUFFER, 0), 0, 0x0a000100, 25, 8, FLOCKDRIFT_HELD, 1, 1, 1125);
+    LEASE(lease(s, BUFFER, 1), 0, 0x0a000800, 26, 7, FLOCKDRIFT_LEASED, 0, 0, 4610);
+    LEASE(lease(s, BUFFER, 2), 11, 0, 0, 0, 0, 0, 0, 0);
+
+    /* the first has ended at 1125 and stands there until a call that changes the table */
+    READ(s, list(s, 7, 1200, list_all, sizeof list_all), 13, 1);
+    LEASE(lease(s, BUFFER, 0), 0, 0x0a000100, 25, 8, FLOCKDRIFT_HELD, 1, 1, 1125);
+    ACCEPTED(s, take(s, 7, 1200, name_26, sizeof name_26), 13, 1, 50);
+    LEASE(lease(s, BUFFER, 0), 0, 0x0a000800, 26, 7, FLOCKDRIFT_LEASED, 0, 0, 4800);
+    LEASE(lease(s, BUFFER, 1), 11, 0, 0, 0, 0, 0, 0, 0);
+}
+
+/* Options, with no book. */
+static void options(struct lent *s)
+{
+    static const uint8_t selected[] = {118, 4, 10, 0, 1, 0};
+    static const uint8_t short_118[] = {118, 3, 10, 0, 1};
+    size_t n = FLOCKDRIFT_SELECTION_CAPACITY;
+
+    fill(s);
+    READ(s, flockdrift_check_option(ask_26, sizeof ask_26), 0, 0);
+    READ(s, flockdrift_check_option(name_26, sizeof name_26), 0, 0);
+    REFUSED(s, flockdrift_check_option(ask_26, sizeof ask_26 - 1), 6, 0);
+    REFUSED(s, flockdrift_check_option(selected, sizeof selected), 6, 0);
+    REFUSED(s, flockdrift_check_option(ask_31, sizeof ask_31), 7, 3);
+    REFUSED(s, flockdrift_check_option(name_and_bad, sizeof name_and_bad), 7, 13);
+
+    SELECTION(flockdrift_read_selection(selected, sizeof selected), 0, 0x0a000100);
+    SELECTION(flockdrift_read_selection(selected, sizeof selected - 1), 6, 0);
+    SELECTION(flockdrift_read_selection(short_118, sizeof short_118), 6, 0);
+    SELECTION(flockdrift_read_selection(ask_26, sizeof ask_26), 6, 0);
+
+    REFUSED(s, flockdrift_write_selection(0x0a000100, s->reply, n - 1), 14, 0);
+    READ(s, flockdrift_write_selection(0x0a000100, s->reply, sizeof s->reply), n, 0);
+    SAME("the option", memcmp(s->reply, selected, n) != 0, 0);
+    FILLED(s->reply + n, sizeof s->reply - n, REPLY_FILL);
+    READ(s, flockdrift_write_selection(UINT32_MAX, s->reply, n), n, 0);
+    SELECTION(flockdrift_read_selection(s->reply, n), 0, UINT32_MAX);
+}
+
+/* The struct of a book: each function is the plain one, and a copy is a book to go back to. */
+static void book(struct lent *s)
+{
+    static struct flockdrift_book held;
+    struct flockdrift_book before;
+    uint32_t i;
+
+    fill(s);
+    SAME("no book", flockdrift_book_check(&held).number, 5);
+    SAME("no book", flockdrift_book_head(&held).number, 5);
+    ACCEPTED(s, open_at(s, BUFFER), 0, 0, 31);
+    SAME("open", flockdrift_book_open(&held, network, 2, length, 2, 3600, 28, 1000).number, 0);
+    ACCEPTED(s, ask(s, 7, 1000, ask_26, sizeof ask_26), 13, 1, 50);
+    before = held;
+    SAME("ask", flockdrift_book_ask(&held, 7, 1000, ask_26, sizeof ask_26, s->reply, REPLY).bytes, 13);
+    held = before;
+    SAME("ask again", flockdrift_book_ask(&held, 7, 1000, ask_26, sizeof ask_26, s->reply, REPLY).count, 1);
+    ACCEPTED(s, take(s, 7, 1010, name_26, sizeof name_26), 13, 1, 50);
+    SAME("take", flockdrift_book_take(&held, 7, 1010, name_26, sizeof name_26, s->reply, REPLY).count, 1);
+    SAME("list", flockdrift_book_list(&held, 7, 1020, list_all, sizeof list_all, s->reply, REPLY).count, 1);
+    ACCEPTED(s, mark(s, 0x0a000800, 26, 1, 1030), 0, 0, 50);
+    SAME("mark", flockdrift_book_mark(&held, 0x0a000800, 26, 1, 1030).number, 0);
+    SAME("the length", held.bytes, s->bytes);
+    SAME("the image", memcmp(held.image, s->image, FULL) != 0, 0);
+
+    HEAD(flockdrift_book_head(&held), 0, 3600, 28, 1030, 2, 1);
+    POOL(flockdrift_book_pool(&held, 1), 0, 0x0a000800, 26);
+    LEASE(flockdrift_book_lease(&held, 0), 0, 0x0a000800, 26, 7, FLOCKDRIFT_LEASED, 0, 1, 4610);
+    SAME("save", flockdrift_book_save(&held, s->saved, sizeof s->saved).bytes, 50);
+    SAME("sheet", flockdrift_book_sheet(&held, s->text, sizeof s->text).number, 0);
+    SAME("release", flockdrift_book_release(&held, 7, 1040, name_26, sizeof name_26).count, 1);
+    SAME("load", flockdrift_book_load(&held, s->saved, 50).number, 0);
+    SAME("what is loaded", memcmp(held.image, s->image, FULL) != 0, 0);
+    held.bytes = SIZE_MAX;
+    SAME("a length past the buffer", flockdrift_book_sheet(&held, s->text, sizeof s->text).number, 5);
+    SAME("a length past the buffer", flockdrift_book_check(&held).number, 5);
+
+    for (i = 0; i <= 15; i++)
+        SAME("no words", flockdrift_text(i)[0] == '\0', 0);
+    SAME("words", strcmp(flockdrift_text(5), "not the image of a sound table") != 0, 0);
+}
+
 /* A full table: 256 leases, an image of 4,949 bytes in a buffer that has no byte more. */
 static void full(struct lent *s)
 {
@@ -457,6 +644,10 @@ static void full(struct lent *s)
         ACCEPTED(s, a, 13, 1, 85 + 19 * i);
     }
     SAME("the length of a full image", s->bytes, FULL);
+    HEAD(head(s, FULL), 0, 60, 30, 0, 8, 256);
+    POOL(pool(s, FULL, 7), 0, 3u << 30, 8);
+    LEASE(lease(s, FULL, 255), 0, 255u << 6, 26, 7, FLOCKDRIFT_HELD, 0, 0, 120);
+    LEASE(lease(s, FULL, 256), 11, 0, 0, 0, 0, 0, 0, 0);
     /* neither a lease more nor a prefix of this length */
     REFUSED(s, flockdrift_ask(s->image, FULL, b, 7, 0, ask_8, sizeof ask_8, s->reply, REPLY), 9, 0);
 
@@ -521,6 +712,9 @@ int main(void)
     removed(s);
     load_and_save(s);
     sheet(s);
+    queries(s);
+    options(s);
+    book(s);
     full(s);
     threads();
     return differences == 0 ? EXIT_SUCCESS : EXIT_FAILURE;

@@ -33,8 +33,8 @@ use Rattle.gap_list.specs.Gaps.{gapsOf}
 use Rattle.gap_list.specs.Columns.{heldIn}
 use Rattle.ask_gaps.specs.Ground.{ahead, Ground}
 use Rattle.ask_gaps.proofs.GroundLaws.{ground, ground-ends, held-few}
-use Rattle.option.specs.Contents.{Request, requests, requestsIn}
-use Rattle.ledger.specs.Ledger.{State, state, Call, call, Result, result, refusal, acceptance, accept, Row, firstOf, refusalPlace, nothing?, holdTime, offers, addAll, askOffers, informationFor, grantRows, askRows, ask}
+use Rattle.option.specs.Contents.{Request, requestsIn}
+use Rattle.ledger.specs.Ledger.{State, state, Call, call, Result, result, refusal, acceptance, accept, firstOf, refusalPlace, nothing?, holdTime, offers, addAll, askOffers, informationFor, grantRows, askRows, ask}
 use Rattle.ledger.proofs.OfferLaws as offer-laws
 use Rattle.ledger.proofs.RowLaws.{nothing-none, nothing-some}
 use Rattle.ledger.proofs.ReadLaws.{requests-short}
@@ -42,8 +42,9 @@ use Rattle.ledger.proofs.ReplyLaws.{ask-bytes}
 use Rattle.ask_serve.specs.Granting.{grantedIn, Serving, Granted}
 use Rattle.ask_insert.proofs.AddLaws.{with-length}
 use Rattle.call_spec.specs.ImageCalls.{Lent, lent, tableIn, stateIn, askImage}
-use Rattle.call_spec.proofs.StoreLaws.{settled-accepted, row-refuses, no-row}
+use Rattle.call_spec.proofs.StoreLaws.{row-refuses}
 use Rattle.call_rows.specs.Admission.{leasesFrom, Admitted, left}
+use Rattle.call_rows.proofs.RowLaws.{accepts}
 use Rattle.call_rows.proofs.FinishLaws.{left-in-place}
 use Rattle.ask_commit.specs.Asking.{Ready, Asking}
 
@@ -227,6 +228,4 @@ module _ (h : Lent) (now client : ℕ) (reply : List ℕ) (summary : ImageSummar
             (e ∙ ap (λ (zs : List Lease). left (h .image) (leasesFrom summary) (summary .leases) zs now) after-is) in
             ap₂ (λ (m : ℕ) (w : List ℕ). result (acceptance m n) (lent image bytes) w) (sym written-many) reply-is
             ∙ ap₂ (λ (m b : ℕ). result (acceptance (length written) m) (lent image b) (written ++ drop (length written) reply)) (granted .count) (ends ∙ ap (λ (m : ℕ). leasesFrom summary + leaseSize * m) (sym after-many))
-            ∙ ap (λ (g : Lent). result (acceptance (length written) (length (catMaybes asked))) g (written ++ drop (length written) reply)) place
-            ∙ sym (settled-accepted outcome h refl)
-            ∙ no-row h (askRows (stateIn h) now c) (refusalPlace option) reply outcome (k .left-rows ∙ rw some-lease)
+            ∙ accepts h (askRows (stateIn h) now c) (refusalPlace option) reply outcome (k .left-rows ∙ rw some-lease) outcome refl refl (lent image (leasesFrom summary + leaseSize * length (addAll asked (here h now)))) place

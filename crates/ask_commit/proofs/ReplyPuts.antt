@@ -6,7 +6,6 @@ use mathlib.Core.Bool.{false}
 use mathlib.Core.List.{List, [], _∷_, _++_, map, append-nil, map-append}
 use native.Mathlib.Omega.{arith}
 use native.Mathlib.Numerals.{add-one}
-use lib.Dec.{eqb}
 use lib.ListN.{length, set, take, getD}
 use lib.Seq.{take-suc, length-take-le}
 use Rattle.lists.specs.Put.{put}
@@ -18,7 +17,7 @@ use Rattle.table.specs.declared.Lease.{Lease}
 use Rattle.option_reply.specs.Reply.{entryOf}
 use Rattle.ledger.specs.Ledger.{informationFor}
 use Rattle.ledger.proofs.ReplyLaws.{ask-bytes}
-use Rattle.ask_serve.specs.Granting.{leasesHeld}
+use Rattle.ask_serve.specs.Granting.{grantedLease, leasesHeld}
 
 -- One information: three bytes, and seven of its entry.
 one-information : (x : Lease) → suboptionBytes (informationFor x) ≡ informationHead 8 false false ++ entryHead (x .network) (x .length) (x .h) (x .d) 0
@@ -74,4 +73,4 @@ shown-same client expires [] ls fs = refl
 shown-same client expires (n ∷ ns) [] fs = refl
 shown-same client expires (n ∷ ns) (l ∷ ls) [] = refl
 shown-same client expires (n ∷ ns) (l ∷ ls) (f ∷ fs) =
-    ap (λ (xs : List SuboptionValue). informationFor (record { network = n; length = l; client = client; leased = false; h = eqb f 1; d = false; expires = expires }) ∷ xs) (shown-same client expires ns ls fs)
+    ap (λ (xs : List SuboptionValue). informationFor (grantedLease client expires n l f) ∷ xs) (shown-same client expires ns ls fs)

@@ -1,10 +1,9 @@
 -- What is known where an ask has passed every row before 9.
--- Assumes nothing: these are definitions.
 use Prim.Native.Nat.{ℕ, _≤_}
 use mathlib.Core.Path.{_≡_}
 use mathlib.Core.List.{List, map}
 use lib.ListN.{length}
-use Rattle.option.specs.Sizes.{mostRequests}
+use Rattle.option.specs.Values.{mostRequests}
 use Rattle.option.specs.Contents.{requestsIn}
 use Rattle.image_check.specs.declared.ImageSummary.{ImageSummary}
 use Rattle.ledger.specs.Ledger.{Call, firstOf, leastReply, grantRows, askRows}

@@ -11,7 +11,7 @@ ghost use mathlib.Core.List.{List, map};
 ghost use Prim.Native.Nat.{ℕ, _+_, _*_, _≤_};
 ghost use lib.ListN.{length as lengthOf};
 ghost use Rattle.lists.specs.Put.{put};
-ghost use Rattle.option.specs.Sizes.{mostRequests};
+ghost use Rattle.option.specs.Values.{mostRequests};
 ghost use Rattle.option.specs.Writing.{suboptionBytes, optionBytes};
 ghost use Rattle.table.specs.declared.Lease.{Lease};
 ghost use Rattle.ledger.specs.Ledger.{call, result, informationFor};

@@ -5,21 +5,23 @@ use mathlib.Core.Path.{_≡_, refl, sym, ap, ap₂, subst, _∙_}
 use mathlib.Core.List.{List, [], _∷_, _++_, map, append-nil, append-assoc}
 use native.Mathlib.Omega.{arith}
 use lib.ListN.{length, drop, getD}
-use borrow.Author.Tests.{lt-ltb, le-ltb}
 use Rattle.lists.proofs.DropLaws.{drop-at, drop-end}
 use Rattle.prefix.specs.declared.Prefix.{Prefix}
 use Rattle.prefix.specs.Prefixes.{prefix, end}
 use Rattle.table.specs.declared.Lease.{Lease}
 use Rattle.table.specs.Table.{noLease, prefixOf, present}
 use Rattle.table.proofs.TableLaws.{present-yes, present-no}
-use Rattle.image.specs.Image.{leaseSize, headSize, poolSize, leaseIn}
+use Rattle.image.specs.Image.{leaseSize, headSize, poolSize}
+use Rattle.image.specs.Reading.{leaseIn}
 use Rattle.image_check.specs.Inner.{nthPool}
 use Rattle.image_records.specs.Records.{Records}
 use Rattle.image_records.proofs.RecordLaws.{lease-in-place}
 use Rattle.gap_list.specs.Gaps.{Gap, between, PoolGaps, poolGaps, gapsOf}
 use Rattle.gap_list.specs.Columns.{heldIn, Kept}
+use Rattle.gap_list.proofs.FitLaws.{pool-lease, pool-past}
 use Rattle.ask_gaps.specs.declared.Pass.{Pass}
-use Rattle.ask_gaps.specs.Ground.{ahead, Ground, Went}
+use Rattle.ask_gaps.specs.Ground.{ahead, Ground}
+use Rattle.ask_gaps.specs.InnerPass.{Went}
 
 -- THE LEASES AHEAD
 
@@ -40,14 +42,6 @@ unfolding present
 ahead-none time xs i past = ap (λ (ys : List Lease). map prefixOf (present time ys)) (drop-end xs i past)
 
 -- THE GAPS OF A POOL
-
--- The next lease lies in the pool, or past it.
-pool-lease : (from stop : ℕ) (x : Prefix) (xs : List Prefix) → x .network < stop
-    → poolGaps from stop (x ∷ xs) ≡ record { gaps = between from (x .network) ++ poolGaps (end x) stop xs .gaps; left = poolGaps (end x) stop xs .left }
-pool-lease from stop x xs h = rw (lt-ltb (x .network) stop h)
-
-pool-past : (from stop : ℕ) (x : Prefix) (xs : List Prefix) → stop ≤ x .network → poolGaps from stop (x ∷ xs) ≡ record { gaps = between from stop; left = x ∷ xs }
-pool-past from stop x xs h = rw (le-ltb (x .network) stop h)
 
 module _ (image : List ℕ) (from n time network stop : ℕ) (p : Pass) (starts lasts : List ℕ) where
   abbrev whole : List Lease → PoolGaps

@@ -1,8 +1,7 @@
--- The ground of an image: its pools and its leases in place, and how far a pass through both has come.
--- Assumes nothing: these are definitions.
-use Prim.Native.Nat.{ℕ, _+_, _*_, _≤_, _<_}
+-- The ground of an image: its pools and its leases in place.
+use Prim.Native.Nat.{ℕ, _+_, _*_, _<_}
 use mathlib.Core.Path.{_≡_}
-use mathlib.Core.List.{List, _++_, map}
+use mathlib.Core.List.{List, map}
 use lib.ListN.{length, drop, getD}
 use Rattle.image.specs.Image.{headSize, poolSize}
 use Rattle.prefix.specs.declared.Prefix.{Prefix}
@@ -11,9 +10,6 @@ use Rattle.table.specs.declared.Lease.{Lease}
 use Rattle.table.specs.Table.{prefixOf, present}
 use Rattle.image_check.specs.Inner.{nthPool}
 use Rattle.image_records.specs.Records.{Records}
-use Rattle.gap_list.specs.Gaps.{poolGaps}
-use Rattle.gap_list.specs.Columns.{heldIn}
-use Rattle.ask_gaps.specs.declared.Pass.{Pass}
 
 -- The prefixes of those leases from the i-th on that are present: "lines with end at or before now count as absent".
 abbrev pub ahead : ℕ → ℕ → List Lease → List Prefix
@@ -25,12 +21,3 @@ pub record Ground (image : List ℕ) (pools leases : ℕ) (ps : List Prefix) (xs
   pub pool-at : (k : ℕ) → k < length ps → nthPool (drop headSize image) k ≡ getD ps k (prefix 0 0)
   pub leases-are : leases ≡ length xs
   pub leases-at : Records image (headSize + poolSize * pools) xs
-
--- A pass went through a pool: its gaps are pushed, and it stands at the first present lease past the pool.
-pub record Went (image : List ℕ) (from n time network stop : ℕ) (p : Pass) (starts lasts : List ℕ) (q : Pass) (ss ls : List ℕ) : Type 0 where
-  pub further : p .leases ≤ q .leases
-  pub within : q .leases ≤ n
-  pub few : q .gaps + p .leases ≤ p .gaps + q .leases + 1
-  pub gaps : (xs : List Lease) → Records image from xs → n ≡ length xs
-      → heldIn ss ls (q .gaps) ≡ heldIn starts lasts (p .gaps) ++ poolGaps network stop (ahead time (p .leases) xs) .gaps
-  pub left : (xs : List Lease) → Records image from xs → n ≡ length xs → ahead time (q .leases) xs ≡ poolGaps network stop (ahead time (p .leases) xs) .left

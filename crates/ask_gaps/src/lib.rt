@@ -15,7 +15,8 @@ ghost use Rattle.image.specs.Image.{headSize, poolSize, leaseSize};
 ghost use Rattle.image_check.specs.Inner.{nthPool};
 ghost use Rattle.gap_list.specs.Gaps.{gapsOf};
 ghost use Rattle.gap_list.specs.Columns.{heldIn};
-ghost use Rattle.ask_gaps.specs.Ground.{ahead, Ground, Went};
+ghost use Rattle.ask_gaps.specs.Ground.{ahead, Ground};
+ghost use Rattle.ask_gaps.specs.InnerPass.{Went};
 
 // How many leases a pass has left behind, and how many gaps it has pushed.
 pub struct Pass {

@@ -18,7 +18,7 @@ use Rattle.lists.proofs.Tests.{cond-true, cond-false}
 use Rattle.lists.proofs.SortingLaws.{insertBy-longer, insertBy-image}
 use Rattle.prefix.specs.declared.Prefix.{Prefix}
 use Rattle.prefix.specs.Prefixes.{prefix}
-use Rattle.free_space.specs.Space.{lowestPart, grant}
+use Rattle.free_space.specs.Grant.{lowestPart, grant}
 use Rattle.gap_list.specs.declared.Choice.{Choice}
 use Rattle.gap_list.specs.Gaps.{Gap, gapsOf, fitIn, without, LiesIn}
 use Rattle.gap_list.specs.Columns.{heldIn, Kept, fitOf, Fitted}
@@ -28,28 +28,29 @@ use Rattle.table.specs.declared.Lease.{Lease}
 use Rattle.table.specs.declared.LeaseTable.{LeaseTable}
 use Rattle.table.specs.Table.{leaseSlots, networkOf, prefixOf, poolsOf}
 use Rattle.option.specs.Contents.{Request}
+use Rattle.option_scan.specs.Scanned.{flagOf}
 use Rattle.ledger.specs.Ledger.{askLength, holdTime, offered, offer, add}
 use Rattle.ledger.proofs.OfferLaws.{offer-room, offer-full}
 use Rattle.ask_serve.specs.declared.Progress.{Progress}
-use Rattle.ask_serve.specs.Granting.{flagOf, leasesHeld, Columns, columns, grantedIn, GrantsHeld, Asked, Served}
+use Rattle.ask_serve.specs.Granting.{grantedLease, leasesHeld, grantedIn}
+use Rattle.ask_serve.specs.InnerServing.{Columns, columns, GrantsHeld, Asked, Served}
 
 -- One lease more at the end of the columns.
 
 leases-snoc : (client expires : ℕ) (ns ls fs : List ℕ) → length ns ≡ length ls → length ns ≡ length fs → (n l f : ℕ)
     → leasesHeld client expires (ns ++ (n ∷ [])) (ls ++ (l ∷ [])) (fs ++ (f ∷ []))
-    ≡ leasesHeld client expires ns ls fs ++ (record { network = n; length = l; client = client; leased = false; h = eqb f 1; d = false; expires = expires } ∷ [])
+    ≡ leasesHeld client expires ns ls fs ++ (grantedLease client expires n l f ∷ [])
 leases-snoc client expires [] [] [] d e n l f = refl
 leases-snoc client expires [] [] (y ∷ fs) d e n l f = absurd (omega arith)
 leases-snoc client expires [] (x ∷ ls) fs d e n l f = absurd (omega arith)
 leases-snoc client expires (w ∷ ns) [] fs d e n l f = absurd (omega arith)
 leases-snoc client expires (w ∷ ns) (x ∷ ls) [] d e n l f = absurd (omega arith)
 leases-snoc client expires (w ∷ ns) (x ∷ ls) (y ∷ fs) d e n l f =
-    ap (λ (xs : List Lease). record { network = w; length = x; client = client; leased = false; h = eqb y 1; d = false; expires = expires } ∷ xs)
-    (leases-snoc client expires ns ls fs (omega arith) (omega arith) n l f)
+    ap (λ (xs : List Lease). grantedLease client expires w x y ∷ xs) (leases-snoc client expires ns ls fs (omega arith) (omega arith) n l f)
 
 granted-snoc : (client expires : ℕ) (ns ls fs : List ℕ) (k n l f : ℕ) → k < length ns → k < length ls → k < length fs
     → grantedIn client expires (set ns k n) (set ls k l) (set fs k f) (k + 1)
-    ≡ grantedIn client expires ns ls fs k ++ (record { network = n; length = l; client = client; leased = false; h = eqb f 1; d = false; expires = expires } ∷ [])
+    ≡ grantedIn client expires ns ls fs k ++ (grantedLease client expires n l f ∷ [])
 granted-snoc client expires ns ls fs k n l f hn hl hf =
     let low : k ≤ length ns = omega arith in
     let mid : k ≤ length ls = omega arith in
@@ -62,8 +63,7 @@ granted-snoc client expires ns ls fs k n l f hn hl hf =
 -- The lease at a place of the columns.
 
 leases-at : (client expires : ℕ) (ns ls fs : List ℕ) (i : ℕ) (d : Lease) → i < length ns → i < length ls → i < length fs
-    → getD (leasesHeld client expires ns ls fs) i d
-    ≡ record { network = getD ns i 0; length = getD ls i 0; client = client; leased = false; h = eqb (getD fs i 0) 1; d = false; expires = expires }
+    → getD (leasesHeld client expires ns ls fs) i d ≡ grantedLease client expires (getD ns i 0) (getD ls i 0) (getD fs i 0)
 leases-at client expires [] ls fs i d hn hl hf = absurd (omega arith)
 leases-at client expires (n ∷ ns) [] fs i d hn hl hf = absurd (omega arith)
 leases-at client expires (n ∷ ns) (l ∷ ls) [] i d hn hl hf = absurd (omega arith)
@@ -71,8 +71,7 @@ leases-at client expires (n ∷ ns) (l ∷ ls) (f ∷ fs) zero d hn hl hf = refl
 leases-at client expires (n ∷ ns) (l ∷ ls) (f ∷ fs) (suc i) d hn hl hf = leases-at client expires ns ls fs i d (omega arith) (omega arith) (omega arith)
 
 pub granted-at : (client expires : ℕ) (ns ls fs : List ℕ) (k i : ℕ) (d : Lease) → i < k → k ≤ length ns → k ≤ length ls → k ≤ length fs
-    → getD (grantedIn client expires ns ls fs k) i d
-    ≡ record { network = getD ns i 0; length = getD ls i 0; client = client; leased = false; h = eqb (getD fs i 0) 1; d = false; expires = expires }
+    → getD (grantedIn client expires ns ls fs k) i d ≡ grantedLease client expires (getD ns i 0) (getD ls i 0) (getD fs i 0)
 granted-at client expires ns ls fs k i d lt hn hl hf =
     leases-at client expires (take k ns) (take k ls) (take k fs) i d
     (omega (arith, length-take-le k ns hn)) (omega (arith, length-take-le k ls hl)) (omega (arith, length-take-le k fs hf))

@@ -18,12 +18,14 @@ use Rattle.table.specs.declared.LeaseTable.{LeaseTable}
 use Rattle.table.specs.Table.{leaseSlots, poolsOf}
 use Rattle.table.proofs.TableLaws.{Fine, sound-fine, sound-fewer}
 use Rattle.option.specs.Contents.{Request}
+use Rattle.option_scan.specs.Scanned.{flagOf}
 use Rattle.ledger.specs.Ledger.{askLength, offer, offers, add, addAll}
 use Rattle.lists.proofs.PartLaws.{catMaybes-append}
 use Rattle.ledger.proofs.OfferLaws as offer-laws
 use Rattle.ask_serve.specs.declared.Progress.{Progress}
 use Rattle.ask_serve.specs.declared.Start.{Start}
-use Rattle.ask_serve.specs.Granting.{flagOf, Columns, columns, GrantsHeld, Asked, Served, Serving, Granted}
+use Rattle.ask_serve.specs.Granting.{Serving, Granted}
+use Rattle.ask_serve.specs.InnerServing.{Columns, columns, GrantsHeld, Asked, Served}
 
 -- No request.
 abbrev nothing : Request

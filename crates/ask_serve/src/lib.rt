@@ -8,7 +8,8 @@ ghost use lib.ListN.{length as lengthOf};
 ghost use Rattle.table.specs.declared.Lease.{Lease};
 ghost use Rattle.table.specs.declared.LeaseTable.{LeaseTable};
 ghost use Rattle.option.specs.Contents.{Request};
-ghost use Rattle.ask_serve.specs.Granting.{columns, Served, Serving, Granted};
+ghost use Rattle.ask_serve.specs.Granting.{Serving, Granted};
+ghost use Rattle.ask_serve.specs.InnerServing.{columns, Served};
 
 // How many gaps there are, how many requests are granted, and how many slots are left.
 pub struct Progress {

@@ -6,7 +6,7 @@ ghost use mathlib.Core.Path.{_≡_};
 ghost use mathlib.Core.List.{[], _∷_};
 ghost use lib.Dec.{leb, eqb};
 ghost use Rattle.lists.specs.Lists.{and};
-ghost use Rattle.option.specs.Sizes.{mostRequests};
+ghost use Rattle.option.specs.Values.{mostRequests};
 ghost use Rattle.ledger.specs.Ledger.{call, result};
 ghost use Rattle.call_spec.specs.ImageCalls.{lent, askImage};
 

@@ -2,3 +2,4 @@ pub mod NamedLaws
 pub mod ManyLaws
 pub mod EntriesLaws
 pub mod RowLaws
+pub mod CallLaws

@@ -14,8 +14,8 @@ use Rattle.lists.specs.Put.{put}
 use Rattle.lists.proofs.Tests.{and-to, and-of, not-true⇒false, and-list-to, and-list-of}
 use Rattle.table.specs.declared.Lease.{Lease}
 use Rattle.table.specs.Table.{noLease}
-use Rattle.image.specs.Fields.{le16, le32}
-use Rattle.image.specs.Image.{leaseSize, leaseRecord, leaseIn, stateByte}
+use Rattle.image.specs.Image.{le16, le32, leaseSize, leaseRecord, stateByte}
+use Rattle.image.specs.Reading.{leaseIn}
 use Rattle.image.proofs.ImageLaws.{length-lease}
 use Rattle.image_records.specs.Records.{Records, Ascending}
 use Rattle.image_records.proofs.PutForms.{set-behind, put-behind, put-inside}

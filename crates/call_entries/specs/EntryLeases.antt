@@ -1,5 +1,4 @@
 -- The leases that entries name, among leases that stand as records in a buffer, and what becomes of them.
--- Assumes nothing: these are definitions.
 use Prim.Native.Nat.{ℕ, _<_}
 use mathlib.Core.Path.{_≡_}
 use mathlib.Core.Bool.{Bool, true, false, cond, _&&_}

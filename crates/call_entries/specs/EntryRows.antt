@@ -1,5 +1,4 @@
 -- The rows that an option decides where its entries are what counts, and what is read of it.
--- Assumes nothing: these are definitions.
 use Prim.Native.Nat.{ℕ, _≤_}
 use mathlib.Core.Path.{_≡_}
 use mathlib.Core.Bool.{not}

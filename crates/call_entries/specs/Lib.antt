@@ -1,2 +1,3 @@
 pub mod EntryLeases
 pub mod EntryRows
+pub mod EntryCalls

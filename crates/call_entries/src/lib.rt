@@ -1,5 +1,7 @@
 // What take and release have in common: the entries of an option, and the leases that they name, found and changed in place.
+use image::EXPIRES;
 use image::LEASE;
+use image::STATE;
 use ledger::Answer;
 ghost use mathlib.Core.Path.{_≡_};
 ghost use mathlib.Core.List.{List};
@@ -7,7 +9,7 @@ ghost use Prim.Native.Nat.{_+_, _*_, _≤_};
 ghost use lib.ListN.{length as count};
 ghost use Rattle.table.specs.declared.Lease.{Lease};
 ghost use Rattle.image.specs.Image.{leaseSize};
-ghost use Rattle.option.specs.Sizes.{mostEntries};
+ghost use Rattle.option.specs.Values.{mostEntries};
 ghost use Rattle.image_records.specs.Records.{Records, Ascending};
 ghost use Rattle.call_entries.specs.EntryLeases.{named?, FoundAt, ExpirySet};
 ghost use Rattle.call_entries.specs.EntryRows.{ReadsEntries};
@@ -109,8 +111,8 @@ pub fn set_expiry(
     let i = find(image, from, n, expiry.time, expiry.client, network, length);
     if i < n {
         let at = from + LEASE * i;
-        image[at + 9] = image_records::state_byte(true);
-        image_records::put32(image, at + 15, expiry.expires);
+        image[at + STATE] = image_records::state_byte(true);
+        image_records::put32(image, at + EXPIRES, expiry.expires);
     }
     i
 }

@@ -5,43 +5,36 @@ use native.Mathlib.Omega.{arith}
 use mathlib.Core.Path.{_≡_, refl, sym, ap, ap₂, subst, _∙_}
 use mathlib.Core.Bool.{Bool, true, false, not, _&&_}
 use mathlib.Core.List.{List, [], _∷_, map}
-use mathlib.Core.Option.{Option, none, some}
+use mathlib.Core.Option.{Option}
 use lib.ListN.{length, take, drop}
 use lib.Dec.{ltb, eqb}
 use borrow.Author.Tests.{ne-eqb}
 use Rattle.lists.specs.Lists.{filter}
 use Rattle.lists.specs.Put.{put}
-use Rattle.lists.proofs.Tests.{cond-true, cond-false, not-of, not-to}
 use Rattle.lists.proofs.TakeLaws.{take-short, short-none, short-of}
 use Rattle.lists.proofs.MapLaws.{all?-count}
 use Rattle.lists.proofs.DropLaws.{drop-end}
 use Rattle.lists.proofs.PutLaws.{put-front}
-use Rattle.option.specs.Values.{SuboptionValue, Outcome, information}
-use Rattle.option.specs.Values.{accepted as accepted-as}
+use Rattle.option.specs.Values.{SuboptionValue, information}
 use Rattle.option.specs.Writing.{optionHead, informationHead, entriesBytes, optionBytes}
 use Rattle.table.specs.declared.Lease.{Lease}
 use Rattle.table.specs.Table.{present}
 use Rattle.image.specs.Image.{usedLeases}
-use Rattle.option.specs.Contents.{Request, suboptions, requests, requestsIn, position}
-use Rattle.option.specs.Reading.{readSuboptions, readOption}
-use Rattle.ledger.specs.declared.Answer.{Answer}
-use Rattle.ledger.specs.Ledger.{State, Call, Result, result, refusal, acceptance, accept, Row, firstOf, refusalPlace, leastReply, nothing?, forList, listed, listRows, list}
+use Rattle.option.specs.Contents.{Request, requests, requestsIn}
+use Rattle.ledger.specs.Ledger.{State, Call, Result, result, refusal, acceptance, accept, refusalPlace, leastReply, nothing?, forList, listed, listRows, list}
 use Rattle.ledger.specs.Sizes.{Bytes}
-use Rattle.ledger.specs.Answers.{checkedAnswer}
-use Rattle.ledger.proofs.RowLaws.{nothing-none, nothing-some}
 use Rattle.option_reply.specs.Reply.{mostEntries, replyBytes, entryOf}
 use Rattle.option_reply.proofs.ReplyLaws.{entries-none, heads-last, reply-length}
 use Rattle.option_scan.specs.declared.Contents.{Contents}
-use Rattle.option_scan.specs.Scanned.{Columns, positionOf, ScannedOf, Reads}
+use Rattle.option_scan.specs.Scanned.{positionOf}
 use Rattle.image_check.specs.declared.ImageSummary.{ImageSummary}
-use Rattle.call_spec.specs.ImageCalls.{Lent, lent, tableIn, stateIn, settled, listImage}
+use Rattle.call_spec.specs.ImageCalls.{Lent, lent, tableIn, stateIn, listImage}
 use Rattle.call_spec.proofs.TableLaws.{held-length, held-stays}
-use Rattle.call_spec.proofs.StoreLaws.{settled-accepted, row-refuses, no-row}
 use Rattle.call_rows.specs.declared.Admission.{Admission}
 use Rattle.call_rows.specs.Admission.{Admits}
-use Rattle.call_rows.proofs.RowLaws.{refused-admission, refused-option, refused-own, read-is, own-left}
+use Rattle.call_rows.proofs.RowLaws.{ReadCall, scan-of, admitted-room, refused-admission, refused-option, refused-8, own-left, nothing-found, none-left, accepts}
 use Rattle.call_list.specs.declared.Page.{Page}
-use Rattle.call_list.specs.Page.{shown?, startOf, PageOf}
+use Rattle.call_list.specs.InnerPage.{shown?, startOf, PageOf}
 use Rattle.call_list.specs.InnerListing.{listedBy, eleven, Listing}
 use Rattle.call_list.proofs.PlaceInList.{listed-from}
 
@@ -62,8 +55,8 @@ last-true false b = refl
 for-list : (qs : List Request) → forList qs ≡ (not (eqb (length qs) 0) && eqb (length (filter listing qs)) (length qs))
 for-list qs = rw (some-requests qs, all?-count listing qs) (last-true (not (eqb (length qs) 0)) (eqb (length (filter listing qs)) (length qs)))
 
-pieces-for-list : (m : Contents) (k : Columns) (subs : List SuboptionValue) → ScannedOf m k subs → (not (eqb (m .requests) 0) && eqb (m .listing) (m .requests)) ≡ forList (requests subs)
-pieces-for-list m k subs h = rw (h .requests, h .listing) (sym (for-list (requests subs)))
+abbrev wanted : List SuboptionValue → Bool
+wanted subs = forList (requests subs)
 
 -- WHAT IT LEAVES where it is accepted.
 abbrev outcome : State → List Lease → List ℕ → Result State
@@ -89,60 +82,40 @@ page-none now client reply (x ∷ xs) e from = absurd (omega arith)
 
 -- THE CALL, UP TO ROW 8
 
-module _ (h : Lent) (now : ℕ) (c : Call) (a : Admission) (ad : Admits (length (c .reply)) h now (c .client) a) where
-  abbrev own : List Row
-  own = (8, not (forList (requestsIn (c .option)))) ∷ eleven h now c
-
+module _ (h : Lent) (now : ℕ) (c : Call) where
   abbrev accepted : Result State
   accepted = outcome (stateIn h) (listedBy h now c) (c .reply)
 
-  pub list-refused : (a .number ≡ 0 → ⊥) → result (refusal (a .number) 0) h (c .reply) ≡ listImage h now c
+  pub list-refused : (a : Admission) → Admits (length (c .reply)) h now (c .client) a → (a .number ≡ 0 → ⊥) → result (refusal (a .number) 0) h (c .reply) ≡ listImage h now c
   unfolding list listRows
-  list-refused = refused-admission (length (c .reply)) h now c own accepted (listImage h now c) refl a ad
+  list-refused = refused-admission (length (c .reply)) h now c wanted (eleven h now c) accepted
 
-  module _ (z : a .number ≡ 0) (m : Contents) (k : Columns) (r : Reads (c .option) m k) (ans : Answer) (g : ans ≡ checkedAnswer (m .checked)) where
-    pub list-unread : (ans .number ≡ 0 → ⊥) → result ans h (c .reply) ≡ listImage h now c
+  module _ (s : ReadCall (length (c .reply)) h now c) where
+    pub list-unread : (s .answer .number ≡ 0 → ⊥) → result (s .answer) h (c .reply) ≡ listImage h now c
     unfolding list listRows
-    list-unread = refused-option (length (c .reply)) h now c own accepted (listImage h now c) refl a ad z (m .checked) (r .checked) ans g
+    list-unread = refused-option (length (c .reply)) h now c wanted (eleven h now c) accepted s
 
-    module _ (good : ans .number ≡ 0) where
-      read : readOption (c .option) ≡ accepted-as (readSuboptions (c .option) 3 .0)
+    module _ (good : s .answer .number ≡ 0) (b : Bool) (is : b ≡ (not (eqb (s .contents .requests) 0) && eqb (s .contents .listing) (s .contents .requests))) where
+      asks-are : b ≡ forList (requestsIn (c .option))
+      asks-are = let holding = scan-of (length (c .reply)) h now c s good in is ∙ rw (holding .requests, holding .listing) (sym (for-list (requestsIn (c .option))))
+
+      pub list-wrong : b ≡ false → result (refusal 8 0) h (c .reply) ≡ listImage h now c
       unfolding list listRows
-      read = read-is (length (c .reply)) h now c own accepted (listImage h now c) refl a ad z (m .checked) (r .checked) ans g good
-
-      holding : ScannedOf m k (readSuboptions (c .option) 3 .0)
-      holding = r .holds (readSuboptions (c .option) 3 .0) read
-
-      asks-are : (not (eqb (m .requests) 0) && eqb (m .listing) (m .requests)) ≡ forList (requestsIn (c .option))
-      asks-are = pieces-for-list m k (readSuboptions (c .option) 3 .0) holding ∙ ap (λ (o : Outcome). forList (requests (suboptions o))) (sym read)
-
-      pub list-wrong : (b : Bool) → b ≡ (not (eqb (m .requests) 0) && eqb (m .listing) (m .requests)) → b ≡ false → result (refusal 8 0) h (c .reply) ≡ listImage h now c
-      unfolding list listRows
-      list-wrong b is w =
-          refused-own (length (c .reply)) h now c own accepted (listImage h now c) refl a ad z (m .checked) (r .checked) ans g good 8 (λ q. omega arith) refl
-          (cond-true (not (forList (requestsIn (c .option)))) (some 8) (firstOf (eleven h now c)) (not-of (forList (requestsIn (c .option))) (sym asks-are ∙ sym is ∙ w)))
+      list-wrong w = refused-8 (length (c .reply)) h now c wanted (eleven h now c) accepted s good (sym asks-are ∙ w)
 
       -- Every row before 11 has passed.
-      pub list-passed : (b : Bool) → b ≡ (not (eqb (m .requests) 0) && eqb (m .listing) (m .requests)) → b ≡ true → leastReply ≤ length (c .reply) → Listing h now c (a .summary) m
+      pub list-passed : b ≡ true → Listing h now c (s .admission .summary) (s .contents)
       unfolding list listRows
-      list-passed b is w room = record {
-        admitted = ad .admitted z;
-        room = room;
-        left-rows =
-            own-left (length (c .reply)) h now c own accepted (listImage h now c) refl a ad z (m .checked) (r .checked) ans g good
-            ∙ cond-false (not (forList (requestsIn (c .option)))) (some 8) (firstOf (eleven h now c)) (not-to (forList (requestsIn (c .option))) (sym asks-are ∙ sym is ∙ w));
-        position-is = holding .position ∙ ap (λ (o : Outcome). position none (suboptions o)) (sym read);
+      list-passed w = record {
+        admitted = s .admits .admitted (s .admitted);
+        room = admitted-room (length (c .reply)) h now (c .client) (s .admission) (s .admits) [] (s .admitted);
+        left-rows = own-left (length (c .reply)) h now c wanted (eleven h now c) accepted s good (sym asks-are ∙ w);
+        position-is = scan-of (length (c .reply)) h now c s good .position;
       }
 
 -- ROW 11, AND THE PAGE
 
 module _ (h : Lent) (now : ℕ) (c : Call) (summary : ImageSummary) (m : Contents) (listing-is : Listing h now c summary m) where
-  nothing : nothing? (listedBy h now c) ≡ true → result (refusal 11 0) h (c .reply) ≡ listImage h now c
-  unfolding list
-  nothing e =
-      row-refuses h (listRows (stateIn h) now c) (refusalPlace (c .option)) (c .reply) (outcome (stateIn h) (listedBy h now c) (c .reply)) 11 (λ z. omega arith)
-      (listing-is .left-rows ∙ cond-true (nothing? (listedBy h now c)) (some 11) none e)
-
   -- The page, from the first lease above the position on.
   module _ (from : ℕ) (placed : from ≡ startOf (positionOf m) (usedLeases (tableIn h))) (page : Page) (reply₁ : List ℕ)
       (p : PageOf (filter (shown? now (c .client)) (drop from (usedLeases (tableIn h)))) (c .reply) reply₁ page) where
@@ -165,11 +138,11 @@ module _ (h : Lent) (now : ℕ) (c : Call) (summary : ImageSummary) (m : Content
 
     -- Row 11: no lease to show, so nothing was written.
     pub list-nothing : page .count ≡ 0 → result (refusal 11 0) h reply₁ ≡ listImage h now c
-    unfolding gs
+    unfolding gs list
     list-nothing k =
         let empty : length (take mostEntries gs) ≡ 0 = sym count-is ∙ k in
         ap (λ (l : List ℕ). result (refusal 11 0) h l) (entries-are ∙ entries-none (take mostEntries gs) (c .reply) empty)
-        ∙ nothing (nothing-none gs (short-none mostEntries gs (omega arith) empty))
+        ∙ nothing-found h c (listRows (stateIn h) now c) (outcome (stateIn h) gs (c .reply)) gs (listing-is .left-rows) (short-none mostEntries gs (omega arith) empty)
 
     -- Accepted: the image stays as it is.
     pub list-found : Bytes (h .image) → (page .count ≡ 0 → ⊥) → (reply₂ : List ℕ) (n : ℕ) → n ≡ 7 * page .count + 6
@@ -187,11 +160,9 @@ module _ (h : Lent) (now : ℕ) (c : Call) (summary : ImageSummary) (m : Content
         ap (λ (l : List ℕ). result (acceptance n (page .count)) (stateIn h) l) whole
         ∙ ap₂ (λ (x y : ℕ). result (acceptance x y) (stateIn h) (put (c .reply) 0 (replyBytes true (ltb mostEntries (length gs)) (take mostEntries gs)))) n-is count-is
         ∙ sym (outcome-is (stateIn h) gs (c .reply) (listing-is .room)) in
-        ap₂ (λ (l : List ℕ) (k : ℕ). result (acceptance n (page .count)) (lent l k) reply₂) (sym (held-stays h (listing-is .admitted .sound) b)) (sym (held-length h (listing-is .admitted .sound) b))
-        ∙ sym (settled-accepted left h refl)
-        ∙ ap (λ (r : Result State). settled r h) left-is
-        ∙ no-row h (listRows (stateIn h) now c) (refusalPlace (c .option)) (c .reply) (outcome (stateIn h) gs (c .reply))
-        (listing-is .left-rows ∙ cond-false (nothing? gs) (some 11) none (nothing-some gs (λ w. k (count-is ∙ short-of mostEntries gs w))))
+        accepts h (listRows (stateIn h) now c) (refusalPlace (c .option)) (c .reply) (outcome (stateIn h) gs (c .reply))
+        (none-left h c (listRows (stateIn h) now c) (outcome (stateIn h) gs (c .reply)) gs (listing-is .left-rows) (λ w. k (count-is ∙ short-of mostEntries gs w))) left refl left-is h
+        (ap₂ lent (sym (held-stays h (listing-is .admitted .sound) b)) (sym (held-length h (listing-is .admitted .sound) b)))
 
   -- Row 11 of a table without leases.
   pub list-empty : summary .leases ≡ 0 → result (refusal 11 0) h (c .reply) ≡ listImage h now c

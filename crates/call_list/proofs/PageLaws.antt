@@ -18,7 +18,7 @@ use Rattle.table.specs.declared.Lease.{Lease}
 use Rattle.table.specs.Table.{noLease}
 use Rattle.option_reply.specs.Reply.{mostEntries, entryOf}
 use Rattle.option_reply.proofs.ReplyLaws.{leaseBytes, entries-length, entries-snoc}
-use Rattle.call_list.specs.Page.{PageOf}
+use Rattle.call_list.specs.InnerPage.{PageOf}
 
 -- The leases from `first` up to i that pass the test stand in the reply, and so many were counted.
 pub record Showing (f : Lease → Bool) (first : ℕ) (xs : List Lease) (before after : List ℕ) (count i : ℕ) : Type 0 where

@@ -10,17 +10,16 @@ use lib.ListN.{length, drop}
 use lib.Dec.{leb, ltb, eqb}
 use borrow.Author.Tests.{lt-ltb, le-ltb, lt-leb, leb-true, leb-false}
 use Rattle.lists.specs.Lists.{All, and, filter}
-use Rattle.lists.proofs.FilterLaws.{filter-same-on}
+use Rattle.lists.proofs.FilterLaws.{filter-same-on, filter-yes, filter-no, filter-none}
 use Rattle.lists.proofs.ListLaws.{all-map, all-every}
 use Rattle.lists.proofs.Tests.{bool-cases}
-use Rattle.lists.proofs.FilterLaws.{filter-yes, filter-no, filter-none}
 use Rattle.lists.proofs.MapLaws.{filter-filter}
 use Rattle.table.specs.declared.Lease.{Lease}
 use Rattle.table.specs.Table.{present}
 use Rattle.ledger.specs.Ledger.{above?, listed}
 use Rattle.image_records.specs.Records.{Ascending}
 use Rattle.image_records.proofs.FindLaws.{all-above}
-use Rattle.call_list.specs.Page.{shown?, startOf}
+use Rattle.call_list.specs.InnerPage.{shown?, startOf}
 
 -- The ledger's test, on the leases in the image.
 abbrev meant? : ℕ → ℕ → Option ℕ → Lease → Bool

@@ -20,7 +20,7 @@ ghost use Rattle.image.specs.Image.{leaseSize};
 ghost use Rattle.ledger.specs.Ledger.{call, result, leastReply};
 ghost use Rattle.call_spec.specs.ImageCalls.{lent, listImage};
 ghost use Rattle.call_list.specs.InnerListing.{Listing};
-ghost use Rattle.call_list.specs.Page.{shown?, startOf, PageOf};
+ghost use Rattle.call_list.specs.InnerPage.{shown?, startOf, PageOf};
 
 // How many leases the reply shows, and whether more remain.
 struct Page {

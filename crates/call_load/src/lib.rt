@@ -17,7 +17,7 @@ pub fn load(image: &mut [u8], image_bytes: &mut usize, saved: &[u8]) -> Answer
     if image.len() < FULL_IMAGE {
         return call_spec::refused(14, 0);
     }
-    let n = bytes::copy(saved, image);
+    let n = image_records::copy(saved, image);
     image_records::clear(image, n, FULL_IMAGE);
     *image_bytes = n;
     call_spec::accepted(0, 0)

@@ -21,20 +21,21 @@ use Rattle.prefix.specs.declared.Checked.{Checked}
 use Rattle.prefix.specs.declared.Checked.the-variants.{Good}
 use Rattle.prefix.specs.Prefixes.{size, prefix, checked}
 use Rattle.prefix.proofs.Checked.{the-type}
+use Rattle.prefix.proofs.BlockLaws.{Block, refused-block, made-block}
 use Rattle.table.specs.declared.Lease.{Lease}
 use Rattle.table.specs.Table.{noLease, present, store, poolsOf}
 use Rattle.table.proofs.TableLaws.{Good as GoodLease, present?, sound-fine}
-use Rattle.image.specs.Image.{leaseSize, leaseRecord, leaseIn, usedLeases}
-use Rattle.image_check.proofs.BlockLaws.{Block, refused-block, made-block}
+use Rattle.image.specs.Image.{leaseSize, leaseRecord, usedLeases}
+use Rattle.image.specs.Reading.{leaseIn}
 use Rattle.image_records.specs.Records.{Records}
 use Rattle.image_records.proofs.RecordLaws.{lease-in-place, edit-is, edit-holds}
 use Rattle.image_records.proofs.FindLaws.{none-any, found-within, found-none, found-other, found-any, found-map}
 use Rattle.ledger.specs.Ledger.{State, state, Result, result, refusal, acceptance, accept, Row, firstOf, leastReply, at?, withD, markRows, mark}
-use Rattle.call_spec.specs.ImageCalls.{Lent, lent, tableIn, stateIn, storedIn, settled, markImage}
-use Rattle.call_spec.proofs.StoreLaws.{row-refuses, no-row}
+use Rattle.call_spec.specs.ImageCalls.{Lent, lent, tableIn, stateIn, markImage}
+use Rattle.call_spec.proofs.StoreLaws.{row-refuses}
 use Rattle.call_rows.specs.declared.Admission.{Admission}
 use Rattle.call_rows.specs.Admission.{admissionRows, leasesFrom, Admitted, Admits, Finished}
-use Rattle.call_rows.proofs.RowLaws.{not-admitted, admitted-rows}
+use Rattle.call_rows.proofs.RowLaws.{not-admitted, admitted-rows, accepts}
 use Rattle.call_rows.proofs.FinishLaws.{finished-in-place}
 
 -- THE PREFIX: as the constructor answers what the call is given.
@@ -197,14 +198,12 @@ module _ (h : Lent) (now network len : ℕ) (d : Bool) (a : Admission) (ad : Adm
               found-map network (leasesIn h) (o .ascending) r c (marked? now network len) only above here (withD d)
               ∙ ap (λ (y : Lease). set (leasesIn h) (r - 1) (withD d y)) (sym it-is)
 
-          -- No row applies, and the table that is left.
-          accepted-is : settled (outcome h now network len d) h ≡ markImage h now network len d
-          unfolding mark markRows o
-          accepted-is =
-              let some-lease : meant? h now network len ≡ true =
-              found-is ∙ found-any network (leasesIn h) (o .ascending) r c (marked? now network len) only above here in
-              no-row h (markRows (stateIn h) now network len) (λ m. 0) [] (outcome h now network len d)
-              (row-left ∙ cond-false (not (meant? h now network len)) (some 11) none (not-to (meant? h now network len) some-lease))
+          -- No row applies.
+          no-row-left : firstOf (admissionRows leastReply h now 1 ++ own h now network len) ≡ none
+          unfolding o
+          no-row-left =
+              row-left ∙ cond-false (not (meant? h now network len)) (some 11) none
+              (not-to (meant? h now network len) (found-is ∙ found-any network (leasesIn h) (o .ascending) r c (marked? now network len) only above here))
 
           leases-are : map (λ y. cond (at? network len y) (withD d y) y) (present now (tableIn h .leases)) ≡ present now ys
           unfolding o
@@ -230,9 +229,8 @@ module _ (h : Lent) (now network len : ℕ) (d : Bool) (a : Admission) (ad : Adm
                 finish ys held (sym counted) none-gone
 
             pub mark-found : result (acceptance 0 0) (lent l₂ n) [] ≡ markImage h now network len d
-            unfolding ys o settled
+            unfolding ys o mark markRows
             mark-found =
-                ap (λ (g : Lent). result (acceptance 0 0) g [])
+                accepts h (markRows (stateIn h) now network len) (λ m. 0) [] (outcome h now network len d) no-row-left (result (acceptance 0 0) (state (store (tableIn h) now (present now ys))) []) refl
+                (ap (λ (zs : List Lease). result (acceptance 0 0) (state (store (tableIn h) now zs)) []) (sym leases-are)) (lent l₂ n)
                 (finished-in-place h now 1 (a .summary) o ys counted l₁ (e₁ ∙ edit-is (h .image) (leasesFrom (a .summary)) (leasesIn h) (o .records) (r - 1) inside (withD d x)) l₂ n finished)
-                ∙ ap (λ (zs : List Lease). result (acceptance 0 0) (storedIn (store (tableIn h) now zs) (h .bytes) h) []) (sym leases-are)
-                ∙ accepted-is

@@ -1,40 +1,32 @@
 -- Laws of release in place: the rows that refuse it, and what it leaves of the leases.
 -- Assumes nothing.
-use Prim.Native.Nat.{ℕ, _+_}
+use Prim.Native.Nat.{ℕ}
 use native.Mathlib.Omega.{arith}
 use mathlib.Core.Path.{_≡_, refl, sym, ap, ap₂, _∙_}
 use mathlib.Core.Bool.{false, not}
-use mathlib.Core.List.{List, [], _∷_, _++_, map}
-use mathlib.Core.Option.{none, some}
-use lib.ListN.{length, length-map}
+use mathlib.Core.List.{List, [], map}
+use lib.ListN.{length}
 use lib.ListN.{take as upTo}
 use Rattle.lists.specs.Lists.{All, filter}
-use Rattle.lists.proofs.Tests.{cond-true, cond-false}
 use Rattle.option.specs.Values.{Entry}
-use Rattle.option.specs.Reading.{readOption}
-use Rattle.option.specs.Contents.{suboptions, entriesIn}
+use Rattle.option.specs.Contents.{entriesIn}
 use Rattle.table.specs.declared.Lease.{Lease}
 use Rattle.table.specs.Table.{present, store}
 use Rattle.image.specs.Image.{usedLeases}
 use Rattle.image_records.specs.Records.{Records, Ascending, ExpiredIn}
 use Rattle.image_check.specs.declared.ImageSummary.{ImageSummary}
-use Rattle.ledger.specs.Ledger.{State, state, Call, Result, result, refusal, acceptance, accept, Row, refusalPlace, leastReply, nothing?, forTake, namedBy?, releaseRows, release}
-use Rattle.ledger.proofs.RowLaws.{first-before, nothing-none, nothing-some}
-use Rattle.call_spec.specs.ImageCalls.{Lent, lent, tableIn, stateIn, settled, releaseImage}
-use Rattle.call_spec.proofs.StoreLaws.{settled-accepted, row-refuses, no-row}
+use Rattle.ledger.specs.Ledger.{State, state, Call, Result, result, refusal, acceptance, accept, refusalPlace, leastReply, forTake, namedBy?, releaseRows, release}
+use Rattle.call_spec.specs.ImageCalls.{Lent, lent, tableIn, stateIn, releaseImage}
 use Rattle.call_rows.specs.declared.Admission.{Admission}
 use Rattle.call_rows.specs.Admission.{leasesFrom, Admitted, Admits, Finished}
-use Rattle.call_rows.proofs.RowLaws.{refused-admission, admitted-rows}
-use Rattle.call_rows.proofs.FinishLaws.{finished-in-place}
-use Rattle.call_entries.specs.declared.EntriesRead.{EntriesRead}
+use Rattle.call_rows.proofs.RowLaws.{refused-admission, nothing-found, none-left, accepts}
 use Rattle.call_entries.specs.EntryLeases.{Hold, changedBy}
-use Rattle.call_entries.specs.EntryRows.{entryRows, ReadsEntries}
 use Rattle.call_entries.proofs.ManyLaws.{namedByPresent?, none-of, struck-all, struck-left}
-use Rattle.call_entries.proofs.EntriesLaws.{unchanged, changed-holds}
-use Rattle.call_entries.proofs.RowLaws.{networks-count, lengths-count}
+use Rattle.call_entries.proofs.EntriesLaws.{unchanged}
+use Rattle.call_entries.proofs.CallLaws.{EntriesCall, refused-entries, entries-passed, changed-many, changed-stand, changed-in-place}
 use Rattle.call_release.specs.declared.Strikes.{Strikes}
-use Rattle.call_release.specs.Struck.{Struck}
-use Rattle.call_release.specs.InnerReleasing.{Sized, foundBy, eleven, Releasing}
+use Rattle.call_release.specs.InnerStruck.{Struck}
+use Rattle.call_release.specs.InnerReleasing.{foundBy, eleven, Releasing}
 
 -- WHAT IT LEAVES where no row applies: the leases that no entry names.
 abbrev others : Lent → ℕ → Call → List Lease
@@ -45,47 +37,24 @@ outcome h now c = accept (state (store (tableIn h) now (others h now c))) [] (le
 
 -- THE CALL, UP TO ROW 8
 
-module _ (h : Lent) (now : ℕ) (c : Call) (a : Admission) (ad : Admits leastReply h now (c .client) a) where
-  abbrev own : List Row
-  own = (8, not (forTake (suboptions (readOption (c .option))))) ∷ eleven h now c
-
-  pub release-refused : (a .number ≡ 0 → ⊥) → result (refusal (a .number) 0) h (c .reply) ≡ releaseImage h now c
+module _ (h : Lent) (now : ℕ) (c : Call) where
+  pub release-refused : (a : Admission) → Admits leastReply h now (c .client) a → (a .number ≡ 0 → ⊥) → result (refusal (a .number) 0) h (c .reply) ≡ releaseImage h now c
   unfolding release releaseRows
-  release-refused = refused-admission leastReply h now c own (outcome h now c) (releaseImage h now c) refl a ad
+  release-refused = refused-admission leastReply h now c forTake (eleven h now c) (outcome h now c)
 
-  module _ (z : a .number ≡ 0) (r : EntriesRead) (networks lengths : List ℕ) (reads : ReadsEntries (c .option) r networks lengths) where
-    pub release-unread : (r .answer .number ≡ 0 → ⊥) → result (r .answer) h (c .reply) ≡ releaseImage h now c
+  module _ (s : EntriesCall leastReply h now c) where
+    pub release-unread : (s .read .answer .number ≡ 0 → ⊥) → result (s .read .answer) h (c .reply) ≡ releaseImage h now c
     unfolding release releaseRows
-    release-unread k =
-        let f = reads .refused k in
-        ap (λ y. result y h (c .reply)) (f .1)
-        ∙ row-refuses h (releaseRows (stateIn h) now c) (refusalPlace (c .option)) (c .reply) (outcome h now c) (r .answer .number) k
-        (admitted-rows leastReply h now (c .client) a ad (entryRows (c .option) ++ eleven h now c) z ∙ first-before (entryRows (c .option)) (eleven h now c) (r .answer .number) (f .0))
+    release-unread = refused-entries leastReply h now c (eleven h now c) s (outcome h now c)
 
-    module _ (good : r .answer .number ≡ 0) where
-      -- Every row before 11 has passed.
-      pub release-passed : Releasing h now c (a .summary) (upTo (r .count) networks) (upTo (r .count) lengths)
-      unfolding releaseRows
-      release-passed = record {
-        admitted = ad .admitted z;
-        left-rows = admitted-rows leastReply h now (c .client) a ad (entryRows (c .option) ++ eleven h now c) z ∙ reads .passed good (eleven h now c);
-        hold = reads .hold good .0;
-      }
-
-      pub release-sized : Sized h (a .summary) (upTo (r .count) networks) (upTo (r .count) lengths)
-      release-sized =
-          let o = ad .admitted z in
-          let many = networks-count (c .option) r networks lengths reads good in
-          record {
-            pools = o .few-pools;
-            within = omega (arith, o .size, o .within);
-            columns = many ∙ sym (lengths-count (c .option) r networks lengths reads good);
-            few = omega (arith, many, reads .few);
-          }
+    -- Every row before 11 has passed.
+    pub release-passed : s .read .answer .number ≡ 0 → Releasing h now c (s .admission .summary) (upTo (s .read .count) (s .networks)) (upTo (s .read .count) (s .lengths))
+    unfolding releaseRows
+    release-passed = entries-passed leastReply h now c (eleven h now c) s
 
 -- ROW 11, AND WHAT IS FOUND
 
-module _ (h : Lent) (now : ℕ) (c : Call) (summary : ImageSummary) (networks lengths : List ℕ) (sized : Sized h summary networks lengths) (t : Releasing h now c summary networks lengths) where
+module _ (h : Lent) (now : ℕ) (c : Call) (summary : ImageSummary) (networks lengths : List ℕ) (t : Releasing h now c summary networks lengths) where
   o : Admitted h now (c .client) summary
   o = t .admitted
 
@@ -114,8 +83,7 @@ module _ (h : Lent) (now : ℕ) (c : Call) (summary : ImageSummary) (networks le
         let no-one : All (λ x. namedByPresent? now (c .client) es x ≡ false) xs =
         none-of (namedByPresent? now (c .client) es) xs (ap length (struck-all now (c .client) 0 (omega arith) es xs) ∙ sym (done .counted) ∙ k) in
         ap (λ (l : List ℕ). result (refusal 11 0) (lent l (h .bytes)) (c .reply)) (done .after-is ∙ unchanged now (c .client) 0 (h .image) (leasesFrom summary) xs (o .records) es no-one)
-        ∙ row-refuses h (releaseRows (stateIn h) now c) (refusalPlace (c .option)) (c .reply) (outcome h now c) 11 (λ w. omega arith)
-        (t .left-rows ∙ cond-true (nothing? (foundBy h now c)) (some 11) none (nothing-none (foundBy h now c) (sym struck-is ∙ k)))
+        ∙ nothing-found h c (releaseRows (stateIn h) now c) (outcome h now c) (foundBy h now c) (t .left-rows) (sym struck-is ∙ k)
 
     -- Accepted: they are removed with the expired ones.
     module _ (l₂ : List ℕ) (n : ℕ)
@@ -124,14 +92,10 @@ module _ (h : Lent) (now : ℕ) (c : Call) (summary : ImageSummary) (networks le
       ys : List Lease
       ys = map (changedBy now (c .client) 0 es) xs
 
-      counted : length ys ≡ summary .leases
-      unfolding xs es ys o
-      counted = length-map xs (changedBy now (c .client) 0 es) ∙ sym (o .leases)
-
       finished : Finished l₁ (leasesFrom summary) ys now l₂ n
       unfolding xs es ys o
       finished =
-          finish ys (changed-holds now (c .client) 0 (h .image) (leasesFrom summary) xs (o .records) (omega (arith, sized .within, o .leases)) es l₁ (done .after-is)) (sym counted) (λ w. done .between (o .none-expired w))
+          finish ys (changed-stand h now c summary o 0 es l₁ (done .after-is)) (changed-many h now c summary o 0 es l₁ (done .after-is)) (λ w. done .between (o .none-expired w))
 
       pub release-found : (strikes .count ≡ 0 → ⊥) → result (acceptance 0 (strikes .count)) (lent l₂ n) (c .reply) ≡ releaseImage h now c
       unfolding xs es ys o release
@@ -141,8 +105,6 @@ module _ (h : Lent) (now : ℕ) (c : Call) (summary : ImageSummary) (networks le
           let left : Result State = result (acceptance 0 (strikes .count)) (state (store (tableIn h) now (present now ys))) (c .reply) in
           let left-is : left ≡ outcome h now c =
           ap₂ (λ (l : List Lease) (m : ℕ). result (acceptance 0 m) (state (store (tableIn h) now l)) (c .reply)) left-are struck-is in
-          ap (λ (g : Lent). result (acceptance 0 (strikes .count)) g (c .reply)) (finished-in-place h now (c .client) summary o ys counted l₁ (done .after-is) l₂ n finished)
-          ∙ sym (settled-accepted left h refl)
-          ∙ ap (λ (r : Result State). settled r h) left-is
-          ∙ no-row h (releaseRows (stateIn h) now c) (refusalPlace (c .option)) (c .reply) (outcome h now c)
-          (t .left-rows ∙ cond-false (nothing? (foundBy h now c)) (some 11) none (nothing-some (foundBy h now c) (λ w. k (struck-is ∙ w))))
+          accepts h (releaseRows (stateIn h) now c) (refusalPlace (c .option)) (c .reply) (outcome h now c)
+          (none-left h c (releaseRows (stateIn h) now c) (outcome h now c) (foundBy h now c) (t .left-rows) (λ w. k (struck-is ∙ w))) left refl left-is (lent l₂ n)
+          (changed-in-place h now c summary o 0 es l₁ (done .after-is) l₂ n finished)

@@ -21,7 +21,7 @@ use Rattle.call_entries.specs.EntryLeases.{named?, Hold, leasedUntil, changedIf
 use Rattle.call_entries.proofs.ManyLaws.{changed-none, changed-more, struck-more, struck-all}
 use Rattle.call_entries.proofs.EntriesLaws.{noEntry, hold-long, next-entry, found-one, found-no, changed-by-none, turn-changed, turn-after}
 use Rattle.call_release.specs.declared.Strikes.{Strikes}
-use Rattle.call_release.specs.Struck.{Struck}
+use Rattle.call_release.specs.InnerStruck.{Struck}
 
 -- What has become of the buffer `l` with its n leases after k entries.
 pub Striking : List ℕ → ℕ → ℕ → ℕ → ℕ → List ℕ → List ℕ → List ℕ → Strikes → ℕ → Type 0

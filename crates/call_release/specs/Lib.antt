@@ -1,2 +1,2 @@
-pub mod Struck
+pub mod InnerStruck
 pub mod InnerReleasing

@@ -14,10 +14,11 @@ ghost use Rattle.image.specs.Image.{headSize, leaseSize};
 ghost use Rattle.ledger.specs.Ledger.{call, result};
 ghost use Rattle.image_records.specs.Records.{Records, Ascending, ExpiredIn};
 ghost use Rattle.call_entries.specs.EntryLeases.{Hold};
+ghost use Rattle.call_entries.specs.EntryCalls.{Sized};
 ghost use Rattle.call_spec.specs.ImageCalls.{lent, releaseImage};
 ghost use Rattle.call_rows.specs.Admission.{Finished};
-ghost use Rattle.call_release.specs.InnerReleasing.{Sized, Releasing};
-ghost use Rattle.call_release.specs.Struck.{Struck};
+ghost use Rattle.call_release.specs.InnerReleasing.{Releasing};
+ghost use Rattle.call_release.specs.InnerStruck.{Struck};
 
 // How many leases are struck; all of them stand from the place `first` up to `last`.
 struct Strikes {

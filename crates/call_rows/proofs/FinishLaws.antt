@@ -16,8 +16,7 @@ use Rattle.table.specs.declared.Lease.{Lease}
 use Rattle.table.specs.declared.LeaseTable.{LeaseTable}
 use Rattle.table.specs.Table.{leaseSlots, present, empty?, store}
 use Rattle.table.proofs.TableLaws.{empty-to, present-fewer, present?}
-use Rattle.image.specs.Fields.{le32}
-use Rattle.image.specs.Image.{headSize, poolSize, leaseSize, leaseRecord, usedPools, imageOf}
+use Rattle.image.specs.Image.{le32, headSize, poolSize, leaseSize, leaseRecord, usedPools, imageOf}
 use Rattle.image_check.specs.declared.ImageSummary.{ImageSummary}
 use Rattle.image_records.specs.Records.{Records}
 use Rattle.image_records.proofs.PutForms.{put-over}

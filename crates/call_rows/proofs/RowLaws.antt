@@ -4,28 +4,31 @@
 use Prim.Native.Nat.{ℕ, _≤_}
 use native.Mathlib.Omega.{arith}
 use mathlib.Core.Path.{_≡_, refl, sym, ap, subst, _∙_}
-use mathlib.Core.Bool.{Bool, true, false, cond}
-use mathlib.Core.List.{List, [], _++_}
+use mathlib.Core.Bool.{Bool, true, false, not, cond}
+use mathlib.Core.List.{List, [], _∷_, _++_}
 use mathlib.Core.Option.{Option, none, some}
+use lib.ListN.{length}
 use lib.Dec.{eqb}
 use borrow.Author.Tests.{eqb-false, ltb-false}
-use Rattle.lists.proofs.Tests.{cond-false}
+use Rattle.lists.proofs.Tests.{cond-true, cond-false, not-of, not-to}
 use Rattle.option.specs.Reading.{readSuboptions, readOption}
-use Rattle.option.specs.Values.{Outcome}
+use Rattle.option.specs.Values.{SuboptionValue, Outcome}
 use Rattle.option.specs.Values as values
-use Rattle.option.specs.Contents.{placeIn}
+use Rattle.option.specs.Contents.{placeIn, suboptions}
 use Rattle.option.specs.Answers.{checkedOf, placeOf}
 use Rattle.option.specs.declared.Checked.{Checked}
 use Rattle.option.specs.declared.Checked.the-variants.{NotTheOption, BadSuboption}
 use Rattle.ledger.specs.declared.Answer.{Answer}
-use Rattle.ledger.specs.Ledger.{State, Call, Result, result, refusal, Row, firstOf, byRows, refusalPlace, leastReply, optionRows}
+use Rattle.ledger.specs.Ledger.{State, Call, Result, result, refusal, Row, firstOf, byRows, refusalPlace, leastReply, nothing?, optionRows}
 use Rattle.ledger.specs.Sizes.{Bytes}
 use Rattle.ledger.specs.Answers.{checkedAnswer, answered}
 use Rattle.ledger.proofs.ReadLaws.{place-short}
-use Rattle.ledger.proofs.RowLaws.{Numbered, first-none, first-number, first-before, first-after}
+use Rattle.ledger.proofs.RowLaws.{Numbered, first-none, first-number, first-before, first-after, nothing-none, nothing-some}
 use Rattle.ledger.proofs.CommonRows.{option-rows, option-passed}
-use Rattle.call_spec.specs.ImageCalls.{Lent, stateIn, settled}
-use Rattle.call_spec.proofs.StoreLaws.{row-refuses}
+use Rattle.option_scan.specs.declared.Contents.{Contents}
+use Rattle.option_scan.specs.Scanned.{Columns, ScannedOf, Reads}
+use Rattle.call_spec.specs.ImageCalls.{Lent, stateIn, storedIn, settled}
+use Rattle.call_spec.proofs.StoreLaws.{settled-accepted, row-refuses, no-row}
 use Rattle.call_rows.specs.declared.Admission.{Admission}
 use Rattle.call_rows.specs.Admission.{admissionRows, numberOf, Admits}
 
@@ -77,73 +80,112 @@ module _ (room : ℕ) (h : Lent) (now client : ℕ) (a : Admission) (ad : Admits
   pub admitted-rows : a .number ≡ 0 → firstOf (admissionRows room h now client ++ rest) ≡ firstOf rest
   admitted-rows z = first-after (admissionRows room h now client) rest (number-none (admissionRows room h now client) numbered (a .number) (ad .number) z)
 
--- ROWS 6 AND 7, AND WHAT FOLLOWS THEM
+-- ROWS 6 AND 7, what follows them, and what is read of an option that passes them.
 
-module _ (c : Call) (k : Checked) (f : k ≡ checkedOf (readOption (c .option))) (own : List Row) where
-  answer-is : checkedAnswer k ≡ answered (firstOf (optionRows c)) (c .option)
-  answer-is = ap checkedAnswer f ∙ option-rows c
+module _ (c : Call) (m : Contents) (k : Columns) (reads : Reads (c .option) m k) (ans : Answer) (g : ans ≡ checkedAnswer (m .checked)) where
+  answer-is : ans ≡ answered (firstOf (optionRows c)) (c .option)
+  answer-is = g ∙ ap checkedAnswer (reads .checked) ∙ option-rows c
 
-  pub option-refuses : (checkedAnswer k .number ≡ 0 → ⊥)
-      → (firstOf (optionRows c ++ own) ≡ some (checkedAnswer k .number)) × (checkedAnswer k ≡ refusal (checkedAnswer k .number) (refusalPlace (c .option) (checkedAnswer k .number)))
-  option-refuses some-row = go (firstOf (optionRows c)) refl
+  pub option-refuses : (own : List Row) → (ans .number ≡ 0 → ⊥)
+      → (firstOf (optionRows c ++ own) ≡ some (ans .number)) × (ans ≡ refusal (ans .number) (refusalPlace (c .option) (ans .number)))
+  option-refuses own some-row = go (firstOf (optionRows c)) refl
     where
-      go : (o : Option ℕ) → firstOf (optionRows c) ≡ o
-          → (firstOf (optionRows c ++ own) ≡ some (checkedAnswer k .number)) × (checkedAnswer k ≡ refusal (checkedAnswer k .number) (refusalPlace (c .option) (checkedAnswer k .number)))
-      go none g = absurd (some-row (ap (λ (x : Answer). x .number) (answer-is ∙ ap (λ (o : Option ℕ). answered o (c .option)) g)))
-      go (some n) g =
-          let whole : checkedAnswer k ≡ refusal n (refusalPlace (c .option) n) = answer-is ∙ ap (λ (o : Option ℕ). answered o (c .option)) g in
-          let number : checkedAnswer k .number ≡ n = ap (λ (x : Answer). x .number) whole in
-          (first-before (optionRows c) own n g ∙ ap some (sym number), whole ∙ ap (λ (m : ℕ). refusal m (refusalPlace (c .option) m)) (sym number))
+      go : (o : Option ℕ) → firstOf (optionRows c) ≡ o → (firstOf (optionRows c ++ own) ≡ some (ans .number)) × (ans ≡ refusal (ans .number) (refusalPlace (c .option) (ans .number)))
+      go none f = absurd (some-row (ap (λ (x : Answer). x .number) (answer-is ∙ ap (λ (o : Option ℕ). answered o (c .option)) f)))
+      go (some n) f =
+          let whole : ans ≡ refusal n (refusalPlace (c .option) n) = answer-is ∙ ap (λ (o : Option ℕ). answered o (c .option)) f in
+          let number : ans .number ≡ n = ap (λ (x : Answer). x .number) whole in
+          (first-before (optionRows c) own n f ∙ ap some (sym number), whole ∙ ap (λ (m : ℕ). refusal m (refusalPlace (c .option) m)) (sym number))
 
-  pub option-none : checkedAnswer k .number ≡ 0 → firstOf (optionRows c) ≡ none
-  option-none good = go (firstOf (optionRows c)) refl
-    where
-      go : (o : Option ℕ) → firstOf (optionRows c) ≡ o → firstOf (optionRows c) ≡ none
-      go none g = g
-      go (some n) g =
-          absurd (eqb-false n 0 (first-number (λ (m : ℕ). eqb m 0 ≡ false) (optionRows c) (refl, (refl, tt)) n g)
-          (sym (ap (λ (x : Answer). x .number) (answer-is ∙ ap (λ (o : Option ℕ). answered o (c .option)) g)) ∙ good))
+  module _ (good : ans .number ≡ 0) where
+    pub option-none : firstOf (optionRows c) ≡ none
+    option-none = go (firstOf (optionRows c)) refl
+      where
+        go : (o : Option ℕ) → firstOf (optionRows c) ≡ o → firstOf (optionRows c) ≡ none
+        go none f = f
+        go (some n) f =
+            absurd (eqb-false n 0 (first-number (λ (m : ℕ). eqb m 0 ≡ false) (optionRows c) (refl, (refl, tt)) n f)
+            (sym (ap (λ (x : Answer). x .number) (answer-is ∙ ap (λ (o : Option ℕ). answered o (c .option)) f)) ∙ good))
 
--- A CALL WITH AN OPTION, at each of its steps. Its rows are those up to the option, rows 6 and 7, and its own; `x` is what it is to leave.
-module _ (room : ℕ) (h : Lent) (now : ℕ) (c : Call) (own : List Row) (accepted : Result State) (x : Result Lent)
-    (is : settled (byRows (admissionRows room h now (c .client) ++ (optionRows c ++ own)) (refusalPlace (c .option)) (stateIn h) (c .reply) accepted) h ≡ x)
-    (a : Admission) (ad : Admits room h now (c .client) a) where
+    pub scanned : ScannedOf m k (suboptions (readOption (c .option)))
+    scanned =
+        let read = option-passed c option-none in
+        subst (λ (o : Outcome). ScannedOf m k (suboptions o)) (sym read) (reads .holds (readSuboptions (c .option) 3 .0) read)
+
+-- A CALL WITH AN OPTION, at each of its steps. Its rows are those up to the option, rows 6 and 7, row 8, which is about the option's suboptions, and its own.
+
+-- It is admitted, its option is read, and this is the answer of rows 6 and 7.
+pub record ReadCall (room : ℕ) (h : Lent) (now : ℕ) (c : Call) : Type 0 where
+  pub admission : Admission
+  pub admits : Admits room h now (c .client) admission
+  pub admitted : admission .number ≡ 0
+  pub contents : Contents
+  pub columns : Columns
+  pub reads : Reads (c .option) contents columns
+  pub answer : Answer
+  pub answer-is : answer ≡ checkedAnswer (contents .checked)
+
+pub scan-of : (room : ℕ) (h : Lent) (now : ℕ) (c : Call) (s : ReadCall room h now c) → s .answer .number ≡ 0 → ScannedOf (s .contents) (s .columns) (suboptions (readOption (c .option)))
+scan-of room h now c s = scanned c (s .contents) (s .columns) (s .reads) (s .answer) (s .answer-is)
+
+module _ (room : ℕ) (h : Lent) (now : ℕ) (c : Call) (wanted : List SuboptionValue → Bool) (own : List Row) (accepted : Result State) where
+  abbrev row-8 : List Row
+  row-8 = (8, not (wanted (suboptions (readOption (c .option))))) ∷ own
+
   abbrev rows : List Row
-  rows = admissionRows room h now (c .client) ++ (optionRows c ++ own)
+  rows = admissionRows room h now (c .client) ++ (optionRows c ++ row-8)
 
-  by-row : (n : ℕ) → (n ≡ 0 → ⊥) → firstOf rows ≡ some n → result (refusal n (refusalPlace (c .option) n)) h (c .reply) ≡ x
-  by-row n k e = row-refuses h rows (refusalPlace (c .option)) (c .reply) accepted n k e ∙ is
+  abbrev after : Result Lent
+  after = settled (byRows rows (refusalPlace (c .option)) (stateIn h) (c .reply) accepted) h
+
+  by-row : (n : ℕ) → (n ≡ 0 → ⊥) → firstOf rows ≡ some n → result (refusal n (refusalPlace (c .option) n)) h (c .reply) ≡ after
+  by-row = row-refuses h rows (refusalPlace (c .option)) (c .reply) accepted
 
   -- Rows 1, 5, 2, 3 and 4: none of them has a place.
-  pub refused-admission : (a .number ≡ 0 → ⊥) → result (refusal (a .number) 0) h (c .reply) ≡ x
-  refused-admission k =
-      let r = not-admitted room h now (c .client) a ad (optionRows c ++ own) k in
+  pub refused-admission : (a : Admission) → Admits room h now (c .client) a → (a .number ≡ 0 → ⊥) → result (refusal (a .number) 0) h (c .reply) ≡ after
+  refused-admission a ad k =
+      let r = not-admitted room h now (c .client) a ad (optionRows c ++ row-8) k in
       ap (λ (p : ℕ). result (refusal (a .number) p) h (c .reply)) (sym (cond-false (eqb (a .number) 7) (placeIn (readOption (c .option))) 0 (r .1)))
       ∙ by-row (a .number) k (r .0)
 
-  module _ (z : a .number ≡ 0) (k : Checked) (f : k ≡ checkedOf (readOption (c .option))) (ans : Answer) (g : ans ≡ checkedAnswer k) where
-    number-is : ans .number ≡ checkedAnswer k .number
-    number-is = ap (λ (y : Answer). y .number) g
+  module _ (s : ReadCall room h now c) where
+    up-to-option : firstOf rows ≡ firstOf (optionRows c ++ row-8)
+    up-to-option = admitted-rows room h now (c .client) (s .admission) (s .admits) (optionRows c ++ row-8) (s .admitted)
 
     -- Rows 6 and 7.
-    pub refused-option : (ans .number ≡ 0 → ⊥) → result ans h (c .reply) ≡ x
+    pub refused-option : (s .answer .number ≡ 0 → ⊥) → result (s .answer) h (c .reply) ≡ after
     refused-option some-row =
-        let no₁ : checkedAnswer k .number ≡ 0 → ⊥ = λ e. some-row (number-is ∙ e) in
-        let r = option-refuses c k f own no₁ in
-        ap (λ (y : Answer). result y h (c .reply)) (g ∙ r .1)
-        ∙ by-row (checkedAnswer k .number) no₁ (admitted-rows room h now (c .client) a ad (optionRows c ++ own) z ∙ r .0)
+        let r = option-refuses c (s .contents) (s .columns) (s .reads) (s .answer) (s .answer-is) row-8 some-row in
+        ap (λ (y : Answer). result y h (c .reply)) (r .1) ∙ by-row (s .answer .number) some-row (up-to-option ∙ r .0)
 
-    module _ (good : ans .number ≡ 0) where
-      none-of-option : firstOf (optionRows c) ≡ none
-      none-of-option = option-none c k f own (sym number-is ∙ good)
+    module _ (good : s .answer .number ≡ 0) where
+      up-to-8 : firstOf rows ≡ firstOf row-8
+      up-to-8 = up-to-option ∙ first-after (optionRows c) row-8 (option-none c (s .contents) (s .columns) (s .reads) (s .answer) (s .answer-is) good)
 
-      pub read-is : readOption (c .option) ≡ values.accepted (readSuboptions (c .option) 3 .0)
-      read-is = option-passed c none-of-option
+      -- Row 8.
+      pub refused-8 : wanted (suboptions (readOption (c .option))) ≡ false → result (refusal 8 0) h (c .reply) ≡ after
+      refused-8 e = by-row 8 (λ z. omega arith) (up-to-8 ∙ cond-true (not (wanted (suboptions (readOption (c .option))))) (some 8) (firstOf own) (not-of (wanted (suboptions (readOption (c .option)))) e))
 
-      pub own-left : firstOf rows ≡ firstOf own
-      own-left = admitted-rows room h now (c .client) a ad (optionRows c ++ own) z ∙ first-after (optionRows c) own none-of-option
+      pub own-left : wanted (suboptions (readOption (c .option))) ≡ true → firstOf rows ≡ firstOf own
+      own-left e = up-to-8 ∙ cond-false (not (wanted (suboptions (readOption (c .option))))) (some 8) (firstOf own) (not-to (wanted (suboptions (readOption (c .option)))) e)
 
-      -- Its own rows.
-      pub refused-own : (n : ℕ) → (n ≡ 0 → ⊥) → eqb n 7 ≡ false → firstOf own ≡ some n → result (refusal n 0) h (c .reply) ≡ x
-      refused-own n some-row p e =
-          ap (λ (m : ℕ). result (refusal n m) h (c .reply)) (sym (cond-false (eqb n 7) (placeIn (readOption (c .option))) 0 p)) ∙ by-row n some-row (own-left ∙ e)
+-- WHERE ROW 11 IS LEFT: nothing is found, or something.
+
+module _ {A : Type 0} (h : Lent) (c : Call) (rows : List Row) (accepted : Result State) (found : List A) (left : firstOf rows ≡ firstOf ((11, nothing? found) ∷ [])) where
+  pub nothing-found : length found ≡ 0 → result (refusal 11 0) h (c .reply) ≡ settled (byRows rows (refusalPlace (c .option)) (stateIn h) (c .reply) accepted) h
+  nothing-found e =
+      row-refuses h rows (refusalPlace (c .option)) (c .reply) accepted 11 (λ z. omega arith) (left ∙ cond-true (nothing? found) (some 11) none (nothing-none found e))
+
+  pub none-left : (length found ≡ 0 → ⊥) → firstOf rows ≡ none
+  none-left k = left ∙ cond-false (nothing? found) (some 11) none (nothing-some found k)
+
+-- WHERE NO ROW IS LEFT: what is lent holds the table that the ledger stores.
+
+pub accepts : (h : Lent) (rows : List Row) (place : ℕ → ℕ) (reply : List ℕ) (accepted : Result State) → firstOf rows ≡ none
+    → (r : Result State) → r .answer .number ≡ 0 → r ≡ accepted → (g : Lent) → g ≡ storedIn (r .state .table) (h .bytes) h
+    → result (r .answer) g (r .reply) ≡ settled (byRows rows place (stateIn h) reply accepted) h
+accepts h rows place reply accepted none-of r number is g here =
+    ap (λ (w : Lent). result (r .answer) w (r .reply)) here
+    ∙ sym (settled-accepted r h number)
+    ∙ ap (λ (w : Result State). settled w h) is
+    ∙ no-row h rows place reply accepted none-of

@@ -18,7 +18,8 @@ use Rattle.table.specs.declared.Lease.{Lease}
 use Rattle.table.specs.declared.LeaseTable.{LeaseTable}
 use Rattle.table.specs.Table.{latest, present, sound}
 use Rattle.table.proofs.TableLaws.{present-yes}
-use Rattle.image.specs.Image.{fullImage, headSize, poolSize, usedPools, usedLeases, imageOf, loadImage, loadedTable}
+use Rattle.image.specs.Image.{fullImage, headSize, poolSize, usedPools, usedLeases, imageOf, loadedTable}
+use Rattle.image.specs.Reading.{loadImage}
 use Rattle.image.proofs.ImageLaws.{image-loaded, length-image, longest-image}
 use Rattle.image_check.specs.declared.ImageSummary.{ImageSummary}
 use Rattle.image_check.specs.ImageSummary.{summaryOf}

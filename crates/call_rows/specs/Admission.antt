@@ -1,6 +1,5 @@
 -- What a call goes by that works on an image in place: the rows up to the option, what is known where none of them applies, and what an accepted call
 -- leaves of the leases' records.
--- Assumes nothing: these are definitions.
 use Prim.Native.Nat.{ℕ, _+_, _-_, _*_, _≤_}
 use mathlib.Core.Path.{_≡_}
 use mathlib.Core.Bool.{true, false}
@@ -13,8 +12,8 @@ use Rattle.lists.specs.Put.{put}
 use Rattle.table.specs.declared.Lease.{Lease}
 use Rattle.table.specs.Table.{poolSlots, leaseSlots, latest, present}
 use Rattle.table.specs.Table.{sound as soundOf}
-use Rattle.image.specs.Fields.{le32}
-use Rattle.image.specs.Image.{fullImage, headSize, poolSize, leaseSize, lastAt, leaseRecord, usedPools, usedLeases, imageOf}
+use Rattle.image.specs.Image.{le32, fullImage, headSize, poolSize, leaseSize, leaseRecord, usedPools, usedLeases, imageOf}
+use Rattle.image.specs.Reading.{lastAt}
 use Rattle.image_check.specs.declared.ImageSummary.{ImageSummary}
 use Rattle.image_records.specs.Records.{Records, Ascending}
 use Rattle.ledger.specs.Ledger.{Row, firstOf, orElse, leastReply, stateRows, timeRows}

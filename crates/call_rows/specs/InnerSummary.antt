@@ -1,9 +1,8 @@
 -- What the check of an image says of what is lent.
--- Assumes nothing: these are definitions.
 use Prim.Native.Nat.{ℕ}
 use mathlib.Core.Path.{_≡_}
 use Rattle.table.specs.Table.{sound as soundOf}
-use Rattle.image.specs.Image.{loadImage}
+use Rattle.image.specs.Reading.{loadImage}
 use Rattle.image_check.specs.declared.ImageSummary.{ImageSummary}
 use Rattle.image_check.specs.ImageSummary.{summaryOf}
 use Rattle.call_spec.specs.ImageCalls.{Lent, imageIn, tableIn}

@@ -14,7 +14,7 @@ ghost use lib.Dec.{ltb, eqb};
 ghost use Rattle.table.specs.declared.Lease.{Lease};
 ghost use Rattle.table.specs.Table.{latest, present};
 ghost use Rattle.image.specs.Image.{headSize, leaseSize};
-ghost use Rattle.option.specs.Sizes.{longestOption};
+ghost use Rattle.option.specs.Values.{longestOption};
 ghost use Rattle.option.specs.Answers.{placeOf};
 ghost use Rattle.image_records.specs.Records.{Records, ExpiredIn};
 ghost use Rattle.ledger.specs.Ledger.{firstOf};

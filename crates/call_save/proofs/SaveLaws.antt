@@ -7,12 +7,12 @@ use mathlib.Core.List.{List, _++_}
 use mathlib.Core.Option.{Option, none, some}
 use native.Mathlib.Omega.{arith}
 use lib.ListN.{length, take, drop}
-use lib.Seq.{take-all}
 use borrow.Author.Tests.{lt-ltb, le-ltb}
 use Rattle.lists.proofs.Tests.{not-true⇒false}
 use Rattle.table.specs.declared.LeaseTable.{LeaseTable}
 use Rattle.table.specs.Table.{sound}
-use Rattle.image.specs.Image.{fullImage, imageOf, loadImage, loadedTable}
+use Rattle.image.specs.Image.{fullImage, imageOf, loadedTable}
+use Rattle.image.specs.Reading.{loadImage}
 use Rattle.image.proofs.ImageLaws.{image-loaded, longest-image}
 use Rattle.image_check.specs.ImageSummary.{summaryOf}
 use Rattle.ledger.specs.Sizes.{Byte, Bytes}
@@ -55,11 +55,10 @@ module _ (h : Lent) (buffer : List ℕ) where
       save-made fits = rw (s, le-ltb (length buffer) (length (imageOf (tableIn h))) (omega (arith, held-length h s b)))
 
       pub save-accepted : h .bytes ≤ length buffer → (n : ℕ) → n ≡ length (take (h .bytes) (h .image)) → (l : List ℕ)
-          → l ≡ take (length (take (h .bytes) (h .image))) (take (h .bytes) (h .image)) ++ drop (length (take (h .bytes) (h .image))) buffer
+          → l ≡ take (h .bytes) (h .image) ++ drop (length (take (h .bytes) (h .image))) buffer
           → result (acceptance n 0) h l ≡ saveFrom h buffer
-      save-accepted fits n size l e =
+      save-accepted fits n size l copied =
           let xs : List ℕ = take (h .bytes) (h .image) in
-          let copied : l ≡ xs ++ drop (length xs) buffer = e ∙ ap (λ (ys : List ℕ). ys ++ drop (length xs) buffer) (take-all (length xs) xs (omega arith)) in
           let same : xs ≡ imageOf (tableIn h) = sym (held-image h s b) in
           ap₂ (λ (k : ℕ) (ys : List ℕ). result (acceptance k 0) h ys) (size ∙ ap length same) (copied ∙ ap (λ (ys : List ℕ). ys ++ drop (length ys) buffer) same)
           ∙ save-made fits

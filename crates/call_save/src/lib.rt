@@ -22,6 +22,6 @@ pub fn save(image: &[u8], image_bytes: usize, buffer: &mut [u8]) -> Answer
     if buffer.len() < image_bytes {
         return call_spec::refused(14, 0);
     }
-    let n = bytes::copy(&image[..image_bytes], buffer);
+    let n = image_records::copy(&image[..image_bytes], buffer);
     call_spec::accepted(n as u32, 0)
 }

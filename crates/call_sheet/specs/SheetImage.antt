@@ -1,15 +1,15 @@
 -- Sheet as a call on an image.
--- Assumes nothing: these are definitions.
-use Prim.Native.Nat.{ℕ}
-use mathlib.Core.List.{List}
-use Rattle.sheet_text.specs.declared.SheetAnswer.{SheetAnswer}
-use Rattle.sheet_text.specs.Sheet.{sheetNumber, sheetBytes, sheetOfImage}
+use Rattle.lists.specs.Basics.{ℕ, List, [], _∷_, _++_, length, drop, ltb}
+use Rattle.image.specs.Image.{loadedTable}
+use Rattle.image.specs.Reading.{loadImage}
 use Rattle.ledger.specs.declared.Answer.{Answer}
+use Rattle.ledger.specs.Ledger.{refusal, acceptance, firstOf, orElse}
+use Rattle.ledger.specs.Demand3.{none?}
+use Rattle.sheet_text.specs.Sheet.{sheetText}
 
--- Rows 5 and 14, "for load and the sheet, the saved bytes only": the image is not changed, so 14 is that the text has no room.
-abbrev pub sheetAnswer : SheetAnswer → Answer
-sheetAnswer a = record { number = sheetNumber a; place = 0; bytes = sheetBytes a; count = 0 }
-
--- Answer and text buffer after it.
+-- The answer, and the text buffer after it. "for load and the sheet, the saved bytes only": row 5 is of the image, and row 14 that the text has no room.
 unfoldable pub sheetImage : List ℕ → List ℕ → Answer × List ℕ
-sheetImage image text = let after = sheetOfImage image text in (sheetAnswer (after .0), after .1)
+sheetImage image text =
+    let sheet = sheetText (loadedTable (loadImage image)) in
+    orElse (firstOf ((5, none? (loadImage image)) ∷ (14, ltb (length text) (length sheet)) ∷ [])) (λ number. (refusal number 0, text))
+    (acceptance (length sheet) 0, sheet ++ drop (length sheet) text)

@@ -10,7 +10,8 @@ use lib.ListN.{take as upTo}
 use lib.Seq.{take-at, getD-append-add}
 use Rattle.table.specs.declared.LeaseTable.{LeaseTable}
 use Rattle.table.specs.Table.{sound}
-use Rattle.image.specs.Image.{fullImage, imageOf, loadImage, loadedTable}
+use Rattle.image.specs.Image.{fullImage, imageOf, loadedTable}
+use Rattle.image.specs.Reading.{loadImage}
 use Rattle.image.proofs.ImageLaws.{load-image}
 use Rattle.call_spec.specs.ImageCalls.{Lent, tableIn, over, stored, storedIn}
 use Rattle.call_spec.proofs.StoreLaws.{stored-room}

@@ -4,3 +4,5 @@ pub mod InPlace
 pub mod Images
 pub mod OpenLength
 pub mod OnImages
+pub mod RepliesOnImages
+pub mod InRangeOnImages

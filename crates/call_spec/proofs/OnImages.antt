@@ -15,7 +15,8 @@ use Rattle.table.specs.declared.LeaseTable.{LeaseTable}
 use Rattle.table.specs.Table.{sound}
 use Rattle.table_open.specs.Open.{given, openOk, fresh}
 use Rattle.table_open.proofs.OpenLaws.{open-sound}
-use Rattle.image.specs.Image.{fullImage, loadImage, loadedTable}
+use Rattle.image.specs.Image.{fullImage, loadedTable}
+use Rattle.image.specs.Reading.{loadImage}
 use Rattle.image.proofs.ImageLaws.{image-loaded}
 use Rattle.ledger.specs.Sizes.{Bytes}
 use Rattle.ledger.specs.Ledger.{State, state, Result, Row, firstOf, orElse, refuse, accept, openRows, openTable, ask, take, list, release, mark, ledger}
@@ -24,7 +25,7 @@ use Rattle.ledger.specs.Histories.{NeverShared}
 use Rattle.ledger.specs.Conservation.{Conserved, FromLoad}
 use Rattle.ledger.specs.ListDepends.{DependsOnly}
 use Rattle.ledger.proofs.RowLaws.{first-none, accepted-none}
-use Rattle.ledger.proofs.SoundKept.{ask-keeps, take-keeps, list-keeps, release-keeps, mark-keeps, ask-refused-unchanged, take-refused-unchanged, list-refused-unchanged, release-refused-unchanged, mark-refused-unchanged, ask-accepted-sound, take-accepted-sound, list-accepted-sound, release-accepted-sound, mark-accepted-sound}
+use Rattle.ledger.proofs.SoundKept.{SoundIfAccepted, ask-sound, take-sound, list-sound, release-sound, mark-sound, ask-refused-unchanged, take-refused-unchanged, list-refused-unchanged, release-refused-unchanged, mark-refused-unchanged}
 use Rattle.ledger.proofs.ConservationHolds.{conservation-open}
 use Rattle.ledger.proofs.Following.{Follows, FollowsAll, demand3-followed, never-shared-followed, conserved-followed, conservation-followed, list-depends-followed}
 use Rattle.call_spec.specs.ImageCalls.{Lent, tableIn, stateIn, storedIn, settled, askImage, imageCalls, openImage, loadInto, roomRows}
@@ -34,7 +35,7 @@ use Rattle.call_spec.proofs.TableLaws.{held-room}
 use Rattle.call_spec.proofs.Images.{found-again}
 
 -- A CALL FOLLOWS, if the ledger's leaves a sound table where it is accepted, and all as it was where it is not.
-follow : (h : Lent) (r : Result State) → (r .answer .number ≡ 0 → (sound (tableIn h) ≡ true) × (sound (r .state .table) ≡ true)) → ((r .answer .number ≡ 0 → ⊥) → r .state ≡ stateIn h)
+follow : (h : Lent) (r : Result State) → SoundIfAccepted (stateIn h) r → ((r .answer .number ≡ 0 → ⊥) → r .state ≡ stateIn h)
     → Follows stateIn h r (settled r h)
 follow h r good same =
     ⊎-elim
@@ -54,18 +55,12 @@ follow h r good same =
 
 pub follows-all : FollowsAll imageCalls
 follows-all = record {
-  asks =
-      λ h now c. follow h (ask (stateIn h) now c) (λ z. let s = ask-accepted-sound (stateIn h) now c z in (s, ask-keeps (stateIn h) now c s)) (λ k. ask-refused-unchanged (stateIn h) now c k .stays);
-  takes =
-      λ h now c. follow h (take (stateIn h) now c) (λ z. let s = take-accepted-sound (stateIn h) now c z in (s, take-keeps (stateIn h) now c s)) (λ k. take-refused-unchanged (stateIn h) now c k .stays);
-  lists =
-      λ h now c. follow h (list (stateIn h) now c) (λ z. let s = list-accepted-sound (stateIn h) now c z in (s, subst (λ (u : State). sound (u .table) ≡ true) (sym (list-keeps (stateIn h) now c)) s))
-      (λ k. list-refused-unchanged (stateIn h) now c k .stays);
-  releases =
-      λ h now c. follow h (release (stateIn h) now c) (λ z. let s = release-accepted-sound (stateIn h) now c z in (s, release-keeps (stateIn h) now c s)) (λ k. release-refused-unchanged (stateIn h) now c k .stays);
+  asks = λ h now c. follow h (ask (stateIn h) now c) (ask-sound (stateIn h) now c) (λ k. ask-refused-unchanged (stateIn h) now c k .stays);
+  takes = λ h now c. follow h (take (stateIn h) now c) (take-sound (stateIn h) now c) (λ k. take-refused-unchanged (stateIn h) now c k .stays);
+  lists = λ h now c. follow h (list (stateIn h) now c) (list-sound (stateIn h) now c) (λ k. list-refused-unchanged (stateIn h) now c k .stays);
+  releases = λ h now c. follow h (release (stateIn h) now c) (release-sound (stateIn h) now c) (λ k. release-refused-unchanged (stateIn h) now c k .stays);
   marks =
-      λ h now network len d. follow h (mark (stateIn h) now network len d) (λ z. let s = mark-accepted-sound (stateIn h) now network len d z in (s, mark-keeps (stateIn h) now network len d s))
-      (λ k. mark-refused-unchanged (stateIn h) now network len d k .stays);
+      λ h now network len d. follow h (mark (stateIn h) now network len d) (mark-sound (stateIn h) now network len d) (λ k. mark-refused-unchanged (stateIn h) now network len d k .stays);
 }
 
 -- DEMAND 3 OF THE CODE'S ASK: `askImage` is what `flockdrift_ask` is proved to be.
@@ -116,7 +111,7 @@ module _ (h : Lent) (networks lengths : List ℕ) (term defaultLength start : �
   unfolding openTable
   opened-as = rw open-ok (refl, opened-holds)
 
-is-some : (o : Option LeaseTable) → none? o ≡ false → o ≡ some (loadedTable o)
+pub is-some : (o : Option LeaseTable) → none? o ≡ false → o ≡ some (loadedTable o)
 is-some none e = absurd (true≢false e)
 is-some (some t) e = refl
 

@@ -14,7 +14,8 @@ use borrow.Author.Tests.{leb-true, le-leb}
 use Rattle.lists.proofs.Tests.{bool-cases, cond-true, cond-false, and-to, and-of}
 use Rattle.table.specs.declared.LeaseTable.{LeaseTable}
 use Rattle.table.specs.Table.{headOk, sound, blank}
-use Rattle.image.specs.Image.{fullImage, imageOf, headAt, loadImage, loadedTable}
+use Rattle.image.specs.Image.{fullImage, imageOf, loadedTable}
+use Rattle.image.specs.Reading.{headAt, loadImage}
 pub use Rattle.image.proofs.FieldLaws.{bytes-all}
 use Rattle.image.proofs.ImageLaws.{image-loaded}
 use Rattle.ledger.specs.Sizes.{Byte, Bytes}

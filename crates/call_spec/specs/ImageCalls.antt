@@ -1,16 +1,11 @@
 -- THE CALLS ON WHAT THE CODE IS LENT. A server that embeds the calls holds the table as its image, at the front of a buffer, and the image's length beside
 -- it; both go from call to call. Each call is the ledger's on the table that the image is of, and leaves the image of the table that the ledger leaves.
--- Assumes nothing: these are definitions.
-use Prim.Native.Nat.{ℕ, _-_}
-use mathlib.Core.Bool.{Bool, not, cond, _&&_}
-use mathlib.Core.List.{List, [], _∷_, _++_}
-use lib.ListN.{length, drop, replicate}
-use lib.ListN.{take as upTo}
-use lib.Dec.{leb, ltb, eqb}
+use Rattle.lists.specs.Basics.{ℕ, _-_, Bool, not, cond, _&&_, List, [], _∷_, _++_, length, drop, replicate, take as upTo, leb, ltb, eqb}
 use Rattle.table.specs.declared.LeaseTable.{LeaseTable}
 use Rattle.table.specs.Table.{sound}
 use Rattle.table_open.specs.Open.{given, fresh}
-use Rattle.image.specs.Image.{fullImage, imageOf, loadImage, loadedTable}
+use Rattle.image.specs.Image.{fullImage, imageOf, loadedTable}
+use Rattle.image.specs.Reading.{loadImage}
 use Rattle.ledger.specs.Ledger.{State, state, Call, Result, result, accept, Row, byRows, openRows, ask, take, list, release, mark, Calls}
 use Rattle.ledger.specs.Demand3.{none?}
 
@@ -80,9 +75,7 @@ imageCalls = record { stateOf = stateIn; asks = askImage; takes = takeImage; lis
 
 -- Open and load fill a buffer: row 14 last, where it cannot hold a full book.
 abbrev pub roomRows : Lent → List Row
-roomRows h =
-    (14, ltb (length (h .image)) fullImage)
-    ∷ []
+roomRows h = (14, ltb (length (h .image)) fullImage) ∷ []
 
 -- They leave zeros up to the end of a full book: "A fresh book has 256 empty lines, all zero", and of an older book nothing is left behind.
 unfoldable pub openImage : Lent → List ℕ → List ℕ → ℕ → ℕ → ℕ → Result Lent

@@ -1,2 +1,3 @@
 pub mod ImageCalls
 pub mod OnImages
+pub mod InRange

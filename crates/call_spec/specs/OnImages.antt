@@ -1,8 +1,5 @@
 -- Where a history of calls on what is lent begins, and conservation from an open.
--- Assumes nothing: these are definitions.
-use Prim.Native.Nat.{ℕ}
-use mathlib.Core.Path.{_≡_}
-use mathlib.Core.List.{List}
+use Rattle.lists.specs.Basics.{ℕ, _≡_, List}
 use Rattle.ledger.specs.Sizes.{Bytes}
 use Rattle.ledger.specs.Histories.{Event}
 use Rattle.ledger.specs.Conservation.{Conserved}

@@ -15,7 +15,8 @@ use Rattle.option.specs.Values.{Entry}
 use Rattle.option.specs.Writing.{entriesBytes}
 use Rattle.table.specs.declared.Lease.{Lease}
 use Rattle.table.specs.Table.{present}
-use Rattle.image.specs.Image.{leaseSize, leaseIn}
+use Rattle.image.specs.Image.{leaseSize}
+use Rattle.image.specs.Reading.{leaseIn}
 use Rattle.image_records.specs.Records.{Records, Ascending}
 use Rattle.option_reply.specs.Reply.{entryOf}
 use Rattle.ledger.specs.Ledger.{found}
@@ -24,7 +25,7 @@ use Rattle.call_entries.specs.EntryLeases.{named?, Hold, changedBy, changedIn, 
 use Rattle.call_entries.proofs.NamedLaws.{set-expiry-lease}
 use Rattle.call_entries.proofs.ManyLaws.{shown-same, found-more}
 use Rattle.call_entries.proofs.EntriesLaws.{noEntry, hold-long, next-entry, found-no, changed-by-none, changed-holds, turn-changed, turn-after}
-use Rattle.call_take.specs.Renewed.{Renewed}
+use Rattle.call_take.specs.InnerRenewed.{Renewed}
 
 -- What has become of the buffer `l` with its n leases, and of the reply, after k entries.
 pub Renewing : List ℕ → ℕ → ℕ → ℕ → ℕ → ℕ → List ℕ → List ℕ → List ℕ → List ℕ → List ℕ → ℕ → ℕ → Type 0

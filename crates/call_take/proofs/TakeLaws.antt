@@ -3,17 +3,14 @@
 use Prim.Native.Nat.{ℕ, _+_, _*_, _≤_, _<_}
 use native.Mathlib.Omega.{arith}
 use mathlib.Core.Path.{_≡_, refl, sym, ap, ap₂, _∙_}
-use mathlib.Core.Bool.{false, not}
-use mathlib.Core.List.{List, [], _∷_, _++_, map}
-use mathlib.Core.Option.{none, some}
-use lib.ListN.{length, length-map}
+use mathlib.Core.Bool.{false}
+use mathlib.Core.List.{List, [], _∷_, map}
+use lib.ListN.{length}
 use lib.ListN.{take as upTo}
 use Rattle.lists.specs.Put.{put}
-use Rattle.lists.proofs.Tests.{cond-true, cond-false}
 use Rattle.lists.proofs.PutLaws.{put-front}
 use Rattle.option.specs.Values.{Entry, information}
-use Rattle.option.specs.Reading.{readOption}
-use Rattle.option.specs.Contents.{suboptions, entriesIn}
+use Rattle.option.specs.Contents.{entriesIn}
 use Rattle.option.specs.Writing.{optionHead, informationHead, entriesBytes, optionBytes}
 use Rattle.table.specs.declared.Lease.{Lease}
 use Rattle.table.specs.Table.{present, store}
@@ -23,23 +20,18 @@ use Rattle.image_records.specs.Records.{Records, Ascending}
 use Rattle.image_check.specs.declared.ImageSummary.{ImageSummary}
 use Rattle.option_reply.specs.Reply.{mostEntries, replyBytes, entryOf}
 use Rattle.option_reply.proofs.ReplyLaws.{entries-none, reply-length, heads-last}
-use Rattle.ledger.specs.Ledger.{State, state, Call, Result, result, refusal, acceptance, accept, Row, refusalPlace, leastReply, nothing?, forTake, found, renewNamed, takeRows}
+use Rattle.ledger.specs.Ledger.{State, state, Call, Result, result, refusal, acceptance, accept, refusalPlace, leastReply, forTake, found, renewNamed, takeRows}
 use Rattle.ledger.specs.Ledger.{take as takeOf}
-use Rattle.ledger.proofs.RowLaws.{first-before, nothing-none, nothing-some}
-use Rattle.call_spec.specs.ImageCalls.{Lent, lent, tableIn, stateIn, settled, takeImage}
-use Rattle.call_spec.proofs.StoreLaws.{settled-accepted, row-refuses, no-row}
+use Rattle.call_spec.specs.ImageCalls.{Lent, lent, tableIn, stateIn, takeImage}
 use Rattle.call_rows.specs.declared.Admission.{Admission}
 use Rattle.call_rows.specs.Admission.{leasesFrom, Admitted, Admits, Finished}
-use Rattle.call_rows.proofs.RowLaws.{refused-admission, admitted-rows, admitted-room}
-use Rattle.call_rows.proofs.FinishLaws.{finished-in-place}
-use Rattle.call_entries.specs.declared.EntriesRead.{EntriesRead}
+use Rattle.call_rows.proofs.RowLaws.{refused-admission, admitted-room, nothing-found, none-left, accepts}
 use Rattle.call_entries.specs.EntryLeases.{Hold, changedBy}
-use Rattle.call_entries.specs.EntryRows.{entryRows, ReadsEntries}
-use Rattle.call_entries.proofs.RowLaws.{networks-count, lengths-count}
 use Rattle.call_entries.proofs.ManyLaws.{renewed-present, renewed-all, found-nothing}
-use Rattle.call_entries.proofs.EntriesLaws.{unchanged, changed-holds}
-use Rattle.call_take.specs.Renewed.{Renewed}
-use Rattle.call_take.specs.InnerTaking.{Sized, foundBy, eleven, Taking}
+use Rattle.call_entries.proofs.EntriesLaws.{unchanged}
+use Rattle.call_entries.proofs.CallLaws.{EntriesCall, refused-entries, entries-passed, entries-sized, changed-many, changed-stand, changed-in-place}
+use Rattle.call_take.specs.InnerRenewed.{Renewed}
+use Rattle.call_take.specs.InnerTaking.{TakeSized, foundBy, eleven, Taking}
 
 -- WHAT IT LEAVES where no row applies.
 
@@ -62,56 +54,39 @@ outcome-is h now zs gs reply few room =
 
 -- THE CALL, UP TO ROW 8
 
-module _ (h : Lent) (now : ℕ) (c : Call) (a : Admission) (ad : Admits (length (c .reply)) h now (c .client) a) where
+module _ (h : Lent) (now : ℕ) (c : Call) where
   abbrev accepted : Result State
   accepted = outcome h now (renewed h now c) (foundBy h now c) (c .reply)
 
-  abbrev own : List Row
-  own = (8, not (forTake (suboptions (readOption (c .option))))) ∷ eleven h now c
-
-  pub take-refused : (a .number ≡ 0 → ⊥) → result (refusal (a .number) 0) h (c .reply) ≡ takeImage h now c
+  pub take-refused : (a : Admission) → Admits (length (c .reply)) h now (c .client) a → (a .number ≡ 0 → ⊥) → result (refusal (a .number) 0) h (c .reply) ≡ takeImage h now c
   unfolding takeOf takeRows
-  take-refused = refused-admission (length (c .reply)) h now c own accepted (takeImage h now c) refl a ad
+  take-refused = refused-admission (length (c .reply)) h now c forTake (eleven h now c) accepted
 
-  module _ (z : a .number ≡ 0) (r : EntriesRead) (networks lengths : List ℕ) (reads : ReadsEntries (c .option) r networks lengths) where
-    pub take-unread : (r .answer .number ≡ 0 → ⊥) → result (r .answer) h (c .reply) ≡ takeImage h now c
+  module _ (s : EntriesCall (length (c .reply)) h now c) where
+    pub take-unread : (s .read .answer .number ≡ 0 → ⊥) → result (s .read .answer) h (c .reply) ≡ takeImage h now c
     unfolding takeOf takeRows
-    take-unread k =
-        let f = reads .refused k in
-        ap (λ y. result y h (c .reply)) (f .1)
-        ∙ row-refuses h (takeRows (stateIn h) now c) (refusalPlace (c .option)) (c .reply) accepted (r .answer .number) k
-        (admitted-rows (length (c .reply)) h now (c .client) a ad (entryRows (c .option) ++ eleven h now c) z ∙ first-before (entryRows (c .option)) (eleven h now c) (r .answer .number) (f .0))
+    take-unread = refused-entries (length (c .reply)) h now c (eleven h now c) s accepted
 
-    module _ (good : r .answer .number ≡ 0) where
+    module _ (good : s .read .answer .number ≡ 0) where
       -- Every row before 11 has passed.
-      pub take-passed : Taking h now c (a .summary) (upTo (r .count) networks) (upTo (r .count) lengths)
+      pub take-passed : Taking h now c (s .admission .summary) (upTo (s .read .count) (s .networks)) (upTo (s .read .count) (s .lengths))
       unfolding takeRows
-      take-passed = record {
-        admitted = ad .admitted z;
-        left-rows =
-            admitted-rows (length (c .reply)) h now (c .client) a ad (entryRows (c .option) ++ eleven h now c) z ∙ reads .passed good (eleven h now c);
-        hold = reads .hold good .0;
-      }
+      take-passed = entries-passed (length (c .reply)) h now c (eleven h now c) s good
 
-      -- It fits 32 bits, and is after now.
-      pub take-sized : Sized h now (a .summary) (c .reply) (upTo (r .count) networks) (upTo (r .count) lengths)
+      pub take-sized : TakeSized h now (s .admission .summary) (c .reply) (upTo (s .read .count) (s .networks)) (upTo (s .read .count) (s .lengths))
       take-sized =
-          let o = ad .admitted z in
+          let o = s .admits .admitted (s .admitted) in
           let term = sound-term (tableIn h) (o .sound) in
-          let many = networks-count (c .option) r networks lengths reads good in
           record {
-            pools = o .few-pools;
-            within = omega (arith, o .size, o .within);
-            columns = many ∙ sym (lengths-count (c .option) r networks lengths reads good);
-            few = omega (arith, many, reads .few);
-            room = admitted-room (length (c .reply)) h now (c .client) a ad [] z;
+            entries = entries-sized (length (c .reply)) h now c (eleven h now c) s good;
+            room = admitted-room (length (c .reply)) h now (c .client) (s .admission) (s .admits) [] (s .admitted);
             until = omega (arith, o .early, term .1, o .term);
             later = omega (arith, term .0, o .term);
           }
 
 -- ROW 11, AND WHAT IS FOUND
 
-module _ (h : Lent) (now : ℕ) (c : Call) (summary : ImageSummary) (networks lengths : List ℕ) (sized : Sized h now summary (c .reply) networks lengths) (t : Taking h now c summary networks lengths) where
+module _ (h : Lent) (now : ℕ) (c : Call) (summary : ImageSummary) (networks lengths : List ℕ) (sized : TakeSized h now summary (c .reply) networks lengths) (t : Taking h now c summary networks lengths) where
   o : Admitted h now (c .client) summary
   o = t .admitted
 
@@ -154,8 +129,7 @@ module _ (h : Lent) (now : ℕ) (c : Call) (summary : ImageSummary) (networks le
         ap₂ (λ (l m : List ℕ). result (refusal 11 0) (lent l (h .bytes)) m)
         (done .after-is ∙ unchanged now (c .client) until (h .image) (leasesFrom summary) xs (o .records) es no-one)
         (entries-are ∙ entries-none gs (c .reply) (sym shown-is ∙ k))
-        ∙ row-refuses h (takeRows (stateIn h) now c) (refusalPlace (c .option)) (c .reply) (outcome h now (renewed h now c) gs (c .reply)) 11 (λ w. omega arith)
-        (t .left-rows ∙ cond-true (nothing? gs) (some 11) none (nothing-none gs (sym shown-is ∙ k)))
+        ∙ nothing-found h c (takeRows (stateIn h) now c) (outcome h now (renewed h now c) gs (c .reply)) gs (t .left-rows) (sym shown-is ∙ k)
 
     -- Accepted: the expired ones are removed, and the heads stand before the entries.
     module _ (l₂ : List ℕ) (n : ℕ)
@@ -167,14 +141,10 @@ module _ (h : Lent) (now : ℕ) (c : Call) (summary : ImageSummary) (networks le
       unfolding until
       later = sized .later
 
-      counted : length ys ≡ summary .leases
-      unfolding xs es ys o
-      counted = length-map xs (changedBy now (c .client) until es) ∙ sym (o .leases)
-
       finished : Finished l₁ (leasesFrom summary) ys now l₂ n
       unfolding xs es ys o
       finished =
-          finish ys (changed-holds now (c .client) until (h .image) (leasesFrom summary) xs (o .records) (omega (arith, sized .within, o .leases)) es l₁ (done .after-is)) (sym counted)
+          finish ys (changed-stand h now c summary o until es l₁ (done .after-is)) (changed-many h now c summary o until es l₁ (done .after-is))
           (λ g. renewed-all now (c .client) until later es xs (o .none-expired g))
 
       pub take-found : (shown ≡ 0 → ⊥) → shown ≤ mostEntries → (reply₂ : List ℕ) (written : ℕ) → written ≡ 7 * shown + 6
@@ -193,8 +163,6 @@ module _ (h : Lent) (now : ℕ) (c : Call) (summary : ImageSummary) (networks le
           ap₂ (λ (l : List Lease) (m : List ℕ). result (acceptance written shown) (state (store (tableIn h) now l)) m) left-are whole
           ∙ ap₂ (λ (x y : ℕ). result (acceptance x y) (state (store (tableIn h) now (renewed h now c))) (put (c .reply) 0 (replyBytes false false gs))) written-is shown-is
           ∙ sym (outcome-is h now (renewed h now c) gs (c .reply) (omega (arith, shown-is)) (sized .room)) in
-          ap (λ (g : Lent). result (acceptance written shown) g reply₂) (finished-in-place h now (c .client) summary o ys counted l₁ (done .after-is) l₂ n finished)
-          ∙ sym (settled-accepted left h refl)
-          ∙ ap (λ (r : Result State). settled r h) left-is
-          ∙ no-row h (takeRows (stateIn h) now c) (refusalPlace (c .option)) (c .reply) (outcome h now (renewed h now c) gs (c .reply))
-          (t .left-rows ∙ cond-false (nothing? gs) (some 11) none (nothing-some gs (λ w. k (shown-is ∙ w))))
+          accepts h (takeRows (stateIn h) now c) (refusalPlace (c .option)) (c .reply) (outcome h now (renewed h now c) gs (c .reply))
+          (none-left h c (takeRows (stateIn h) now c) (outcome h now (renewed h now c) gs (c .reply)) gs (t .left-rows) (λ w. k (shown-is ∙ w))) left refl left-is (lent l₂ n)
+          (changed-in-place h now c summary o until es l₁ (done .after-is) l₂ n finished)

@@ -1,26 +1,18 @@
 -- What is known where a take has passed every row before 11.
--- Assumes nothing: these are definitions.
-use Prim.Native.Nat.{ℕ, _+_, _*_, _≤_, _<_}
-use mathlib.Core.Path.{_≡_}
+use Prim.Native.Nat.{ℕ, _+_, _≤_, _<_}
 use mathlib.Core.List.{List, [], _∷_}
 use lib.ListN.{length}
 use Rattle.option.specs.Contents.{entriesIn}
 use Rattle.table.specs.declared.Lease.{Lease}
-use Rattle.table.specs.Table.{addresses, poolSlots, present}
-use Rattle.image.specs.Image.{leaseSize}
+use Rattle.table.specs.Table.{addresses, present}
 use Rattle.image_check.specs.declared.ImageSummary.{ImageSummary}
-use Rattle.option_reply.specs.Reply.{mostEntries}
 use Rattle.ledger.specs.Ledger.{Call, Row, firstOf, nothing?, leastReply, found, takeRows}
-use Rattle.call_entries.specs.EntryLeases.{Hold}
+use Rattle.call_entries.specs.EntryCalls.{Sized, Passed}
 use Rattle.call_spec.specs.ImageCalls.{Lent, tableIn, stateIn}
-use Rattle.call_rows.specs.Admission.{leasesFrom, Admitted}
 
--- All that is gone through lies within the buffers, and the new end of a lease fits 32 bits and is after now.
-pub record Sized (h : Lent) (now : ℕ) (summary : ImageSummary) (reply networks lengths : List ℕ) : Type 0 where
-  pub pools : summary .pools ≤ poolSlots
-  pub within : leasesFrom summary + leaseSize * summary .leases ≤ length (h .image)
-  pub columns : length networks ≡ length lengths
-  pub few : length networks ≤ mostEntries
+-- The reply has room, and the new end of a lease fits 32 bits and is after now.
+pub record TakeSized (h : Lent) (now : ℕ) (summary : ImageSummary) (reply networks lengths : List ℕ) : Type 0 where
+  pub entries : Sized h summary networks lengths
   pub room : leastReply ≤ length reply
   pub until : now + summary .term < addresses
   pub later : now < now + summary .term
@@ -32,7 +24,5 @@ foundBy h now c = found (c .client) (present now (tableIn h .leases)) (entriesIn
 abbrev pub eleven : Lent → ℕ → Call → List Row
 eleven h now c = (11, nothing? (foundBy h now c)) ∷ []
 
-pub record Taking (h : Lent) (now : ℕ) (c : Call) (summary : ImageSummary) (networks lengths : List ℕ) : Type 0 where
-  pub admitted : Admitted h now (c .client) summary
-  pub left-rows : firstOf (takeRows (stateIn h) now c) ≡ firstOf (eleven h now c)
-  pub hold : Hold networks lengths (entriesIn (c .option))
+abbrev pub Taking : Lent → ℕ → Call → ImageSummary → List ℕ → List ℕ → Type 0
+Taking h now c = Passed h now c (firstOf (takeRows (stateIn h) now c)) (eleven h now c)

@@ -1,2 +1,2 @@
-pub mod Renewed
+pub mod InnerRenewed
 pub mod InnerTaking

@@ -16,8 +16,8 @@ ghost use Rattle.image.specs.Image.{leaseSize};
 ghost use Rattle.ledger.specs.Ledger.{call, result};
 ghost use Rattle.call_entries.specs.EntryLeases.{Hold};
 ghost use Rattle.call_spec.specs.ImageCalls.{lent, takeImage};
-ghost use Rattle.call_take.specs.InnerTaking.{Sized, Taking};
-ghost use Rattle.call_take.specs.Renewed.{Renewed};
+ghost use Rattle.call_take.specs.InnerTaking.{TakeSized, Taking};
+ghost use Rattle.call_take.specs.InnerRenewed.{Renewed};
 
 // Renews each lease that an entry names, and shows it in the reply; how many. The first one makes the call an accepted one,
 // so the image and the reply may be written at once.
@@ -60,7 +60,7 @@ fn renew_found(
     networks: &[u32],
     lengths: &[u8],
 ) -> Answer
-    requires { ⌜ Sized (lent (now image) (now «image_bytes»)) time summary (now reply) (now networks) (now lengths) ⌝ }
+    requires { ⌜ TakeSized (lent (now image) (now «image_bytes»)) time summary (now reply) (now networks) (now lengths) ⌝ }
     ensures { λ r. ⌜ ((option : List ℕ) → Taking (lent (now (image .entry)) (now («image_bytes» .entry))) time (call client option (now (reply .entry))) summary (now (networks .entry)) (now (lengths .entry))
         → result r (lent (now (image .exit)) (now («image_bytes» .exit))) (now (reply .exit))
         ≡ takeImage (lent (now (image .entry)) (now («image_bytes» .entry))) time (call client option (now (reply .entry)))) ⌝ }

@@ -1,2 +1,3 @@
 -- Laws of the program's own functions.
 pub mod RunLaws
+pub mod LineLaws

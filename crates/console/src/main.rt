@@ -1,19 +1,45 @@
-// Runs a script of calls from standard input, and writes what each call answers to standard output. Everything that matters is in the proved libraries.
-// Memory is constant: a chunk of the input, one line, the book, the reply buffer and the output, each of a fixed size.
+// Runs a script of calls, and writes what each call answers to standard output. Everything that matters is in the proved libraries.
+// Memory is constant: a chunk of the input, one line and a copy of it, the book, the reply buffer and the output, each of a fixed size.
+use console_input::NAME;
 use console_input::Reader;
+use console_reason::REASON;
 use console_script::Command;
+use console_script::LONGEST_REPLY;
 use console_session::State;
 use image::FULL_IMAGE;
+use program::Request;
 ghost use mathlib.Core.Path.{_≡_};
 ghost use Prim.Native.Nat.{_≤_, _<_};
 ghost use lib.ListN.{length, drop};
-ghost use Rattle.console_session.specs.States.{AnswerFits, OutputHolds};
 ghost use Rattle.call_spec.specs.ImageCalls.{lent};
-ghost use Rattle.console_script.specs.Commands.{Within, valueIn};
+ghost use Rattle.console_input.specs.Lines.{lineSpace};
+ghost use Rattle.console_session.specs.States.{AnswerFits, LineFits, OutputHolds, Unchanged};
+ghost use Rattle.console_script.specs.Commands.{Within, valueIn, longestReply};
 ghost use Rattle.console_commands.specs.Commands.{given, Ran};
+ghost use Rattle.console.specs.Runs.{RanLine};
+ghost use Rattle.console.specs.InnerRuns.{Echoed, Buffered};
 
-// The longest reply buffer.
-const REPLY: usize = 1024;
+const HELP: [u8; 748] = *b"usage: console [--echo] [FILE]
+
+Runs the commands in FILE, one to a line, and prints what each call answers. Without FILE,
+or where it is -, the commands are read from standard input.
+
+  --echo     print each command before its answer: its line as read, after '> ';
+             lines that are passed over are not printed
+  --help     print this text
+  --version  print the version
+
+Commands:
+  open TERM DEFAULT START PREFIX..    ask, take, list, return STATION NOW OPTION
+  mark NOW PREFIX D                   save, load IMAGE, sheet
+  read OPTION, write ITEM..           buffer N
+
+A line that is no command answers 'error line N', and standard error has the reason. What
+cannot be read or written is told there too. The exit status is always 0.
+";
+
+// The reply buffer.
+const REPLY: usize = LONGEST_REPLY as usize;
 
 // Runs a command that a line has; the place where the output ends then.
 fn run(
@@ -25,7 +51,7 @@ fn run(
     reply: &mut [u8],
     out: &mut [u8],
 ) -> usize
-    requires { ⌜ AnswerFits (s .at) (now out) × (length (now reply) ≡ s .«reply_length») × (length (now reply) ≤ 1024) × Within (length (now line)) command ⌝ }
+    requires { ⌜ AnswerFits (s .at) (now out) × (length (now reply) ≡ s .«reply_length») × (length (now reply) ≤ longestReply) × Within (length (now line)) command ⌝ }
     ensures { λ r. ⌜ r ≤ length (now (out .entry)) ⌝ }
     ensures { λ r. ⌜ Ran (valueIn (now (line .entry)) command)
         (given (lent (now (image .entry)) (now («image_bytes» .entry))) (s .«reply_length») (s .lines) (drop (s .at) (now (out .entry))))
@@ -66,7 +92,7 @@ fn run(
 
 // The length of the reply buffer from now on.
 fn buffered(s: State, command: Command) -> State
-    ensures { λ r. ⌜ r .at ≡ s .at ⌝ }
+    ensures { λ r. ⌜ (r .at ≡ s .at) × (r .lines ≡ s .lines) × (r .echo ≡ s .echo) × Buffered command (s .«reply_length») (r .«reply_length») ⌝ }
 {
     if let Command::Buffer(c) = command {
         return console_session::with_reply_length(s, c.length);
@@ -74,38 +100,59 @@ fn buffered(s: State, command: Command) -> State
     s
 }
 
-fn least(a: usize, b: usize) -> usize
-    ensures { λ r. ⌜ (r ≤ a) × (r ≤ b) ⌝ }
+// Writes the line of a command before its answer, where that is asked for. A line that is passed over is not written.
+fn echo(s: State, command: Command, line: &[u8], out: &mut [u8]) -> State
+    requires { ⌜ LineFits (s .at) (now out) × (length (now line) ≤ lineSpace) ⌝ }
+    ensures { λ r. ⌜ AnswerFits (r .at) (now (out .entry)) × Unchanged s r ⌝ }
+    ensures { λ r. ⌜ Echoed (s .echo) command (now (line .entry)) (now (out .entry)) (s .at) (now (out .exit)) (r .at) ⌝ }
 {
-    if a < b { a } else { b }
+    if !s.echo {
+        return s;
+    }
+    if let Command::Nothing = command {
+        return s;
+    }
+    let a = console_text::text(out, s.at, b"> ");
+    let b = console_text::text(out, a, line);
+    let c = console_text::text(out, b, b"\n");
+    console_session::with_output(s, c)
 }
 
-// The state with a reply buffer that is not longer than the space for it.
-fn fitted(s: State, n: usize) -> State
-    ensures { λ r. ⌜ (r .at ≡ s .at) × (r .lines ≡ s .lines) × (r .«reply_length» ≤ n) ⌝ }
+// Says on standard error why a line is no command, where that is the answer from the output's end up to a place.
+fn explain(s: State, end: usize, line: &[u8], out: &[u8])
+    requires { ⌜ (s .at ≤ end) × (end ≤ length (now out)) ⌝ }
 {
-    let mut next = s;
-    next.reply_length = least(s.reply_length, n);
-    next
+    let at = s.at;
+    if console_words::behind(&out[at..end], b"error") == 0 {
+        return;
+    }
+    let mut text = [0u8; REASON];
+    let n = console_reason::reason(&mut text, s.lines, line);
+    io::write_all(2, &text[0..n]);
 }
 
-// Runs a line without its newline.
+// Runs a line without its newline. Octets are written over the words that spell them: the line as it was read is lent beside it.
 fn run_line(
     s: State,
     line: &mut [u8],
+    kept: &[u8],
     image: &mut [u8],
     image_bytes: &mut usize,
     reply: &mut [u8],
     out: &mut [u8],
 ) -> State
-    requires { ⌜ AnswerFits (s .at) (now out) × (length (now reply) ≤ 1024) ⌝ }
-    ensures { λ r. ⌜ r .at ≤ length (now (out .entry)) ⌝ }
+    requires { ⌜ LineFits (s .at) (now out) ⌝ }
+    requires { ⌜ (now kept ≡ now line) × (length (now kept) ≤ lineSpace) ⌝ }
+    requires { ⌜ (s .«reply_length» ≤ longestReply) × (longestReply ≡ length (now reply)) ⌝ }
+    ensures { λ r. ⌜ (r .at ≤ length (now (out .entry))) × (r .«reply_length» ≤ longestReply) ⌝ }
+    ensures { λ r. ⌜ RanLine s (now (line .entry)) (lent (now (image .entry)) (now («image_bytes» .entry))) (now (out .entry))
+        r (lent (now (image .exit)) (now («image_bytes» .exit))) (now (out .exit)) ⌝ }
 {
-    let next = fitted(console_session::next_line(s), reply.len());
-    let n = next.reply_length;
     let command = console_script::read_command(line);
-    let at = run(
-        next,
+    let begun = echo(console_session::next_line(s), command, kept, out);
+    let n = begun.reply_length;
+    let end = run(
+        begun,
         command,
         line,
         image,
@@ -113,7 +160,8 @@ fn run_line(
         &mut reply[0..n],
         out,
     );
-    buffered(console_session::with_output(next, at), command)
+    explain(begun, end, kept, out);
+    buffered(console_session::with_output(begun, end), command)
 }
 
 // Runs the line if it is whole, unless the output has failed.
@@ -121,15 +169,17 @@ fn end_line(
     s: State,
     r: Reader,
     line: &mut [u8],
+    kept: &mut [u8],
     image: &mut [u8],
     image_bytes: &mut usize,
     reply: &mut [u8],
     out: &mut [u8],
 ) -> State
     requires { ⌜ r .pending ≤ length (now line) ⌝ }
-    requires { ⌜ AnswerFits (s .at) (now out) ⌝ }
-    requires { ⌜ length (now reply) ≤ 1024 ⌝ }
-    ensures { λ r. ⌜ r .at ≤ length (now (out .entry)) ⌝ }
+    requires { ⌜ LineFits (s .at) (now out) ⌝ }
+    requires { ⌜ (lineSpace ≡ length (now line)) × (lineSpace ≡ length (now kept)) ⌝ }
+    requires { ⌜ (s .«reply_length» ≤ longestReply) × (longestReply ≡ length (now reply)) ⌝ }
+    ensures { λ r. ⌜ (r .at ≤ length (now (out .entry))) × (r .«reply_length» ≤ longestReply) ⌝ }
 {
     if s.failed {
         return s;
@@ -137,7 +187,16 @@ fn end_line(
     if r.whole {
         let pending = r.pending;
         let n = console_script::without_return(&line[0..pending]);
-        return run_line(s, &mut line[0..n], image, image_bytes, reply, out);
+        bytes::copy(&line[0..n], kept);
+        return run_line(
+            s,
+            &mut line[0..n],
+            &kept[0..n],
+            image,
+            image_bytes,
+            reply,
+            out,
+        );
     }
     s
 }
@@ -157,29 +216,60 @@ fn turns_left(turns: u64, s: State, r: Reader) -> u64
 }
 
 // A proved loop has to end, and nothing says that the input does: it counts its turns down from a number that no run uses up.
-fn run_script(input: &mut [u8], line: &mut [u8], image: &mut [u8], reply: &mut [u8], out: &mut [u8])
-    requires { ⌜ length (now reply) ≤ 1024 ⌝ }
+fn run_script(
+    fd: i32,
+    echo: bool,
+    input: &mut [u8],
+    line: &mut [u8],
+    kept: &mut [u8],
+    image: &mut [u8],
+    reply: &mut [u8],
+    out: &mut [u8],
+)
+    requires { ⌜ (lineSpace ≡ length (now line)) × (lineSpace ≡ length (now kept)) ⌝ }
+    requires { ⌜ longestReply ≡ length (now reply) ⌝ }
     requires { ⌜ OutputHolds (now out) ⌝ }
 {
-    let mut s = console_session::first_state();
+    let mut s = console_session::first_state(echo);
     let mut r = console_input::first_reader();
     // At first the book is no bytes, which are no image.
     let mut image_bytes: usize = 0;
     let mut turns = u64::MAX;
     while 0 < turns {
         s = console_session::make_room(s, r.from == r.to, out);
-        r = console_input::go_on(r, input, line);
-        s = end_line(s, r, line, image, &mut image_bytes, reply, out);
+        r = console_input::go_on(fd, r, input, line);
+        s = end_line(s, r, line, kept, image, &mut image_bytes, reply, out);
         turns = turns_left(turns, s, r);
     }
     console_session::flush(s, out);
 }
 
-fn main() {
+// Runs what is read, in buffers of its own.
+fn run_input(fd: i32, echo: bool) {
     let mut input = io::large_buffer();
     let mut line = console_input::line();
+    let mut kept = console_input::line();
     let mut image = [0u8; FULL_IMAGE];
     let mut reply = [0u8; REPLY];
     let mut out = console_session::output();
-    run_script(&mut input, &mut line, &mut image, &mut reply, &mut out);
+    run_script(
+        fd,
+        echo,
+        &mut input,
+        &mut line,
+        &mut kept,
+        &mut image,
+        &mut reply,
+        &mut out,
+    );
+}
+
+fn main() {
+    let Request::Run(o) = program::command_line(&NAME, &HELP, true) else {
+        return;
+    };
+    let fd = program::open_input(&NAME, o.file);
+    if 0 <= fd {
+        run_input(fd, o.echo);
+    }
 }

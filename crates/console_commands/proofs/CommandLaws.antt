@@ -9,8 +9,7 @@ use mathlib.Core.Logic.{inl, inr}
 use mathlib.Core.List.{List, [], _++_}
 use lib.ListN.{length, take, drop, length-append, length-drop}
 use lib.Seq.{take-at, length-take-le, take-append-le, take-append-add, take-all}
-use lib.Dec.{leb}
-use borrow.Author.Tests.{leb-true, leb-false, eq-eqb, ne-eqb}
+use borrow.Author.Tests.{eq-eqb, ne-eqb}
 use Rattle.lists.proofs.PutLaws.{put-fits}
 use Rattle.text.specs.Wrote.{Wrote}
 use Rattle.ledger.specs.declared.Answer.{Answer}
@@ -21,6 +20,7 @@ use Rattle.console_words.specs.Prefixes.{Columns, prefixesIn}
 use Rattle.console_words.specs.declared.Prefixes.{Prefixes}
 use Rattle.console_script.specs.declared.OptionCall.{OptionCall}
 use Rattle.console_script.specs.Commands.{CommandValue, call, «open», sheet, withPrefixes}
+use Rattle.console_lines.proofs.TextLaws.{first-bytes}
 use Rattle.console_lines.specs.Lines.{errorLine, refusedLine, doneLine, writtenLine}
 use Rattle.console_write.specs.declared.Outcome.{Outcome}
 use Rattle.console_write.specs.declared.Outcome.the-variants as outcome
@@ -107,15 +107,6 @@ write-of line n o a buffer after old at new next inside size e h w =
 -- What is lent from a place to the end is all that is left.
 pub rest-of : (l : List ℕ) (at : ℕ) → take (length l - at) (drop at l) ≡ drop at l
 rest-of l at = take-all (length l - at) (drop at l) (omega (arith, length-drop at l))
-
-pub first-bytes : (bytes k : ℕ) (l : List ℕ) → (length l < bytes → k ≡ length l) → (bytes ≤ length l → k ≡ bytes) → take (k - 0) l ≡ take bytes l
-first-bytes bytes k l over under = by (leb bytes (length l)) refl
-  where
-    by : (b : Bool) → leb bytes (length l) ≡ b → take (k - 0) l ≡ take bytes l
-    by true e = let z : k - 0 ≡ bytes = omega (arith, under (leb-true bytes (length l) e)) in ap (λ (i : ℕ). take i l) z
-    by false e =
-        let past : length l < bytes = leb-false bytes (length l) e in
-        take-all (k - 0) l (omega (arith, over past)) ∙ sym (take-all bytes l (omega arith))
 
 -- The front of a column, as it is lent.
 pub column : (n : ℕ) (l : List ℕ) → take (n - 0) l ≡ take n l

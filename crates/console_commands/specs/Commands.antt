@@ -1,6 +1,5 @@
 -- WHAT EACH COMMAND OF A SCRIPT DOES: the call that it is, with the line's own arguments; the book that the call leaves; and the line of its answer.
 -- The book is the image in its buffer, with its length.
--- Assumes nothing: these are definitions.
 use Prim.Native.Nat.{ℕ, _+_}
 use mathlib.Core.Path.{_≡_}
 use mathlib.Core.Bool.{not, cond}

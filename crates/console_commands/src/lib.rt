@@ -7,7 +7,7 @@ use console_session::State;
 use console_write::Outcome;
 use image::FULL_IMAGE;
 ghost use mathlib.Core.Path.{_≡_};
-ghost use Prim.Native.Nat.{_≤_, _<_};
+ghost use Prim.Native.Nat.{_≤_};
 ghost use lib.ListN.{length, drop};
 ghost use Rattle.call_spec.specs.ImageCalls.{lent};
 ghost use Rattle.console_script.specs.Commands.{
@@ -17,6 +17,7 @@ ghost use Rattle.console_script.specs.Commands.{
   load as loadValue,
   save as saveValue,
   sheet as sheetValue,
+  longestReply,
   mostPrefixes,
   withPrefixes,
 };
@@ -37,7 +38,7 @@ pub fn call(
     reply: &mut [u8],
     out: &mut [u8],
 ) -> usize
-    requires { ⌜ AnswerFits (s .at) (now out) × (length (now reply) ≡ s .«reply_length») × (length (now reply) ≤ 1024) ⌝ }
+    requires { ⌜ AnswerFits (s .at) (now out) × (length (now reply) ≡ s .«reply_length») × (length (now reply) ≤ longestReply) ⌝ }
     ensures { λ r. ⌜ r ≤ length (now (out .entry)) ⌝ }
     ensures { λ r. ⌜ Ran (callValue (c .call) (c .client) (c .time) (now (option .entry)))
         (given (lent (now (image .entry)) (now («image_bytes» .entry))) (s .«reply_length») (s .lines) (drop (s .at) (now (out .entry))))
@@ -154,12 +155,6 @@ pub fn save(s: State, image: &[u8], image_bytes: usize, out: &mut [u8]) -> usize
     console_lines::written(out, s.at, a, &buffer)
 }
 
-fn least(a: usize, b: usize) -> usize
-    ensures { λ r. ⌜ (r ≤ b) × (b < a → r ≡ b) × (a ≤ b → r ≡ a) ⌝ }
-{
-    if a < b { a } else { b }
-}
-
 // The sheet's rows stand in the output as they are.
 pub fn sheet(s: State, image: &[u8], image_bytes: usize, out: &mut [u8]) -> usize
     requires { ⌜ AnswerFits (s .at) (now out) ⌝ }
@@ -168,14 +163,14 @@ pub fn sheet(s: State, image: &[u8], image_bytes: usize, out: &mut [u8]) -> usiz
         (given (lent (now (image .entry)) «image_bytes») (s .«reply_length») (s .lines) (drop (s .at) (now (out .entry))))
         (lent (now (image .entry)) «image_bytes») (now (out .entry)) (s .at) (now (out .exit)) r ⌝ }
 {
-    let n = least(image_bytes, image.len());
+    let n = console_lines::least(image_bytes, image.len());
     let at = s.at;
     let left = out.len() - at;
     let a = call_sheet::sheet(&image[0..n], &mut out[at..]);
     if a.number != 0 {
         return console_lines::refusal(out, at, a.number, a.place);
     }
-    at + least(a.bytes as usize, left)
+    at + console_lines::least(a.bytes as usize, left)
 }
 
 // OPTION: what the reader finds.
@@ -191,7 +186,7 @@ pub fn read(s: State, octets: &[u8], out: &mut [u8]) -> usize
 
 // The words that `read` prints, made into an option.
 pub fn write(s: State, words: &mut [u8], buffer: &mut [u8], out: &mut [u8]) -> usize
-    requires { ⌜ AnswerFits (s .at) (now out) × (length (now buffer) ≡ s .«reply_length») × (length (now buffer) ≤ 1024) ⌝ }
+    requires { ⌜ AnswerFits (s .at) (now out) × (length (now buffer) ≡ s .«reply_length») × (length (now buffer) ≤ longestReply) ⌝ }
     ensures { λ r. ⌜ r ≤ length (now (out .entry)) ⌝ }
     ensures { λ r. ⌜ WroteOption (s .lines) (s .«reply_length») (now (out .entry)) (s .at) (now (out .exit)) r ⌝ }
 {

@@ -1,7 +1,10 @@
-// Lines from standard input, in two lent buffers: a chunk of the input, and the line that is being read.
+// Lines from an input, in two lent buffers: a chunk of the input, and the line that is being read.
+use console_script::LONGEST;
+use program::Input;
 ghost use mathlib.Core.Path.{_≡_};
 ghost use Prim.Native.Nat.{_≤_, _<_};
 ghost use lib.ListN.{length};
+ghost use Rattle.console_input.specs.Lines.{lineSpace};
 
 // What was read and not yet run: the input from a place to another, behind the `pending` bytes of a line. The line is whole once its newline was read,
 // or the input has ended.
@@ -13,11 +16,16 @@ pub struct Reader {
     pub ended: bool,
 }
 
+// The program that reads, as its complaints name it.
+pub const NAME: [u8; 7] = *b"console";
+
 // Space for the longest line, a carriage return, and one byte more, so that a longer line shows.
-pub fn line() -> [u8; 100002]
-    ensures { λ r. ⌜ 100002 ≡ length r ⌝ }
+pub const LINE: usize = LONGEST + 2;
+
+pub fn line() -> [u8; LINE]
+    ensures { λ r. ⌜ lineSpace ≡ length r ⌝ }
 {
-    [0; 100002]
+    [0; LINE]
 }
 
 pub fn first_reader() -> Reader
@@ -46,20 +54,18 @@ fn at_end(pending: usize) -> Reader
 }
 
 // Reads once, behind `pending` bytes of a line. A line that is cut by a failed read is not run.
-fn read_more(pending: usize, input: &mut [u8]) -> Reader
+fn read_more(fd: i32, pending: usize, input: &mut [u8]) -> Reader
     ensures { λ r. ⌜ (r .from ≡ 0) × (r .to ≤ length (now (input .entry))) × (r .pending ≤ pending) ⌝ }
 {
-    let got = libc::read(0, input);
-    if got < 0 {
-        io::write_all(2, b"console: the input cannot be read\n");
+    let Input::Bytes(to) = program::read_some(&NAME, fd, input) else {
         return at_end(0);
-    }
-    if got == 0 {
+    };
+    if to == 0 {
         return at_end(pending);
     }
     Reader {
         from: 0,
-        to: io::count(got, input),
+        to,
         pending,
         whole: false,
         ended: false,
@@ -109,7 +115,7 @@ fn begun(r: Reader) -> usize
 }
 
 // Takes a piece of what was read, or reads once.
-pub fn go_on(r: Reader, input: &mut [u8], line: &mut [u8]) -> Reader
+pub fn go_on(fd: i32, r: Reader, input: &mut [u8], line: &mut [u8]) -> Reader
     requires { ⌜ (r .from ≤ r .to) × (r .to ≤ length (now input)) ⌝ }
     requires { ⌜ r .pending ≤ length (now line) ⌝ }
     ensures { λ r. ⌜ (r .from ≤ r .to) × (r .to ≤ length (now (input .entry))) × (r .pending ≤ length (now (line .entry))) ⌝ }
@@ -118,5 +124,5 @@ pub fn go_on(r: Reader, input: &mut [u8], line: &mut [u8]) -> Reader
     if r.from < r.to {
         return take_piece(r, pending, input, line);
     }
-    read_more(pending, input)
+    read_more(fd, pending, input)
 }

@@ -17,7 +17,7 @@ use Rattle.option_entry.specs.declared.EntryStep.the-variants as entry-step
 use Rattle.option.specs.declared.Step.the-variants as step
 use Rattle.option.proofs.EntryLaws.{entry-read, told-entry}
 use Rattle.option.proofs.SuboptionLaws.{suboption-read, suboption-ends, told-piece}
-use Rattle.console_lines.specs.Sizes.{most, Within}
+use Rattle.console_lines.specs.InnerSizes.{most, Within}
 
 -- Seven bytes or more for an entry.
 pub record EntryTaken (end at : ℕ) (c : EntryCursor) : Type 0 where

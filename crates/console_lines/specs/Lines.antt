@@ -1,5 +1,4 @@
 -- The lines of the output that tell what calls answer.
--- Assumes nothing: these are definitions.
 use Prim.Native.Nat.{ℕ}
 use mathlib.Core.Bool.{cond}
 use mathlib.Core.List.{List, _++_}

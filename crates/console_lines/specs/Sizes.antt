@@ -1,19 +1,19 @@
--- How much text a suboption makes at most, and that its places stand within its option.
--- Assumes nothing: these are definitions.
-use Prim.Native.Nat.{ℕ, _+_, _-_, _*_, _≤_}
-use mathlib.Core.List.{List}
-use lib.ListN.{length}
-use Rattle.option.specs.declared.Suboption.{Suboption}
-use Rattle.option.specs.declared.Suboption.the-variants.{Request, Information, Name, Unknown}
+-- How long the lines of answers can be.
+use Prim.Native.Nat.{ℕ, _+_, _*_}
+use Rattle.option.specs.Values.{longestOption}
 
-abbrev pub most : Suboption → ℕ
-most (Request r) = 52
-most (Information f) = 38 + 28 * (f .entries .end - f .entries .at)
-most (Name n) = 6 + 2 * (n .end - n .start)
-most (Unknown u) = 8
+-- A line that is no command: its number has at most twenty digits.
+abbrev pub errorMost : ℕ
+errorMost = 32
 
-abbrev pub Within : List ℕ → Suboption → Type 0
-Within s (Request r) = Unit {0}
-Within s (Information f) = Unit {0}
-Within s (Name n) = (n .start ≤ n .end) × (n .end ≤ length s)
-Within s (Unknown u) = Unit {0}
+-- An answer without octets.
+abbrev pub lineMost : ℕ
+lineMost = 37
+
+-- An answer with octets of a buffer of n bytes.
+abbrev pub octetsMost : ℕ → ℕ
+octetsMost n = 2 * n + 58
+
+-- What the reader finds: 28 bytes for each of an option's, and ok.
+abbrev pub readMost : ℕ
+readMost = 28 * longestOption + 3

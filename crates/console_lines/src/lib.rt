@@ -3,6 +3,7 @@ use ledger::Answer;
 use option::Checked;
 use option::Cursor;
 use option::InformationFields;
+use option::LONGEST_OPTION;
 use option::NameFields;
 use option::RequestFields;
 use option::Selection;
@@ -17,7 +18,16 @@ ghost use mathlib.Core.List.{_++_};
 ghost use lib.ListN.{length, take};
 ghost use Rattle.text.specs.Ascii.{ascii};
 ghost use Rattle.option.specs.declared.Suboption.the-variants as Suboption;
-ghost use Rattle.console_lines.specs.Sizes.{most, Within};
+ghost use Rattle.console_lines.specs.Sizes.{errorMost, lineMost, octetsMost, readMost};
+ghost use Rattle.console_lines.specs.InnerSizes.{
+  headMost,
+  figuresMost,
+  entryMost,
+  requestMost,
+  addressMost,
+  most,
+  Within,
+};
 ghost use Rattle.text.specs.Wrote.{Wrote};
 ghost use Rattle.console_lines.specs.Lines.{
   okLine,
@@ -41,8 +51,8 @@ pub fn ok(out: &mut [u8], at: usize) -> usize
 
 // A line that is no command.
 pub fn error(out: &mut [u8], at: usize, line: u64) -> usize
-    requires { ⌜ at + 32 ≤ length (now out) ⌝ }
-    ensures { λ r. ⌜ r ≤ at + 32 ⌝ }
+    requires { ⌜ at + errorMost ≤ length (now out) ⌝ }
+    ensures { λ r. ⌜ r ≤ at + errorMost ⌝ }
     ensures { λ r. ⌜ Wrote (now (out .entry)) at (errorLine line) (now (out .exit)) r ⌝ }
 {
     let a = console_text::text(out, at, b"error line ");
@@ -52,8 +62,8 @@ pub fn error(out: &mut [u8], at: usize, line: u64) -> usize
 
 // A refusal by its number, with its place if it is the one that has a place.
 pub fn refusal(out: &mut [u8], at: usize, number: u32, place: u32) -> usize
-    requires { ⌜ at + 37 ≤ length (now out) ⌝ }
-    ensures { λ r. ⌜ r ≤ at + 37 ⌝ }
+    requires { ⌜ at + lineMost ≤ length (now out) ⌝ }
+    ensures { λ r. ⌜ r ≤ at + lineMost ⌝ }
     ensures { λ r. ⌜ Wrote (now (out .entry)) at (refusedLine number place) (now (out .exit)) r ⌝ }
 {
     if number == 7 {
@@ -62,7 +72,8 @@ pub fn refusal(out: &mut [u8], at: usize, number: u32, place: u32) -> usize
     console_text::fill(out, at, b"refused %\n", &[number])
 }
 
-fn least(a: usize, b: usize) -> usize
+// The smaller of two numbers.
+pub fn least(a: usize, b: usize) -> usize
     ensures { λ r. ⌜ (r ≤ a) × (r ≤ b) × (b < a → r ≡ b) × (a ≤ b → r ≡ a) ⌝ }
 {
     if a < b { a } else { b }
@@ -81,8 +92,8 @@ fn octets(out: &mut [u8], at: usize, word: &[u8], s: &[u8]) -> usize
 
 // The answer of an open, a load or a mark.
 pub fn done(out: &mut [u8], at: usize, a: Answer) -> usize
-    requires { ⌜ at + 37 ≤ length (now out) ⌝ }
-    ensures { λ r. ⌜ r ≤ at + 37 ⌝ }
+    requires { ⌜ at + lineMost ≤ length (now out) ⌝ }
+    ensures { λ r. ⌜ r ≤ at + lineMost ⌝ }
     ensures { λ r. ⌜ Wrote (now (out .entry)) at (doneLine a) (now (out .exit)) r ⌝ }
 {
     if a.number != 0 {
@@ -93,8 +104,8 @@ pub fn done(out: &mut [u8], at: usize, a: Answer) -> usize
 
 // The answer of a return.
 pub fn counted(out: &mut [u8], at: usize, a: Answer) -> usize
-    requires { ⌜ at + 37 ≤ length (now out) ⌝ }
-    ensures { λ r. ⌜ r ≤ at + 37 ⌝ }
+    requires { ⌜ at + lineMost ≤ length (now out) ⌝ }
+    ensures { λ r. ⌜ r ≤ at + lineMost ⌝ }
     ensures { λ r. ⌜ Wrote (now (out .entry)) at (countedLine a) (now (out .exit)) r ⌝ }
 {
     if a.number != 0 {
@@ -105,8 +116,8 @@ pub fn counted(out: &mut [u8], at: usize, a: Answer) -> usize
 
 // The answer of an ask, a take or a list, with the bytes that it wrote to its reply buffer.
 pub fn replied(out: &mut [u8], at: usize, a: Answer, reply: &[u8]) -> usize
-    requires { ⌜ at + 2 * length (now reply) + 58 ≤ length (now out) ⌝ }
-    ensures { λ r. ⌜ r ≤ at + 2 * length (now (reply .entry)) + 58 ⌝ }
+    requires { ⌜ at + octetsMost (length (now reply)) ≤ length (now out) ⌝ }
+    ensures { λ r. ⌜ r ≤ at + octetsMost (length (now (reply .entry))) ⌝ }
     ensures { λ r. ⌜ Wrote (now (out .entry)) at (repliedLine a (now (reply .entry))) (now (out .exit)) r ⌝ }
 {
     if a.number != 0 {
@@ -119,8 +130,8 @@ pub fn replied(out: &mut [u8], at: usize, a: Answer, reply: &[u8]) -> usize
 
 // The answer of a save or a write, with the bytes that it wrote to its buffer.
 pub fn written(out: &mut [u8], at: usize, a: Answer, buffer: &[u8]) -> usize
-    requires { ⌜ at + 2 * length (now buffer) + 58 ≤ length (now out) ⌝ }
-    ensures { λ r. ⌜ r ≤ at + 2 * length (now (buffer .entry)) + 58 ⌝ }
+    requires { ⌜ at + octetsMost (length (now buffer)) ≤ length (now out) ⌝ }
+    ensures { λ r. ⌜ r ≤ at + octetsMost (length (now (buffer .entry))) ⌝ }
     ensures { λ r. ⌜ Wrote (now (out .entry)) at (writtenLine a (now (buffer .entry))) (now (out .exit)) r ⌝ }
 {
     if a.number != 0 {
@@ -135,8 +146,8 @@ pub fn written(out: &mut [u8], at: usize, a: Answer, buffer: &[u8]) -> usize
 
 // The figures that an entry has, to the end of its line.
 fn figures(out: &mut [u8], at: usize, count: usize, numbers: &[u32]) -> usize
-    requires { ⌜ (length (now numbers) ≤ 3) × (at + 33 ≤ length (now out)) ⌝ }
-    ensures { λ r. ⌜ r ≤ at + 33 ⌝ }
+    requires { ⌜ (length (now numbers) ≤ 3) × (at + figuresMost ≤ length (now out)) ⌝ }
+    ensures { λ r. ⌜ r ≤ at + figuresMost ⌝ }
 {
     if count == 0 {
         return console_text::text(out, at, b"-\n");
@@ -152,8 +163,8 @@ fn figures(out: &mut [u8], at: usize, count: usize, numbers: &[u32]) -> usize
 
 // An entry's line up to its figures.
 fn entry_head(out: &mut [u8], at: usize, e: EntryFields) -> usize
-    requires { ⌜ at + 95 ≤ length (now out) ⌝ }
-    ensures { λ r. ⌜ r ≤ at + 95 ⌝ }
+    requires { ⌜ at + headMost ≤ length (now out) ⌝ }
+    ensures { λ r. ⌜ r ≤ at + headMost ⌝ }
 {
     let n = e.network;
     let numbers = [
@@ -169,12 +180,16 @@ fn entry_head(out: &mut [u8], at: usize, e: EntryFields) -> usize
 }
 
 fn entry(out: &mut [u8], at: usize, e: EntryFields) -> usize
-    requires { ⌜ at + 190 ≤ length (now out) ⌝ }
-    ensures { λ r. ⌜ r ≤ at + 190 ⌝ }
+    requires { ⌜ at + entryMost ≤ length (now out) ⌝ }
+    ensures { λ r. ⌜ r ≤ at + entryMost ⌝ }
 {
     let f = e.figures;
     let a = entry_head(out, at, e);
-    let numbers = [f.high_water as u32, f.in_use as u32, f.unusable as u32];
+    let numbers = [
+        f.high_water.0 as u32,
+        f.in_use.0 as u32,
+        f.unusable.0 as u32,
+    ];
     figures(out, a, f.count, &numbers)
 }
 
@@ -202,8 +217,8 @@ fn entries(out: &mut [u8], at: usize, s: &[u8], first: EntryCursor) -> usize
 }
 
 fn request(out: &mut [u8], at: usize, r: RequestFields) -> usize
-    requires { ⌜ at + 52 ≤ length (now out) ⌝ }
-    ensures { λ r. ⌜ r ≤ at + 52 ⌝ }
+    requires { ⌜ at + requestMost ≤ length (now out) ⌝ }
+    ensures { λ r. ⌜ r ≤ at + requestMost ⌝ }
 {
     let numbers = [r.h as u32, r.i as u32, r.length as u32];
     console_text::fill(out, at, b"request h=% i=% prefix=%\n", &numbers)
@@ -264,12 +279,12 @@ fn suboptions(out: &mut [u8], at: usize, s: &[u8]) -> usize
     }
 }
 
-// What the reader of option 220 finds. No option is longer than 257 bytes.
+// What the reader of option 220 finds.
 fn option(out: &mut [u8], at: usize, s: &[u8]) -> usize
-    requires { ⌜ at + 7199 ≤ length (now out) ⌝ }
-    ensures { λ r. ⌜ r ≤ at + 7199 ⌝ }
+    requires { ⌜ at + readMost ≤ length (now out) ⌝ }
+    ensures { λ r. ⌜ r ≤ at + readMost ⌝ }
 {
-    if 257 < s.len() {
+    if LONGEST_OPTION < s.len() {
         return refusal(out, at, 6, 0);
     }
     match option::check_option(s) {
@@ -281,8 +296,8 @@ fn option(out: &mut [u8], at: usize, s: &[u8]) -> usize
 }
 
 fn address(out: &mut [u8], at: usize, n: u32) -> usize
-    requires { ⌜ at + 95 ≤ length (now out) ⌝ }
-    ensures { λ r. ⌜ r ≤ at + 95 ⌝ }
+    requires { ⌜ at + addressMost ≤ length (now out) ⌝ }
+    ensures { λ r. ⌜ r ≤ at + addressMost ⌝ }
 {
     let numbers = [n / 16777216, n / 65536 % 256, n / 256 % 256, n % 256];
     console_text::fill(out, at, b"address %.%.%.%\nok\n", &numbers)
@@ -290,8 +305,8 @@ fn address(out: &mut [u8], at: usize, n: u32) -> usize
 
 // What the reader of option 118 finds.
 fn selection(out: &mut [u8], at: usize, s: &[u8]) -> usize
-    requires { ⌜ at + 95 ≤ length (now out) ⌝ }
-    ensures { λ r. ⌜ r ≤ at + 95 ⌝ }
+    requires { ⌜ at + addressMost ≤ length (now out) ⌝ }
+    ensures { λ r. ⌜ r ≤ at + addressMost ⌝ }
 {
     match option::read_selection(s) {
         Selection::Address(n) => address(out, at, n),
@@ -301,8 +316,8 @@ fn selection(out: &mut [u8], at: usize, s: &[u8]) -> usize
 
 // What the reader finds: of option 118 if the first byte is 118, otherwise of option 220.
 pub fn read(out: &mut [u8], at: usize, s: &[u8]) -> usize
-    requires { ⌜ at + 7199 ≤ length (now out) ⌝ }
-    ensures { λ r. ⌜ r ≤ at + 7199 ⌝ }
+    requires { ⌜ at + readMost ≤ length (now out) ⌝ }
+    ensures { λ r. ⌜ r ≤ at + readMost ⌝ }
 {
     if 0 < s.len() {
         if s[0] == 118 {

@@ -1,13 +1,11 @@
 -- Commands as values, and what a command of the code stands for: the octets and words at its places in the line.
--- Assumes nothing: these are definitions.
 use Prim.Native.Nat.{ℕ, _≤_}
 use mathlib.Core.Option.{Option, none, some}
 use mathlib.Core.List.{List}
 use lib.ListN.{drop}
 use Rattle.console_words.specs.Words.{between}
 use Rattle.console_words.specs.Prefixes.{Columns, prefixesOf}
-use Rattle.console_script.specs.declared.OptionCall.{OptionCall}
-use Rattle.console_script.specs.declared.Command.{Command}
+use Rattle.console_script.specs.declared.{OptionCall.OptionCall, Command.Command}
 use Rattle.console_script.specs.declared.Command.the-variants as command
 
 pub data CommandValue : Type 0 where
@@ -31,6 +29,14 @@ pub data CommandValue : Type 0 where
   nothing : CommandValue
   -- "a line that is no command: it changes nothing"
   bad : CommandValue
+
+-- "Longest line: 100,000 bytes."
+abbrev pub longestLine : ℕ
+longestLine = 100000
+
+-- "the reply buffer's length from now on, 0 to 1,024"
+abbrev pub longestReply : ℕ
+longestReply = 1024
 
 -- The most prefixes: "open takes 0 to 16 prefixes as arguments (more than 16: an error)".
 abbrev pub mostPrefixes : ℕ
@@ -63,6 +69,6 @@ Within n command.Save = Unit {0}
 Within n command.Sheet = Unit {0}
 Within n (command.Read c) = (c .from ≤ c .to) × (c .to ≤ n)
 Within n (command.Write c) = c .from ≤ n
-Within n (command.Buffer c) = c .length ≤ 1024
+Within n (command.Buffer c) = c .length ≤ longestReply
 Within n command.Nothing = Unit {0}
 Within n command.Bad = Unit {0}

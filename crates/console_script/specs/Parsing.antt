@@ -1,27 +1,23 @@
 -- What a line of a script says: the table of commands.
--- Assumes nothing: these are definitions.
 use Prim.Native.Nat.{ℕ, _-_}
 use mathlib.Core.Bool.{Bool, true, false, cond, _&&_}
 use mathlib.Core.Option.{Option, none, some}
 use mathlib.Core.List.{List, [], _∷_}
 use lib.ListN.{length, getD}
 use lib.Dec.{ltb, eqb}
-use Rattle.console_words.specs.declared.Number.{Number}
+use Rattle.console_words.specs.declared.{Number.Number, PrefixWord.PrefixWord}
 use Rattle.console_words.specs.declared.Number.the-variants as number
-use Rattle.console_words.specs.declared.PrefixWord.{PrefixWord}
 use Rattle.console_words.specs.declared.PrefixWord.the-variants as prefix
 use Rattle.text.specs.Ascii.{ascii}
 use Rattle.console_words.specs.Words.{firstWord, afterWord, empty?, last?}
 use Rattle.console_words.specs.Numbers.{numberOf, flagOf}
 use Rattle.console_words.specs.Prefixes.{prefixOf, prefixesOf}
 use Rattle.console_words.specs.Octets.{lastOctets}
-use Rattle.console_script.specs.declared.OptionCall.{OptionCall}
+use Rattle.console_script.specs.declared.{OptionCall.OptionCall, Lone.Lone, Name.Name}
 use Rattle.console_script.specs.declared.OptionCall.the-variants.{Ask, Take, List as ListCall, Return}
-use Rattle.console_script.specs.declared.Lone.{Lone}
 use Rattle.console_script.specs.declared.Lone.the-variants as lone
-use Rattle.console_script.specs.declared.Name.{Name}
 use Rattle.console_script.specs.declared.Name.the-variants as name
-use Rattle.console_script.specs.Commands.{CommandValue, call, mark, «open», load, save, sheet, read, write, buffer, nothing, bad, mostPrefixes, withPrefixes}
+use Rattle.console_script.specs.Commands.{CommandValue, call, mark, «open», load, save, sheet, read, write, buffer, nothing, bad, longestLine, longestReply, mostPrefixes, withPrefixes}
 
 -- NAMES
 
@@ -100,7 +96,7 @@ parseRead xs = withOctets (lastOctets xs) read
 
 -- N, "0 to 1,024"
 unfoldable pub parseBuffer : List ℕ → CommandValue
-parseBuffer xs = withNumber (numberOf (firstWord xs)) (λ n. cond (ltb 1024 n) bad (atEnd (afterWord xs) (buffer n)))
+parseBuffer xs = withNumber (numberOf (firstWord xs)) (λ n. cond (ltb longestReply n) bad (atEnd (afterWord xs) (buffer n)))
 
 -- Nothing more.
 unfoldable pub parseLone : Lone → List ℕ → CommandValue
@@ -127,7 +123,7 @@ unreturned s = cond (eqb (getD s (length s - 1) 0) 13) (length s - 1) (length s)
 -- "A line with no word, or whose first word begins with #, is passed over"; "Longest line: 100,000 bytes."
 unfoldable pub parseLine : List ℕ → CommandValue
 parseLine s =
-    cond (ltb 100000 (length s)) bad
+    cond (ltb longestLine (length s)) bad
     (cond (empty? (firstWord s)) nothing
     (cond (eqb (getD (firstWord s) 0 0) 35) nothing
     (parseWords (nameOf (firstWord s)) (afterWord s))))

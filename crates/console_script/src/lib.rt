@@ -21,10 +21,10 @@ ghost use Rattle.console_script.specs.Parsing.{
 };
 
 // The longest line, without its newline and a carriage return before that.
-const LONGEST: usize = 100000;
+pub const LONGEST: usize = 100000;
 
 // The longest reply buffer.
-const LONGEST_REPLY: u32 = 1024;
+pub const LONGEST_REPLY: u32 = 1024;
 
 // The calls that are given an option.
 pub enum OptionCall {
@@ -91,13 +91,13 @@ pub enum Command {
 }
 
 // The commands that are alone on their line.
-enum Lone {
+pub enum Lone {
     Save,
     Sheet,
 }
 
 // What the first word names.
-enum Name {
+pub enum Name {
     Call(OptionCall),
     Mark,
     Open,
@@ -118,7 +118,7 @@ fn is(word: &[u8], name: &[u8]) -> bool
     check::same(word, name)
 }
 
-fn read_name(word: &[u8]) -> Name
+pub fn read_name(word: &[u8]) -> Name
     ensures { λ r. ⌜ r ≡ nameOf (now (word .entry)) ⌝ }
 {
     if is(word, b"ask") {

@@ -1,25 +1,45 @@
 -- What goes from line to line of a script beside the book, and room in the output.
--- Assumes nothing: these are definitions.
 use Prim.Native.Nat.{ℕ, _+_, _≤_}
 use mathlib.Core.Path.{_≡_}
 use mathlib.Core.Bool.{cond}
 use mathlib.Core.List.{List}
 use lib.ListN.{length}
 use lib.Dec.{ltb}
+use Rattle.console_input.specs.Lines.{lineSpace}
 use Rattle.console_session.specs.declared.State.{State}
 
--- The reply buffer's length and the number of lines are as before.
+-- The reply buffer's length, the number of lines and whether commands are echoed are as before.
 abbrev pub Unchanged : State → State → Type 0
-Unchanged s r = (r .«reply_length» ≡ s .«reply_length») × (r .lines ≡ s .lines)
+Unchanged s r = (r .«reply_length» ≡ s .«reply_length») × (r .lines ≡ s .lines) × (r .echo ≡ s .echo)
 
 -- "Lines are counted from 1", as far as 64 bits go.
 abbrev pub nextLine : ℕ → ℕ
 nextLine n = cond (ltb n 18446744073709551615) (n + 1) n
 
--- Any answer fits after the first `at` bytes of the output.
-abbrev pub AnswerFits : ℕ → List ℕ → Type 0
-AnswerFits at out = at + 196608 ≤ length out
+-- The reply buffer's length: "257 at first".
+abbrev pub firstReply : ℕ
+firstReply = 257
 
--- The output holds what may wait and one answer more.
+-- What may wait in the output, the longest line behind "> " and with its newline, and room for any answer.
+abbrev pub waitingMost : ℕ
+waitingMost = 65536
+
+abbrev pub echoMost : ℕ
+echoMost = lineSpace + 3
+
+abbrev pub answerMost : ℕ
+answerMost = 196608
+
+abbrev pub outputSpace : ℕ
+outputSpace = waitingMost + echoMost + answerMost
+
+-- Any answer fits after the first `at` bytes of the output; any line and its answer.
+abbrev pub AnswerFits : ℕ → List ℕ → Type 0
+AnswerFits at out = at + answerMost ≤ length out
+
+abbrev pub LineFits : ℕ → List ℕ → Type 0
+LineFits at out = at + echoMost + answerMost ≤ length out
+
+-- The output holds what may wait and one line with its answer more.
 abbrev pub OutputHolds : List ℕ → Type 0
-OutputHolds out = 262144 ≤ length out
+OutputHolds out = outputSpace ≤ length out

@@ -1,16 +1,27 @@
 // What goes from line to line of a script beside the book, and the output written out.
+use console_input::LINE;
+use console_input::NAME;
 ghost use mathlib.Core.Path.{_≡_};
 ghost use Prim.Native.Nat.{_≤_};
 ghost use lib.ListN.{length};
 ghost use Rattle.console_session.specs.States.{
   Unchanged,
   nextLine,
-  AnswerFits,
+  firstReply,
+  outputSpace,
+  LineFits,
   OutputHolds,
 };
 
-// The output is written out once it has more than this: what is left holds any answer.
-const FULL: usize = 65536;
+// The output is written out once it has more than this.
+const WAITING: usize = 65536;
+
+// Room for any answer, and for the line before it: two bytes, the line, and its newline.
+const ANSWER: usize = 196608;
+
+const ECHO: usize = LINE + 3;
+
+const OUTPUT: usize = WAITING + ECHO + ANSWER;
 
 // The reply buffer's length at first.
 const REPLY_AT_FIRST: usize = 257;
@@ -22,24 +33,27 @@ pub struct State {
     pub lines: u64,
     // How much of the output waits to be written out.
     pub at: usize,
+    // Each command is written before its answer.
+    pub echo: bool,
     // The output cannot be written.
     pub failed: bool,
 }
 
-pub fn first_state() -> State
-    ensures { λ r. ⌜ (r .«reply_length» ≡ 257) × (r .lines ≡ 0) × (r .at ≡ 0) ⌝ }
+pub fn first_state(echo: bool) -> State
+    ensures { λ r. ⌜ (r .«reply_length» ≡ firstReply) × (r .lines ≡ 0) × (r .at ≡ 0) × (r .echo ≡ echo) ⌝ }
 {
     State {
         reply_length: REPLY_AT_FIRST,
         lines: 0,
         at: 0,
+        echo,
         failed: false,
     }
 }
 
 // The state at the next line.
 pub fn next_line(s: State) -> State
-    ensures { λ r. ⌜ (r .«reply_length» ≡ s .«reply_length») × (r .lines ≡ nextLine (s .lines)) × (r .at ≡ s .at) ⌝ }
+    ensures { λ r. ⌜ (r .«reply_length» ≡ s .«reply_length») × (r .lines ≡ nextLine (s .lines)) × (r .at ≡ s .at) × (r .echo ≡ s .echo) ⌝ }
 {
     let mut next = s;
     if s.lines < u64::MAX {
@@ -60,7 +74,7 @@ pub fn with_output(s: State, at: usize) -> State
 
 // The state with another length of the reply buffer.
 pub fn with_reply_length(s: State, length: u32) -> State
-    ensures { λ r. ⌜ (r .«reply_length» ≡ length) × (r .lines ≡ s .lines) × (r .at ≡ s .at) ⌝ }
+    ensures { λ r. ⌜ (r .«reply_length» ≡ length) × (r .lines ≡ s .lines) × (r .at ≡ s .at) × (r .echo ≡ s .echo) ⌝ }
 {
     let mut next = s;
     next.reply_length = length as usize;
@@ -69,11 +83,11 @@ pub fn with_reply_length(s: State, length: u32) -> State
 
 // OUTPUT
 
-// Space for the output: what may wait and one answer more.
-pub fn output() -> [u8; 262144]
-    ensures { λ r. ⌜ 262144 ≡ length r ⌝ }
+// Space for the output: what may wait, and one command with its answer more.
+pub fn output() -> [u8; OUTPUT]
+    ensures { λ r. ⌜ outputSpace ≡ length r ⌝ }
 {
-    [0; 262144]
+    [0; OUTPUT]
 }
 
 // Writes the output out.
@@ -83,22 +97,19 @@ pub fn flush(s: State, out: &[u8]) -> State
 {
     let n = s.at;
     let mut next = with_output(s, 0);
-    if !io::write_all(1, &out[0..n]) {
-        io::write_all(2, b"console: the output cannot be written\n");
-        next.failed = true;
-    }
+    next.failed = !program::write_output(&NAME, &out[0..n]);
     next
 }
 
 // Writes the output out before more is read, so that whoever types sees each answer at once, and before it has less room than any answer takes.
 pub fn make_room(s: State, reads: bool, out: &[u8]) -> State
     requires { ⌜ (s .at ≤ length (now out)) × OutputHolds (now out) ⌝ }
-    ensures { λ r. ⌜ AnswerFits (r .at) (now (out .entry)) × Unchanged s r ⌝ }
+    ensures { λ r. ⌜ LineFits (r .at) (now (out .entry)) × Unchanged s r ⌝ }
 {
     if reads {
         return flush(s, out);
     }
-    if FULL < s.at {
+    if WAITING < s.at {
         return flush(s, out);
     }
     s

@@ -21,7 +21,8 @@ use Rattle.console_words.specs.declared.PrefixWord.the-variants as prefi
 use Rattle.console_words.specs.declared.Prefixes.{Prefixes}
 use Rattle.console_words.specs.Words.{upTo, fromOn, firstWord, afterWord, empty?}
 use Rattle.console_words.specs.Numbers.{numberOf, octetOf}
-use Rattle.console_words.specs.Prefixes.{withOctet, pastDot, dotted, networkOf, withLength, withNetwork, pastSlash, prefixOf, Columns, before, prefixesOf, NextOctet, PrefixPut, prefixesIn}
+use Rattle.console_words.specs.Prefixes.{withOctet, pastDot, dotted, networkOf, withLength, withNetwork, pastSlash, prefixOf, Columns, before, prefixesOf, prefixesIn}
+use Rattle.console_words.specs.InnerPrefixes.{NextOctet, PrefixPut}
 
 -- What is lent from a place to the end is all that is left.
 pub whole : (s : List ℕ) (at : ℕ) → octetOf (numberOf (take (length s - at) (drop at s))) ≡ octetOf (numberOf (drop at s))

@@ -1,4 +1,5 @@
 pub mod Words
 pub mod Numbers
 pub mod Prefixes
+pub mod InnerPrefixes
 pub mod Octets

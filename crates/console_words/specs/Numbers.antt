@@ -1,5 +1,4 @@
 -- What a word spells as a number.
--- Assumes nothing: these are definitions.
 use Prim.Native.Nat.{ℕ, _+_, _-_, _*_, _^_, _≤_}
 use mathlib.Core.Path.{_≡_}
 use mathlib.Core.Bool.{Bool, cond, _&&_}
@@ -8,10 +7,8 @@ use lib.ListN.{length, drop}
 use lib.Dec.{ltb, leb, eqb}
 use Rattle.lists.specs.Lists.{all?}
 use Rattle.console_words.specs.Words.{firstWord, afterWord}
-use Rattle.console_words.specs.declared.NumberAt.{NumberAt}
-use Rattle.console_words.specs.declared.Number.{Number}
+use Rattle.console_words.specs.declared.{NumberAt.NumberAt, Number.Number, Octet.Octet}
 use Rattle.console_words.specs.declared.Number.the-variants.{Of, Bad}
-use Rattle.console_words.specs.declared.Octet.{Octet}
 use Rattle.console_words.specs.declared.Octet.the-variants as octet
 
 -- The bytes 0 to 9.

@@ -1,5 +1,4 @@
 -- What a word spells as octets: "OPTION and IMAGE are hexadecimal digits, upper or lower case, an even number of them; - stands for no bytes."
--- Assumes nothing: these are definitions.
 use Prim.Native.Nat.{ℕ, _+_, _-_, _*_}
 use mathlib.Core.Bool.{Bool, true, false, cond}
 use mathlib.Core.Option.{Option, none, some}

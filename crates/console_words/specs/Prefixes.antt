@@ -1,22 +1,16 @@
 -- What words spell as prefixes: "PREFIX is A.B.C.D/L, A to D 0 to 255 and L below 256, in decimal, whatever its alignment."
--- Assumes nothing: these are definitions.
 use Prim.Native.Nat.{ℕ, zero, suc, _+_, _*_, _≤_}
 use mathlib.Core.Path.{_≡_}
-use mathlib.Core.Bool.{Bool, true, false, cond}
+use mathlib.Core.Bool.{cond}
 use mathlib.Core.Option.{Option, none, some}
 use mathlib.Core.List.{List, [], _∷_}
-use lib.ListN.{length, take, drop, set}
+use lib.ListN.{length, take, drop}
 use Rattle.console_words.specs.Words.{upTo, fromOn, firstWord, afterWord, empty?}
 use Rattle.console_words.specs.Numbers.{numberOf, octetOf}
-use Rattle.console_words.specs.declared.Number.{Number}
+use Rattle.console_words.specs.declared.{Number.Number, Octet.Octet, PrefixWord.PrefixWord, PrefixAt.PrefixAt, Prefixes.Prefixes}
 use Rattle.console_words.specs.declared.Number.the-variants.{Of, Bad}
-use Rattle.console_words.specs.declared.Octet.{Octet}
 use Rattle.console_words.specs.declared.Octet.the-variants as octet
-use Rattle.console_words.specs.declared.OctetAt.{OctetAt}
-use Rattle.console_words.specs.declared.PrefixWord.{PrefixWord}
 use Rattle.console_words.specs.declared.PrefixWord.the-variants as prefix
-use Rattle.console_words.specs.declared.PrefixAt.{PrefixAt}
-use Rattle.console_words.specs.declared.Prefixes.{Prefixes}
 
 -- A number of four octets, the high one first: n stands for those that were read, and `more` dots (46) are left.
 abbrev pub withOctet : Octet → (ℕ → Number) → Number
@@ -64,23 +58,11 @@ unfoldable pub prefixesOf : ℕ → List ℕ → Option Columns
 prefixesOf zero xs = cond (empty? (firstWord xs)) (some ([], [])) none
 prefixesOf (suc most) xs = cond (empty? (firstWord xs)) (some ([], [])) (before (prefixOf (firstWord xs)) (prefixesOf most (afterWord xs)))
 
--- The octet before the next dot, and the place where that stands, or the end.
-pub record NextOctet (s : List ℕ) (from : ℕ) (r : OctetAt) : Type 0 where
-  pub later : from ≤ r .end
-  pub inside : r .end ≤ length s
-  pub spelt : r .octet ≡ octetOf (numberOf (upTo 46 (drop from s)))
-  pub rest : drop (r .end) s ≡ fromOn 46 (drop from s)
-
 -- The prefix that the next word spells, and the place behind it.
 pub record NextPrefix (s : List ℕ) (from : ℕ) (r : PrefixAt) : Type 0 where
   pub inside : r .end ≤ length s
   pub prefix : r .prefix ≡ prefixOf (firstWord (drop from s))
   pub rest : drop (r .end) s ≡ afterWord (drop from s)
-
--- After a prefix was put at a place of two columns, if it is one.
-abbrev pub PrefixPut : PrefixWord → ℕ → Bool → List ℕ → List ℕ → List ℕ → List ℕ → Type 0
-PrefixPut (prefix.Of n l) i good networks networks₁ lengths lengths₁ = (good ≡ true) × (networks₁ ≡ set networks i n) × (lengths₁ ≡ set lengths i l)
-PrefixPut prefix.Bad i good networks networks₁ lengths lengths₁ = good ≡ false
 
 -- What two columns hold of the prefixes that were read into them.
 abbrev pub prefixesIn : Prefixes → List ℕ → List ℕ → Option Columns

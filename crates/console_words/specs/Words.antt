@@ -1,5 +1,4 @@
 -- The words of a line: "Words are separated by one or more spaces."
--- Assumes nothing: these are definitions.
 use Prim.Native.Nat.{ℕ, _-_, _≤_}
 use mathlib.Core.Path.{_≡_}
 use mathlib.Core.Bool.{Bool, true, false, cond}

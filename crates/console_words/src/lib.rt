@@ -10,10 +10,9 @@ ghost use Rattle.console_words.specs.Prefixes.{
   prefixOf,
   prefixesOf,
   NextPrefix,
-  NextOctet,
-  PrefixPut,
   prefixesIn,
 };
+ghost use Rattle.console_words.specs.InnerPrefixes.{NextOctet, PrefixPut};
 ghost use Rattle.console_words.specs.Octets.{digitOf, pairsOf, octetsOf, lastOctets, octetsIn};
 
 // A word stands from `start` to before `end`; where no further word is there, it is empty.
@@ -186,7 +185,7 @@ fn read_octet(s: &[u8]) -> Octet
 }
 
 // The word 0 or the word 1.
-fn read_flag(s: &[u8]) -> Number
+pub fn read_flag(s: &[u8]) -> Number
     ensures { λ r. ⌜ r ≡ flagOf (now (s .entry)) ⌝ }
 {
     if s.len() != 1 {
@@ -239,7 +238,7 @@ pub fn read_network(s: &[u8]) -> Number
 }
 
 // A.B.C.D/L, each a number below 256.
-fn read_prefix(s: &[u8]) -> PrefixWord
+pub fn read_prefix(s: &[u8]) -> PrefixWord
     ensures { λ r. ⌜ r ≡ prefixOf (now (s .entry)) ⌝ }
 {
     let at = bytes::scan::find(s, 0, s.len(), b'/');
@@ -323,7 +322,7 @@ pub fn next_bit(s: &[u8], from: usize, key: &[u8]) -> NumberAt
 // OCTETS
 
 // The value of a hexadecimal digit in either case; 16 where it is none.
-fn digit(c: u8) -> u8
+pub fn digit(c: u8) -> u8
     ensures { λ r. ⌜ (r ≡ digitOf c) × (r ≤ 16) ⌝ }
 {
     if c < b'0' {

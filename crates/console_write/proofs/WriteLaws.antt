@@ -11,7 +11,8 @@ use borrow.Author.Tests.{leb-true}
 use Rattle.lists.specs.Lists.{all?}
 use Rattle.lists.proofs.Tests.{and-to}
 use Rattle.option.specs.Values.{SuboptionValue}
-use Rattle.option.specs.Writing.{Writing, written, refusedWith, optionBytes, suboptionsBytes, writable?, writeOption}
+use Rattle.option.specs.Writing.{Writing, written, refusedWith, optionBytes, suboptionsBytes}
+use Rattle.option.specs.Writer.{writable?, writeOption}
 use Rattle.option.specs.Selection.{selectionBytes, writeSelection}
 use Rattle.option_reply.specs.declared.Written.{Written}
 use Rattle.option_reply.specs.declared.Written.the-variants.{Bytes}

@@ -1,11 +1,9 @@
 -- Bounds that the reader of `write` keeps.
--- Assumes nothing: these are definitions.
 use Prim.Native.Nat.{ℕ, _≤_, _<_}
 use Rattle.console_words.specs.declared.Number.{Number}
 use Rattle.console_words.specs.declared.Number.the-variants as number
-use Rattle.console_write.specs.declared.Piece.{Piece}
+use Rattle.console_write.specs.declared.{Piece.Piece, Listing.Listing}
 use Rattle.console_write.specs.declared.Piece.the-variants as piece
-use Rattle.console_write.specs.declared.Listing.{Listing}
 
 -- A number of 16 bits.
 abbrev pub Small : Number → Type 0

@@ -1,5 +1,4 @@
 -- What `write` answers of an option that is to be written, and what it leaves of the buffer.
--- Assumes nothing: these are definitions.
 use Prim.Native.Nat.{ℕ}
 use mathlib.Core.Path.{_≡_}
 use mathlib.Core.List.{List}

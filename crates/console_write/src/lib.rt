@@ -4,6 +4,9 @@ use console_words::PrefixWord;
 use ledger::Answer;
 use option_entry::EntryFields;
 use option_entry::Figures;
+use option_entry::HighWater;
+use option_entry::InUse;
+use option_entry::Unusable;
 use option_measure::InformationItem;
 use option_measure::Item;
 use option_measure::NameItem;
@@ -15,7 +18,7 @@ ghost use mathlib.Core.Path.{_≡_};
 ghost use Prim.Native.Nat.{_+_, _≤_, _<_};
 ghost use lib.ListN.{length};
 ghost use Rattle.option.specs.Selection.{writeSelection};
-ghost use Rattle.option.specs.Writing.{writeOption};
+ghost use Rattle.option.specs.Writer.{writeOption};
 ghost use Rattle.option_measure.specs.Lists.{suboptionsOf};
 ghost use Rattle.console_write.specs.Writes.{writtenAs, Writes};
 ghost use Rattle.console_write.specs.Inner.{Small, Within, Behind, Fits};
@@ -39,7 +42,7 @@ enum Piece {
 }
 
 // The figures that a word spells.
-enum FiguresWord {
+pub enum FiguresWord {
     Of(Figures),
     Bad,
 }
@@ -56,9 +59,9 @@ struct Listing {
     c: bool,
     s: bool,
     first: usize,
-    items: [Slot; 96],
-    entries: [EntryFields; 64],
-    octets: [u8; 256],
+    items: [Slot; ITEMS],
+    entries: [EntryFields; ENTRIES],
+    octets: [u8; OCTETS],
 }
 
 // What a line comes to: words that are not these, or an answer.
@@ -85,14 +88,14 @@ fn read_figure(s: &[u8]) -> Number
 fn no_figures() -> Figures {
     Figures {
         count: 0,
-        high_water: 0,
-        in_use: 0,
-        unusable: 0,
+        high_water: HighWater(0),
+        in_use: InUse(0),
+        unusable: Unusable(0),
     }
 }
 
 // Numbers with commas between them, up to four; `-` where there are none. Of a fourth one only that it is there is kept: such an entry is never written.
-fn read_figures(s: &[u8]) -> FiguresWord {
+pub fn read_figures(s: &[u8]) -> FiguresWord {
     if check::same(s, b"-") {
         return FiguresWord::Of(no_figures());
     }
@@ -109,9 +112,9 @@ fn read_figures(s: &[u8]) -> FiguresWord {
         if end == s.len() {
             return FiguresWord::Of(Figures {
                 count: n,
-                high_water: numbers[0],
-                in_use: numbers[1],
-                unusable: numbers[2],
+                high_water: HighWater(numbers[0]),
+                in_use: InUse(numbers[1]),
+                unusable: Unusable(numbers[2]),
             });
         }
         at = end + 1;
@@ -120,6 +123,35 @@ fn read_figures(s: &[u8]) -> FiguresWord {
 }
 
 // PIECES
+
+// The suboption, or the entry, that a word begins.
+pub enum ItemWord {
+    Request,
+    Information,
+    Entry,
+    Name,
+    Unknown,
+    Other,
+}
+
+pub fn read_item(word: &[u8]) -> ItemWord {
+    if check::same(word, b"request") {
+        return ItemWord::Request;
+    }
+    if check::same(word, b"information") {
+        return ItemWord::Information;
+    }
+    if check::same(word, b"entry") {
+        return ItemWord::Entry;
+    }
+    if check::same(word, b"name") {
+        return ItemWord::Name;
+    }
+    if check::same(word, b"unknown") {
+        return ItemWord::Unknown;
+    }
+    ItemWord::Other
+}
 
 // h=0 i=1 prefix=24
 fn request(s: &[u8], from: usize) -> Piece
@@ -244,22 +276,14 @@ fn next_piece(s: &mut [u8], from: usize) -> Piece
     if start == end {
         return Piece::End;
     }
-    if check::same(&s[start..end], b"request") {
-        return request(s, end);
+    match read_item(&s[start..end]) {
+        ItemWord::Request => request(s, end),
+        ItemWord::Information => information(s, end),
+        ItemWord::Entry => entry(s, end),
+        ItemWord::Name => name(s, end),
+        ItemWord::Unknown => Piece::Unknown(end),
+        ItemWord::Other => Piece::Bad,
     }
-    if check::same(&s[start..end], b"information") {
-        return information(s, end);
-    }
-    if check::same(&s[start..end], b"entry") {
-        return entry(s, end);
-    }
-    if check::same(&s[start..end], b"name") {
-        return name(s, end);
-    }
-    if check::same(&s[start..end], b"unknown") {
-        return Piece::Unknown(end);
-    }
-    Piece::Bad
 }
 
 // THE LIST
@@ -279,7 +303,7 @@ fn empty_list() -> Listing
         first: 0,
         items: [Slot {
             item: Item::Unknown,
-        }; 96],
+        }; ITEMS],
         entries: [EntryFields {
             network: 0,
             length: 0,
@@ -287,12 +311,12 @@ fn empty_list() -> Listing
             d: false,
             figures: Figures {
                 count: 0,
-                high_water: 0,
-                in_use: 0,
-                unusable: 0,
+                high_water: HighWater(0),
+                in_use: InUse(0),
+                unusable: Unusable(0),
             },
-        }; 64],
-        octets: [0; 256],
+        }; ENTRIES],
+        octets: [0; OCTETS],
     }
 }
 
@@ -377,7 +401,7 @@ fn with_entry(b: Listing, e: EntryFields) -> Listing
 }
 
 // Octets behind the first n.
-fn copied(octets: [u8; 256], n: usize, s: &[u8]) -> [u8; 256]
+fn copied(octets: [u8; OCTETS], n: usize, s: &[u8]) -> [u8; OCTETS]
     requires { ⌜ n + length (now s) ≤ 256 ⌝ }
 {
     let mut next = octets;

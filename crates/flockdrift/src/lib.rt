@@ -1,5 +1,9 @@
 // The calls as functions for C and Rust: include/flockdrift.h documents them. Each is one equation with the ledger on the
 // image that it is lent. A slice is a pointer and a length; nothing is allocated and nothing is kept between two calls.
+use call_option::SelectionAnswer;
+use call_query::HeadAnswer;
+use call_query::LeaseAnswer;
+use call_query::PoolAnswer;
 use ledger::Answer;
 ghost use mathlib.Core.Path.{_≡_};
 ghost use mathlib.Core.Bool.{not};
@@ -17,7 +21,11 @@ ghost use Rattle.call_spec.specs.ImageCalls.{
   releaseImage,
   markImage,
 };
+ghost use Rattle.call_query.specs.Queries.{checkImage, headImage, poolImage, leaseImage};
+ghost use Rattle.call_option.specs.Options.{selectionIn, selectionInto, optionCheck};
 ghost use Rattle.call_sheet.specs.SheetImage.{sheetImage};
+
+// THE CALLS
 
 #[no_mangle]
 pub extern "C" fn flockdrift_open(
@@ -139,4 +147,57 @@ pub extern "C" fn flockdrift_sheet(image: &[u8], text: &mut [u8]) -> Answer
     ensures { λ r. ⌜ (r, now (text .exit)) ≡ sheetImage (now (image .entry)) (now (text .entry)) ⌝ }
 {
     call_sheet::sheet(image, text)
+}
+
+// QUERIES: the image is only read.
+
+#[no_mangle]
+pub extern "C" fn flockdrift_check(image: &[u8], image_bytes: usize) -> Answer
+    ensures { λ r. ⌜ r ≡ checkImage (lent (now (image .entry)) «image_bytes») ⌝ }
+{
+    call_query::check(image, image_bytes)
+}
+
+#[no_mangle]
+pub extern "C" fn flockdrift_head(image: &[u8], image_bytes: usize) -> HeadAnswer
+    ensures { λ r. ⌜ r ≡ headImage (lent (now (image .entry)) «image_bytes») ⌝ }
+{
+    call_query::head(image, image_bytes)
+}
+
+#[no_mangle]
+pub extern "C" fn flockdrift_pool(image: &[u8], image_bytes: usize, index: usize) -> PoolAnswer
+    ensures { λ r. ⌜ r ≡ poolImage (lent (now (image .entry)) «image_bytes») index ⌝ }
+{
+    call_query::pool(image, image_bytes, index)
+}
+
+#[no_mangle]
+pub extern "C" fn flockdrift_lease(image: &[u8], image_bytes: usize, index: usize) -> LeaseAnswer
+    ensures { λ r. ⌜ r ≡ leaseImage (lent (now (image .entry)) «image_bytes») index ⌝ }
+{
+    call_query::lease(image, image_bytes, index)
+}
+
+// OPTIONS, with no image.
+
+#[no_mangle]
+pub extern "C" fn flockdrift_check_option(option: &[u8]) -> Answer
+    ensures { λ r. ⌜ r ≡ optionCheck (now (option .entry)) ⌝ }
+{
+    call_option::check_option(option)
+}
+
+#[no_mangle]
+pub extern "C" fn flockdrift_read_selection(option: &[u8]) -> SelectionAnswer
+    ensures { λ r. ⌜ r ≡ selectionIn (now (option .entry)) ⌝ }
+{
+    call_option::read_selection(option)
+}
+
+#[no_mangle]
+pub extern "C" fn flockdrift_write_selection(address: u32, buffer: &mut [u8]) -> Answer
+    ensures { λ r. ⌜ (r, now (buffer .exit)) ≡ selectionInto address (now (buffer .entry)) ⌝ }
+{
+    call_option::write_selection(address, buffer)
 }

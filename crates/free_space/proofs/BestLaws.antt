@@ -11,11 +11,13 @@ use native.Mathlib.Omega.{arith}
 use lib.Arith.{lt-of-le-ne}
 use lib.Dec.{leb, ltb, eqb}
 use borrow.Author.Tests.{leb-true, leb-false, ltb-true, ltb-false, eqb-true, eqb-false}
-use Rattle.lists.specs.Lists.{All, Any, OfSome}
+use Rattle.lists.specs.Lists.{All, Any}
+use Rattle.lists.specs.Properties.{OfSome}
 use Rattle.lists.proofs.ListLaws.{all-map, any-all, all-member}
 use Rattle.prefix.specs.declared.Prefix.{Prefix}
 use Rattle.prefix.proofs.Nesting.{prefix-path}
-use Rattle.free_space.specs.Space.{NotWorse, better?, better, consider, best}
+use Rattle.free_space.specs.Space.{NotWorse}
+use Rattle.free_space.specs.Grant.{better?, better, consider, best}
 
 -- What `best` should answer.
 abbrev pub Best : ℕ → List Prefix → Option Prefix → Type 0

@@ -5,7 +5,8 @@ use mathlib.Core.Path.{_≡_, refl}
 use mathlib.Core.List.{[], _∷_, map, List·Permᴰ}
 use native.Mathlib.Omega.{arith}
 use Rattle.prefix.specs.Prefixes.{prefix}
-use Rattle.free_space.specs.Space.{Pools, Packing, wholes, serve, after}
+use Rattle.free_space.specs.Grant.{wholes}
+use Rattle.free_space.specs.Serving.{Pools, Packing, serve, after}
 use Rattle.free_space.specs.Examples.{rows}
 use Rattle.free_space.proofs.ListTheorem.{Served, serve-packing}
 use Rattle.free_space.proofs.OrderTheorem.{any-order-granted}

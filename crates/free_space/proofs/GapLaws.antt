@@ -13,14 +13,15 @@ use native.Mathlib.Omega.{arith}
 use lib.Dec.{leb, ltb, eqb}
 use lib.Pow.{pow-mono}
 use borrow.Author.Tests.{leb-true, leb-false, ltb-true, eqb-true, eqb-false}
-use Rattle.lists.specs.Lists.{OfSome}
+use Rattle.lists.specs.Properties.{OfSome}
 use Rattle.lists.proofs.Tests.{bool-cases, cond-true, cond-false}
 use Rattle.lists.proofs.ListLaws.{holds-map, any-all}
 use Rattle.prefix.specs.declared.Prefix.{Prefix}
 use Rattle.prefix.specs.Prefixes.{size, prefix, end, Aligned, Inside}
 use Rattle.prefix.proofs.PrefixLaws.{size-positive, size-half}
 use Rattle.prefix.proofs.Nesting.{order, inside-order, aligned-down, aligned-add, aligned-pow, aligned-end, next-multiple}
-use Rattle.free_space.specs.Space.{Length, Pools, Free, around, Whole, NotWorse}
+use Rattle.free_space.specs.Space.{Free, around, Whole, NotWorse}
+use Rattle.free_space.specs.Serving.{Length, Pools}
 use Rattle.free_space.specs.Scan.{roundUp, roundDown, lengthOf, levels, inGap}
 use Rattle.free_space.proofs.BestLaws.{not-worse-trans}
 use Rattle.free_space.proofs.Rules.{largest}

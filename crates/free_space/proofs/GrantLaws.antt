@@ -9,13 +9,16 @@ use native.Mathlib.Nat.{le-refl, lt-of-mul-lt-mul-right}
 use native.Mathlib.Decide.{decLe}
 use native.Mathlib.Omega.{arith}
 use lib.Pow.{pow-mono}
-use Rattle.lists.specs.Lists.{All, Any, Pairwise, OfSome}
+use Rattle.lists.specs.Lists.{All, Any, Pairwise}
+use Rattle.lists.specs.Properties.{OfSome}
 use Rattle.lists.proofs.ListLaws.{all-map, any-map, all-map₂, all-append, any-left, any-right, any-all}
 use Rattle.prefix.specs.declared.Prefix.{Prefix}
 use Rattle.prefix.specs.Prefixes.{prefix, Aligned, Inside, Apart}
 use Rattle.prefix.proofs.PrefixLaws.{apart-sym}
 use Rattle.prefix.proofs.Nesting.{order, inside-trans, apart-sub, all-apart-sub, inside-order, aligned-down}
-use Rattle.free_space.specs.Space.{Length, Pools, Free, NotWorse, walk, wholes, best}
+use Rattle.free_space.specs.Space.{Free, NotWorse}
+use Rattle.free_space.specs.Grant.{walk, wholes, best}
+use Rattle.free_space.specs.Serving.{Length, Pools}
 use Rattle.free_space.proofs.Weights.{wt, wt-self, wt-above, wt-mul-le, wt-mul-ge, Up, up, rest, rest-le, rest-low, rest-mid}
 use Rattle.free_space.proofs.WalkLaws.{Level, sum, sum-append, walk-skip, Listed, walk-listed, walk-covers, Removal, walk-removal}
 use Rattle.free_space.proofs.BestLaws.{Best, best-best, best-holds}

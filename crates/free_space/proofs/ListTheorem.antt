@@ -6,13 +6,16 @@ use mathlib.Core.Logic.{_↔_}
 use mathlib.Core.List.{List, [], _∷_, map, nil≢cons, head-eq-of-cons-eq, tail-eq-of-cons-eq}
 use mathlib.Core.Option.{Option, none, some, Option·some-ne-none, Option·none-ne-some, Option·some-injective}
 use native.Mathlib.Omega.{arith}
-use Rattle.lists.specs.Lists.{All, Any, Pairwise, OfSome}
+use Rattle.lists.specs.Lists.{All, Any, Pairwise}
+use Rattle.lists.specs.Properties.{OfSome}
 use Rattle.lists.proofs.ListLaws.{all-map, all-map₂, any-all}
 use Rattle.prefix.specs.declared.Prefix.{Prefix}
 use Rattle.prefix.specs.Prefixes.{prefix, Aligned, Inside, Apart}
 use Rattle.prefix.proofs.PrefixLaws.{apart-sym}
 use Rattle.prefix.proofs.Nesting.{order, inside-order}
-use Rattle.free_space.specs.Space.{Pools, Free, Packing, wholes, best, lowestPart, grant, withGrant, serve}
+use Rattle.free_space.specs.Space.{Free}
+use Rattle.free_space.specs.Grant.{wholes, best, lowestPart, grant}
+use Rattle.free_space.specs.Serving.{Pools, Packing, withGrant, serve}
 use Rattle.free_space.proofs.BestLaws.{Best, best-best, best-holds}
 use Rattle.free_space.proofs.GrantLaws.{ChosenWhole, found, cover, Fits, takes, lowest-free, granted}
 

@@ -16,7 +16,8 @@ use Rattle.lists.proofs.ListLaws.{all-map}
 use Rattle.prefix.specs.declared.Prefix.{Prefix}
 use Rattle.prefix.specs.Prefixes.{prefix}
 use Rattle.prefix.proofs.Nesting.{order}
-use Rattle.free_space.specs.Space.{Length, Pools, Packing, wholes, lowestPart, after, one?, number}
+use Rattle.free_space.specs.Grant.{wholes, lowestPart}
+use Rattle.free_space.specs.Serving.{Length, Pools, Packing, after, one?, number}
 use Rattle.free_space.proofs.Weights.{wt, wt-self, wt-mul-le}
 use Rattle.free_space.proofs.WalkLaws.{sum}
 use Rattle.free_space.proofs.GrantLaws.{found, room, load, Fits, takes, granted}

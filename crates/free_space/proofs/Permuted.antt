@@ -10,7 +10,8 @@ use Rattle.lists.proofs.Permutations.{perm-all, perm-any}
 use Rattle.prefix.specs.declared.Prefix.{Prefix}
 use Rattle.prefix.specs.Prefixes.{Apart, Inside, inside?, lower, upper}
 use Rattle.prefix.proofs.PrefixLaws.{inside-of}
-use Rattle.free_space.specs.Space.{Free, unused?, covered?, walk, wholes, best, lowestPart, grant}
+use Rattle.free_space.specs.Space.{Free, unused?}
+use Rattle.free_space.specs.Grant.{covered?, walk, wholes, best, lowestPart, grant}
 use Rattle.free_space.proofs.WalkLaws.{unused-to, unused-of, covered-to}
 
 pub covered-of : (outer : List Prefix) (p : Prefix) → Any (Inside p) outer → covered? outer p ≡ true

@@ -10,13 +10,16 @@ use native.Mathlib.Nat.{mul-mod-left, div-add-mod', div-mul-le-self, lt-div-mul-
 use native.Mathlib.Decide.{decLe}
 use native.Mathlib.Omega.{arith}
 use lib.Arith.{digits-div}
-use Rattle.lists.specs.Lists.{All, Any, Pairwise, OfSome}
+use Rattle.lists.specs.Lists.{All, Any, Pairwise}
+use Rattle.lists.specs.Properties.{OfSome}
 use Rattle.lists.proofs.ListLaws.{all-map, all-map₂, any-map₂, all-append, any-all, pairwise-map, pairwise-append}
 use Rattle.prefix.specs.declared.Prefix.{Prefix}
 use Rattle.prefix.specs.Prefixes.{longest, size, prefix, end, Aligned, Inside, Apart, lower, upper}
 use Rattle.prefix.proofs.PrefixLaws.{size-half, size-positive, apart-sym}
 use Rattle.prefix.proofs.Nesting.{order, prefix-path, inside-trans, apart-sub, apart-absurd, inside-order, aligned-down, aligned-end, aligned-lower, aligned-upper, next-multiple, nested}
-use Rattle.free_space.specs.Space.{Length, Pools, Before, Free, around, Whole, NotWorse, Takes, unused?, covered?, pick, walk, wholes, best, lowestPart, grant}
+use Rattle.free_space.specs.Space.{Free, around, Whole, NotWorse, Takes, unused?}
+use Rattle.free_space.specs.Grant.{covered?, pick, walk, wholes, best, lowestPart, grant}
+use Rattle.free_space.specs.Serving.{Length, Pools, Before}
 use Rattle.free_space.proofs.WalkLaws.{Level, short, unused-of, pick-all, walk-listed}
 use Rattle.free_space.proofs.BestLaws.{Best, not-worse-antisym, best-best, best-holds}
 use Rattle.free_space.proofs.GrantLaws.{walkPool, pool-level, wholes-found, found, cover, free-inside}

@@ -16,7 +16,9 @@ use Rattle.lists.proofs.ListLaws.{all-map, all-map₂, all-append, all-right, a
 use Rattle.prefix.specs.declared.Prefix.{Prefix}
 use Rattle.prefix.specs.Prefixes.{end, Inside, Apart}
 use Rattle.prefix.proofs.PrefixLaws.{size-positive}
-use Rattle.free_space.specs.Space.{Length, Before, Ordered, Free, Whole, wholes, best}
+use Rattle.free_space.specs.Space.{Free, Whole}
+use Rattle.free_space.specs.Grant.{wholes, best}
+use Rattle.free_space.specs.Serving.{Length, Before, Ordered}
 use Rattle.free_space.specs.Scan.{lengthOf, inGap, Scan, inPool, inPools}
 use Rattle.free_space.proofs.BestLaws.{Best, best-unique}
 use Rattle.free_space.proofs.Rules.{wholes-whole, wholes-exactly}

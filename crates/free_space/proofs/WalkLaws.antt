@@ -15,7 +15,8 @@ use Rattle.prefix.specs.declared.Prefix.{Prefix}
 use Rattle.prefix.specs.Prefixes.{Aligned, Inside, inside?, Apart, apart?, lower, upper}
 use Rattle.prefix.proofs.PrefixLaws.{inside-to, inside-of, inside-not, apart-to, apart-of, apart-not, apart-sym, lower-inside, upper-inside}
 use Rattle.prefix.proofs.Nesting.{order, inside-refl, inside-trans, apart-sub, apart-absurd, all-apart-sub, inside-order, inside-same-order, aligned-lower, aligned-upper, in-half}
-use Rattle.free_space.specs.Space.{unused?, covered?, pick, walk}
+use Rattle.free_space.specs.Space.{unused?}
+use Rattle.free_space.specs.Grant.{covered?, pick, walk}
 use Rattle.free_space.proofs.Weights.{Up, up-le, rest}
 
 -- what the tests decide

@@ -1,5 +1,4 @@
 -- Document 01's marked examples P5 to P8 at this level, as rows: the pools, the lengths asked for in turn, and what each is granted.
--- Assumes nothing: these are definitions.
 use Prim.Native.Nat.{ℕ}
 use mathlib.Core.List.{List, [], _∷_}
 use mathlib.Core.Option.{Option, none, some}

@@ -1,5 +1,4 @@
 -- The search through the gaps between the leases, once, as the code of `gaps` does it. The laws say that it finds what `best` of `Space` does.
--- Assumes nothing: these are definitions.
 use Prim.Native.Nat.{ℕ, zero, suc, _+_, _-_, _%_}
 use mathlib.Core.Bool.{cond}
 use mathlib.Core.List.{List, [], _∷_}

@@ -11,7 +11,8 @@ use Rattle.lists.proofs.TakeLaws.{take-short}
 use Rattle.prefix.specs.declared.Prefix.{Prefix}
 use Rattle.prefix.specs.Prefixes.{size, prefix, end}
 use Rattle.gap_list.specs.Gaps.{Gap, between, without, LiesIn}
-use Rattle.gap_list.specs.Columns.{held, heldIn, Kept, doubled, left}
+use Rattle.gap_list.specs.Columns.{held, heldIn, Kept}
+use Rattle.gap_list.specs.InnerSearch.{doubled, left}
 use Rattle.gap_list.proofs.FitLaws.{between-some, between-none}
 
 held-snoc : (ss ls : List ℕ) → length ss ≡ length ls → (a b : ℕ) → held (ss ++ (a ∷ [])) (ls ++ (b ∷ [])) ≡ held ss ls ++ (record { from = a; to = b + 1 } ∷ [])

@@ -20,7 +20,7 @@ use Rattle.free_space.specs.Scan.{lengthOf, levels, inGap, roundUp, roundDown}
 use Rattle.free_space.proofs.LevelLaws.{levels-low, levels-high, levels-on, levels-none, gap-small, gap-nothing, gap-empty, gap-ends}
 use Rattle.free_space.proofs.GapLaws.{up-multiple, up-ge, up-least, down-multiple, down-le}
 use Rattle.gap_list.specs.declared.Best.{Best}
-use Rattle.gap_list.specs.Columns.{bitsOf, BestFound, AtEnd}
+use Rattle.gap_list.specs.InnerSearch.{bitsOf, BestFound, AtEnd}
 use Rattle.gap_list.proofs.BitLaws.{Lowest, lowest, or-multiple, multiple-or}
 
 -- rounding

@@ -13,11 +13,12 @@ use Rattle.lists.proofs.Tests.{bool-cases, cond-true, cond-false}
 use Rattle.prefix.specs.declared.Prefix.{Prefix}
 use Rattle.prefix.specs.Prefixes.{end}
 use Rattle.prefix.proofs.PrefixLaws.{size-positive}
-use Rattle.free_space.specs.Space.{Length, Ordered, best, lowestPart, grant}
+use Rattle.free_space.specs.Grant.{best, lowestPart, grant}
+use Rattle.free_space.specs.Serving.{Length, Ordered}
 use Rattle.free_space.specs.Scan.{lengthOf, inGap, Scan, inPool, inPools}
 use Rattle.free_space.proofs.LevelLaws.{gap-small, gap-exact}
 use Rattle.free_space.proofs.ScanLaws.{scan-best}
-use Rattle.gap_list.specs.Gaps.{Gap, between, PoolGaps, poolGaps, gapsOf, gapsAt, fitFrom, fitIn}
+use Rattle.gap_list.specs.Gaps.{Gap, between, PoolGaps, poolGaps, gapsOf, fitFrom, fitIn}
 
 -- one gap
 
@@ -83,14 +84,25 @@ gaps-scan l best (p ∷ ps) xs =
 pub fit-grants : (pools leases : List Prefix) → Ordered pools leases → (l : ℕ) → Length l → lowestPart l (fitIn l (gapsOf pools leases)) ≡ grant pools leases l
 fit-grants pools leases ordered l block = ap (lowestPart l) (gaps-scan l none pools leases ∙ sym (scan-best pools leases ordered l block))
 
--- A WALK: at an address of a pool, before a lease in the pool, before one in a later pool, and after the last lease.
+-- THE NEXT LEASE lies in a pool, or past it.
 
-module _ (from stop : ℕ) (ps : List Prefix) where
-  pub walk-lease : (x : Prefix) (xs : List Prefix) → x .network < stop → gapsAt from stop ps (x ∷ xs) ≡ between from (x .network) ++ gapsAt (end x) stop ps xs
-  walk-lease x xs h =
+module _ (from stop : ℕ) (x : Prefix) (xs : List Prefix) where
+  pub pool-lease : x .network < stop
+      → poolGaps from stop (x ∷ xs) ≡ record { gaps = between from (x .network) ++ poolGaps (end x) stop xs .gaps; left = poolGaps (end x) stop xs .left }
+  pool-lease h = cond-true (ltb (x .network) stop) _ _ (lt-ltb (x .network) stop h)
+
+  pub pool-past : stop ≤ x .network → poolGaps from stop (x ∷ xs) ≡ record { gaps = between from stop; left = x ∷ xs }
+  pool-past h = cond-false (ltb (x .network) stop) _ _ (le-ltb (x .network) stop h)
+
+-- A WALK through pools and leases: the gaps that it has yet to come to, at an address of a pool that ends at `stop`, before these pools and leases.
+abbrev pub gapsAt : ℕ → ℕ → List Prefix → List Prefix → List Gap
+gapsAt from stop ps xs = let s = poolGaps from stop xs in s .gaps ++ gapsOf ps (s .left)
+
+module _ (from stop : ℕ) (ps : List Prefix) (x : Prefix) (xs : List Prefix) where
+  pub walk-lease : x .network < stop → gapsAt from stop ps (x ∷ xs) ≡ between from (x .network) ++ gapsAt (end x) stop ps xs
+  walk-lease h =
       let s : PoolGaps = poolGaps (end x) stop xs in
-      ap (λ (g : PoolGaps). g .gaps ++ gapsOf ps (g .left)) (cond-true (ltb (x .network) stop) _ _ (lt-ltb (x .network) stop h))
-      ∙ append-assoc (between from (x .network)) (s .gaps) (gapsOf ps (s .left))
+      ap (λ (g : PoolGaps). g .gaps ++ gapsOf ps (g .left)) (pool-lease from stop x xs h) ∙ append-assoc (between from (x .network)) (s .gaps) (gapsOf ps (s .left))
 
-  pub walk-pool : (x : Prefix) (xs : List Prefix) → stop ≤ x .network → gapsAt from stop ps (x ∷ xs) ≡ between from stop ++ gapsOf ps (x ∷ xs)
-  walk-pool x xs h = ap (λ (g : PoolGaps). g .gaps ++ gapsOf ps (g .left)) (cond-false (ltb (x .network) stop) _ _ (le-ltb (x .network) stop h))
+  pub walk-pool : stop ≤ x .network → gapsAt from stop ps (x ∷ xs) ≡ between from stop ++ gapsOf ps (x ∷ xs)
+  walk-pool h = ap (λ (g : PoolGaps). g .gaps ++ gapsOf ps (g .left)) (pool-past from stop x xs h)

@@ -8,7 +8,7 @@ use native.Mathlib.Numerals.{add-one}
 use lib.ListN.{length, take, drop, set, getD, length-append, length-drop, length-set}
 use lib.Seq.{take-nil, length-take-le, take-take, take-set-lt, getD-take, take-at}
 use Rattle.lists.proofs.ShiftLaws.{shifted, shifted-none, shifted-more, lowered, lowered-none, lowered-more}
-use Rattle.gap_list.specs.Columns.{doubled, left}
+use Rattle.gap_list.specs.InnerSearch.{doubled, left}
 
 drop-take : {A : Type 0} (i n : ℕ) (l : List A) → drop i (take n l) ≡ take (n - i) (drop i l)
 drop-take zero n l = let e : n ≡ n - 0 = omega arith in ap (λ (m : ℕ). take m l) e

@@ -13,23 +13,24 @@ use lib.ListN.{length, take, drop, getD}
 use lib.Pow.{pow-lt}
 use lib.Seq.{length-take-le, getD-take}
 use borrow.Author.Tests.{eq-eqb, ne-eqb}
-use Rattle.lists.specs.Lists.{OfSome}
+use Rattle.lists.specs.Properties.{OfSome}
 use Rattle.lists.proofs.DropLaws.{drop-at, drop-end}
 use Rattle.lists.proofs.TakeLaws.{take-short}
 use Rattle.prefix.specs.declared.Prefix.{Prefix}
 use Rattle.prefix.specs.Prefixes.{size, prefix}
 use Rattle.prefix.proofs.PrefixLaws.{size-positive}
 use Rattle.prefix.proofs.Nesting.{pow-le}
-use Rattle.free_space.specs.Space.{lowestPart}
+use Rattle.free_space.specs.Grant.{lowestPart}
 use Rattle.free_space.specs.Scan.{lengthOf, inGap, roundUp, roundDown}
 use Rattle.free_space.proofs.LevelLaws.{gap-small}
 use Rattle.free_space.proofs.GapLaws.{up-ge, down-le}
 use Rattle.gap_list.specs.declared.Best.{Best}
 use Rattle.gap_list.specs.Gaps.{fitFrom, fitIn, LiesIn}
-use Rattle.gap_list.specs.Columns.{held, heldIn, heldFrom, FirstLarge, bitsOf, BestFound, AtEnd, Fitted}
+use Rattle.gap_list.specs.Columns.{held, heldIn, Fitted}
+use Rattle.gap_list.specs.InnerSearch.{heldFrom, FirstLarge, bitsOf, BestFound, AtEnd}
 use Rattle.gap_list.proofs.FitLaws.{fit-exact}
 use Rattle.gap_list.proofs.ColumnLaws.{at-lies}
-use Rattle.gap_list.proofs.EndLaws.{gap-worse, gap-open, gap-found, gap-better}
+use Rattle.gap_list.proofs.EndLaws.{mask-up, mask-down, gap-worse, gap-open, gap-found, gap-better}
 
 module _ (starts lasts : List ℕ) (n : ℕ) where
   held-next : (i : ℕ) → n ≤ length starts → n ≤ length lasts → i < n
@@ -99,6 +100,13 @@ found-not best l o s e z =
 same-length : (a b : ℕ) → a ≤ b → b ≤ 32 → size a ≡ size b → a ≡ b
 same-length a b h k e = omega (arith, pow-le (32 - a) (32 - b) (omega (arith, e)))
 
+-- An address cut to a multiple of a size, upwards and downwards.
+abbrev cutUp : ℕ → ℕ → ℕ
+cutUp s x = x + (s - 1) - bitAnd (x + (s - 1)) (s - 1)
+
+abbrev cutDown : ℕ → ℕ → ℕ
+cutDown s x = x - bitAnd x (s - 1)
+
 module _ (starts lasts : List ℕ) (n l s : ℕ) (best : Best) (index i : ℕ) (searching : Searching starts lasts n l best index i) where
   pub search-end : n ≤ i → Fitted (heldIn starts lasts n) l (record { found = not (eqb (best .size) 4294967296); index = index; network = best .network })
   search-end h = record {
@@ -111,13 +119,28 @@ module _ (starts lasts : List ℕ) (n l s : ℕ) (best : Best) (index i : ℕ) (
   pub size-pos : 0 < best .size
   size-pos = omega (arith, searching .stands .sized, size-positive (lengthOf (searching .so-far)))
 
-  module _ (h : n ≤ length starts) (k : n ≤ length lasts) (lt : i < n) (low high : ℕ) (sized : s ≡ size l)
-      (at-low : low ≡ roundUp l (getD starts i 0)) (at-high : high ≡ roundDown l (getD lasts i 0 + 1)) where
+  -- The gap at i, its ends cut to multiples of the size as the code does it, and their bits.
+  module _ (h : n ≤ length starts) (k : n ≤ length lasts) (lt : i < n) (sized : s ≡ size l) (bits : ℕ) (bits-are : bits ≡ bitsOf (cutUp s (getD starts i 0)) (cutDown s (getD lasts i 0 + 1))) where
+    abbrev low : ℕ
+    low = cutUp s (getD starts i 0)
+
+    abbrev high : ℕ
+    high = cutDown s (getD lasts i 0 + 1)
+
+    at-low : low ≡ roundUp l (getD starts i 0)
+    at-low = mask-up l s sized (getD starts i 0)
+
+    at-high : high ≡ roundDown l (getD lasts i 0 + 1)
+    at-high = mask-down l s sized (getD lasts i 0 + 1)
+
+    told : bitAnd bits (best .size - 1) ≡ bitAnd (bitsOf low high) (best .size - 1)
+    told = ap (λ (x : ℕ). bitAnd x (best .size - 1)) bits-are
+
     next : fitIn l (heldIn starts lasts n) ≡ fitFrom l (inGap l (searching .so-far) (getD starts i 0) (getD lasts i 0 + 1)) (heldFrom starts lasts n (i + 1))
     next = searching .rest ∙ ap (fitFrom l (searching .so-far)) (held-next starts lasts n i h k lt)
 
     -- The gap has nothing better.
-    pub search-keep : bitAnd (bitsOf low high) (best .size - 1) ≡ 0 → Searching starts lasts n l best index (i + 1)
+    pub search-keep : bitAnd bits (best .size - 1) ≡ 0 → Searching starts lasts n l best index (i + 1)
     search-keep z = record {
       within = omega arith;
       so-far = searching .so-far;
@@ -125,12 +148,15 @@ module _ (starts lasts : List ℕ) (n l s : ℕ) (best : Best) (index i : ℕ) (
       rest =
           next
           ∙ ap (λ (o : Option Prefix). fitFrom l o (heldFrom starts lasts n (i + 1)))
-          (gap-worse l s (getD starts i 0) (getD lasts i 0) low high (searching .so-far) sized at-low at-high (best .size) (searching .stands .sized) z);
+          (gap-worse l s (getD starts i 0) (getD lasts i 0) low high (searching .so-far) sized at-low at-high (best .size) (searching .stands .sized) (sym told ∙ z));
       place = searching .place;
       small = searching .small;
     }
 
-    module _ (some-bit : bitAnd (bitsOf low high) (best .size - 1) ≡ 0 → ⊥) where
+    module _ (some-bits : bitAnd bits (best .size - 1) ≡ 0 → ⊥) where
+      some-bit : bitAnd (bitsOf low high) (best .size - 1) ≡ 0 → ⊥
+      some-bit z = some-bits (told ∙ z)
+
       pub search-open : low < high
       search-open = gap-open l s (getD starts i 0) (getD lasts i 0) low high (searching .so-far) sized at-low at-high (best .size) (searching .stands .sized) some-bit
 

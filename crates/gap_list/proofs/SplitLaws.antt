@@ -8,17 +8,16 @@ use mathlib.Core.List.{List, [], _∷_, _++_}
 use native.Mathlib.Omega.{arith}
 use lib.Dec.{ltb}
 use borrow.Author.Tests.{ltb-true, ltb-false, lt-ltb, le-ltb}
-use Rattle.lists.specs.Lists.{All, Pairwise}
-use Rattle.lists.specs.Sorting.{insertBy}
+use Rattle.lists.specs.Lists.{All, Pairwise, insertBy}
 use Rattle.lists.proofs.Tests.{bool-cases}
 use Rattle.lists.proofs.ListLaws.{all-map, all-append}
 use Rattle.lists.proofs.SortingLaws.{insertBy-before, insertBy-after, insertBy-all}
 use Rattle.prefix.specs.declared.Prefix.{Prefix}
 use Rattle.prefix.specs.Prefixes.{end}
 use Rattle.prefix.proofs.PrefixLaws.{size-positive}
-use Rattle.free_space.specs.Space.{Before}
-use Rattle.gap_list.specs.Gaps.{Gap, between, PoolGaps, poolGaps, gapsOf, gapsAt, without, LiesIn}
-use Rattle.gap_list.proofs.FitLaws.{between-some, between-none, walk-lease, walk-pool}
+use Rattle.free_space.specs.Serving.{Before}
+use Rattle.gap_list.specs.Gaps.{Gap, between, PoolGaps, poolGaps, gapsOf, without, LiesIn}
+use Rattle.gap_list.proofs.FitLaws.{between-some, between-none, gapsAt, walk-lease, walk-pool}
 
 abbrev networkOf : Prefix → ℕ
 networkOf x = x .network

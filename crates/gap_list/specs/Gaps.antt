@@ -1,5 +1,4 @@
 -- Free space as a list of gaps: the ranges of the pools that no lease covers, ascending. An ask looks at the gaps alone, and a grant changes one of them.
--- Assumes nothing: these are definitions.
 use Prim.Native.Nat.{ℕ, zero, suc, _≤_}
 use mathlib.Core.Bool.{cond}
 use mathlib.Core.List.{List, [], _∷_, _++_}
@@ -34,10 +33,6 @@ poolGaps from stop (x ∷ xs) =
 abbrev pub gapsOf : List Prefix → List Prefix → List Gap
 gapsOf [] xs = []
 gapsOf (p ∷ ps) xs = let s = poolGaps (p .network) (end p) xs in s .gaps ++ gapsOf ps (s .left)
-
--- The gaps that a walk through pools and leases has yet to come to: it is at an address of a pool that ends at `stop`, before these pools and leases.
-abbrev pub gapsAt : ℕ → ℕ → List Prefix → List Prefix → List Gap
-gapsAt from stop ps xs = let s = poolGaps from stop xs in s .gaps ++ gapsOf ps (s .left)
 
 -- The better of `best` and what the gaps have for length l.
 abbrev pub fitFrom : ℕ → Option Prefix → List Gap → Option Prefix

@@ -6,7 +6,8 @@ ghost use lib.Bits.{bitOr};
 ghost use lib.ListN.{length as lengthOf, take};
 ghost use Rattle.prefix.specs.Prefixes.{prefix};
 ghost use Rattle.gap_list.specs.Gaps.{between, without, LiesIn};
-ghost use Rattle.gap_list.specs.Columns.{heldIn, Kept, doubled, left, FirstLarge, bitsOf, AtEnd, Fitted};
+ghost use Rattle.gap_list.specs.Columns.{heldIn, Kept, Fitted};
+ghost use Rattle.gap_list.specs.InnerSearch.{doubled, left, FirstLarge, bitsOf, AtEnd};
 
 // One gap more after the first n, if it is not empty; answers how many there are.
 pub fn push(starts: &mut [u32], lasts: &mut [u32], n: usize, from: u64, to: u64) -> usize

@@ -8,8 +8,9 @@ use mathlib.Core.Option.{none, some}
 use lib.ListN.{length}
 use Rattle.table.specs.declared.LeaseTable.{LeaseTable}
 use Rattle.table.specs.Table.{unused?, empty?, prefixesOf, headOk, poolOk, leaseOk, ascends?, sound}
-use Rattle.image.specs.Fields.{le16, le32, number16, number32, records}
-use Rattle.image.specs.Image.{headRecord, poolRecord, leaseRecord, imageOf, headAt, poolAt, leaseAt, tableWith, loadImage}
+use Rattle.image.specs.Fields.{number16, number32, records}
+use Rattle.image.specs.Image.{le16, le32, headRecord, poolRecord, leaseRecord, imageOf}
+use Rattle.image.specs.Reading.{headAt, poolAt, leaseAt, tableWith, loadImage}
 
 -- `0b00 0100 100e0000 1c e8030000 / 0700 0200 0001000a 18 / 1100 0300 0001000a 1a 01 00 07000000 60040000`
 bytes : List ℕ

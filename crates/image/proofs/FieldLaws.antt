@@ -13,7 +13,8 @@ use borrow.Author.Tests.{eqb-true, eq-eqb}
 use Rattle.lists.specs.Lists.{All, and, concatMap}
 use Rattle.lists.proofs.Tests.{bool-ext, and-list-to, and-list-of}
 use Rattle.lists.proofs.DropLaws.{drop-at}
-use Rattle.image.specs.Fields.{le16, le32, number16, number32, Run, before, onItem, records}
+use Rattle.image.specs.Fields.{number16, number32, Run, before, onItem, records}
+use Rattle.image.specs.Image.{le16, le32}
 
 -- NUMBERS
 

@@ -22,8 +22,9 @@ use Rattle.table.specs.declared.LeaseTable.{LeaseTable}
 use Rattle.table.specs.Table.{poolSlots, leaseSlots, noPool, noLease, unused?, empty?, sound, padded}
 use Rattle.table.proofs.TableLaws.{unused-of, empty-of, sound-slots, sound-pool-slots, sound-pools-whole, sound-used, sound-whole}
 use Rattle.image.specs.declared.Head.{Head}
-use Rattle.image.specs.Fields.{le16, le32, number16, number32, Run}
-use Rattle.image.specs.Image.{headRecord, poolRecord, leaseRecord, stateByte, flagsByte, usedPools, usedLeases, headOf, imageOf, headSize, poolSize, leaseSize, fullImage, stateByteIn, flagsByteIn, expiresIn, headIn, headTests, headAt, poolIn, poolTests, poolAt, leaseIn, leaseTests, leaseAt, poolsAt, leasesAt, tableWith, whole, afterHead, loadImage}
+use Rattle.image.specs.Fields.{number16, number32, Run}
+use Rattle.image.specs.Image.{le16, le32, headRecord, poolRecord, leaseRecord, stateByte, flagsByte, usedPools, usedLeases, headOf, imageOf, headSize, poolSize, leaseSize, fullImage}
+use Rattle.image.specs.Reading.{stateByteIn, flagsByteIn, expiresIn, headIn, headTests, headAt, poolIn, poolTests, poolAt, leaseIn, leaseTests, leaseAt, poolsAt, leasesAt, tableWith, whole, afterHead, loadImage}
 use Rattle.image.proofs.FieldLaws.{Bytes, bytes-of, spell32, le16-number, le32-number, spelled, front-spelled, records-concatMap, readings}
 
 -- EACH RECORD READS BACK

@@ -15,8 +15,8 @@ use Rattle.lists.proofs.PutLaws.{put-one, put-append}
 use Rattle.table.specs.declared.Pool.{Pool}
 use Rattle.table.specs.declared.Lease.{Lease}
 use Rattle.image.specs.declared.Head.{Head}
-use Rattle.image.specs.Fields.{le16, le32}
-use Rattle.image.specs.Image.{headSize, poolSize, leaseSize, startOf, lastAt, expiresAt, headRecord, poolRecord, leaseRecord, stateByte, flagsByte}
+use Rattle.image.specs.Image.{le16, le32, headSize, poolSize, leaseSize, headRecord, poolRecord, leaseRecord, stateByte, flagsByte}
+use Rattle.image.specs.Reading.{startOf, lastAt, expiresAt}
 use Rattle.image.proofs.ImageLaws.{length-concatMap}
 
 -- FIELDS, ONE AFTER ANOTHER

@@ -1,16 +1,5 @@
 -- Fields of a record: numbers of two and of four bytes, and records read one after another.
--- Assumes nothing: these are definitions.
-use Prim.Native.Nat.{ℕ, zero, suc, _+_, _*_, _/_, _%_}
-use mathlib.Core.List.{List, [], _∷_}
-use mathlib.Core.Option.{Option, none, some}
-use lib.ListN.{drop, getD}
-
--- "all little-endian"
-unfoldable pub le16 : ℕ → List ℕ
-le16 n = n % 256 ∷ n / 256 ∷ []
-
-unfoldable pub le32 : ℕ → List ℕ
-le32 n = n % 256 ∷ n / 256 % 256 ∷ n / 65536 % 256 ∷ n / 16777216 ∷ []
+use Rattle.lists.specs.Basics.{ℕ, zero, suc, _+_, _*_, List, [], _∷_, Option, none, some, drop, getD}
 
 -- The numbers that the two and the four bytes from a position on spell.
 unfoldable pub number16 : List ℕ → ℕ → ℕ

@@ -7,15 +7,8 @@ ghost use Prim.Native.Nat.{_+_, _≤_, _<_};
 ghost use lib.ListN.{length, drop};
 ghost use Rattle.lists.specs.Lists.{and};
 ghost use Rattle.image.specs.Fields.{number32};
-ghost use Rattle.image.specs.Image.{
-  headSize,
-  poolSize,
-  leaseSize,
-  headTests,
-  headIn,
-  poolIn,
-  leaseIn,
-};
+ghost use Rattle.image.specs.Image.{headSize, poolSize, leaseSize};
+ghost use Rattle.image.specs.Reading.{headTests, headIn, poolIn, leaseIn};
 
 // How many bytes a head, the record of a pool and the record of a lease have.
 pub const HEAD: usize = 13;

@@ -19,7 +19,8 @@ use Rattle.table.specs.declared.Lease.{Lease}
 use Rattle.table.specs.Table.{leaseRules, leaseOk, empty?}
 use Rattle.table.proofs.TableLaws.{long-not-empty}
 use Rattle.image.specs.Fields.{number16, number32}
-use Rattle.image.specs.Image.{leaseIn, leaseTests, leaseAt, clientIn, expiresIn, flagsByteIn, leaseSize, lengthIn, networkIn, stateByteIn}
+use Rattle.image.specs.Image.{leaseSize}
+use Rattle.image.specs.Reading.{leaseIn, leaseTests, leaseAt, clientIn, expiresIn, flagsByteIn, lengthIn, networkIn, stateByteIn}
 use Rattle.image.proofs.FieldLaws.{Bytes, start-of}
 use Rattle.image.proofs.ImageLaws.{some-same}
 use Rattle.image_check.specs.declared.Fit.{Fit}

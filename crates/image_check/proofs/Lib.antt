@@ -3,4 +3,3 @@ pub mod RunLaws
 pub mod SummaryLaws
 pub mod PoolLaws
 pub mod ScanLaws
-pub mod BlockLaws

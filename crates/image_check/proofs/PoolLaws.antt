@@ -19,7 +19,8 @@ use Rattle.table.specs.declared.Pool.{Pool}
 use Rattle.table.specs.Table.{poolSlots, poolPrefix, unused?, poolOk, ascends?, poolsAscend?}
 use Rattle.table.proofs.TableLaws.{poolOk-to, long-not-unused}
 use Rattle.image.specs.Fields.{number16, number32, Run, records}
-use Rattle.image.specs.Image.{poolSize, poolIn, poolTests, poolAt, poolsAt}
+use Rattle.image.specs.Image.{poolSize}
+use Rattle.image.specs.Reading.{poolIn, poolTests, poolAt, poolsAt}
 use Rattle.image.proofs.FieldLaws.{Bytes, bytes-drop, start-of, start-to, records-none, records-some}
 use Rattle.image_check.specs.Inner.{poolEnd, poolCount, poolStart, poolBegins?}
 use Rattle.image_check.proofs.RunLaws.{pool-known}

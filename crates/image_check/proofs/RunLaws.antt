@@ -16,7 +16,8 @@ use Rattle.table.specs.declared.Pool.{Pool}
 use Rattle.table.specs.declared.Lease.{Lease}
 use Rattle.table.specs.Table.{poolSlots, unused?, empty?}
 use Rattle.image.specs.Fields.{Run, onItem, records}
-use Rattle.image.specs.Image.{poolSize, leaseSize, poolIn, poolTests, poolAt, leaseIn, leaseTests, leaseAt, poolsAt}
+use Rattle.image.specs.Image.{poolSize, leaseSize}
+use Rattle.image.specs.Reading.{poolIn, poolTests, poolAt, leaseIn, leaseTests, leaseAt, poolsAt}
 use Rattle.image.proofs.ImageLaws.{some-same, pool-long, lease-long}
 
 -- A part from a place to the end is the rest.

@@ -26,7 +26,8 @@ use Rattle.table.proofs.Ascending.{Ascending, used, ascending-low, ascends-to}
 use Rattle.table.proofs.TableLaws.{unused-to}
 use Rattle.image.specs.declared.Head.{Head}
 use Rattle.image.specs.Fields.{Run}
-use Rattle.image.specs.Image.{leaseSize, leaseIn, leaseAt, poolsAt, afterHead, networkIn, poolSize}
+use Rattle.image.specs.Image.{leaseSize, poolSize}
+use Rattle.image.specs.Reading.{leaseIn, leaseAt, poolsAt, afterHead, networkIn}
 use Rattle.image.proofs.FieldLaws.{Bytes, bytes-drop, records-none}
 use Rattle.image_check.specs.ImageSummary.{unsound, summaryOf}
 use Rattle.image_check.specs.declared.Pass.{Pass}

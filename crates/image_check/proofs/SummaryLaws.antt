@@ -24,7 +24,8 @@ use Rattle.table.proofs.Ascending.{blanks}
 use Rattle.table.proofs.TableLaws.{unused-of, empty-of, sound-tests, length-padded}
 use Rattle.image.specs.declared.Head.{Head}
 use Rattle.image.specs.Fields.{Run}
-use Rattle.image.specs.Image.{leaseSize, leaseAt, poolsAt, leasesAt, tableWith, afterHead, loadedTable, networkIn, poolSize}
+use Rattle.image.specs.Image.{leaseSize, loadedTable, poolSize}
+use Rattle.image.specs.Reading.{leaseAt, poolsAt, leasesAt, tableWith, afterHead, networkIn}
 use Rattle.image.proofs.FieldLaws.{records-none, records-some}
 use Rattle.image.proofs.ImageLaws.{used-pools, used-leases}
 use Rattle.image_check.specs.declared.ImageSummary.{ImageSummary}

@@ -1,5 +1,4 @@
 -- What a call looks at in an image before it touches a lease: the head of the table, and how many pools and leases it has.
--- Assumes nothing: these are definitions.
 use Prim.Native.Nat.{ℕ}
 use mathlib.Core.Bool.{true, false}
 use mathlib.Core.Option.{Option, none, some}

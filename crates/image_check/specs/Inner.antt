@@ -1,5 +1,4 @@
 -- What each step of the pass over an image answers.
--- Assumes nothing: these are definitions.
 use Prim.Native.Nat.{ℕ, _*_, _/_, _%_}
 use mathlib.Core.Path.{_≡_}
 use mathlib.Core.Bool.{Bool, true, not, cond}
@@ -13,7 +12,8 @@ use Rattle.table.specs.declared.Pool.{Pool}
 use Rattle.table.specs.Table.{poolPrefix, headOk, poolOk, poolsAscend?}
 use Rattle.image.specs.declared.Head.{Head}
 use Rattle.image.specs.Fields.{number32}
-use Rattle.image.specs.Image.{poolSize, leaseSize, startOf, poolsAt, clientIn, expiresIn, flagsByteIn, lengthIn, networkIn, stateByteIn}
+use Rattle.image.specs.Image.{poolSize, leaseSize}
+use Rattle.image.specs.Reading.{startOf, poolsAt, clientIn, expiresIn, flagsByteIn, lengthIn, networkIn, stateByteIn}
 use Rattle.image_check.specs.declared.Fit.{Fit}
 
 -- The end of a pool, and 0 of one that is not as a sound table has it.

@@ -1,5 +1,4 @@
 -- How far a pass over the leases of an image has come, pool by pool.
--- Assumes nothing: these are definitions.
 use Prim.Native.Nat.{ℕ, _+_, _-_, _*_, _≤_, _<_}
 use mathlib.Core.Path.{_≡_}
 use mathlib.Core.Bool.{Bool, true, false, cond}
@@ -14,9 +13,9 @@ use Rattle.table.specs.declared.Lease.{Lease}
 use Rattle.table.specs.Table.{leaseSlots, poolPrefix, leasesAscend?}
 use Rattle.image.specs.declared.Head.{Head}
 use Rattle.image.specs.Fields.{Run, records}
-use Rattle.image.specs.Image.{leaseSize, leaseAt, poolsAt, afterHead, networkIn, poolSize}
-use Rattle.image_check.specs.declared.ImageSummary.{ImageSummary}
-use Rattle.image_check.specs.declared.Pass.{Pass}
+use Rattle.image.specs.Image.{leaseSize, poolSize}
+use Rattle.image.specs.Reading.{leaseAt, poolsAt, afterHead, networkIn}
+use Rattle.image_check.specs.declared.{ImageSummary.ImageSummary, Pass.Pass}
 use Rattle.image_check.specs.ImageSummary.{unsound, summaryOf}
 use Rattle.image_check.specs.Inner.{prefixIn, nthPool, fitTests}
 

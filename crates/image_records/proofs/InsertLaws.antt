@@ -10,8 +10,7 @@ use lib.ListN.{length, take, drop, length-drop}
 use lib.Seq.{length-take-le, take-at, take-add, drop-drop}
 use lib.Dec.{leb, ltb}
 use borrow.Author.Tests.{le-leb, lt-leb, ltb-true, ltb-false}
-use Rattle.lists.specs.Lists.{All, filter, concatMap}
-use Rattle.lists.specs.Sorting.{insertBy}
+use Rattle.lists.specs.Lists.{All, filter, concatMap, insertBy}
 use Rattle.lists.specs.Put.{put}
 use Rattle.lists.proofs.Tests.{bool-cases}
 use Rattle.lists.proofs.ListLaws.{all-map}

@@ -7,3 +7,4 @@ pub mod PlaceLaws
 pub mod InsertLaws
 pub mod FindLaws
 pub mod SoundLaws
+pub mod PoolRecords

@@ -16,7 +16,8 @@ use Rattle.lists.proofs.FilterLaws.{filter-yes, filter-no}
 use Rattle.lists.proofs.IndexLaws.{all-at}
 use Rattle.table.specs.declared.Lease.{Lease}
 use Rattle.table.specs.Table.{noLease}
-use Rattle.image.specs.Image.{leaseSize, leaseIn}
+use Rattle.image.specs.Image.{leaseSize}
+use Rattle.image.specs.Reading.{leaseIn}
 use Rattle.image_records.specs.Records.{Records, Ascending}
 use Rattle.image_records.proofs.RecordLaws.{lease-in-place}
 

@@ -18,8 +18,9 @@ use Rattle.lists.proofs.PutLaws.{put-append, length-put}
 use Rattle.table.specs.declared.Lease.{Lease}
 use Rattle.table.specs.Table.{noLease, empty?}
 use Rattle.table.proofs.TableLaws.{empty-to}
-use Rattle.image.specs.Fields.{le16, le32, number32}
-use Rattle.image.specs.Image.{leaseSize, leaseRecord, leaseIn, leaseTests, leaseAt}
+use Rattle.image.specs.Fields.{number32}
+use Rattle.image.specs.Image.{le16, le32, leaseSize, leaseRecord}
+use Rattle.image.specs.Reading.{leaseIn, leaseTests, leaseAt}
 use Rattle.image.proofs.ImageLaws.{lease-reads, length-lease, length-concatMap}
 use Rattle.image_records.specs.Records.{Records}
 use Rattle.image_records.proofs.PutForms.{take-put, drop-put, drop-put-at, put-behind, put-front, put-inside, put-same, put-upon}

@@ -21,10 +21,11 @@ use Rattle.lists.proofs.PutLaws.{put-more, put-fits}
 use Rattle.table.specs.declared.Lease.{Lease}
 use Rattle.table.specs.Table.{noLease, present}
 use Rattle.table.proofs.TableLaws.{present?, present-yes, present-no}
-use Rattle.image.specs.Fields.{le16, le32}
-use Rattle.image.specs.Image.{leaseSize, leaseRecord, leaseIn}
+use Rattle.image.specs.Image.{le16, le32, leaseSize, leaseRecord}
+use Rattle.image.specs.Reading.{expiresAt, leaseIn}
 use Rattle.image.proofs.ImageLaws.{length-lease}
-use Rattle.image_records.specs.Records.{Records, ExpiredIn, Closed}
+use Rattle.image_records.specs.Records.{Records, ExpiredIn}
+use Rattle.image_records.specs.Inner.{frontSize, Closed}
 use Rattle.image_records.proofs.PutForms.{take-put, take-put-at, drop-put, put-over-last}
 use Rattle.image_records.proofs.RecordLaws.{length-leases, records-drop, record-at, lease-read, first-are}
 
@@ -96,11 +97,11 @@ module _ (time : ℕ) (xs : List Lease) (i : ℕ) (h : i < length xs) where
       ∙ append-nil (present time (take i xs))
 
 -- A record put as its front and then its end, which overlap by a byte.
-front-and-end : (l : List ℕ) (to : ℕ) (x : Lease) → put (put l to (take 16 (leaseRecord x))) (to + 15) (le32 (x .expires)) ≡ put l to (leaseRecord x)
+front-and-end : (l : List ℕ) (to : ℕ) (x : Lease) → put (put l to (take frontSize (leaseRecord x))) (to + expiresAt) (le32 (x .expires)) ≡ put l to (leaseRecord x)
 unfolding leaseRecord le16 le32
 front-and-end l to x =
-    let p : List ℕ = take 15 (leaseRecord x) in
-    let q : List ℕ = take 1 (drop 15 (leaseRecord x)) in
+    let p : List ℕ = take expiresAt (leaseRecord x) in
+    let q : List ℕ = take 1 (drop expiresAt (leaseRecord x)) in
     put-over-last p q (le32 (x .expires)) l to (omega arith)
 
 module _ (l : List ℕ) (from first time : ℕ) where
@@ -113,16 +114,16 @@ module _ (l : List ℕ) (from first time : ℕ) where
 
   -- The next record is moved; it counts if it is present.
   module _ (image : List ℕ) (kept i : ℕ) (c : Closed l from first time image kept i) (le : kept ≤ i) (behind : drop (from + leaseSize * i) image ≡ drop (from + leaseSize * i) l)
-      (size : length image ≡ length l) (room : from + leaseSize * i + leaseSize ≤ length l) (front : List ℕ) (copied : front ≡ take 16 (drop (from + leaseSize * i) image)) (x : Lease)
-      (image₁ image₂ : List ℕ) (e₁ : image₁ ≡ put image (from + leaseSize * kept) front) (e₂ : image₂ ≡ put image₁ (from + leaseSize * kept + 15) (le32 (x .expires))) where
+      (size : length image ≡ length l) (room : from + leaseSize * i + leaseSize ≤ length l) (front : List ℕ) (copied : front ≡ take frontSize (drop (from + leaseSize * i) image)) (x : Lease)
+      (image₁ image₂ : List ℕ) (e₁ : image₁ ≡ put image (from + leaseSize * kept) front) (e₂ : image₂ ≡ put image₁ (from + leaseSize * kept + expiresAt) (le32 (x .expires))) where
     pub closed-behind : drop (from + leaseSize * (i + 1)) image₂ ≡ drop (from + leaseSize * (i + 1)) l
     unfolding le32
     closed-behind =
-        let small : length front ≡ 16 = ap length copied ∙ length-take-le 16 (drop (from + leaseSize * i) image) (omega (arith, length-drop (from + leaseSize * i) image)) in
+        let small : length front ≡ frontSize = ap length copied ∙ length-take-le frontSize (drop (from + leaseSize * i) image) (omega (arith, length-drop (from + leaseSize * i) image)) in
         let past : from + leaseSize * i + leaseSize ≡ from + leaseSize * (i + 1) = omega arith in
         let later : (m : List ℕ) → drop (from + leaseSize * (i + 1)) m ≡ drop leaseSize (drop (from + leaseSize * i) m) = λ m. sym (drop-drop leaseSize (from + leaseSize * i) m ∙ ap (λ (k : ℕ). drop k m) past) in
         ap (drop (from + leaseSize * (i + 1))) e₂
-        ∙ drop-put (le32 (x .expires)) image₁ (from + leaseSize * kept + 15) (from + leaseSize * (i + 1)) (omega arith)
+        ∙ drop-put (le32 (x .expires)) image₁ (from + leaseSize * kept + expiresAt) (from + leaseSize * (i + 1)) (omega arith)
         ∙ ap (drop (from + leaseSize * (i + 1))) e₁
         ∙ drop-put front image (from + leaseSize * kept) (from + leaseSize * (i + 1)) (omega arith)
         ∙ later image ∙ ap (drop leaseSize) behind ∙ sym (later l)
@@ -139,10 +140,10 @@ module _ (l : List ℕ) (from first time : ℕ) where
 
       moved : image₂ ≡ put image (from + leaseSize * kept) (leaseRecord (getD xs i noLease))
       moved =
-          let bytes : front ≡ take 16 (leaseRecord (getD xs i noLease)) =
-          copied ∙ ap (take 16) here ∙ take-append-le 16 (leaseRecord (getD xs i noLease)) (drop (from + leaseSize * i + leaseSize) l) (omega (arith, length-lease (getD xs i noLease))) in
+          let bytes : front ≡ take frontSize (leaseRecord (getD xs i noLease)) =
+          copied ∙ ap (take frontSize) here ∙ take-append-le frontSize (leaseRecord (getD xs i noLease)) (drop (from + leaseSize * i + leaseSize) l) (omega (arith, length-lease (getD xs i noLease))) in
           e₂
-          ∙ ap₂ (λ (m : List ℕ) (z : Lease). put m (from + leaseSize * kept + 15) (le32 (z .expires))) (e₁ ∙ ap (put image (from + leaseSize * kept)) bytes) x-is
+          ∙ ap₂ (λ (m : List ℕ) (z : Lease). put m (from + leaseSize * kept + expiresAt) (le32 (z .expires))) (e₁ ∙ ap (put image (from + leaseSize * kept)) bytes) x-is
           ∙ front-and-end image (from + leaseSize * kept) (getD xs i noLease)
 
     pub closed-more : x ≡ leaseIn (drop (from + leaseSize * i) image) → (s : ℕ) → (time < x .expires → s ≡ 1) → (x .expires ≤ time → s ≡ 0) → Closed l from first time image₂ (kept + s) (i + 1)

@@ -1,4 +1,5 @@
 // Records in a lent buffer: writing one, and leases that stand as records one after another.
+use image::FULL_IMAGE;
 use image::Head;
 use image::LEASE;
 use table::Lease;
@@ -12,22 +13,16 @@ ghost use Rattle.lists.specs.Lists.{filter, concatMap};
 ghost use Rattle.lists.specs.Put.{put};
 ghost use Rattle.table.specs.declared.Lease.{Lease};
 ghost use Rattle.table.specs.Table.{present, insert};
-ghost use Rattle.image.specs.Fields.{le32};
-ghost use Rattle.image.specs.Image.{
-  headSize,
-  poolSize,
-  headRecord,
-  poolRecord,
-  leaseRecord,
-  leaseIn,
-  leaseSize,
-  stateByte,
-  flagsByte,
-};
-ghost use Rattle.image_records.specs.Records.{Records, Ascending, ExpiredIn, Closed};
+ghost use Rattle.image.specs.Image.{le32, headSize, poolSize, fullImage, headRecord, poolRecord, leaseRecord, leaseSize, stateByte, flagsByte};
+ghost use Rattle.image.specs.Reading.{leaseIn};
+ghost use Rattle.image_records.specs.Records.{Records, Ascending, ExpiredIn};
+ghost use Rattle.image_records.specs.Inner.{frontSize, Closed};
 
 // Six records.
 const SIX: usize = 6 * LEASE;
+
+// The front of a record, up to the first byte of its end: as much as a register of the processor holds.
+const FRONT: usize = image::EXPIRES + 1;
 
 // WRITING RECORDS
 
@@ -101,6 +96,18 @@ pub fn clear(image: &mut [u8], from: usize, to: usize)
     }
 }
 
+// Bytes of an image to the front of a buffer; how many. By way of an array that overlaps with neither, which tells the compiler that
+// this is one move: the array itself is never laid out.
+pub fn copy(from: &[u8], to: &mut [u8]) -> usize
+    requires { ⌜ (length (now from) ≤ fullImage) × (length (now from) ≤ length (now to)) ⌝ }
+    ensures { λ r. ⌜ r ≡ length (now (from .entry)) ⌝ }
+    ensures { λ _. ⌜ now (to .exit) ≡ now (from .entry) ++ drop (length (now (from .entry))) (now (to .entry)) ⌝ }
+{
+    let mut array = [0u8; FULL_IMAGE];
+    let n = bytes::copy(from, &mut array);
+    bytes::copy(&array[..n], to)
+}
+
 // LEASES IN PLACE
 
 // The lease whose record begins here.
@@ -169,26 +176,26 @@ fn put_six(image: &mut [u8], at: usize, bytes: [u8; SIX])
     }
 }
 
-// The bytes of a record up to the first of its end.
-fn front_at(image: &[u8], at: usize) -> [u8; 16]
-    requires { ⌜ at + 16 ≤ length (now image) ⌝ }
-    ensures { λ r. ⌜ r ≡ take 16 (drop at (now (image .entry))) ⌝ }
+// The bytes of a record's front.
+fn front_at(image: &[u8], at: usize) -> [u8; FRONT]
+    requires { ⌜ at + frontSize ≤ length (now image) ⌝ }
+    ensures { λ r. ⌜ r ≡ take frontSize (drop at (now (image .entry))) ⌝ }
 {
-    let mut bytes = [0u8; 16];
+    let mut bytes = [0u8; FRONT];
     let mut k: usize = 0;
-    while k < 16 {
+    while k < FRONT {
         bytes[k] = image[at + k];
         k = k + 1;
     }
     bytes
 }
 
-fn put_front(image: &mut [u8], at: usize, bytes: [u8; 16])
-    requires { ⌜ at + 16 ≤ length (now image) ⌝ }
+fn put_front(image: &mut [u8], at: usize, bytes: [u8; FRONT])
+    requires { ⌜ at + frontSize ≤ length (now image) ⌝ }
     ensures { λ _. ⌜ now (image .exit) ≡ put (now (image .entry)) at bytes ⌝ }
 {
     let mut k: usize = 0;
-    while k < 16 {
+    while k < FRONT {
         image[at + k] = bytes[k];
         k = k + 1;
     }
@@ -218,7 +225,7 @@ fn close_up(image: &mut [u8], from: usize, first: usize, last: usize, time: u32)
         let x = lease_at(image, at);
         let front = front_at(image, at);
         put_front(image, to, front);
-        put32(image, to + 15, x.expires);
+        put32(image, to + image::EXPIRES, x.expires);
         kept = kept + stays(x.expires, time);
         i = i + 1;
     }

@@ -15,7 +15,8 @@ use Rattle.lists.proofs.Tests.{cond-true, cond-false, and-list-of, not-of, any?
 use Rattle.lists.proofs.ListLaws.{all-image, all-preimage, any-left}
 use Rattle.lists.proofs.Permutations.{perm-all, perm-any, perm-length}
 use Rattle.prefix.specs.Prefixes.{prefix, Apart}
-use Rattle.free_space.specs.Space.{Pools, Free}
+use Rattle.free_space.specs.Space.{Free}
+use Rattle.free_space.specs.Serving.{Pools}
 use Rattle.free_space.proofs.ListTheorem.{refused⇔none-free}
 use Rattle.option.specs.Values.{Entry}
 use Rattle.table.specs.declared.Lease.{Lease}

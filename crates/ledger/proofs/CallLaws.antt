@@ -10,7 +10,7 @@ use lib.ListN.{length, drop, length-map}
 use lib.Dec.{leb, ltb, eqb}
 use borrow.Author.Tests.{ltb-false, le-ltb, eqb-false, not-false}
 use Rattle.lists.specs.Lists.{All, catMaybes}
-use Rattle.free_space.specs.Space.{Pools}
+use Rattle.free_space.specs.Serving.{Pools}
 use Rattle.option.specs.Values.{Entry}
 use Rattle.option.specs.Reading.{readOption}
 use Rattle.option.specs.Writing.{optionBytes}

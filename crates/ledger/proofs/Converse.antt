@@ -14,7 +14,9 @@ use Rattle.lists.proofs.FilterLaws.{filter-yes, filter-no}
 use Rattle.lists.proofs.Permutations.{perm-length}
 use Rattle.prefix.specs.declared.Prefix.{Prefix}
 use Rattle.prefix.specs.Prefixes.{Apart}
-use Rattle.free_space.specs.Space.{Pools, Free, Packing, grant, withGrant, serve, after}
+use Rattle.free_space.specs.Space.{Free}
+use Rattle.free_space.specs.Grant.{grant}
+use Rattle.free_space.specs.Serving.{Pools, Packing, withGrant, serve, after}
 use Rattle.free_space.proofs.ListTheorem.{serve-packing}
 use Rattle.free_space.proofs.Permuted.{grant-perm}
 use Rattle.option.specs.Values.{Entry}
@@ -50,7 +52,7 @@ told-leases (some x ∷ os) (g ∷ gs) e =
     let k : entryOf x ≡ g = cc in
     (x ∷ r .0, ap (λ (l : List (Option Lease)). some x ∷ l) (r .1), ap₂ (λ (b : Entry) (l : List Entry). b ∷ l) k (r .2))
 
--- Offers that lack nothing are the grants of crate `space`.
+-- Offers that lack nothing are the grants of crate `free_space`.
 module _ (t : LeaseTable) (good : Pools (poolsOf t)) (now client : ℕ) where
   abbrev Granted : List Request → List Lease → List Prefix → List Lease → Type 0
   Granted rs xs ls ys =

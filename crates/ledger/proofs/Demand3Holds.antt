@@ -16,7 +16,9 @@ use Rattle.lists.proofs.ListLaws.{all-map}
 use Rattle.lists.proofs.Permutations.{perm-length}
 use Rattle.prefix.specs.declared.Prefix.{Prefix}
 use Rattle.prefix.specs.Prefixes.{Apart}
-use Rattle.free_space.specs.Space.{Pools, Free, Packing, grant, withGrant, serve, after}
+use Rattle.free_space.specs.Space.{Free}
+use Rattle.free_space.specs.Grant.{grant}
+use Rattle.free_space.specs.Serving.{Pools, Packing, withGrant, serve, after}
 use Rattle.free_space.proofs.ListTheorem.{list-theorem}
 use Rattle.option.specs.Values.{Entry}
 use Rattle.table.specs.declared.Lease.{Lease}
@@ -35,7 +37,7 @@ use Rattle.ledger.proofs.FirstSentence.{first-sentence}
 
 -- LISTS
 
--- A choice of networks is a packing of crate `space`.
+-- A choice of networks is a packing of crate `free_space`.
 placed-lengths : (ns lens : List ℕ) → length ns ≡ length lens → map (λ (b : Prefix). b .length) (prefixesAt ns lens) ≡ lens
 placed-lengths [] [] e = refl
 placed-lengths [] (l ∷ lens) e = absurd (omega (arith, e))

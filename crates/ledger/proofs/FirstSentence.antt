@@ -12,13 +12,15 @@ use native.Mathlib.Omega.{arith}
 use lib.ListN.{length, length-map}
 use lib.Dec.{leb, eqb}
 use borrow.Author.Tests.{leb-true, le-leb, lt-leb, eqb-true}
-use Rattle.lists.specs.Lists.{All, OfSome, any?}
+use Rattle.lists.specs.Lists.{All, any?}
+use Rattle.lists.specs.Properties.{OfSome}
 use Rattle.lists.proofs.Tests.{bool-cases, cond-true, cond-false, and-list-to}
 use Rattle.lists.proofs.Permutations.{perm-length}
 use Rattle.prefix.specs.declared.Prefix.{Prefix}
 use Rattle.prefix.specs.Prefixes.{prefix, Apart}
 use Rattle.prefix.proofs.Nesting.{prefix-path, inside-refl, apart-absurd}
-use Rattle.free_space.specs.Space.{Pools, Free, Takes}
+use Rattle.free_space.specs.Space.{Free, Takes}
+use Rattle.free_space.specs.Serving.{Pools}
 use Rattle.free_space.proofs.ListTheorem.{refused⇔none-free}
 use Rattle.free_space.proofs.Permuted.{grant-perm, free-perm}
 use Rattle.free_space.proofs.Rules.{grant-takes}

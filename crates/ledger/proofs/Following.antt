@@ -8,7 +8,6 @@ use mathlib.Core.Bool.{Bool, true, false, cond}
 use mathlib.Core.List.{List, [], _∷_, _++_, map, List·Permᴰ}
 use mathlib.Core.Option.{Option}
 use lib.Dec.{eqb}
-use lib.ListN.{length}
 use lib.ListN.{take as upTo}
 use Rattle.lists.specs.Lists.{All, filter, concatMap, catMaybes}
 use Rattle.lists.proofs.ListLaws.{all-map}

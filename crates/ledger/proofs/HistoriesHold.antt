@@ -8,7 +8,7 @@ use mathlib.Core.Option.{none, some}
 use native.Mathlib.Omega.{arith}
 use Rattle.lists.specs.Lists.{Pairwise}
 use Rattle.prefix.specs.Prefixes.{Apart}
-use Rattle.table.specs.Table.{blank, prefixOf, present, sound}
+use Rattle.table.specs.Table.{blank, prefixOf, sound}
 use Rattle.table_open.specs.Open.{given, openOk, fresh}
 use Rattle.table_open.proofs.OpenLaws.{open-sound}
 use Rattle.ledger.specs.Ledger.{State, state, orElse, refuse, accept, openTable, ledger}

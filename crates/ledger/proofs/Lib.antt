@@ -19,3 +19,5 @@ pub mod Following
 pub mod Resuming
 pub mod NothingBehind
 pub mod Counts
+pub mod FollowingReplies
+pub mod InRange

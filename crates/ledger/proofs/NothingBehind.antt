@@ -3,52 +3,38 @@
 -- Assumes nothing.
 use Prim.Native.Nat.{ℕ, _-_}
 use mathlib.Core.Path.{_≡_, refl, sym, ap, ap₂, subst, _∙_}
-use mathlib.Core.Bool.{Bool, true, false, not, cond, _&&_}
+use mathlib.Core.Bool.{Bool, true, false, not, cond, _&&_, true≢false}
 use mathlib.Core.List.{List, [], _∷_, _++_, map}
 use mathlib.Core.Option.{Option, none, some}
 use lib.ListN.{length, drop}
 use lib.ListN.{take as upTo}
 use lib.Dec.{ltb, eqb}
 use borrow.Author.Tests.{eq-eqb, le-ltb}
-use mathlib.Core.Bool.{true≢false}
 use Rattle.lists.specs.Lists.{catMaybes, filter, any?}
 use Rattle.option.specs.Values.{information}
 use Rattle.option.specs.Reading.{readOption}
 use Rattle.option.specs.Writing.{optionBytes}
 use Rattle.prefix.specs.declared.Prefix.{Prefix}
-use Rattle.free_space.specs.Space.{grant}
+use Rattle.free_space.specs.Grant.{grant}
 use Rattle.table.specs.declared.Lease.{Lease}
 use Rattle.table.specs.declared.LeaseTable.{LeaseTable}
 use Rattle.table.specs.Table.{latest, prefixOf, poolsOf, prefixesOf, padded, present, sound, store}
 use Rattle.table.proofs.TableLaws.{sound-whole, store-last}
 use Rattle.option.specs.Contents.{position, requestsIn, entriesIn, suboptions, Request}
 use Rattle.option_reply.specs.Reply.{mostEntries, entryOf}
-use Rattle.ledger.specs.Ledger.{State, state, Call, Result, result, acceptance, accept, Row, firstOf, orElse, byRows, refusalPlace, leastReply, optionRows, clientRows, nothing?, full, offered, offer, offers, add, addAll, askOffers, informationFor, forAsk, askRows, ask, namedBy?, found, renewNamed, forTake, takeRows, take, forList, listed, listedIn, listRows, list, releaseRows, release, at?, withD, markRows, mark}
-use Rattle.ledger.specs.Demand3.{Accepts}
+use Rattle.ledger.specs.Ledger.{State, state, Call, Result, result, acceptance, accept, Row, firstOf, orElse, byRows, refusalPlace, leastReply, optionRows, clientRows, nothing?, full, offered, offer, offers, add, addAll, askOffers, informationFor, forAsk, askRows, ask, namedBy?, found, renewNamed, forTake, takeRows, take, forList, listed, listedIn, listRows, list, releaseRows, release, at?, withD, markRows, mark, ledger}
 use Rattle.ledger.specs.Histories.{leasesOf}
+use Rattle.ledger.specs.NothingBehind.{Alike, Same, Cleared, EndedForgotten, Clears}
 use Rattle.ledger.proofs.RowLaws.{Numbered, first-number, by-rows, numbered-ask, numbered-take, numbered-release, numbered-mark}
-use Rattle.ledger.proofs.SoundKept.{ask-keeps, take-keeps, release-keeps, mark-keeps}
+use Rattle.ledger.proofs.SoundKept.{ask-sound, take-sound, release-sound, mark-sound}
 
-pub record Alike (now : ℕ) (s u : State) : Type 0 where
-  pub sound₁ : sound (s .table) ≡ true
-  pub sound₂ : sound (u .table) ≡ true
-  pub accepts₁ : Accepts (s .table) now
-  pub accepts₂ : Accepts (u .table) now
-  pub pools : s .table .pools ≡ u .table .pools
-  pub term : s .table .term ≡ u .table .term
-  pub default : s .table .«default_length» ≡ u .table .«default_length»
-  pub leases : present now (s .table .leases) ≡ present now (u .table .leases)
-
--- The same answer and reply, and the same left where the call is accepted.
-pub record Same (r q : Result State) : Type 0 where
-  pub answer : r .answer ≡ q .answer
-  pub reply : r .reply ≡ q .reply
-  pub left : r .answer .number ≡ 0 → r .state ≡ q .state
+abbrev SameState : Result State → Result State → Type 0
+SameState r q = Same (λ s. s) r q
 
 not-zero : (n : ℕ) → eqb n 0 ≡ false → n ≡ 0 → ⊥
 not-zero n e z = true≢false (sym (eq-eqb n 0 z) ∙ e)
 
-accept-same : (reply : List ℕ) {v w : LeaseTable} {b c : List ℕ} {m n : ℕ} → v ≡ w → b ≡ c → m ≡ n → Same (accept (state v) b m reply) (accept (state w) c n reply)
+accept-same : (reply : List ℕ) {v w : LeaseTable} {b c : List ℕ} {m n : ℕ} → v ≡ w → b ≡ c → m ≡ n → SameState (accept (state v) b m reply) (accept (state w) c n reply)
 accept-same reply e f g = record {
   answer = ap₂ (λ (l : List ℕ) (k : ℕ). acceptance (length l) k) f g;
   reply = ap (λ (l : List ℕ). l ++ drop (length l) reply) f;
@@ -57,12 +43,12 @@ accept-same reply e f g = record {
 
 module _ (now : ℕ) (s u : State) (a : Alike now s u) where
   -- Two calls with the same rows.
-  same-rows : (rows rows′ : List Row) (place : ℕ → ℕ) (reply : List ℕ) (accepted accepted′ : Result State) → rows ≡ rows′ → Numbered rows → Same accepted accepted′
-      → Same (byRows rows place s reply accepted) (byRows rows′ place u reply accepted′)
+  same-rows : (rows rows′ : List Row) (place : ℕ → ℕ) (reply : List ℕ) (accepted accepted′ : Result State) → rows ≡ rows′ → Numbered rows → SameState accepted accepted′
+      → SameState (byRows rows place s reply accepted) (byRows rows′ place u reply accepted′)
   same-rows rows rows′ place reply accepted accepted′ e k b =
-      subst (λ (l : List Row). Same (byRows rows place s reply accepted) (byRows l place u reply accepted′)) e (go (firstOf rows) refl)
+      subst (λ (l : List Row). SameState (byRows rows place s reply accepted) (byRows l place u reply accepted′)) e (go (firstOf rows) refl)
     where
-      go : (o : Option ℕ) → firstOf rows ≡ o → Same (orElse o (λ n. result (record { number = n; place = place n; bytes = 0; count = 0 }) s reply) accepted) (orElse o (λ n. result (record { number = n; place = place n; bytes = 0; count = 0 }) u reply) accepted′)
+      go : (o : Option ℕ) → firstOf rows ≡ o → SameState (orElse o (λ n. result (record { number = n; place = place n; bytes = 0; count = 0 }) s reply) accepted) (orElse o (λ n. result (record { number = n; place = place n; bytes = 0; count = 0 }) u reply) accepted′)
       go none f = b
       go (some n) f = record { answer = refl; reply = refl; left = λ z. absurd (not-zero n (first-number (λ m. eqb m 0 ≡ false) rows k n f) z) }
 
@@ -115,7 +101,7 @@ module _ (now : ℕ) (s u : State) (a : Alike now s u) where
         own : List (Option Lease) → List Lease → List Row
         own os xs = (8, not (forAsk (requestsIn (c .option)))) ∷ (9, nothing? (catMaybes os) && full xs) ∷ (10, nothing? (catMaybes os)) ∷ []
 
-    pub ask-same : Same (ask s now c) (ask u now c)
+    ask-same : SameState (ask s now c) (ask u now c)
     unfolding ask
     ask-same =
         let os = ask-offers-same (c .client) (c .option) in
@@ -134,7 +120,7 @@ module _ (now : ℕ) (s u : State) (a : Alike now s u) where
         own : List Lease → List Row
         own xs = (8, not (forTake (suboptions (readOption (c .option))))) ∷ (11, nothing? (found (c .client) xs (entriesIn (c .option)))) ∷ []
 
-    pub take-same : Same (take s now c) (take u now c)
+    take-same : SameState (take s now c) (take u now c)
     unfolding take
     take-same =
         same-rows (takeRows s now c) (takeRows u now c) (refusalPlace (c .option)) (c .reply) _ _ take-rows-same (numbered-take s now c)
@@ -153,7 +139,7 @@ module _ (now : ℕ) (s u : State) (a : Alike now s u) where
         own xs = (8, not (forList (requestsIn (c .option)))) ∷ (11, nothing? (listed (c .client) (position none (suboptions (readOption (c .option)))) xs)) ∷ []
 
     -- A list leaves each table as it was; its answer and its reply are the same.
-    pub list-same : (list s now c .answer ≡ list u now c .answer) × (list s now c .reply ≡ list u now c .reply)
+    list-same : (list s now c .answer ≡ list u now c .answer) × (list s now c .reply ≡ list u now c .reply)
     unfolding list
     list-same =
         subst (λ (l : List Row). (list s now c .answer ≡ byRows l (refusalPlace (c .option)) u (c .reply) (page u (listedIn (u .table) now (c .client) (c .option))) .answer)
@@ -184,7 +170,7 @@ module _ (now : ℕ) (s u : State) (a : Alike now s u) where
         own : List Lease → List Row
         own xs = (8, not (forTake (suboptions (readOption (c .option))))) ∷ (11, nothing? (filter (namedBy? (c .client) (entriesIn (c .option))) xs)) ∷ []
 
-    pub release-same : Same (release s now c) (release u now c)
+    release-same : SameState (release s now c) (release u now c)
     unfolding release
     release-same =
         same-rows (releaseRows s now c) (releaseRows u now c) (refusalPlace (c .option)) (c .reply) _ _ release-rows-same (numbered-release s now c)
@@ -199,11 +185,15 @@ module _ (now : ℕ) (s u : State) (a : Alike now s u) where
       rows : Bool → Bool → List Lease → List Row
       rows x e xs = (5, not x) ∷ (3, e) ∷ (4, ltb latest now) ∷ (11, not (any? (at? network len) xs)) ∷ []
 
-  pub mark-same : (network len : ℕ) (d : Bool) → Same (mark s now network len d) (mark u now network len d)
+  mark-same : (network len : ℕ) (d : Bool) → SameState (mark s now network len d) (mark u now network len d)
   unfolding mark
   mark-same network len d =
       same-rows (markRows s now network len) (markRows u now network len) (λ n. 0) [] _ _ (mark-rows-same network len) (numbered-mark s now network len)
       (accept-same [] {b = []} {c = []} {m = 0} {n = 0} (store-same _ _ (ap (map (λ x. cond (at? network len x) (withD d x) x)) (a .leases))) refl refl)
+
+-- ENDED LEASES ARE FORGOTTEN, by every call.
+pub ended-forgotten : EndedForgotten ledger
+ended-forgotten now s u a = record { asks = ask-same now s u a; takes = take-same now s u a; lists = list-same now s u a; releases = release-same now s u a; marks = mark-same now s u a }
 
 -- FREED SLOTS ARE ZERO: in a sound table, and so after every call, the leases stand first and every other slot is empty; an accepted ask, take, return or
 -- mark has none that ended at or before now.
@@ -211,33 +201,42 @@ module _ (now : ℕ) (s u : State) (a : Alike now s u) where
 pub slots-zero : (t : LeaseTable) → sound t ≡ true → t .leases ≡ padded (leasesOf t)
 slots-zero t s = sound-whole t s
 
--- After an accepted call: the leases that are present now, and zeros.
-abbrev Cleared : ℕ → LeaseTable → Type 0
-Cleared now u = (u .last ≡ now) × (u .leases ≡ padded (present now (u .leases)))
-
-stored-cleared : (t : LeaseTable) (now : ℕ) (xs : List Lease) → sound (store t now xs) ≡ true → Cleared now (store t now xs)
+stored-cleared : (t : LeaseTable) (now : ℕ) (xs : List Lease) → sound (store t now xs) ≡ true → Cleared now (state (store t now xs))
 stored-cleared t now xs s =
     (store-last t now xs, sound-whole (store t now xs) s ∙ ap (λ (m : ℕ). padded (present m (store t now xs .leases))) (store-last t now xs))
 
 -- Of a call that leaves a sound table, if it is accepted.
-abbrev Clears : ℕ → Result State → Type 0
-Clears now r = sound (r .state .table) ≡ true → r .answer .number ≡ 0 → Cleared now (r .state .table)
+abbrev LeavesCleared : ℕ → Result State → Type 0
+LeavesCleared now r = sound (r .state .table) ≡ true → r .answer .number ≡ 0 → Cleared now (r .state)
 
-module _ (s : State) (now : ℕ) (c : Call) (so : sound (s .table) ≡ true) where
-  pub ask-clears : ask s now c .answer .number ≡ 0 → Cleared now (ask s now c .state .table)
+cleared-by : (now : ℕ) (rows : List Row) (place : ℕ → ℕ) (s : State) (reply : List ℕ) (accepted : Result State) → Numbered rows → LeavesCleared now accepted
+    → LeavesCleared now (byRows rows place s reply accepted)
+cleared-by now rows place s reply accepted k left = by-rows (LeavesCleared now) rows _ _ k (λ n m _ z. absurd (not-zero n m z)) (λ _. left)
+
+module _ (s : State) (now : ℕ) where
+  ask-clears : (c : Call) → ask s now c .answer .number ≡ 0 → Cleared now (ask s now c .state)
   unfolding ask
-  ask-clears = by-rows (Clears now) (askRows s now c) _ _ (numbered-ask s now c) (λ n k _ z. absurd (not-zero n k z)) (λ _ q _. stored-cleared (s .table) now _ q) (ask-keeps s now c so)
+  ask-clears c z =
+      cleared-by now (askRows s now c) (refusalPlace (c .option)) s (c .reply) _ (numbered-ask s now c) (λ q _. stored-cleared (s .table) now _ q)
+      (ask-sound s now c z .1) z
 
-  pub take-clears : take s now c .answer .number ≡ 0 → Cleared now (take s now c .state .table)
+  take-clears : (c : Call) → take s now c .answer .number ≡ 0 → Cleared now (take s now c .state)
   unfolding take
-  take-clears = by-rows (Clears now) (takeRows s now c) _ _ (numbered-take s now c) (λ n k _ z. absurd (not-zero n k z)) (λ _ q _. stored-cleared (s .table) now _ q) (take-keeps s now c so)
+  take-clears c z =
+      cleared-by now (takeRows s now c) (refusalPlace (c .option)) s (c .reply) _ (numbered-take s now c) (λ q _. stored-cleared (s .table) now _ q)
+      (take-sound s now c z .1) z
 
-  pub release-clears : release s now c .answer .number ≡ 0 → Cleared now (release s now c .state .table)
+  release-clears : (c : Call) → release s now c .answer .number ≡ 0 → Cleared now (release s now c .state)
   unfolding release
-  release-clears = by-rows (Clears now) (releaseRows s now c) _ _ (numbered-release s now c) (λ n k _ z. absurd (not-zero n k z)) (λ _ q _. stored-cleared (s .table) now _ q) (release-keeps s now c so)
+  release-clears c z =
+      cleared-by now (releaseRows s now c) (refusalPlace (c .option)) s (c .reply) _ (numbered-release s now c) (λ q _. stored-cleared (s .table) now _ q)
+      (release-sound s now c z .1) z
 
-pub mark-clears : (s : State) (now network len : ℕ) (d : Bool) → sound (s .table) ≡ true → mark s now network len d .answer .number ≡ 0 → Cleared now (mark s now network len d .state .table)
-unfolding mark
-mark-clears s now network len d so =
-    by-rows (Clears now) (markRows s now network len) _ _ (numbered-mark s now network len) (λ n k _ z. absurd (not-zero n k z)) (λ _ q _. stored-cleared (s .table) now _ q)
-    (mark-keeps s now network len d so)
+  mark-clears : (network len : ℕ) (d : Bool) → mark s now network len d .answer .number ≡ 0 → Cleared now (mark s now network len d .state)
+  unfolding mark
+  mark-clears network len d z =
+      cleared-by now (markRows s now network len) (λ n. 0) s [] _ (numbered-mark s now network len) (λ q _. stored-cleared (s .table) now _ q)
+      (mark-sound s now network len d z .1) z
+
+  pub clears : Clears ledger s now
+  clears = record { asks = ask-clears; takes = take-clears; releases = release-clears; marks = mark-clears }

@@ -1,4 +1,4 @@
--- Laws of the offers of one call: what an offer is, that they keep the leases good and ascending, and that they are the grants of crate `space`.
+-- Laws of the offers of one call: what an offer is, that they keep the leases good and ascending, and that they are the grants of crate `free_space`.
 -- Assumes nothing.
 use Prim.Native.Nat.{ℕ, zero, suc, _+_, _-_, _≤_, _<_}
 use mathlib.Core.Path.{_≡_, refl, sym, ap, subst, _∙_}
@@ -17,7 +17,9 @@ use Rattle.lists.proofs.Permutations.{perm-map, perm-length}
 use Rattle.lists.proofs.SortingLaws.{insertBy-perm}
 use Rattle.prefix.specs.declared.Prefix.{Prefix}
 use Rattle.prefix.specs.Prefixes.{longest, end, Aligned, Inside, Apart}
-use Rattle.free_space.specs.Space.{Pools, Before, Ordered, Free, Takes, grant, withGrant, serve, after}
+use Rattle.free_space.specs.Space.{Free, Takes}
+use Rattle.free_space.specs.Grant.{grant}
+use Rattle.free_space.specs.Serving.{Pools, Before, Ordered, withGrant, serve, after}
 use Rattle.free_space.proofs.ListTheorem.{granted-free}
 use Rattle.free_space.proofs.Rules.{grant-takes}
 use Rattle.free_space.proofs.Permuted.{grant-perm}
@@ -40,7 +42,7 @@ prefix? (some x) = some (prefixOf x)
 pub insert-perm : (x : Lease) (ys : List Lease) → List·Permᴰ (insert x ys) (x ∷ ys)
 insert-perm x ys = insertBy-perm networkOf x ys
 
--- THE POOLS OF A SOUND TABLE, as crate `space` wants them.
+-- THE POOLS OF A SOUND TABLE, as crate `free_space` wants them.
 
 pub pools-good : (t : LeaseTable) → sound t ≡ true → Pools (poolsOf t)
 unfolding prefixesOf
@@ -158,7 +160,7 @@ module _ (t : LeaseTable) (now client : ℕ) where
           some-good xs r (a .0) (offer t now client xs r) (offer-is xs r) (offers t now client (add (offer t now client xs r) xs) rs)
           (offers-good rs (add (offer t now client xs r) xs) (a .1))
 
-    -- The offers are the grants of crate `space`.
+    -- The offers are the grants of crate `free_space`.
 
     offer-grant : (xs : List Lease) (r : Request) → length xs < leaseSlots → (o : Option Lease) → Offer xs r o → prefix? o ≡ grant (poolsOf t) (prefixes xs) (askLength t r)
     offer-grant xs r l none (inl f) = absurd (omega arith)

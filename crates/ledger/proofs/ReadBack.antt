@@ -2,7 +2,7 @@
 -- its page. Of ask's reply that is `reply-is-granted` in CallLaws.
 -- Assumes nothing.
 use Prim.Native.Nat.{ℕ, zero, suc, _≤_}
-use mathlib.Core.Path.{_≡_, refl, sym, ap, _∙_}
+use mathlib.Core.Path.{_≡_, refl, ap, _∙_}
 use mathlib.Core.Bool.{Bool, true, false, not, true≢false}
 use mathlib.Core.List.{List, [], _∷_, map}
 use mathlib.Core.Option.{none}
@@ -11,25 +11,27 @@ use lib.ListN.{length, drop, length-map}
 use lib.ListN.{take as upTo}
 use lib.Seq.{take-append-seam}
 use lib.Dec.{ltb}
-use borrow.Author.Tests.{le-leb}
+use borrow.Author.Tests.{le-leb, not-false}
 use Rattle.lists.specs.Lists.{All, all?, filter}
 use Rattle.lists.proofs.Tests.{and-of}
 use Rattle.lists.proofs.ListLaws.{all-append, all-map, all-image}
 use Rattle.lists.proofs.FilterLaws.{filter-all}
 use Rattle.prefix.specs.declared.Prefix.{Prefix}
-use Rattle.option.specs.Sizes.{mostEntries}
-use Rattle.option.specs.Values.{Entry, SuboptionValue, information, accepted}
+use Rattle.option.specs.Values.{mostEntries, Entry, SuboptionValue, information, accepted}
 use Rattle.option.specs.Reading.{readOption}
-use Rattle.option.specs.Writing.{optionBytes, entryWritable?, writable?}
+use Rattle.option.specs.Writing.{optionBytes}
+use Rattle.option.specs.Writer.{entryWritable?, writable?}
 use Rattle.option.specs.Contents.{entriesIn}
 use Rattle.option.proofs.WrittenReadsBack.{bytes-read-back}
 use Rattle.table.specs.declared.Lease.{Lease}
 use Rattle.table.specs.Table.{poolsOf, present, sound}
 use Rattle.table.proofs.TableLaws.{Good, sound-fine}
 use Rattle.option_reply.specs.Reply.{entryOf}
-use Rattle.ledger.specs.Ledger.{State, Call, Row, firstOf, byRows, accept, refusalPlace, nothing?, found, names?, takeRows, take, listedIn, listRows, list}
+use Rattle.ledger.specs.Ledger.{State, Row, firstOf, byRows, accept, refusalPlace, nothing?, found, names?, takeRows, take, listedIn, listRows, list, ledger}
+use Rattle.ledger.specs.ReadBack.{readIn, TakesReadBack, ListsReadBack}
 use Rattle.ledger.proofs.RowLaws.{Numbered, first-none, accepted-none, numbered-take, numbered-list}
 use Rattle.ledger.proofs.ReplyLaws.{entry-writable}
+use Rattle.ledger.proofs.Counts.{upTo-all}
 
 -- Each passes, so all do.
 and-all : {A : Type 0} (f : A → Bool) (xs : List A) → All (λ x. f x ≡ true) xs → all? f xs ≡ true
@@ -42,11 +44,6 @@ unfolding writable?
 information-writable ps now c s xs some good =
     and-of _ _ (le-leb 1 (length (map entryOf xs)) (omega (arith, length-map xs entryOf)))
     (and-all entryWritable? (map entryOf xs) (all-image entryOf (λ e. entryWritable? e ≡ true) xs (all-map (λ x (g : Good ps now x). entry-writable ps now x g) xs good)))
-
-all-upTo : {A : Type 0} (P : A → Type 0) (n : ℕ) (xs : List A) → All P xs → All P (upTo n xs)
-all-upTo P zero xs a = tt
-all-upTo P (suc n) [] a = tt
-all-upTo P (suc n) (x ∷ xs) a = (a .0, all-upTo P n xs (a .1))
 
 all-found : (ps : List Prefix) (now client : ℕ) (xs : List Lease) → All (Good ps now) xs → (es : List Entry) → All (Good ps now) (found client xs es)
 all-found ps now client xs a [] = tt
@@ -62,47 +59,37 @@ some-upTo zero xs low some = absurd (omega arith)
 some-upTo (suc n) [] low some = some
 some-upTo (suc n) (x ∷ xs) low some = omega arith
 
-not-false : (b : Bool) → not b ≡ false → b ≡ true
-not-false true e = refl
-not-false false e = sym e
-
 -- The suboptions that an accepted call writes are those that the reader reads in its reply.
 written-reads-back : (rows : List Row) (place : ℕ → ℕ) (s t : State) (reply : List ℕ) (sub : SuboptionValue) (count : ℕ) → Numbered rows
     → (firstOf rows ≡ none → writable? sub ≡ true)
     → let r = byRows rows place s reply (accept t (optionBytes (sub ∷ [])) count reply) in
-    r .answer .number ≡ 0 → readOption (upTo (r .answer .bytes) (r .reply)) ≡ accepted (sub ∷ [])
+    r .answer .number ≡ 0 → readIn r ≡ accepted (sub ∷ [])
 written-reads-back rows place s t reply sub count numbered good z =
     let free : firstOf rows ≡ none = accepted-none rows place s reply (accept t (optionBytes (sub ∷ [])) count reply) numbered z in
     rw free
     (ap readOption (take-append-seam (optionBytes (sub ∷ [])) (drop (length (optionBytes (sub ∷ []))) reply))
     ∙ bytes-read-back (sub ∷ []) (omega arith) (good free, tt))
 
-module _ (s : State) (now : ℕ) (c : Call) where
-  -- Where no row applies the table is sound, so every lease that is present is good.
-  here-good : not (sound (s .table)) ≡ false → All (Good (poolsOf (s .table)) now) (present now (s .table .leases))
-  here-good e = sound-fine (s .table) (not-false (sound (s .table)) e) now .0
+-- Where no row applies the table is sound, so every lease that is present is good.
+here-good : (s : State) (now : ℕ) → not (sound (s .table)) ≡ false → All (Good (poolsOf (s .table)) now) (present now (s .table .leases))
+here-good s now e = sound-fine (s .table) (not-false (sound (s .table)) e) now .0
 
-  -- "The reply is one Information with those entries in order, flags and figures from the book: h, d, no figures, c and s 0."
-  pub take-reads-back : take s now c .answer .number ≡ 0
-      → readOption (upTo (take s now c .answer .bytes) (take s now c .reply)) ≡ accepted (information false false (map entryOf (found (c .client) (present now (s .table .leases)) (entriesIn (c .option)))) ∷ [])
-  unfolding take takeRows
-  take-reads-back =
-      let gs : List Lease = found (c .client) (present now (s .table .leases)) (entriesIn (c .option)) in
-      written-reads-back (takeRows s now c) (refusalPlace (c .option)) s _ (c .reply) (information false false (map entryOf gs)) (length gs) (numbered-take s now c)
-      (λ free.
-      let rows = first-none (takeRows s now c) free in
-      information-writable (poolsOf (s .table)) now false false gs (some-in gs (rows .1 .1 .1 .1 .1 .1 .1 .1 .0))
-      (all-found (poolsOf (s .table)) now (c .client) (present now (s .table .leases)) (here-good (rows .1 .0)) (entriesIn (c .option))))
+pub take-reads-back : TakesReadBack ledger
+unfolding take takeRows
+take-reads-back s now c =
+    let gs : List Lease = found (c .client) (present now (s .table .leases)) (entriesIn (c .option)) in
+    written-reads-back (takeRows s now c) (refusalPlace (c .option)) s _ (c .reply) (information false false (map entryOf gs)) (length gs) (numbered-take s now c)
+    (λ free.
+    let rows = first-none (takeRows s now c) free in
+    information-writable (poolsOf (s .table)) now false false gs (some-in gs (rows .1 .1 .1 .1 .1 .1 .1 .1 .0))
+    (all-found (poolsOf (s .table)) now (c .client) (present now (s .table .leases)) (here-good s now (rows .1 .0)) (entriesIn (c .option))))
 
-  -- "at most 35, in one Information with c set, and s set exactly if more remain"
-  pub list-reads-back : list s now c .answer .number ≡ 0
-      → let gs = listedIn (s .table) now (c .client) (c .option) in
-      readOption (upTo (list s now c .answer .bytes) (list s now c .reply)) ≡ accepted (information true (ltb mostEntries (length gs)) (map entryOf (upTo mostEntries gs)) ∷ [])
-  unfolding list listRows
-  list-reads-back =
-      let gs : List Lease = listedIn (s .table) now (c .client) (c .option) in
-      written-reads-back (listRows s now c) (refusalPlace (c .option)) s s (c .reply) (information true (ltb mostEntries (length gs)) (map entryOf (upTo mostEntries gs))) (length (upTo mostEntries gs)) (numbered-list s now c)
-      (λ free.
-      let rows = first-none (listRows s now c) free in
-      information-writable (poolsOf (s .table)) now true (ltb mostEntries (length gs)) (upTo mostEntries gs) (some-upTo mostEntries gs (omega arith) (some-in gs (rows .1 .1 .1 .1 .1 .1 .1 .1 .0)))
-      (all-upTo (Good (poolsOf (s .table)) now) mostEntries gs (filter-all _ (Good (poolsOf (s .table)) now) (present now (s .table .leases)) (here-good (rows .1 .0)))))
+pub list-reads-back : ListsReadBack ledger
+unfolding list listRows
+list-reads-back s now c =
+    let gs : List Lease = listedIn (s .table) now (c .client) (c .option) in
+    written-reads-back (listRows s now c) (refusalPlace (c .option)) s s (c .reply) (information true (ltb mostEntries (length gs)) (map entryOf (upTo mostEntries gs))) (length (upTo mostEntries gs)) (numbered-list s now c)
+    (λ free.
+    let rows = first-none (listRows s now c) free in
+    information-writable (poolsOf (s .table)) now true (ltb mostEntries (length gs)) (upTo mostEntries gs) (some-upTo mostEntries gs (omega arith) (some-in gs (rows .1 .1 .1 .1 .1 .1 .1 .1 .0)))
+    (upTo-all (Good (poolsOf (s .table)) now) mostEntries gs (filter-all _ (Good (poolsOf (s .table)) now) (present now (s .table .leases)) (here-good s now (rows .1 .0)))))

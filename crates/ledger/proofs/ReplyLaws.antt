@@ -19,7 +19,8 @@ use Rattle.prefix.proofs.PrefixLaws.{aligned-of}
 use Rattle.option.specs.Values.{Entry, SuboptionValue, information, Outcome}
 use Rattle.option.specs.Rules.{entryFields?}
 use Rattle.option.specs.Reading.{option?, readOption}
-use Rattle.option.specs.Writing.{optionBytes, entryWritable?, writable?}
+use Rattle.option.specs.Writing.{optionBytes}
+use Rattle.option.specs.Writer.{entryWritable?, writable?}
 use Rattle.option.proofs.Replies.{Bare, ask-reply-length, information-reply-length}
 use Rattle.option.proofs.WrittenReadsBack.{bytes-read-back}
 use Rattle.table.specs.declared.Lease.{Lease}

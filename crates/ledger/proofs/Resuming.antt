@@ -14,10 +14,9 @@ use lib.Dec.{ltb, eqb}
 use borrow.Author.Tests.{ltb-true, lt-ltb, le-ltb}
 use Rattle.lists.specs.Lists.{All, and, filter}
 use Rattle.lists.proofs.MapLaws.{filter-filter}
-use Rattle.lists.proofs.FilterLaws.{filter-same, filter-same-on}
+use Rattle.lists.proofs.FilterLaws.{filter-same, filter-same-on, filter-yes, filter-no, filter-all, filter-whole}
 use Rattle.lists.proofs.Tests.{bool-cases, and-to}
 use Rattle.lists.proofs.ListLaws.{all-map, all-every}
-use Rattle.lists.proofs.FilterLaws.{filter-yes, filter-no, filter-all, filter-whole}
 use Rattle.prefix.specs.Prefixes.{end}
 use Rattle.prefix.proofs.PrefixLaws.{size-positive}
 use Rattle.option.specs.Values.{request, information}
@@ -29,10 +28,13 @@ use Rattle.table.proofs.Ascending.{Ascending, ascending-low}
 use Rattle.table.proofs.TableLaws.{sound-fine, present-padded}
 use Rattle.option.specs.Contents.{suboptions, entriesIn, lastNetwork, position}
 use Rattle.option_reply.specs.Reply.{mostEntries, entryOf}
-use Rattle.ledger.specs.Ledger.{State, Call, Result, ledger, namedBy?, above?, listed, listedIn, releaseRows, release}
-use Rattle.ledger.specs.Histories.{Event, returned, next, afterwards}
+use Rattle.ledger.specs.Ledger.{State, Call, call, Result, ledger, namedBy?, above?, listed, listedIn, releaseRows, release}
+use Rattle.ledger.specs.Histories.{Event, next, afterwards}
+use Rattle.ledger.specs.ReadBack.{page}
+use Rattle.ledger.specs.Resuming.{AllReturns, Continues, Resumes}
 use Rattle.ledger.proofs.EmptySlots.{present-later}
 use Rattle.ledger.proofs.RowLaws.{served-or-not}
+use Rattle.ledger.proofs.ReadBack.{list-reads-back}
 
 abbrev tests : ℕ → Option ℕ → Lease → List Bool
 tests client p x = eqb (x .client) client ∷ x .leased ∷ above? p (x .network) ∷ []
@@ -100,9 +102,9 @@ filter-swap p q xs = filter-filter q p xs ∙ filter-same (λ x. q x && p x) (λ
 
 -- A SECOND LIST, whose position is the last network of the first one's page, on a table that keeps some of the leases (those not returned and not
 -- ended): exactly those of the leases after the page that are still there, in order; so none is skipped and none is listed again.
-pub resumed : (t u : LeaseTable) (now later client : ℕ) (option resuming : List ℕ) (keep : Lease → Bool) → sound t ≡ true
+resumed : (t u : LeaseTable) (now later client : ℕ) (option resuming : List ℕ) (keep : Lease → Bool) → sound t ≡ true
     → present later (u .leases) ≡ filter keep (present now (t .leases))
-    → position none (suboptions (readOption resuming)) ≡ lastNetwork (position none (suboptions (readOption option))) (map entryOf (upTo mostEntries (listedIn t now client option)))
+    → Continues t now client option resuming
     → listedIn u later client resuming ≡ filter keep (drop mostEntries (listedIn t now client option))
 resumed t u now later client option resuming keep s k e =
     let p : Option ℕ = position none (suboptions (readOption option)) in
@@ -131,7 +133,7 @@ ended-later now later keep xs =
     ∙ filter-swap (λ x. ltb later (x .expires)) (λ x. ltb now (x .expires) && keep x) xs
 
 -- What is still there at a later time, of what was there at an earlier one.
-abbrev pub StillThere : LeaseTable → ℕ → LeaseTable → ℕ → Type 0
+abbrev StillThere : LeaseTable → ℕ → LeaseTable → ℕ → Type 0
 StillThere t now u later = (keep : Lease → Bool) × (present later (u .leases) ≡ filter keep (present now (t .leases)))
 
 return-keeps : (s : State) (now : ℕ) (c : Call) (later : ℕ) → StillThere (s .table) later (release s now c .state .table) later
@@ -142,9 +144,6 @@ return-keeps s now c later =
     (λ e. ((λ x. ltb now (x .expires) && not (namedBy? (c .client) (entriesIn (c .option)) x)), ended-later now later (λ x. not (namedBy? (c .client) (entriesIn (c .option)) x)) (s .table .leases)))
 
 -- A history of returns.
-abbrev pub AllReturns : List Event → Type 0
-AllReturns es = All (λ e. (now : ℕ) × (c : Call) × (e ≡ returned now c)) es
-
 returns-keep : (es : List Event) → AllReturns es → (s : State) (later : ℕ) → StillThere (s .table) later (afterwards ledger s es .table) later
 unfolding afterwards
 returns-keep [] a s later = ((λ x. true), all-kept (present later (s .table .leases)))
@@ -158,14 +157,14 @@ returns-keep (e ∷ es) a s later =
           ∙ filter-filter (first .0) (rest .0) (present later (s .table .leases)),
     )
 
--- Whatever was returned in between: with `keep` the leases that are still there, the second list is those of the rest that are.
-pub resumed-after-returns : (s : State) (now later client : ℕ) (option resuming : List ℕ) (es : List Event) → sound (s .table) ≡ true → now ≤ later → AllReturns es
-    → position none (suboptions (readOption resuming)) ≡ lastNetwork (position none (suboptions (readOption option))) (map entryOf (upTo mostEntries (listedIn (s .table) now client option)))
-    → (keep : Lease → Bool) × (present later (afterwards ledger s es .table .leases) ≡ filter keep (present now (s .table .leases)))
-    × (listedIn (afterwards ledger s es .table) later client resuming ≡ filter keep (drop mostEntries (listedIn (s .table) now client option)))
+-- Whatever was returned in between: with `keep` the leases that are still there, the second list is those of the rest that are, and its reply shows them.
+pub resumed-after-returns : Resumes ledger
 resumed-after-returns s now later client option resuming es so l a e =
+    let u : State = afterwards ledger s es in
     let r = returns-keep es a s later in
     let keep : Lease → Bool = λ x. ltb later (x .expires) && r .0 x in
-    let k : present later (afterwards ledger s es .table .leases) ≡ filter keep (present now (s .table .leases)) =
+    let k : present later (u .table .leases) ≡ filter keep (present now (s .table .leases)) =
     r .1 ∙ ap (filter (r .0)) (sym (present-later now later l (s .table .leases))) ∙ filter-filter (λ x. ltb later (x .expires)) (r .0) (present now (s .table .leases)) in
-    (keep, k, resumed (s .table) (afterwards ledger s es .table) now later client option resuming keep so k e)
+    let q : listedIn (u .table) later client resuming ≡ filter keep (drop mostEntries (listedIn (s .table) now client option)) =
+    resumed (s .table) (u .table) now later client option resuming keep so k e in
+    record { keep = keep; there = k; rest = q; told = λ reply z. list-reads-back u later (call client resuming reply) z ∙ ap page q }

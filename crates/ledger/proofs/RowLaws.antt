@@ -13,12 +13,10 @@ use borrow.Author.Tests.{eqb-false}
 use Rattle.lists.specs.Lists.{All, catMaybes}
 use Rattle.lists.proofs.Tests.{bool-cases, cond-true, cond-false}
 use Rattle.option.specs.Reading.{four}
-use Rattle.option.specs.Selection.{address, selection?, readSelection}
-use Rattle.option.specs.Selection.{refused as refusedSelection}
 use Rattle.option.specs.Writing.{optionBytes}
 use Rattle.table.specs.declared.Lease.{Lease}
 use Rattle.table.specs.Table.{present, store}
-use Rattle.ledger.specs.Ledger.{State, state, Call, byRows, read118, Result, refuse, accept, Row, firstOf, orElse, before, nothing?, refusalPlace, full, informationFor, addAll, askOffers, askRows, ask, takeRows, listRows, releaseRows, markRows}
+use Rattle.ledger.specs.Ledger.{State, state, Call, byRows, Result, refuse, accept, Row, firstOf, orElse, before, nothing?, refusalPlace, full, informationFor, addAll, askOffers, askRows, ask, takeRows, listRows, releaseRows, markRows}
 use Rattle.ledger.specs.Demand3.{none?}
 
 pub first-none : (rows : List Row) → firstOf rows ≡ none → All (λ (r : Row). r .1 ≡ false) rows
@@ -178,12 +176,3 @@ module _ (s : State) (now : ℕ) (c : Call) where
   ask-refused n e =
       ap (λ (o : Option ℕ). orElse o (λ number. refuse number (refusalPlace (c .option) number) s (c .reply)) (accept (state (store (s .table) now (addAll os xs))) (optionBytes (map informationFor (catMaybes os))) (length (catMaybes os)) (c .reply)))
       (ap firstOf rows-split ∙ first-before (before 9 (askRows s now c)) (ownRows (catMaybes os)) n e)
-
--- OPTION 118: the ledger's reading is that of crate `option`.
-pub read118-is : (s : List ℕ) → read118 s ≡ readSelection s
-unfolding read118 readSelection
-read118-is s = go (selection? s)
-  where
-    go : (b : Bool) → orElse (cond (not b) (some 6) none) refusedSelection (address (four s 2)) ≡ cond b (address (four s 2)) (refusedSelection 6)
-    go true = refl
-    go false = refl

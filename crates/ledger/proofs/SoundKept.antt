@@ -126,27 +126,47 @@ mark-refused-unchanged s now network len d = refused-by (markRows s now network 
 -- AN ACCEPTED CALL HAD A SOUND TABLE: row 5 did not apply.
 
 module _ (s : State) (now : ℕ) (c : Call) where
-  pub ask-accepted-sound : ask s now c .answer .number ≡ 0 → sound (s .table) ≡ true
+  ask-accepted-sound : ask s now c .answer .number ≡ 0 → sound (s .table) ≡ true
   unfolding ask askRows
   ask-accepted-sound z = not-false (sound (s .table)) (first-none (askRows s now c) (accepted-none (askRows s now c) (refusalPlace (c .option)) s (c .reply) _ (numbered-ask s now c) z) .1 .0)
 
-  pub take-accepted-sound : take s now c .answer .number ≡ 0 → sound (s .table) ≡ true
+  take-accepted-sound : take s now c .answer .number ≡ 0 → sound (s .table) ≡ true
   unfolding take takeRows
   take-accepted-sound z = not-false (sound (s .table)) (first-none (takeRows s now c) (accepted-none (takeRows s now c) (refusalPlace (c .option)) s (c .reply) _ (numbered-take s now c) z) .1 .0)
 
-  pub release-accepted-sound : release s now c .answer .number ≡ 0 → sound (s .table) ≡ true
+  release-accepted-sound : release s now c .answer .number ≡ 0 → sound (s .table) ≡ true
   unfolding release releaseRows
   release-accepted-sound z =
       not-false (sound (s .table)) (first-none (releaseRows s now c) (accepted-none (releaseRows s now c) (refusalPlace (c .option)) s (c .reply) _ (numbered-release s now c) z) .0)
 
-  pub list-accepted-sound : list s now c .answer .number ≡ 0 → sound (s .table) ≡ true
+  list-accepted-sound : list s now c .answer .number ≡ 0 → sound (s .table) ≡ true
   unfolding list listRows
   list-accepted-sound z = not-false (sound (s .table)) (first-none (listRows s now c) (accepted-none (listRows s now c) (refusalPlace (c .option)) s (c .reply) _ (numbered-list s now c) z) .1 .0)
 
-pub mark-accepted-sound : (s : State) (now network len : ℕ) (d : Bool) → mark s now network len d .answer .number ≡ 0 → sound (s .table) ≡ true
+mark-accepted-sound : (s : State) (now network len : ℕ) (d : Bool) → mark s now network len d .answer .number ≡ 0 → sound (s .table) ≡ true
 unfolding mark markRows
 mark-accepted-sound s now network len d z =
     not-false (sound (s .table)) (first-none (markRows s now network len) (accepted-none (markRows s now network len) (λ n. 0) s [] _ (numbered-mark s now network len) z) .0)
+
+-- And it leaves a sound one.
+abbrev pub SoundIfAccepted : State → Result State → Type 0
+SoundIfAccepted s r = r .answer .number ≡ 0 → (sound (s .table) ≡ true) × (sound (r .state .table) ≡ true)
+
+module _ (s : State) (now : ℕ) (c : Call) where
+  pub ask-sound : SoundIfAccepted s (ask s now c)
+  ask-sound z = let so = ask-accepted-sound s now c z in (so, ask-keeps s now c so)
+
+  pub take-sound : SoundIfAccepted s (take s now c)
+  take-sound z = let so = take-accepted-sound s now c z in (so, take-keeps s now c so)
+
+  pub list-sound : SoundIfAccepted s (list s now c)
+  list-sound z = let so = list-accepted-sound s now c z in (so, subst (λ (u : State). sound (u .table) ≡ true) (sym (list-keeps s now c)) so)
+
+  pub release-sound : SoundIfAccepted s (release s now c)
+  release-sound z = let so = release-accepted-sound s now c z in (so, release-keeps s now c so)
+
+pub mark-sound : (s : State) (now network len : ℕ) (d : Bool) → SoundIfAccepted s (mark s now network len d)
+mark-sound s now network len d z = let so = mark-accepted-sound s now network len d z in (so, mark-keeps s now network len d so)
 
 -- NO TWO LEASES OF A SOUND TABLE SHARE AN ADDRESS, at any time.
 pub no-overlap : (t : LeaseTable) (now : ℕ) → sound t ≡ true → Pairwise Apart (map prefixOf (present now (t .leases)))

@@ -1,5 +1,4 @@
 -- How the reader's answers read as the ledger's.
--- Assumes nothing: these are definitions.
 use Prim.Native.Nat.{ℕ}
 use mathlib.Core.List.{List}
 use mathlib.Core.Option.{Option}

@@ -1,9 +1,8 @@
 -- The choice: "An ask of length p takes, among whole free blocks of length at most p, the smallest, the lowest network among equals, and of that the
 -- lowest part of length p", of each ask of a call that is granted, on the table that it meets.
--- Assumes nothing: these are definitions.
 use mathlib.Core.List.{List, [], _∷_}
 use mathlib.Core.Option.{Option}
-use Rattle.lists.specs.Lists.{OfSome}
+use Rattle.lists.specs.Properties.{OfSome}
 use Rattle.prefix.specs.declared.Prefix.{Prefix}
 use Rattle.free_space.specs.Space.{Takes}
 use Rattle.option.specs.Values.{Entry}

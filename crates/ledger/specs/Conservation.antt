@@ -1,16 +1,10 @@
 -- CONSERVATION: "The addresses of all lines together equal those granted by accepted asks, less those returned, less those struck as ended, summed over
 -- the history from open; after a load, from the loaded lines."
--- Assumes nothing: these are definitions.
-use Prim.Native.Nat.{ℕ, _+_}
-use mathlib.Core.Path.{_≡_}
-use mathlib.Core.Bool.{true, cond}
-use mathlib.Core.List.{List, [], _∷_}
-use lib.Dec.{leb, eqb}
+use Rattle.lists.specs.Basics.{ℕ, _+_, _≡_, true, cond, List, [], _∷_, leb, eqb}
 use Rattle.lists.specs.Lists.{filter}
 use Rattle.prefix.specs.Prefixes.{size}
 use Rattle.option.specs.Values.{Entry}
-use Rattle.table.specs.declared.Lease.{Lease}
-use Rattle.table.specs.declared.LeaseTable.{LeaseTable}
+use Rattle.table.specs.declared.{Lease.Lease, LeaseTable.LeaseTable}
 use Rattle.table.specs.Table.{present, sound}
 use Rattle.option.specs.Contents.{entriesIn}
 use Rattle.ledger.specs.declared.Answer.{Answer}

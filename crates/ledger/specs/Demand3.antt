@@ -1,22 +1,12 @@
 -- DEMAND 3, sentence by sentence, in the terms of document 01's paragraph "In demand 3 a call is well-formed if ..", as a claim about any server of ask
 -- calls: a call is known by its answer, its reply and the table after it, and nothing here speaks of how an ask is served.
--- Assumes nothing: these are definitions.
-use Prim.Native.Nat.{ℕ, _+_, _≤_, _<_}
-use mathlib.Core.Path.{_≡_}
-use mathlib.Core.Logic.{_↔_}
-use mathlib.Core.Bool.{Bool, true, false, not, cond, Bool·beq}
-use mathlib.Core.List.{List, [], _∷_, _++_, map, List·Permᴰ}
-use mathlib.Core.Option.{Option, none, some}
-use lib.ListN.{length}
-use lib.ListN.{take as upTo}
-use lib.Dec.{leb, eqb}
+use Rattle.lists.specs.Basics.{ℕ, _+_, _≤_, _<_, _≡_, _↔_, Bool, true, false, not, cond, Bool·beq, List, [], _∷_, _++_, map, List·Permᴰ, Option, none, some, length, take as upTo, leb, eqb}
 use Rattle.lists.specs.Lists.{All, Pairwise, and, any?, filter, concatMap, catMaybes}
 use Rattle.prefix.specs.declared.Prefix.{Prefix}
 use Rattle.prefix.specs.Prefixes.{prefix, Apart}
 use Rattle.free_space.specs.Space.{Free}
 use Rattle.option.specs.Values.{Entry}
-use Rattle.table.specs.declared.Lease.{Lease}
-use Rattle.table.specs.declared.LeaseTable.{LeaseTable}
+use Rattle.table.specs.declared.{Lease.Lease, LeaseTable.LeaseTable}
 use Rattle.table.specs.Table.{leaseSlots, latest, prefixOf, poolsOf, present, sound}
 use Rattle.option.specs.Contents.{Request, requestsIn, entriesIn}
 use Rattle.ledger.specs.Ledger.{State, Call, Result, firstOf, before, emptySlots, askRows, askLength, holdTime}

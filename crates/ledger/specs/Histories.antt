@@ -1,13 +1,8 @@
 -- Histories of calls: what follows on an open or a load.
--- Assumes nothing: these are definitions.
-use Prim.Native.Nat.{ℕ}
-use mathlib.Core.Path.{_≡_}
-use mathlib.Core.Bool.{Bool, true}
-use mathlib.Core.List.{List, [], _∷_, map}
+use Rattle.lists.specs.Basics.{ℕ, _≡_, Bool, true, List, [], _∷_, map}
 use Rattle.lists.specs.Lists.{Pairwise}
 use Rattle.prefix.specs.Prefixes.{Apart}
-use Rattle.table.specs.declared.Lease.{Lease}
-use Rattle.table.specs.declared.LeaseTable.{LeaseTable}
+use Rattle.table.specs.declared.{Lease.Lease, LeaseTable.LeaseTable}
 use Rattle.table.specs.Table.{prefixOf, present, sound}
 use Rattle.ledger.specs.Ledger.{State, Call, Calls, openTable}
 

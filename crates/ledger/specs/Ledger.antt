@@ -1,32 +1,16 @@
--- THE LEDGER: document 01's sections "Ground, blocks and the book" and "The calls", each call as a function of its arguments.
---
--- A call is a function of what it is given (`State`), the time and what comes with it (`Call`), to its answer, what it leaves, and the reply buffer after
--- it. Open has no state before it, mark comes with a prefix and a bit. Save and load stand in crate `image`.
--- A refused call gives the first row that applies; the rows of each call stand in one list, in document 01's order, built from those that calls share.
---
--- Numbers are as large as the types of the code let them be (32 bits for a network, a client and a time, 8 for a length and a byte). Neither a call nor
--- `sound` tests that: the code's calls equal these, so what they give of arguments within the code's types is within them.
--- Assumes nothing: these are definitions.
-use Prim.Native.Nat.{ℕ, _+_}
-use mathlib.Core.Bool.{Bool, true, false, not, cond, _&&_}
-use mathlib.Core.List.{List, [], _∷_, _++_, map}
-use mathlib.Core.Option.{Option, none, some}
-use lib.ListN.{length, drop}
-use lib.ListN.{take as upTo}
-use lib.Dec.{leb, ltb, eqb}
+-- THE LEDGER: document 01's sections "Ground, blocks and the book" and "The calls". A call is a function of what it is given (`State`), the time and what
+-- comes with it (`Call`), to its answer, what it leaves, and the reply buffer after it; a refused one gives the first row that applies. Save and load stand
+-- in crate `image`. Numbers may be of any size here; within the code's types they stay within them (`InRange`).
+use Rattle.lists.specs.Basics.{ℕ, _+_, Bool, true, false, not, cond, _&&_, List, [], _∷_, _++_, map, Option, none, some, length, drop, take as upTo, leb, ltb, eqb}
 use Rattle.lists.specs.Lists.{and, all?, any?, filter, concatMap, catMaybes}
 use Rattle.prefix.specs.declared.Prefix.{Prefix}
-use Rattle.free_space.specs.Space.{grant}
-use Rattle.option.specs.Sizes.{longestOption, mostRequests, mostEntries}
-use Rattle.option.specs.Values.{Entry, SuboptionValue, information}
-use Rattle.option.specs.Reading.{four, readOption}
+use Rattle.free_space.specs.Grant.{grant}
+use Rattle.option.specs.Values.{longestOption, mostRequests, mostEntries, Entry, SuboptionValue, information}
+use Rattle.option.specs.Reading.{readOption}
 use Rattle.option.specs.Contents.{Request, refuses?, placeIn, suboptions, requests, entries, requestsIn, entriesIn, position}
 use Rattle.option.specs.Writing.{optionBytes}
 use Rattle.option_reply.specs.Reply.{entryOf}
-use Rattle.option.specs.Selection.{Selected, address, selection?}
-use Rattle.option.specs.Selection.{refused as refusedSelection}
-use Rattle.table.specs.declared.Lease.{Lease}
-use Rattle.table.specs.declared.LeaseTable.{LeaseTable}
+use Rattle.table.specs.declared.{Lease.Lease, LeaseTable.LeaseTable}
 use Rattle.table.specs.Table.{leaseSlots, latest, blank, prefixOf, poolsOf, empty?, present, sound, store, insert}
 use Rattle.table_open.specs.Open.{given, openOk, fresh}
 use Rattle.ledger.specs.declared.Answer.{Answer}
@@ -114,47 +98,24 @@ abbrev pub leastReply : ℕ
 leastReply = longestOption
 
 abbrev pub replyRows : ℕ → Call → List Row
-replyRows least c =
-    (1, ltb (length (c .reply)) least)
-    ∷ []
+replyRows least c = (1, ltb (length (c .reply)) least) ∷ []
 
 -- Row 5, of what the call is given.
 abbrev pub stateRows : State → List Row
-stateRows s =
-    (5, not (sound (s .table)))
-    ∷ []
+stateRows s = (5, not (sound (s .table))) ∷ []
 
 abbrev pub clientRows : Call → List Row
-clientRows c =
-    (2, eqb (c .client) 0)
-    ∷ []
+clientRows c = (2, eqb (c .client) 0) ∷ []
 
 abbrev pub timeRows : State → ℕ → List Row
-timeRows s now =
-    (3, ltb now (s .table .last))
-    ∷ (4, ltb latest now)
-    ∷ []
+timeRows s now = (3, ltb now (s .table .last)) ∷ (4, ltb latest now) ∷ []
 
 abbrev pub optionRows : Call → List Row
-optionRows c =
-    (6, refuses? 6 (readOption (c .option)))
-    ∷ (7, refuses? 7 (readOption (c .option)))
-    ∷ []
+optionRows c = (6, refuses? 6 (readOption (c .option))) ∷ (7, refuses? 7 (readOption (c .option))) ∷ []
 
 -- Those of a call with an option, after row 1 where it has that one and before its own.
 abbrev pub commonRows : State → ℕ → Call → List Row
 commonRows s now c = stateRows s ++ (clientRows c ++ (timeRows s now ++ optionRows c))
-
--- OPTION 118: "The desk reads and writes it, and acts on none". Reading has row 6 alone.
-
-abbrev pub read118Rows : List ℕ → List Row
-read118Rows option =
-    (6, not (selection? option))
-    ∷ []
-
--- "code 118, Len 4, four address bytes"
-unfoldable pub read118 : List ℕ → Selected
-read118 option = orElse (firstOf (read118Rows option)) refusedSelection (address (four option 2))
 
 -- EMPTY SLOTS
 
@@ -173,9 +134,7 @@ full xs = leb leaseSlots (length xs)
 
 -- Row 12 has the rules that `sound` has of the head and the pools (`headOk` and `poolOk` of crate `table`). "open has only 12"
 abbrev pub openRows : List ℕ → List ℕ → ℕ → ℕ → ℕ → List Row
-openRows networks lengths term defaultLength start =
-    (12, not (openOk networks lengths term defaultLength start))
-    ∷ []
+openRows networks lengths term defaultLength start = (12, not (openOk networks lengths term defaultLength start)) ∷ []
 
 -- "roots (any order given), term, default length and a start time make a book". Refused, it makes none: all zero.
 unfoldable pub openTable : List ℕ → List ℕ → ℕ → ℕ → ℕ → Result State
@@ -205,7 +164,7 @@ offered now client h (some p) = some (record { network = p .network; length = p 
 abbrev pub informationFor : Lease → SuboptionValue
 informationFor x = information false false (entryOf x ∷ [])
 
--- What a request is offered while these leases are present: nothing if no slot is empty or no prefix of its length is free. `grant` of crate `space`
+-- What a request is offered while these leases are present: nothing if no slot is empty or no prefix of its length is free. `grant` of crate `free_space`
 -- is "among whole free blocks of length at most p, the smallest, the lowest network among equals, and of that the lowest part of length p".
 unfoldable pub offer : LeaseTable → ℕ → ℕ → List Lease → Request → Option Lease
 offer t now client xs r = cond (full xs) none (offered now client (r .h) (grant (poolsOf t) (map prefixOf xs) (askLength t r)))
@@ -269,11 +228,9 @@ renewNamed now term client es xs = map (λ x. cond (namedBy? client es x) (renew
 
 unfoldable pub takeRows : State → ℕ → Call → List Row
 takeRows s now c =
-    replyRows leastReply c
-    ++ (commonRows s now c
+    replyRows leastReply c ++ (commonRows s now c
     ++ ((8, not (forTake (suboptions (readOption (c .option)))))
-    ∷ (11, nothing? (found (c .client) (present now (s .table .leases)) (entriesIn (c .option))))
-    ∷ []))
+    ∷ (11, nothing? (found (c .client) (present now (s .table .leases)) (entriesIn (c .option)))) ∷ []))
 
 -- "The reply is one Information with those entries in order, flags and figures from the book: h, d, no figures, c and s 0."
 unfoldable pub take : State → ℕ → Call → Result State
@@ -303,11 +260,9 @@ listedIn t now client option = listed client (position none (suboptions (readOpt
 
 unfoldable pub listRows : State → ℕ → Call → List Row
 listRows s now c =
-    replyRows leastReply c
-    ++ (commonRows s now c
+    replyRows leastReply c ++ (commonRows s now c
     ++ ((8, not (forList (requestsIn (c .option))))
-    ∷ (11, nothing? (listedIn (s .table) now (c .client) (c .option)))
-    ∷ []))
+    ∷ (11, nothing? (listedIn (s .table) now (c .client) (c .option))) ∷ []))
 
 -- "at most 35, in one Information with c set, and s set exactly if more remain". "List changes nothing."
 unfoldable pub list : State → ℕ → Call → Result State
@@ -320,10 +275,8 @@ list s now c =
 
 unfoldable pub releaseRows : State → ℕ → Call → List Row
 releaseRows s now c =
-    commonRows s now c
-    ++ ((8, not (forTake (suboptions (readOption (c .option)))))
-    ∷ (11, nothing? (filter (namedBy? (c .client) (entriesIn (c .option))) (present now (s .table .leases))))
-    ∷ [])
+    commonRows s now c ++ ((8, not (forTake (suboptions (readOption (c .option)))))
+    ∷ (11, nothing? (filter (namedBy? (c .client) (entriesIn (c .option))) (present now (s .table .leases)))) ∷ [])
 
 -- "Held lines may be returned." The count is "of lines it struck by its entries".
 unfoldable pub release : State → ℕ → Call → Result State

@@ -5,4 +5,8 @@ pub mod Choice
 pub mod Histories
 pub mod Conservation
 pub mod ListDepends
+pub mod ReadBack
+pub mod NothingBehind
+pub mod Resuming
 pub mod Sizes
+pub mod InRange

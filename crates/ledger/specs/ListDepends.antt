@@ -1,16 +1,8 @@
 -- "A list's answer depends only on its option, the time, the book's last time, the reply buffer's length, the station number and that station's lines,
 -- over sound books."
--- Assumes nothing: these are definitions.
-use Prim.Native.Nat.{ℕ}
-use mathlib.Core.Path.{_≡_}
-use mathlib.Core.Bool.{true, not}
-use mathlib.Core.List.{List, [], _∷_}
-use lib.ListN.{length}
-use lib.ListN.{take as upTo}
-use lib.Dec.{eqb}
+use Rattle.lists.specs.Basics.{ℕ, _≡_, true, not, List, [], _∷_, length, take as upTo, eqb}
 use Rattle.lists.specs.Lists.{and, filter}
-use Rattle.table.specs.declared.Lease.{Lease}
-use Rattle.table.specs.declared.LeaseTable.{LeaseTable}
+use Rattle.table.specs.declared.{Lease.Lease, LeaseTable.LeaseTable}
 use Rattle.table.specs.Table.{empty?, sound}
 use Rattle.ledger.specs.declared.Answer.{Answer}
 use Rattle.ledger.specs.Ledger.{call, Result, Calls}

@@ -1,7 +1,5 @@
 -- The sizes of the code's types, on the ledger's numbers.
--- Assumes nothing: these are definitions.
-use Prim.Native.Nat.{ℕ, _<_}
-use mathlib.Core.List.{List}
+use Rattle.lists.specs.Basics.{ℕ, _<_, List}
 use Rattle.lists.specs.Lists.{All}
 
 abbrev pub Byte : ℕ → Type 0

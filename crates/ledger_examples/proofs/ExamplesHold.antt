@@ -3,20 +3,20 @@
 use mathlib.Core.Path.{_≡_, refl}
 use mathlib.Core.List.{map}
 use Rattle.lists.specs.Walk.{walk}
-use Rattle.lists.specs.Sorting.{insertBy, sortBy}
+use Rattle.lists.specs.Lists.{insertBy, sortBy}
 use Rattle.option.specs.Rules.{entryFields?, fields?}
 use Rattle.option.specs.Reading.{option?, subInside?, whenGood, readRequest, figuresAt, entryAt, entryFramed?, readEntry, readEntries, readInformation, readName, readBody, readSuboption, readSuboptions, readOption}
 use Rattle.option.specs.Writing.{twoBytes, fourBytes, requestBytes, entryHead, entryBytes, entriesBytes, informationHead, suboptionBytes, suboptionsBytes, optionHead, optionBytes}
-use Rattle.option.specs.Selection.{selection?}
+use Rattle.option.specs.Selection.{selection?, readSelection}
 use Rattle.table.specs.Table.{unused?, empty?, prefixesOf, present, headOk, poolOk, leaseOk, ascends?, sound, store}
 use Rattle.table_open.specs.Open.{given, poolsApart?, openOk}
-use Rattle.ledger.specs.Ledger.{read118, openTable, offer, offers, addAll, askRows, ask, takeRows, take, listRows, list, releaseRows, release, markRows, mark}
+use Rattle.ledger.specs.Ledger.{openTable, offer, offers, addAll, askRows, ask, takeRows, take, listRows, list, releaseRows, release, markRows, mark}
 use Rattle.ledger_examples.specs.Examples.{newTable, buffer, shown, does, doesAll, Example, examples}
 use Rattle.ledger_examples.specs.SampleLists.{tableWith, lease, leasesFrom}
 use Rattle.ledger_examples.specs.FurtherExamples.{numbers, withBytes, asking, entriesFrom, namingFrom, start, leased, offer5, mixed, held, listing, resuming, flagged, many, manyExpected, pages, pagesExpected, secondPages, secondPagesExpected, returns, returnsExpected, takes, takesExpected, marks, marksExpected, rowOrder, rowOrderExpected}
 
 pub examples-hold : map (λ (e : Example). e .got) examples ≡ map (λ (e : Example). e .expected) examples
-unfolding walk insertBy sortBy entryFields? fields? option? subInside? whenGood readRequest figuresAt entryAt entryFramed? readEntry readEntries readInformation readName readBody readSuboption readSuboptions readOption twoBytes fourBytes requestBytes entryHead entryBytes entriesBytes informationHead suboptionBytes suboptionsBytes optionHead optionBytes selection? read118 unused? empty? prefixesOf present headOk poolOk leaseOk ascends? sound store given poolsApart? openOk openTable offer offers addAll askRows ask takeRows take newTable buffer shown does doesAll examples
+unfolding walk insertBy sortBy entryFields? fields? option? subInside? whenGood readRequest figuresAt entryAt entryFramed? readEntry readEntries readInformation readName readBody readSuboption readSuboptions readOption twoBytes fourBytes requestBytes entryHead entryBytes entriesBytes informationHead suboptionBytes suboptionsBytes optionHead optionBytes selection? readSelection unused? empty? prefixesOf present headOk poolOk leaseOk ascends? sound store given poolsApart? openOk openTable offer offers addAll askRows ask takeRows take newTable buffer shown does doesAll examples
 examples-hold = refl
 
 pub many-hold : many ≡ manyExpected

@@ -6,9 +6,8 @@ use mathlib.Core.List.{List, [], _∷_, map}
 use lib.ListN.{length}
 use lib.Dec.{leb, eqb}
 use borrow.Author.Tests.{leb-true, eqb-true}
-use Rattle.lists.specs.Lists.{All, Pairwise, and, all?, any?}
+use Rattle.lists.specs.Lists.{All, Pairwise, and, all?, any?, insertBy}
 use Rattle.lists.specs.Walk.{walk}
-use Rattle.lists.specs.Sorting.{insertBy}
 use Rattle.lists.proofs.Tests.{and-to, and-list-to, all?-to, any?-to}
 use Rattle.prefix.specs.declared.Prefix.{Prefix}
 use Rattle.prefix.specs.Prefixes.{aligned?, inside?, Apart, apart?}

@@ -8,9 +8,8 @@ use mathlib.Core.List.{List, [], _∷_, map, nil≢cons, head-eq-of-cons-eq, tai
 use mathlib.Core.Option.{Option, none, some}
 use native.Mathlib.Omega.{arith}
 use lib.ListN.{length}
-use Rattle.lists.specs.Lists.{Pairwise, catMaybes, concatMap}
+use Rattle.lists.specs.Lists.{Pairwise, catMaybes, concatMap, insertBy}
 use Rattle.lists.specs.Walk.{walk}
-use Rattle.lists.specs.Sorting.{insertBy}
 use Rattle.prefix.specs.declared.Prefix.{Prefix}
 use Rattle.prefix.specs.Prefixes.{prefix, Apart}
 use Rattle.prefix.proofs.Nesting.{inside-refl, apart-absurd}

@@ -1,5 +1,4 @@
 -- The marked examples P1 to P12 of document 01's shift log, as rows of one list: what the definitions give, and what the log says.
--- Assumes nothing: these are definitions.
 use Prim.Native.Nat.{ℕ}
 use mathlib.Core.Bool.{false}
 use mathlib.Core.List.{List, [], _∷_}
@@ -9,7 +8,7 @@ use Rattle.option.specs.Values.{Entry, request, information, Outcome, refused, 
 use Rattle.option.specs.Reading.{readOption}
 use Rattle.option.specs.Writing.{optionBytes}
 use Rattle.option.specs.Selection as selection
-use Rattle.ledger.specs.Ledger.{State, call, Result, ledger, read118, openTable, ask, take, list, release, mark}
+use Rattle.ledger.specs.Ledger.{State, call, Result, ledger, openTable, ask, take, list, release, mark}
 use Rattle.ledger.specs.Histories.{Event, asked, taken, wasListed, returned, marked, saved, next}
 
 -- A table opened at 1000 with these pools, term 3600 and default length 28.
@@ -107,6 +106,6 @@ examples =
     (reads (accepted (information false false (entry 0x0a000100 24 (256 ∷ 7 ∷ []) ∷ []) ∷ [])))
     ∷ shows (reads (readOption (0xdc ∷ 0x0e ∷ 0 ∷ 2 ∷ 11 ∷ 0 ∷ 10 ∷ 0 ∷ 1 ∷ 0 ∷ 24 ∷ 0 ∷ 3 ∷ 1 ∷ 0 ∷ 0 ∷ []))) (reads (refused 7 3))
     -- P12 `76 04 0A 00 01 00` reads 10.0.1.0; a Len of 3 gets 6
-    ∷ shows (selects (read118 (0x76 ∷ 4 ∷ 0x0a ∷ 0 ∷ 1 ∷ 0 ∷ []))) (selects (selection.address 0x0a000100))
-    ∷ shows (selects (read118 (0x76 ∷ 3 ∷ 0x0a ∷ 0 ∷ 1 ∷ 0 ∷ []))) (selects (selection.refused 6))
+    ∷ shows (selects (selection.readSelection (0x76 ∷ 4 ∷ 0x0a ∷ 0 ∷ 1 ∷ 0 ∷ []))) (selects (selection.address 0x0a000100))
+    ∷ shows (selects (selection.readSelection (0x76 ∷ 3 ∷ 0x0a ∷ 0 ∷ 1 ∷ 0 ∷ []))) (selects (selection.refused 6))
     ∷ []

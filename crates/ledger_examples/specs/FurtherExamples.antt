@@ -1,6 +1,5 @@
 -- Further examples of document 01, computed on the ledger: 25 and 26 requests; a list of 35 and of 36 leases, and its second page; take, return and mark;
 -- the order of the rows.
--- Assumes nothing: these are definitions.
 use Prim.Native.Nat.{ℕ, zero, suc, _+_, _*_}
 use mathlib.Core.Bool.{true, false}
 use mathlib.Core.List.{List, [], _∷_, _++_}

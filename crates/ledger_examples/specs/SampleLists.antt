@@ -1,5 +1,4 @@
 -- Lists of ask calls that meet the premise of demand 3, and asks that are refused: the tables and the calls.
--- Assumes nothing: these are definitions.
 use Prim.Native.Nat.{ℕ, zero, suc, _+_}
 use mathlib.Core.Bool.{true, false}
 use mathlib.Core.List.{List, [], _∷_}

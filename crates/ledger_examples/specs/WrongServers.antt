@@ -1,6 +1,5 @@
 -- Servers of ask calls that are wrong: document 01's "Try these against it", and two more. Demand 3 is refuted of each. (Of an invented count demand 3
 -- says nothing: the equation of the code with the ledger rules it out.)
--- Assumes nothing: these are definitions.
 use mathlib.Core.List.{[], _++_, map}
 use mathlib.Core.Option.{some}
 use lib.ListN.{length}

@@ -8,6 +8,7 @@ pub mod WalkLaws
 pub mod PutLaws
 pub mod ConcatMapLaws
 pub mod ShiftLaws
+pub mod RoomLaws
 pub mod SortingLaws
 pub mod InsertionLaws
 pub mod ImageLaws

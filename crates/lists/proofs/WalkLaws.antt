@@ -5,7 +5,8 @@ use native.Mathlib.Omega.{arith}
 use mathlib.Core.Path.{_≡_, refl, ap, _∙_}
 use mathlib.Core.List.{List, [], _∷_, map}
 use Rattle.lists.specs.Lists.{All}
-use Rattle.lists.specs.Walk.{Turn, more, stop, onTurn, walk, Placed, placed, Tiles}
+use Rattle.lists.specs.Walk.{Turn, more, stop, onTurn, walk}
+use Rattle.lists.specs.Properties.{Placed, placed, Tiles}
 
 module _ {A B : Type 0} where
   same-turn : (t : Turn A B) (k l : ℕ → List A × B) → ((a : A) (next : ℕ) → t ≡ more a next → k next ≡ l next) → onTurn t k ≡ onTurn t l

@@ -1,4 +1,5 @@
+pub mod Basics
 pub mod Lists
 pub mod Walk
+pub mod Properties
 pub mod Put
-pub mod Sorting

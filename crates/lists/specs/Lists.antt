@@ -1,9 +1,5 @@
 -- What holds of all elements of a list, of some, of each two; tests of these; those elements that pass a test.
--- Assumes nothing: these are definitions.
-use mathlib.Core.Bool.{Bool, true, false, cond, _&&_, _||_}
-use mathlib.Core.Logic.{_⊎_}
-use mathlib.Core.List.{List, [], _∷_, _++_}
-use mathlib.Core.Option.{Option, none, some}
+use Rattle.lists.specs.Basics.{Bool, true, false, cond, _&&_, _||_, _⊎_, List, [], _∷_, _++_, Option, none, some, ℕ, ltb}
 
 -- P holds of every element.
 abbrev pub All : {A : Type 0} → (A → Type 0) → List A → Type 0
@@ -50,7 +46,11 @@ catMaybes [] = []
 catMaybes (none ∷ xs) = catMaybes xs
 catMaybes (some x ∷ xs) = x ∷ catMaybes xs
 
--- P holds of what is there.
-abbrev pub OfSome : {A : Type 0} → (A → Type 0) → Option A → Type 0
-OfSome P none = Unit {0}
-OfSome P (some x) = P x
+-- x among the others: before the first with a larger key.
+unfoldable pub insertBy : {A : Type 0} → (A → ℕ) → A → List A → List A
+insertBy key x [] = x ∷ []
+insertBy key x (y ∷ ys) = let rest = insertBy key x ys in cond (ltb (key x) (key y)) (x ∷ y ∷ ys) (y ∷ rest)
+
+unfoldable pub sortBy : {A : Type 0} → (A → ℕ) → List A → List A
+sortBy key [] = []
+sortBy key (x ∷ xs) = insertBy key x (sortBy key xs)

@@ -1,8 +1,5 @@
 -- Reading pieces one after another from a position on, until a turn stops: what every reader of records does.
--- Assumes nothing: these are definitions.
-use Prim.Native.Nat.{ℕ, zero, suc}
-use mathlib.Core.Path.{_≡_}
-use mathlib.Core.List.{List, [], _∷_}
+use Rattle.lists.specs.Basics.{ℕ, zero, suc, List, [], _∷_}
 
 -- What stands at a position: a piece with the position after it, or the end of the reading with its reason.
 pub data Turn (A B : Type 0) : Type 0 where
@@ -18,19 +15,3 @@ onTurn (stop b) rest = ([], b)
 unfoldable pub walk : {A B : Type 0} → (ℕ → Turn A B) → B → ℕ → ℕ → List A × B
 walk turn out zero at = ([], out)
 walk turn out (suc fuel) at = onTurn (turn at) (λ next. walk turn out fuel next)
-
--- A piece with its position and the position after it.
-pub record Placed (A : Type 0) : Type 0 where
-  pub at : ℕ
-  pub piece : A
-  pub next : ℕ
-
--- The same turn, its piece with its positions.
-abbrev pub placed : {A B : Type 0} → ℕ → Turn A B → Turn (Placed A) B
-placed at (more a next) = more (record { at = at; piece = a; next = next }) next
-placed at (stop b) = stop b
-
--- The pieces follow one another without a gap from a position to another.
-abbrev pub Tiles : {A : Type 0} → ℕ → List (Placed A) → ℕ → Type 0
-Tiles at [] end = at ≡ end
-Tiles at (p ∷ ps) end = (p .at ≡ at) × Tiles (p .next) ps end

@@ -13,14 +13,16 @@ use lib.Seq.{drop-cons, drop-drop, drop-length}
 use lib.Dec.{eqb, leb, ltb}
 use borrow.Author.Tests.{eqb-true, ltb-true, le-leb}
 use Rattle.lists.specs.Lists.{All, all?, concatMap}
-use Rattle.lists.specs.Walk.{more, Placed, Tiles}
+use Rattle.lists.specs.Walk.{more}
+use Rattle.lists.specs.Properties.{Placed, Tiles}
 use Rattle.lists.proofs.Tests.{and-to, and-of, all?-to, all?-of}
 use Rattle.lists.proofs.ListLaws.{all-map, all-map₂, all-image}
 use Rattle.lists.proofs.WalkLaws.{placed-pieces, placed-given, placed-tiles}
 use Rattle.option.specs.Values.{Entry, SuboptionValue, unknown, accepted, refused}
 use Rattle.option.specs.Rules.{entryFields?, fields?}
 use Rattle.option.specs.Reading.{End, whole, badAt, bit1, bit2, two, four, figuresAt, entryAt, entryEnd, readEntry, readEntries, subEnd, readRequest, readInformation, readName, readBody, readSuboption, readSuboptions, ended, option?, readOption}
-use Rattle.option.specs.Writing.{flags, twoBytes, fourBytes, requestBytes, entryHead, entryBytes, entriesBytes, informationHead, suboptionBytes, suboptionsBytes, optionHead, optionBytes, entryWritable?, writable?, written, writeOption}
+use Rattle.option.specs.Writing.{flags, twoBytes, fourBytes, requestBytes, entryHead, entryBytes, entriesBytes, informationHead, suboptionBytes, suboptionsBytes, optionHead, optionBytes, written}
+use Rattle.option.specs.Writer.{entryWritable?, writable?, writeOption}
 use Rattle.option.specs.Places.{Bytes, placedSuboptions, placedEntries, PlainEntry, PlainAs, PlainSuboption, PlainOption}
 use Rattle.option.specs.Selection.{refused as refusedWith118, address, selection?, readSelection, selectionBytes}
 use Rattle.option.proofs.RuleLaws.{option-to, selection-to}

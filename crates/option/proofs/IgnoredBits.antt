@@ -10,7 +10,8 @@ use lib.Seq.{getD-take, getD-drop, ext-getD}
 use lib.Dec.{eqb, leb, ltb}
 use borrow.Author.Tests.{leb-true, leb-false, ltb-true, eq-eqb, le-leb, lt-leb}
 use Rattle.lists.specs.Lists.{All}
-use Rattle.lists.specs.Walk.{more, Placed, Tiles}
+use Rattle.lists.specs.Walk.{more}
+use Rattle.lists.specs.Properties.{Placed, Tiles}
 use Rattle.lists.proofs.Tests.{and-to}
 use Rattle.option.specs.Values.{Entry, SuboptionValue, unknown, accepted}
 use Rattle.option.specs.Reading.{End, whole, bit1, bit2, two, four, figuresAt, entryFramed?, entryAt, entryEnd, readEntry, readEntries, subEnd, subInside?, readRequest, readInformation, readName, readBody, readSuboption, readSuboptions, readOption}

@@ -17,7 +17,7 @@ use Rattle.prefix.proofs.PrefixLaws.{aligned-to, aligned-of}
 use Rattle.option.specs.Values.{Entry, SuboptionValue, request, information, name, unknown}
 use Rattle.option.specs.Rules.{block?, final, entryFields?, fields?}
 use Rattle.option.specs.Reading.{option?}
-use Rattle.option.specs.Writing.{entryWritable?, writable?}
+use Rattle.option.specs.Writer.{entryWritable?, writable?}
 use Rattle.option.specs.Selection.{selection?}
 
 -- Rule 4: a block.

@@ -16,7 +16,8 @@ use Rattle.lists.proofs.Tests.{and-to, all?-to, all?-of}
 use Rattle.option.specs.Values.{Entry, SuboptionValue, request, information, name, unknown, accepted}
 use Rattle.option.specs.Rules.{entryFields?, fields?}
 use Rattle.option.specs.Reading.{End, whole, bit1, bit2, four, figuresAt, entryFramed?, entryAt, readEntry, readEntries, whenGood, subInside?, readRequest, readInformation, readName, readBody, readSuboption, readSuboptions, option?, readOption}
-use Rattle.option.specs.Writing.{twoBytes, fourBytes, flags, requestBytes, entryHead, entryBytes, entriesBytes, informationHead, suboptionBytes, suboptionsBytes, optionHead, optionBytes, entryWritable?, writable?, refusedWith, written, writeOption}
+use Rattle.option.specs.Writing.{twoBytes, fourBytes, flags, requestBytes, entryHead, entryBytes, entriesBytes, informationHead, suboptionBytes, suboptionsBytes, optionHead, optionBytes, refusedWith, written}
+use Rattle.option.specs.Writer.{entryWritable?, writable?, writeOption}
 use Rattle.option.specs.Selection.{address, selection?, readSelection, selectionBytes}
 use Rattle.option.proofs.EntryLaws.{entries-more, entries-stop}
 use Rattle.option.proofs.SuboptionLaws.{suboptions-more, suboptions-stop}

@@ -1,5 +1,4 @@
 -- The code's answers, from what the definitions of Reading say, and document 01's number and place for each.
--- Assumes nothing: these are definitions.
 use Prim.Native.Nat.{ℕ, _+_}
 use mathlib.Core.Path.{_≡_}
 use mathlib.Core.Bool.{cond}
@@ -9,19 +8,15 @@ use lib.ListN.{length}
 use lib.Dec.{eqb}
 use Rattle.lists.specs.Put.{put}
 use Rattle.lists.specs.Walk.{Turn, more, stop}
-pub use Rattle.option_entry.specs.Entries.{figuresOf, fieldsOf, entriesFrom, entryStepOf}
+pub use Rattle.option_entry.specs.Steps.{figuresOf, fieldsOf, entriesFrom, entryStepOf}
 use Rattle.option.specs.Values.{Entry, SuboptionValue, request, information, name, unknown, Outcome, refused, accepted}
 use Rattle.option.specs.Reading.{End, whole, badAt}
 use Rattle.option.specs.Contents.{lastNetwork}
 use Rattle.option.specs.Selection as selection
-use Rattle.option.specs.declared.Selection.{Selection}
+use Rattle.option.specs.declared.{Selection.Selection, Suboption.Suboption, Cursor.Cursor, Step.Step, Checked.Checked}
 use Rattle.option.specs.declared.Selection.the-variants as selected
-use Rattle.option.specs.declared.Suboption.{Suboption}
 use Rattle.option.specs.declared.Suboption.the-variants.{Request, Information, Name, Unknown}
-use Rattle.option.specs.declared.Cursor.{Cursor}
-use Rattle.option.specs.declared.Step.{Step}
 use Rattle.option.specs.declared.Step.the-variants as step
-use Rattle.option.specs.declared.Checked.{Checked}
 use Rattle.option.specs.declared.Checked.the-variants.{Good, NotTheOption, BadSuboption}
 
 -- The network of the last entry; 0 if there is none.

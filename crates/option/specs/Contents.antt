@@ -1,10 +1,5 @@
 -- What calls look at in an option 220: its requests, its entries, and the position from which a list goes on.
--- Assumes nothing: these are definitions.
-use Prim.Native.Nat.{ℕ}
-use mathlib.Core.Bool.{Bool, false, cond, _&&_}
-use mathlib.Core.List.{List, [], _∷_, _++_}
-use mathlib.Core.Option.{Option, some}
-use lib.Dec.{eqb}
+use Rattle.lists.specs.Basics.{ℕ, Bool, false, cond, _&&_, List, [], _∷_, _++_, Option, some, eqb}
 use Rattle.option.specs.Values.{Entry, SuboptionValue, request, information, name, unknown, Outcome, refused, accepted}
 use Rattle.option.specs.Reading.{readOption}
 

@@ -1,5 +1,4 @@
 -- What the private functions of the reader promise each other. Nothing here stands in the promise of a public one.
--- Assumes nothing: these are definitions.
 use mathlib.Core.Bool.{Bool}
 use mathlib.Core.List.{List}
 use lib.ListN.{length}
@@ -10,9 +9,8 @@ use Rattle.option.specs.Values.{Entry, SuboptionValue}
 use Rattle.option.specs.Rules.{entryFields?}
 use Rattle.option.specs.Reading.{End}
 use Rattle.option.specs.Answers.{lastOf, suboptionOf}
-use Rattle.option.specs.declared.Body.{Body}
+use Rattle.option.specs.declared.{Body.Body, Scan.Scan}
 use Rattle.option.specs.declared.Body.the-variants as body
-use Rattle.option.specs.declared.Scan.{Scan}
 
 -- What one pass over the entries of an information finds: whether all are framed, and whether the fields of all keep the rules; how
 -- many there are, and the network of the last one.

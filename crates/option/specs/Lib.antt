@@ -1,9 +1,9 @@
-pub mod Sizes
 pub mod Values
 pub mod Rules
 pub mod Reading
 pub mod Contents
 pub mod Writing
+pub mod Writer
 pub mod Selection
 pub mod Places
 pub mod Answers

@@ -1,12 +1,12 @@
 -- Where the suboptions and entries of an option stand, and which options are written back as the same bytes.
--- Assumes nothing: these are definitions.
 use Prim.Native.Nat.{ℕ, suc, _+_, _%_, _≤_, _<_}
 use mathlib.Core.Path.{_≡_}
 use mathlib.Core.List.{List}
 use mathlib.Core.Bool.{false}
 use lib.ListN.{length, getD}
 use Rattle.lists.specs.Lists.{All}
-use Rattle.lists.specs.Walk.{walk, Placed, placed}
+use Rattle.lists.specs.Walk.{walk}
+use Rattle.lists.specs.Properties.{Placed, placed}
 use Rattle.option.specs.Values.{Entry, SuboptionValue, request, information, name, unknown}
 use Rattle.option.specs.Reading.{whole, readEntry, readSuboption}
 

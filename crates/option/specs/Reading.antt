@@ -1,11 +1,6 @@
 -- Option 220 (RFC 6656) as bytes: what a list of bytes reads as. The rules are those of document 01, "Option 220 as bytes".
 -- Each suboption has a framing test, of its Len and what that must hold, and the field test of Rules.
--- Assumes nothing: these are definitions.
-use Prim.Native.Nat.{ℕ, suc, _+_, _-_}
-use mathlib.Core.List.{List}
-use mathlib.Core.Bool.{Bool, false, cond, _&&_}
-use lib.ListN.{length, getD, take, drop}
-use lib.Dec.{eqb, leb, ltb}
+use Rattle.lists.specs.Basics.{ℕ, suc, _+_, _-_, List, Bool, false, cond, _&&_, length, getD, take, drop, eqb, leb, ltb}
 use Rattle.lists.specs.Walk.{Turn, more, stop, walk}
 pub use Rattle.option_entry.specs.Entries.{two, four, bit1, bit2, entryEnd}
 unfoldable pub use Rattle.option_entry.specs.Entries.{figuresAt, entryAt, entryFramed?, readEntry}

@@ -1,10 +1,5 @@
 -- The rules of a suboption's fields, which the reader and the writer share. (How its bytes are framed is in Reading.)
--- Assumes nothing: these are definitions.
-use Prim.Native.Nat.{ℕ, _-_}
-use mathlib.Core.Bool.{Bool, true, not}
-use mathlib.Core.List.{List}
-use lib.ListN.{length, getD}
-use lib.Dec.{eqb, leb}
+use Rattle.lists.specs.Basics.{ℕ, _-_, Bool, true, not, List, length, getD, eqb, leb}
 use Rattle.lists.specs.Lists.{all?}
 use Rattle.prefix.specs.Prefixes.{checked, longest}
 pub use Rattle.prefix.specs.Prefixes.{block?}

@@ -1,10 +1,5 @@
 -- Option 118 (RFC 3011, subnet selection) as bytes: "code 118, Len 4, four address bytes".
--- Assumes nothing: these are definitions.
-use Prim.Native.Nat.{ℕ, _+_}
-use mathlib.Core.List.{List, _∷_}
-use mathlib.Core.Bool.{Bool, cond, _&&_}
-use lib.ListN.{length, getD}
-use lib.Dec.{eqb, leb}
+use Rattle.lists.specs.Basics.{ℕ, _+_, List, _∷_, Bool, cond, _&&_, length, getD, eqb, leb}
 use Rattle.option.specs.Reading.{four}
 use Rattle.option.specs.Writing.{fourBytes, Writing, refusedWith, written}
 

@@ -1,9 +1,18 @@
 -- What an option 220 says: its suboptions as values.
--- Assumes nothing: these are definitions.
-use Prim.Native.Nat.{ℕ}
-use mathlib.Core.Bool.{Bool}
-use mathlib.Core.List.{List}
+use Rattle.lists.specs.Basics.{ℕ, Bool, List}
 pub use Rattle.option_entry.specs.Entries.{Entry}
+
+-- Len is a byte, and leaves out Code and Len: no option is longer.
+abbrev pub longestOption : ℕ
+longestOption = 257
+
+-- "the option has 1 to 25 requests"
+abbrev pub mostRequests : ℕ
+mostRequests = 25
+
+-- No option has more entries, and no reply shows more: "at most 35".
+abbrev pub mostEntries : ℕ
+mostEntries = 35
 
 -- "Each suboption read is a request, an information, a name or an unknown one"
 pub data SuboptionValue : Type 0 where

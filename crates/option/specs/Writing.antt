@@ -1,13 +1,7 @@
 -- Option 220 (RFC 6656) as bytes: what a list of suboptions is written as. The rules are those of document 01, "Option 220 as bytes".
--- Assumes nothing: these are definitions.
-use Prim.Native.Nat.{ℕ, _+_, _*_, _/_, _%_}
-use mathlib.Core.List.{List, [], _∷_, _++_}
-use mathlib.Core.Bool.{Bool, true, false, cond, _&&_}
-use lib.ListN.{length}
-use lib.Dec.{leb}
-use Rattle.lists.specs.Lists.{all?, concatMap}
+use Rattle.lists.specs.Basics.{ℕ, _+_, _*_, _/_, _%_, List, [], _∷_, _++_, Bool, true, false, length}
+use Rattle.lists.specs.Lists.{concatMap}
 use Rattle.option.specs.Values.{Entry, SuboptionValue, request, information, name, unknown}
-use Rattle.option.specs.Rules.{entryFields?, fields?}
 
 -- "high byte first": the bytes of a number of 16 and of 32 bits.
 unfoldable pub twoBytes : ℕ → List ℕ
@@ -59,25 +53,7 @@ optionHead len = 220 ∷ len ∷ 0 ∷ []
 unfoldable pub optionBytes : List SuboptionValue → List ℕ
 optionBytes subs = optionHead (1 + length (suboptionsBytes subs)) ++ suboptionsBytes subs
 
--- What can be written: a suboption that keeps the rules of Rules and has one or more entries, with at most three figures each, or one or more
--- octets.
-unfoldable pub entryWritable? : Entry → Bool
-entryWritable? e = leb (length (e .figures)) 3 && entryFields? e
-
-unfoldable pub writable? : SuboptionValue → Bool
-writable? (request h i length) = fields? (request h i length)
-writable? (information c s entries) = leb 1 (length entries) && all? entryWritable? entries
-writable? (name octets) = leb 1 (length octets) && fields? (name octets)
-writable? unknown = false
-
 -- What writing answers: a refusal with its number, or the bytes.
 pub data Writing : Type 0 where
   refusedWith : ℕ → Writing
   written : List ℕ → Writing
-
--- Row 13: "a suboption outside the rules above, or none at all". Row 14: "more than the buffer holds, or Len above 255".
-unfoldable pub writeOption : ℕ → List SuboptionValue → Writing
-writeOption capacity subs =
-    cond (leb 1 (length subs) && all? writable? subs)
-    (cond (leb (length (optionBytes subs)) capacity && leb (1 + length (suboptionsBytes subs)) 255) (written (optionBytes subs)) (refusedWith 14))
-    (refusedWith 13)

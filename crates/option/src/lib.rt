@@ -8,7 +8,7 @@ ghost use mathlib.Core.Path.{_≡_};
 ghost use mathlib.Core.Bool.{true, _&&_};
 ghost use Prim.Native.Nat.{_+_, _≤_, _<_};
 ghost use lib.ListN.{length, set};
-ghost use Rattle.option.specs.Sizes.{longestOption};
+ghost use Rattle.option.specs.Values.{longestOption};
 ghost use Rattle.option.specs.Reading.{
   option?,
   readEntries,

@@ -1,15 +1,6 @@
 -- An entry of an information of option 220 as bytes (document 01, "Option 220 as bytes", rule 4), and as the code holds it.
--- Assumes nothing: these are definitions.
-use Prim.Native.Nat.{ℕ, _+_, _*_, _/_, _%_}
-use mathlib.Core.List.{List, _∷_, []}
-use mathlib.Core.Bool.{Bool, true, false, cond, _&&_}
-use lib.ListN.{length, getD, take}
-use lib.Dec.{eqb, leb}
+use Rattle.lists.specs.Basics.{ℕ, _+_, _*_, _/_, _%_, List, _∷_, [], Bool, true, false, cond, _&&_, length, getD, take, eqb, leb}
 use Rattle.lists.specs.Walk.{Turn, more, stop}
-use Rattle.option_entry.specs.declared.Figures.{Figures}
-use Rattle.option_entry.specs.declared.EntryFields.{EntryFields}
-use Rattle.option_entry.specs.declared.EntryCursor.{EntryCursor}
-use Rattle.option_entry.specs.declared.EntryStep.{EntryStep}
 use Rattle.option_entry.specs.declared.EntryStep.the-variants as entry-step
 
 -- An entry of an information (RFC 6656, section 3.2.1: a Subnet Prefix Information block). Its figures are, in this order,
@@ -64,19 +55,3 @@ entryFramed? s end at =
 
 unfoldable pub readEntry : List ℕ → ℕ → ℕ → Turn Entry Bool
 readEntry s end at = cond (leb end at) (stop true) (cond (entryFramed? s end at) (more (entryAt s at) (entryEnd s at)) (stop false))
-
--- At most three figures as the code holds them: how many there are, and 0 for those that are not there.
-abbrev pub figuresOf : List ℕ → Figures
-figuresOf l = record { count = length l; «high_water» = getD l 0 0; «in_use» = getD l 1 0; unusable = getD l 2 0 }
-
-abbrev pub fieldsOf : Entry → EntryFields
-fieldsOf e = record { network = e .network; length = e .length; h = e .h; d = e .d; figures = figuresOf (e .figures) }
-
--- The places of the entries from `at` to `end`.
-abbrev pub entriesFrom : ℕ → ℕ → EntryCursor
-entriesFrom at end = record { at = at; end = end }
-
-abbrev pub entryStepOf : ℕ → Turn Entry Bool → EntryStep
-entryStepOf end (more e next) = entry-step.Entry (fieldsOf e) (entriesFrom next end)
-entryStepOf end (stop true) = entry-step.End
-entryStepOf end (stop false) = entry-step.Cut

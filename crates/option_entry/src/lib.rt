@@ -2,14 +2,22 @@
 ghost use mathlib.Core.Path.{_≡_};
 ghost use Prim.Native.Nat.{_+_, _≤_, _<_};
 ghost use lib.ListN.{length};
-ghost use Rattle.option_entry.specs.Entries.{two, four, figuresAt, readEntry, figuresOf, entryStepOf};
+ghost use Rattle.option_entry.specs.Entries.{two, four, figuresAt, readEntry};
+ghost use Rattle.option_entry.specs.Steps.{figuresOf, entryStepOf};
+
+// A type for each figure, so that one is never taken for another.
+pub struct HighWater(pub u16);
+
+pub struct InUse(pub u16);
+
+pub struct Unusable(pub u16);
 
 // The figures of an entry: `count` of them, at most three.
 pub struct Figures {
     pub count: usize,
-    pub high_water: u16,
-    pub in_use: u16,
-    pub unusable: u16,
+    pub high_water: HighWater,
+    pub in_use: InUse,
+    pub unusable: Unusable,
 }
 
 pub struct EntryFields {
@@ -77,32 +85,32 @@ fn figures_at(s: &[u8], at: usize, n: usize) -> Figures
     if n < 2 {
         return Figures {
             count: 0,
-            high_water: 0,
-            in_use: 0,
-            unusable: 0,
+            high_water: HighWater(0),
+            in_use: InUse(0),
+            unusable: Unusable(0),
         };
     }
     if n < 4 {
         return Figures {
             count: 1,
-            high_water: two_at(s, at),
-            in_use: 0,
-            unusable: 0,
+            high_water: HighWater(two_at(s, at)),
+            in_use: InUse(0),
+            unusable: Unusable(0),
         };
     }
     if n < 6 {
         return Figures {
             count: 2,
-            high_water: two_at(s, at),
-            in_use: two_at(s, at + 2),
-            unusable: 0,
+            high_water: HighWater(two_at(s, at)),
+            in_use: InUse(two_at(s, at + 2)),
+            unusable: Unusable(0),
         };
     }
     Figures {
         count: 3,
-        high_water: two_at(s, at),
-        in_use: two_at(s, at + 2),
-        unusable: two_at(s, at + 4),
+        high_water: HighWater(two_at(s, at)),
+        in_use: InUse(two_at(s, at + 2)),
+        unusable: Unusable(two_at(s, at + 4)),
     }
 }
 

@@ -14,7 +14,7 @@ use Rattle.option_measure.specs.Lists.{figuresIn, entryOf}
 pub figures-count : (f : Figures) → length (figuresIn f) ≡ f .count
 unfolding figuresIn
 figures-count f =
-    length-take (f .count) (f .«high_water» ∷ f .«in_use» ∷ f .unusable ∷ replicate (f .count - 3) 0)
+    length-take (f .count) (f .«high_water» .0 ∷ f .«in_use» .0 ∷ f .unusable .0 ∷ replicate (f .count - 3) 0)
     ∙ omega (arith, length-replicate {A = ℕ} (f .count - 3) 0)
 
 pub entry-next : (at : ℕ) (e : EntryFields) → at + 7 + 2 * e .figures .count ≡ at + length (entryBytes (entryOf e))

@@ -14,7 +14,8 @@ use Rattle.lists.specs.Lists.{all?, concatMap}
 use Rattle.prefix.specs.Prefixes.{checked}
 use Rattle.option.specs.Values.{Entry, SuboptionValue, information}
 use Rattle.option.specs.Rules.{block?, final, entryFields?, fields?}
-use Rattle.option.specs.Writing.{entryBytes, entriesBytes, suboptionBytes, suboptionsBytes, entryWritable?, writable?}
+use Rattle.option.specs.Writing.{entryBytes, entriesBytes, suboptionBytes, suboptionsBytes}
+use Rattle.option.specs.Writer.{entryWritable?, writable?}
 use Rattle.option_entry.specs.declared.EntryFields.{EntryFields}
 use Rattle.option.proofs.WritingLaws.{information-length}
 use Rattle.option_measure.specs.Lists.{entryOf, part, informationIn, nameIn, listed, valueAt}

@@ -1,19 +1,13 @@
 -- The list of suboptions that the writer's argument holds.
--- Assumes nothing: these are definitions.
 use Prim.Native.Nat.{ℕ, _+_, _-_}
 use mathlib.Core.Bool.{cond}
 use mathlib.Core.List.{List, [], _∷_, map}
 use lib.ListN.{take, drop, replicate}
 use lib.Dec.{leb}
 use Rattle.option.specs.Values.{Entry, SuboptionValue, request, information, name, unknown}
-use Rattle.option_entry.specs.declared.EntryFields.{EntryFields}
-use Rattle.option_entry.specs.declared.Figures.{Figures}
-use Rattle.option_measure.specs.declared.Item.{Item}
+use Rattle.option_entry.specs.declared.{EntryFields.EntryFields, Figures.Figures}
+use Rattle.option_measure.specs.declared.{Item.Item, InformationItem.InformationItem, NameItem.NameItem, Slot.Slot, SuboptionList.SuboptionList}
 use Rattle.option_measure.specs.declared.Item.the-variants.{Request, Information, Name, Unknown}
-use Rattle.option_measure.specs.declared.InformationItem.{InformationItem}
-use Rattle.option_measure.specs.declared.NameItem.{NameItem}
-use Rattle.option_measure.specs.declared.Slot.{Slot}
-use Rattle.option_measure.specs.declared.SuboptionList.{SuboptionList}
 
 -- How many suboptions, entries and octets the argument has room for. No option that can be written has more.
 abbrev pub itemSlots : ℕ
@@ -27,7 +21,7 @@ octetSlots = 256
 
 -- As many figures as are counted; those past the third, of which nothing is held, are 0. (More than three are never written.)
 unfoldable pub figuresIn : Figures → List ℕ
-figuresIn f = take (f .count) (f .«high_water» ∷ f .«in_use» ∷ f .unusable ∷ replicate (f .count - 3) 0)
+figuresIn f = take (f .count) (f .«high_water» .0 ∷ f .«in_use» .0 ∷ f .unusable .0 ∷ replicate (f .count - 3) 0)
 
 unfoldable pub entryOf : EntryFields → Entry
 entryOf e = record { network = e .network; length = e .length; h = e .h; d = e .d; figures = figuresIn (e .figures) }

@@ -1,5 +1,4 @@
 -- How long a list of suboptions is when written, if it can be.
--- Assumes nothing: these are definitions.
 use Prim.Native.Nat.{ℕ, _≤_}
 use mathlib.Core.Bool.{Bool, cond, _&&_}
 use mathlib.Core.List.{List}
@@ -7,7 +6,8 @@ use lib.ListN.{length}
 use lib.Dec.{leb}
 use Rattle.lists.specs.Lists.{all?, concatMap}
 use Rattle.option.specs.Values.{SuboptionValue}
-use Rattle.option.specs.Writing.{suboptionBytes, suboptionsBytes, writable?}
+use Rattle.option.specs.Writing.{suboptionBytes, suboptionsBytes}
+use Rattle.option.specs.Writer.{writable?}
 use Rattle.option_measure.specs.declared.Measured.{Measured}
 use Rattle.option_measure.specs.declared.Measured.the-variants as measured
 

@@ -4,7 +4,8 @@ ghost use mathlib.Core.Path.{_≡_};
 ghost use mathlib.Core.List.{map};
 ghost use Prim.Native.Nat.{_+_, _≤_};
 ghost use Rattle.option.specs.Values.{request};
-ghost use Rattle.option.specs.Writing.{entryBytes, entryWritable?};
+ghost use Rattle.option.specs.Writing.{entryBytes};
+ghost use Rattle.option.specs.Writer.{entryWritable?};
 ghost use Rattle.option_measure.specs.Lists.{
   entrySlots,
   entryOf,

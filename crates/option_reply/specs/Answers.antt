@@ -1,5 +1,4 @@
 -- The writer's answers and the buffer after them, from what the definitions of writing say, and document 01's number for each.
--- Assumes nothing: these are definitions.
 use Prim.Native.Nat.{ℕ}
 use mathlib.Core.Bool.{cond}
 use mathlib.Core.List.{List}

@@ -1,9 +1,6 @@
 -- The reply of take and list.
--- Assumes nothing: these are definitions.
-use Prim.Native.Nat.{ℕ}
-use mathlib.Core.Bool.{Bool}
-use mathlib.Core.List.{List, [], _∷_, map}
-pub use Rattle.option.specs.Sizes.{mostEntries}
+use Rattle.lists.specs.Basics.{ℕ, Bool, List, [], _∷_, map}
+pub use Rattle.option.specs.Values.{mostEntries}
 use Rattle.option.specs.Values.{Entry, information}
 use Rattle.option.specs.Writing.{optionBytes}
 use Rattle.table.specs.declared.Lease.{Lease}

@@ -15,7 +15,7 @@ ghost use Rattle.option.specs.Writing.{
 };
 ghost use Rattle.option.specs.Selection.{writeSelection};
 ghost use Rattle.option_reply.specs.Answers.{into};
-ghost use Rattle.option.specs.Sizes.{mostEntries};
+ghost use Rattle.option.specs.Values.{mostEntries};
 
 // The number of bytes written, refusal 13, or refusal 14.
 pub enum Written {

@@ -17,7 +17,8 @@ use Rattle.option.specs.Answers.{suboptionOf, lastOf}
 use Rattle.option.specs.declared.RequestFields.{RequestFields}
 use Rattle.option.specs.declared.Suboption.{Suboption}
 use Rattle.option_scan.specs.declared.Tally.{Tally}
-use Rattle.option_scan.specs.Inner.{flagOf, withSuboption, requestColumn, Added}
+use Rattle.option_scan.specs.Scanned.{flagOf}
+use Rattle.option_scan.specs.Inner.{withSuboption, requestColumn, Added}
 
 -- What suboptions have, one after the other.
 pub requests-append : (xs ys : List SuboptionValue) → requests (xs ++ ys) ≡ requests xs ++ requests ys

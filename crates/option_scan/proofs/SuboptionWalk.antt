@@ -13,8 +13,7 @@ use Rattle.lists.specs.Put.{put}
 use Rattle.lists.specs.Walk.{more, stop}
 use Rattle.lists.proofs.FilterLaws.{filter-fewer}
 use Rattle.lists.proofs.PutLaws.{put-nothing, put-more, put-front}
-use Rattle.option.specs.Sizes.{longestOption}
-use Rattle.option.specs.Values.{Entry, SuboptionValue, request, information, name, unknown, refused, accepted}
+use Rattle.option.specs.Values.{longestOption, Entry, SuboptionValue, request, information, name, unknown, refused, accepted}
 use Rattle.option.specs.Reading.{End, whole, badAt, option?, readOption, readSuboption, readSuboptions, ended}
 use Rattle.option.specs.Contents.{requests, entries, position}
 use Rattle.option.specs.Answers.{suboptionOf, entriesOf, InColumns, checkedOf}

@@ -1,19 +1,14 @@
 -- What the private functions promise each other. Nothing here stands in the promise of a public one.
--- Assumes nothing: these are definitions.
 use Prim.Native.Nat.{ℕ, _+_, _≤_, _<_}
 use mathlib.Core.Path.{_≡_}
 use mathlib.Core.Bool.{cond, _&&_}
 use mathlib.Core.List.{List, [], _∷_}
 use lib.Dec.{eqb}
 use Rattle.lists.specs.Put.{put}
-use Rattle.option.specs.declared.Checked.{Checked}
-use Rattle.option.specs.declared.RequestFields.{RequestFields}
-use Rattle.option.specs.declared.InformationFields.{InformationFields}
-use Rattle.option.specs.declared.Suboption.{Suboption}
+use Rattle.option.specs.declared.{Checked.Checked, RequestFields.RequestFields, InformationFields.InformationFields, Suboption.Suboption}
 use Rattle.option.specs.declared.Suboption.the-variants.{Request, Information, Name, Unknown}
-use Rattle.option_scan.specs.declared.Contents.{Contents}
-use Rattle.option_scan.specs.declared.Tally.{Tally}
-pub use Rattle.option_scan.specs.Scanned.{flagOf}
+use Rattle.option_scan.specs.declared.{Contents.Contents, Tally.Tally}
+use Rattle.option_scan.specs.Scanned.{flagOf}
 
 -- What is counted, with one more suboption.
 abbrev pub noTally : Tally

@@ -1,5 +1,4 @@
 -- What is read of an option's suboptions, in the ledger's terms.
--- Assumes nothing: these are definitions.
 use Prim.Native.Nat.{ℕ, _≤_}
 use mathlib.Core.Path.{_≡_}
 use mathlib.Core.Bool.{Bool, cond}
@@ -7,8 +6,7 @@ use mathlib.Core.List.{List, map}
 use mathlib.Core.Option.{Option, none, some}
 use lib.ListN.{length, take}
 use Rattle.lists.specs.Lists.{filter}
-use Rattle.option.specs.Sizes.{mostRequests, mostEntries}
-use Rattle.option.specs.Values.{Entry, SuboptionValue, accepted}
+use Rattle.option.specs.Values.{mostRequests, mostEntries, Entry, SuboptionValue, accepted}
 use Rattle.option.specs.Reading.{readOption}
 use Rattle.option.specs.Answers.{checkedOf}
 use Rattle.option.specs.Contents as contents

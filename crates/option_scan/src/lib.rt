@@ -11,12 +11,11 @@ ghost use mathlib.Core.Path.{_≡_};
 ghost use mathlib.Core.Bool.{true};
 ghost use Prim.Native.Nat.{_+_, _≤_, _<_};
 ghost use lib.ListN.{length};
-ghost use Rattle.option.specs.Sizes.{longestOption};
+ghost use Rattle.option.specs.Values.{longestOption};
 ghost use Rattle.option.specs.Reading.{option?};
 ghost use Rattle.option.specs.declared.Suboption.the-variants as Suboption;
-ghost use Rattle.option_scan.specs.Scanned.{columns, Long, Reads};
+ghost use Rattle.option_scan.specs.Scanned.{columns, flagOf, Long, Reads};
 ghost use Rattle.option_scan.specs.Inner.{
-  flagOf,
   noTally,
   withInformation,
   withSuboption,

@@ -11,7 +11,8 @@ use lib.Dec.{eqb}
 use Rattle.lists.proofs.PutLaws.{put-front}
 use Rattle.option.specs.Values.{SuboptionValue, accepted}
 use Rattle.option.specs.Reading.{readOption}
-use Rattle.option.specs.Writing.{Writing, refusedWith, written, writeOption}
+use Rattle.option.specs.Writing.{Writing, refusedWith, written}
+use Rattle.option.specs.Writer.{writeOption}
 use Rattle.option.proofs.WrittenReadsBack.{wrote, written-reads-back}
 use Rattle.option_reply.specs.Answers.{into}
 use Rattle.option_reply.specs.declared.Written.{Written}

@@ -13,7 +13,8 @@ use Rattle.lists.specs.Put.{put}
 use Rattle.lists.proofs.Tests.{and-to}
 use Rattle.lists.proofs.PutLaws.{put-nothing, put-more}
 use Rattle.option.specs.Rules.{entryFields?}
-use Rattle.option.specs.Writing.{twoBytes, entryHead, entryBytes, entriesBytes, entryWritable?}
+use Rattle.option.specs.Writing.{twoBytes, entryHead, entryBytes, entriesBytes}
+use Rattle.option.specs.Writer.{entryWritable?}
 use Rattle.option_entry.specs.declared.EntryFields.{EntryFields}
 use Rattle.option_entry.specs.declared.Figures.{Figures}
 use Rattle.option.proofs.WritingLaws.{entry-head-length, entries-append, entries-one}
@@ -28,23 +29,23 @@ module _ (l : List ℕ) (at : ℕ) (f : Figures) where
   unfolding figuresIn
   figures-none n = sym (put-nothing l at) ∙ simp n
 
-  pub figures-one : (l₁ : List ℕ) → f .count ≡ 1 → l₁ ≡ put l at (twoBytes (f .«high_water»)) → l₁ ≡ put l at (concatMap twoBytes (figuresIn f))
+  pub figures-one : (l₁ : List ℕ) → f .count ≡ 1 → l₁ ≡ put l at (twoBytes (f .«high_water» .0)) → l₁ ≡ put l at (concatMap twoBytes (figuresIn f))
   unfolding figuresIn twoBytes
   figures-one l₁ n e₁ = e₁ ∙ simp n
 
-  module _ (l₁ l₂ : List ℕ) (e₁ : l₁ ≡ put l at (twoBytes (f .«high_water»))) (e₂ : l₂ ≡ put l₁ (at + 2) (twoBytes (f .«in_use»))) where
-    two-put : l₂ ≡ put l at (twoBytes (f .«high_water») ++ twoBytes (f .«in_use»))
+  module _ (l₁ l₂ : List ℕ) (e₁ : l₁ ≡ put l at (twoBytes (f .«high_water» .0))) (e₂ : l₂ ≡ put l₁ (at + 2) (twoBytes (f .«in_use» .0))) where
+    two-put : l₂ ≡ put l at (twoBytes (f .«high_water» .0) ++ twoBytes (f .«in_use» .0))
     unfolding twoBytes
-    two-put = put-more l l₁ l₂ at (twoBytes (f .«high_water»)) (at + 2) (twoBytes (f .«in_use»)) e₁ refl e₂
+    two-put = put-more l l₁ l₂ at (twoBytes (f .«high_water» .0)) (at + 2) (twoBytes (f .«in_use» .0)) e₁ refl e₂
 
     pub figures-two : f .count ≡ 2 → l₂ ≡ put l at (concatMap twoBytes (figuresIn f))
     unfolding figuresIn twoBytes
     figures-two n = two-put ∙ simp n
 
-    pub figures-three : (l₃ : List ℕ) → f .count ≡ 3 → l₃ ≡ put l₂ (at + 4) (twoBytes (f .unusable)) → l₃ ≡ put l at (concatMap twoBytes (figuresIn f))
+    pub figures-three : (l₃ : List ℕ) → f .count ≡ 3 → l₃ ≡ put l₂ (at + 4) (twoBytes (f .unusable .0)) → l₃ ≡ put l at (concatMap twoBytes (figuresIn f))
     unfolding figuresIn twoBytes
     figures-three l₃ n e₃ =
-        put-more l l₂ l₃ at (twoBytes (f .«high_water») ++ twoBytes (f .«in_use»)) (at + 4) (twoBytes (f .unusable)) two-put refl e₃ ∙ simp n
+        put-more l l₂ l₃ at (twoBytes (f .«high_water» .0) ++ twoBytes (f .«in_use» .0)) (at + 4) (twoBytes (f .unusable .0)) two-put refl e₃ ∙ simp n
 
 -- The seven bytes of an entry, and then its figures.
 pub entry-put : (l l₁ l₂ : List ℕ) (at : ℕ) (e : EntryFields) → l₁ ≡ put l at (entryHead (e .network) (e .length) (e .h) (e .d) (2 * e .figures .count))

@@ -16,13 +16,14 @@ use Rattle.lists.proofs.Tests.{and-to}
 use Rattle.lists.proofs.PutLaws.{put-more, put-before}
 use Rattle.lists.proofs.ConcatMapLaws.{length-concatMap-at}
 use Rattle.option.specs.Values.{Entry, SuboptionValue, information, name, unknown}
-use Rattle.option.specs.Writing.{entriesBytes, informationHead, suboptionBytes, suboptionsBytes, optionHead, optionBytes, entryWritable?, writable?, writeOption}
+use Rattle.option.specs.Writing.{entriesBytes, informationHead, suboptionBytes, suboptionsBytes, optionHead, optionBytes}
+use Rattle.option.specs.Writer.{entryWritable?, writable?, writeOption}
 use Rattle.option_entry.specs.declared.EntryFields.{EntryFields}
 use Rattle.option.proofs.WritingLaws.{information-length, option-length, suboptions-append, suboptions-one}
-use Rattle.option_measure.specs.Lists.{entryOf, part, informationIn, nameIn, valueAt}
+use Rattle.option_measure.specs.Lists.{entrySlots, octetSlots, entryOf, part, informationIn, nameIn, valueAt}
 use Rattle.option_reply.specs.Answers.{into}
 use Rattle.option_measure.specs.Measuring.{measureList}
-use Rattle.option_write.specs.Inner.{Fitting, FittingList, PutAt}
+use Rattle.option_write.specs.Inner.{suboptionsAt, mostBytes, Fitting, FittingList, PutAt}
 use Rattle.option_measure.specs.declared.InformationItem.{InformationItem}
 use Rattle.option_measure.specs.declared.NameItem.{NameItem}
 use Rattle.option_measure.specs.declared.Slot.{Slot}
@@ -41,19 +42,19 @@ module _ (entries : List EntryFields) (f : InformationItem) where
   es = map entryOf (part (f .first) (f .count) entries)
 
   pub record InformationFitting : Type 0 where
-    pub placed : f .first + f .count ≤ 64
+    pub placed : f .first + f .count ≤ entrySlots
     pub value : informationIn entries f ≡ information (f .c) (f .s) es
     pub good : all? entryWritable? es ≡ true
-    pub short : 3 + length (entriesBytes es) ≤ 254
+    pub short : 3 + length (entriesBytes es) ≤ mostBytes
 
-  in-place : (b : Bool) → leb (f .first + f .count) 64 ≡ b → Fitting (informationIn entries f) → InformationFitting
+  in-place : (b : Bool) → leb (f .first + f .count) entrySlots ≡ b → Fitting (informationIn entries f) → InformationFitting
   unfolding informationIn writable?
   in-place true e r =
       let v : informationIn entries f ≡ information (f .c) (f .s) es = simp e in
       let good : writable? (information (f .c) (f .s) es) ≡ true = sym (ap writable? v) ∙ r .good in
       let size : length (suboptionBytes (informationIn entries f)) ≡ 3 + length (entriesBytes es) = ap (λ (x : SuboptionValue). length (suboptionBytes x)) v ∙ information-length (f .c) (f .s) es in
       record {
-        placed = leb-true (f .first + f .count) 64 e;
+        placed = leb-true (f .first + f .count) entrySlots e;
         value = v;
         good = and-to (leb 1 (length es)) (all? entryWritable? es) good .1;
         short = omega (arith, r .short);
@@ -64,7 +65,7 @@ module _ (entries : List EntryFields) (f : InformationItem) where
       let y : _≡_ {A = ℕ} 0 1 = cc in absurd (omega arith)
 
   pub information-fitting : Fitting (informationIn entries f) → InformationFitting
-  information-fitting r = in-place (leb (f .first + f .count) 64) refl r
+  information-fitting r = in-place (leb (f .first + f .count) entrySlots) refl r
 
   pub information-put : (l l₁ l₂ : List ℕ) (at end len : ℕ) → InformationFitting → l₁ ≡ put l (at + 3) (entriesBytes es) → end ≡ at + 3 + length (entriesBytes es)
       → len ≡ end - at - 2 → l₂ ≡ put l₁ at (informationHead len (f .c) (f .s)) → PutAt l l₂ at end (suboptionBytes (informationIn entries f))
@@ -87,25 +88,25 @@ module _ (octets : List ℕ) (n : NameItem) where
   os = part (n .first) (n .count) octets
 
   pub record NameFitting : Type 0 where
-    pub placed : n .first + n .count ≤ 256
+    pub placed : n .first + n .count ≤ octetSlots
     pub value : nameIn octets n ≡ name os
-    pub short : 2 + length os ≤ 254
+    pub short : 2 + length os ≤ mostBytes
 
-  named : (b : Bool) → leb (n .first + n .count) 256 ≡ b → Fitting (nameIn octets n) → NameFitting
+  named : (b : Bool) → leb (n .first + n .count) octetSlots ≡ b → Fitting (nameIn octets n) → NameFitting
   unfolding nameIn writable? suboptionBytes
   named true e r =
       let v : nameIn octets n ≡ name os = simp e in
       let size : length (suboptionBytes (nameIn octets n)) ≡ suc (suc (length os)) = ap (λ (x : SuboptionValue). length (suboptionBytes x)) v in
-      record { placed = leb-true (n .first + n .count) 256 e; value = v; short = omega (arith, r .short) }
+      record { placed = leb-true (n .first + n .count) octetSlots e; value = v; short = omega (arith, r .short) }
   named false e r =
       let v : nameIn octets n ≡ unknown = simp e in
       let z : false ≡ true = sym (ap writable? v) ∙ r .good in
       let y : _≡_ {A = ℕ} 0 1 = cc in absurd (omega arith)
 
   pub name-fitting : Fitting (nameIn octets n) → NameFitting
-  name-fitting r = named (leb (n .first + n .count) 256) refl r
+  name-fitting r = named (leb (n .first + n .count) octetSlots) refl r
 
-  pub name-put : (l l₁ l₂ l₃ : List ℕ) (at : ℕ) → length octets ≡ 256 → NameFitting → l₁ ≡ set l at 3 → l₂ ≡ set l₁ (at + 1) (n .count) → l₃ ≡ put l₂ (at + 2) os
+  pub name-put : (l l₁ l₂ l₃ : List ℕ) (at : ℕ) → length octets ≡ octetSlots → NameFitting → l₁ ≡ set l at 3 → l₂ ≡ set l₁ (at + 1) (n .count) → l₃ ≡ put l₂ (at + 2) os
       → PutAt l l₃ at (at + 2 + n .count) (suboptionBytes (nameIn octets n))
   unfolding suboptionBytes
   name-put l l₁ l₂ l₃ at full r e₁ e₂ e₃ =
@@ -146,12 +147,12 @@ module _ (items : List Slot) (entries : List EntryFields) (octets : List ℕ) wh
       ∙ ap (λ (l : List ℕ). suboptionsBytes (upTo i) ++ l) (suboptions-one (v (getD items i d)))
 
   pub record Turned (l l₂ : List ℕ) (p₂ i : ℕ) : Type 0 where
-    pub bytes : l₂ ≡ put l 3 (suboptionsBytes (upTo (i + 1)))
-    pub place : p₂ ≡ 3 + length (suboptionsBytes (upTo (i + 1)))
-    pub short : p₂ ≤ 3 + 254 * (i + 1)
+    pub bytes : l₂ ≡ put l suboptionsAt (suboptionsBytes (upTo (i + 1)))
+    pub place : p₂ ≡ suboptionsAt + length (suboptionsBytes (upTo (i + 1)))
+    pub short : p₂ ≤ suboptionsAt + mostBytes * (i + 1)
 
   pub turned : (l l₁ l₂ : List ℕ) (p p₂ i : ℕ) (d : Slot) → i < length items → Fitting (valueAt entries octets (getD items i d))
-      → l₁ ≡ put l 3 (suboptionsBytes (upTo i)) → p ≡ 3 + length (suboptionsBytes (upTo i)) → p ≤ 3 + 254 * i
+      → l₁ ≡ put l suboptionsAt (suboptionsBytes (upTo i)) → p ≡ suboptionsAt + length (suboptionsBytes (upTo i)) → p ≤ suboptionsAt + mostBytes * i
       → PutAt l₁ l₂ p p₂ (suboptionBytes (valueAt entries octets (getD items i d))) → Turned l l₂ p₂ i
   turned l l₁ l₂ p p₂ i d h r e₁ ep le e₂ =
       let before : List ℕ = suboptionsBytes (upTo i) in
@@ -159,7 +160,7 @@ module _ (items : List Slot) (entries : List EntryFields) (octets : List ℕ) wh
       let m = items-more i d h in
       let n : length (suboptionsBytes (upTo (i + 1))) ≡ length before + length w = ap length m ∙ length-append before w in
       record {
-        bytes = put-more l l₁ l₂ 3 before p w e₁ ep (e₂ .stored) ∙ ap (put l 3) (sym m);
+        bytes = put-more l l₁ l₂ suboptionsAt before p w e₁ ep (e₂ .stored) ∙ ap (put l suboptionsAt) (sym m);
         place = omega (arith, e₂ .place);
         short = omega (arith, e₂ .place, r .short);
       }
@@ -175,35 +176,35 @@ module _ (subs : List SuboptionValue) (buffer : List ℕ) where
     unfolding measureList
     told = bytes-picked (leb 1 (length subs) && all? writable? subs) (length (suboptionsBytes subs)) n m
 
-    pub answer-long : 254 < n → _≡_ {A = Written × List ℕ} (written-as.TooLong, buffer) (into (writeOption (length buffer) subs) buffer)
+    pub answer-long : mostBytes < n → _≡_ {A = Written × List ℕ} (written-as.TooLong, buffer) (into (writeOption (length buffer) subs) buffer)
     unfolding writeOption into
     answer-long h =
         let t = told in
-        let long : 255 < 1 + length (suboptionsBytes subs) = omega (arith, t .1) in
+        let long : mostBytes + 1 < 1 + length (suboptionsBytes subs) = omega (arith, t .1) in
         simp (t .0, lt-leb _ _ long, and-false)
 
-    pub answer-full : length buffer < n + 3 → _≡_ {A = Written × List ℕ} (written-as.TooLong, buffer) (into (writeOption (length buffer) subs) buffer)
+    pub answer-full : length buffer < n + suboptionsAt → _≡_ {A = Written × List ℕ} (written-as.TooLong, buffer) (into (writeOption (length buffer) subs) buffer)
     unfolding writeOption into
     answer-full h =
         let t = told in
         let full : length buffer < length (optionBytes subs) = omega (arith, t .1, option-length subs) in
         simp (t .0, lt-leb _ _ full)
 
-    pub list-fitting : n ≤ 254 → FittingList subs
+    pub list-fitting : n ≤ mostBytes → FittingList subs
     list-fitting h = let t = told in record { good = and-to (leb 1 (length subs)) (all? writable? subs) (t .0) .1; short = omega (arith, t .1) }
 
-    pub answer-written : (l₁ l₂ : List ℕ) (xs : List SuboptionValue) → subs ≡ xs → n ≤ 254 → n + 3 ≤ length buffer → l₁ ≡ put buffer 0 (optionHead (n + 1)) → l₂ ≡ put l₁ 3 (suboptionsBytes xs)
-        → _≡_ {A = Written × List ℕ} (written-as.Bytes (n + 3), l₂) (into (writeOption (length buffer) subs) buffer)
+    pub answer-written : (l₁ l₂ : List ℕ) (xs : List SuboptionValue) → subs ≡ xs → n ≤ mostBytes → n + suboptionsAt ≤ length buffer → l₁ ≡ put buffer 0 (optionHead (n + 1)) → l₂ ≡ put l₁ suboptionsAt (suboptionsBytes xs)
+        → _≡_ {A = Written × List ℕ} (written-as.Bytes (n + suboptionsAt), l₂) (into (writeOption (length buffer) subs) buffer)
     unfolding writeOption into optionBytes optionHead
     answer-written l₁ l₂ xs same small room e₁ e₂ =
         let t = told in
         let size = option-length subs in
         let fits : length (optionBytes subs) ≤ length buffer = omega (arith, t .1) in
-        let len : 1 + length (suboptionsBytes subs) ≤ 255 = omega (arith, t .1) in
+        let len : 1 + length (suboptionsBytes subs) ≤ mostBytes + 1 = omega (arith, t .1) in
         let head : n + 1 ≡ 1 + length (suboptionsBytes subs) = omega (arith, t .1) in
-        let count : n + 3 ≡ length (optionBytes subs) = omega (arith, t .1) in
+        let count : n + suboptionsAt ≡ length (optionBytes subs) = omega (arith, t .1) in
         let stored : l₂ ≡ put buffer 0 (optionBytes subs) =
-        put-more buffer l₁ l₂ 0 (optionHead (n + 1)) 3 (suboptionsBytes xs) e₁ refl e₂
+        put-more buffer l₁ l₂ 0 (optionHead (n + 1)) suboptionsAt (suboptionsBytes xs) e₁ refl e₂
         ∙ ap (λ (l : List SuboptionValue). put buffer 0 (optionHead (n + 1) ++ suboptionsBytes l)) (sym same)
         ∙ ap (λ (k : ℕ). put buffer 0 (optionHead k ++ suboptionsBytes subs)) head in
         ap₂ (λ (k : ℕ) (l : List ℕ). (written-as.Bytes k, l)) count stored ∙ simp (t .0, le-leb _ _ fits, le-leb _ _ len)

@@ -1,6 +1,7 @@
 // Option 220 (RFC 6656): a whole list of suboptions, written into a buffer; nothing is written before all of it has been measured.
 use option::EntryFields;
 use option::Figures;
+use option::LONGEST_OPTION;
 use option_measure::ENTRY_SLOTS;
 use option_measure::ITEM_SLOTS;
 pub use option_measure::InformationItem;
@@ -20,16 +21,8 @@ ghost use Prim.Native.Nat.{_+_, _*_, _≤_, _<_};
 ghost use lib.ListN.{length, take};
 ghost use Rattle.lists.specs.Lists.{all?, concatMap};
 ghost use Rattle.lists.specs.Put.{put};
-ghost use Rattle.option.specs.Writing.{
-  twoBytes,
-  requestBytes,
-  entryBytes,
-  entriesBytes,
-  suboptionBytes,
-  suboptionsBytes,
-  entryWritable?,
-  writeOption,
-};
+ghost use Rattle.option.specs.Writing.{twoBytes, requestBytes, entryBytes, entriesBytes, suboptionBytes, suboptionsBytes};
+ghost use Rattle.option.specs.Writer.{entryWritable?, writeOption};
 ghost use Rattle.option_measure.specs.Lists.{
   itemSlots,
   entrySlots,
@@ -44,7 +37,12 @@ ghost use Rattle.option_measure.specs.Lists.{
   suboptionsOf,
 };
 ghost use Rattle.option_reply.specs.Answers.{into};
-ghost use Rattle.option_write.specs.Inner.{Fitting, FittingList, PutAt};
+ghost use Rattle.option_write.specs.Inner.{suboptionsAt, Fitting, FittingList, PutAt};
+
+// Where the suboptions of an option begin, after Code, Len and the option's flags; and how many bytes they have at most.
+const SUBOPTIONS: usize = 3;
+
+const MOST_BYTES: usize = LONGEST_OPTION - SUBOPTIONS;
 
 // The pieces of a list of suboptions, which has been measured.
 
@@ -65,15 +63,15 @@ fn put_figures(buf: &mut [u8], at: usize, f: Figures)
     if n == 0 {
         return;
     }
-    put_two(buf, at, f.high_water);
+    put_two(buf, at, f.high_water.0);
     if n == 1 {
         return;
     }
-    put_two(buf, at + 2, f.in_use);
+    put_two(buf, at + 2, f.in_use.0);
     if n == 2 {
         return;
     }
-    put_two(buf, at + 4, f.unusable);
+    put_two(buf, at + 4, f.unusable.0);
 }
 
 // An entry with its figures; the place after it.
@@ -192,9 +190,9 @@ fn put_items(
     octets: [u8; OCTET_SLOTS],
 )
     requires { ⌜ (count ≤ itemSlots) × FittingList (map (valueAt entries octets) (take count items)) ⌝ }
-    ensures { λ _. ⌜ now (buf .exit) ≡ put (now (buf .entry)) 3 (suboptionsBytes (map (valueAt entries octets) (take count items))) ⌝ }
+    ensures { λ _. ⌜ now (buf .exit) ≡ put (now (buf .entry)) suboptionsAt (suboptionsBytes (map (valueAt entries octets) (take count items))) ⌝ }
 {
-    let mut p: usize = 3;
+    let mut p: usize = SUBOPTIONS;
     let mut i: usize = 0;
     while i < count {
         let slot = items[i];
@@ -216,10 +214,10 @@ pub fn write_option(list: SuboptionList, buf: &mut [u8]) -> Written
     let Measured::Bytes(n) = measured else {
         return Written::OutsideRules;
     };
-    if 254 < n {
+    if MOST_BYTES < n {
         return Written::TooLong;
     }
-    let bytes = n + 3;
+    let bytes = n + SUBOPTIONS;
     if buf.len() < bytes {
         return Written::TooLong;
     }

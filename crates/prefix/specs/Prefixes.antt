@@ -1,12 +1,6 @@
 -- Address prefixes (document 01: blocks): a network and a length, from which every size and end comes.
--- Assumes nothing: these are definitions.
-use Prim.Native.Nat.{ℕ, _+_, _-_, _^_, _%_, _≤_, _<_}
-use mathlib.Core.Path.{_≡_}
-use mathlib.Core.Logic.{_⊎_}
-use mathlib.Core.Bool.{Bool, true, false, cond, not, _&&_, _||_}
-use lib.Dec.{leb, eqb}
-use Rattle.prefix.specs.declared.Prefix.{Prefix}
-use Rattle.prefix.specs.declared.Checked.{Checked}
+use Rattle.lists.specs.Basics.{ℕ, _+_, _-_, _^_, _%_, _≤_, _<_, _≡_, _⊎_, Bool, true, false, cond, not, _&&_, _||_, leb, eqb}
+use Rattle.prefix.specs.declared.{Prefix.Prefix, Checked.Checked}
 use Rattle.prefix.specs.declared.Checked.the-variants.{Good, BadLength, Misaligned}
 
 -- "A block length runs from 1 to 30"

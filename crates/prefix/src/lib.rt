@@ -1,6 +1,5 @@
 // Address prefixes (document 01: a block). Every size and every end comes from `size`.
 ghost use mathlib.Core.Path.{_≡_};
-ghost use mathlib.Core.Bool.{not};
 ghost use Prim.Native.Nat.{_+_, _%_, _≤_, _<_};
 ghost use Rattle.prefix.specs.Prefixes.{
   size as sizeOf,
@@ -8,9 +7,7 @@ ghost use Rattle.prefix.specs.Prefixes.{
   lower as lowerOf,
   upper as upperOf,
   checked,
-  inside?,
   block?,
-  apart?,
   longest,
 };
 
@@ -168,30 +165,6 @@ impl Prefix {
             network: network as u32,
             length,
         }
-    }
-
-    // Each of its addresses is one of `outer`.
-    pub fn inside(self, outer: Prefix) -> bool
-        ensures { λ r. ⌜ r ≡ inside? self outer ⌝ }
-    {
-        if outer.network <= self.network {
-            self.end() <= outer.end()
-        } else {
-            false
-        }
-    }
-
-    // It shares an address with `other`.
-    pub fn overlaps(self, other: Prefix) -> bool
-        ensures { λ r. ⌜ r ≡ not (apart? self other) ⌝ }
-    {
-        if self.end() <= (other.network as u64) {
-            return false;
-        }
-        if other.end() <= (self.network as u64) {
-            return false;
-        }
-        true
     }
 }
 

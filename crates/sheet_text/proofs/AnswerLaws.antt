@@ -14,14 +14,16 @@ use Rattle.text.specs.Wrote.{Wrote}
 use Rattle.text.proofs.TextLaws.{wrote-as, wrote-then}
 use Rattle.table.specs.declared.LeaseTable.{LeaseTable}
 use Rattle.table.specs.Table.{poolPrefix, sound}
-use Rattle.image.specs.Image.{headSize, poolSize, usedPools, usedLeases, imageOf, loadImage, loadedTable}
+use Rattle.image.specs.Image.{headSize, poolSize, usedPools, usedLeases, imageOf, loadedTable}
+use Rattle.image.specs.Reading.{loadImage}
 use Rattle.image.proofs.FieldLaws.{bytes-all}
 use Rattle.image.proofs.ImageLaws.{image-loaded, length-image}
 use Rattle.image_check.specs.declared.ImageSummary.{ImageSummary}
 use Rattle.image_check.specs.ImageSummary.{summaryOf}
 use Rattle.image_check.proofs.SummaryLaws.{summary-some, summary-none}
 use Rattle.sheet_text.specs.declared.SheetAnswer.the-variants.{Written, NotSound, TooSmall}
-use Rattle.sheet_text.specs.Sheet.{freeIn, rows, headText, sheetText, sheetOfImage}
+use Rattle.sheet_text.specs.Sheet.{freeIn, rows, headText, sheetText}
+use Rattle.sheet_text.specs.Answers.{sheetOfImage}
 use Rattle.sheet_text.specs.SheetSizes.{usedMost, freeMost, headMost}
 use Rattle.sheet_text.specs.InnerScan.{SoundImage, OfTable, scanText, ReadyAll}
 use Rattle.sheet_text.proofs.ShowLaws.{scanFirst}

@@ -6,11 +6,12 @@ use mathlib.Core.List.{List, [], _∷_, _++_}
 use lib.ListN.{replicate}
 use Rattle.table.specs.Table.{unused?, empty?, prefixesOf, headOk, poolOk, leaseOk, ascends?, sound}
 use Rattle.image.specs.Fields.{number16, number32, records}
-use Rattle.image.specs.Image.{headAt, poolAt, leaseAt, loadImage}
+use Rattle.image.specs.Reading.{headAt, poolAt, leaseAt, loadImage}
 use Rattle.sheet_text.specs.declared.SheetAnswer.the-variants.{Written, NotSound, TooSmall}
 use Rattle.text.specs.Ascii.{ascii}
 use Rattle.text.specs.Decimal.{digits, decimal}
-use Rattle.sheet_text.specs.Sheet.{rowsIn, rows, prefixText, rowText, headText, sheetText, sheetOf, sheetOfImage}
+use Rattle.sheet_text.specs.Sheet.{rowsIn, rows, prefixText, rowText, headText, sheetText}
+use Rattle.sheet_text.specs.Answers.{sheetOf, sheetOfImage}
 
 -- `0b00 0100 100e0000 1c e8030000 / 0700 0200 0001000a 18 / 1100 0300 0001000a 1a 01 00 07000000 60040000`
 bytes : List ℕ

@@ -3,24 +3,23 @@
 use Prim.Native.Nat.{ℕ, zero, suc, _+_, _*_, _≤_, _<_}
 use mathlib.Core.Path.{_≡_, refl, sym, ap, ap₂, subst, _∙_}
 use mathlib.Core.Logic.{by-cases}
-use mathlib.Core.List.{List, [], _∷_, _++_, append-assoc}
+use mathlib.Core.List.{List, [], _∷_, _++_}
 use native.Mathlib.Decide.{decLe}
 use native.Mathlib.Omega.{arith}
 use lib.ListN.{length, take, drop, getD, length-map, List·getD-map, List·getD-eq-default, drop-of-length-le}
-use lib.Seq.{take-suc, take-all, drop-drop, drop-at}
+use lib.Seq.{take-suc, take-all, drop-drop}
 use Rattle.lists.specs.Lists.{concatMap}
 use Rattle.lists.proofs.IndexLaws.{all-at}
 use Rattle.prefix.specs.declared.Prefix.{Prefix}
 use Rattle.prefix.specs.Prefixes.{longest, end}
-use Rattle.table.specs.declared.Pool.{Pool}
 use Rattle.table.specs.declared.LeaseTable.{LeaseTable}
 use Rattle.table.specs.Table.{addresses, poolPrefix, noPool, noLease, poolsOf, sound}
-use Rattle.image.specs.Fields.{le16, le32, number32}
-use Rattle.image.specs.Image.{headRecord, poolRecord, leaseRecord, headOf, usedPools, usedLeases, imageOf, headSize, poolSize, leaseSize, poolIn, leaseIn}
-use Rattle.image.proofs.FieldLaws.{spell32}
-use Rattle.image.proofs.ImageLaws.{length-head, length-pool}
+use Rattle.image.specs.Fields.{number32}
+use Rattle.image.specs.Image.{usedPools, usedLeases, imageOf, headSize, poolSize, leaseSize}
+use Rattle.image.specs.Reading.{poolIn, leaseIn}
 use Rattle.image_records.proofs.RecordLaws.{lease-in-place}
 use Rattle.image_records.proofs.SoundLaws.{image-records}
+use Rattle.image_records.proofs.PoolRecords.{image-pools}
 use Rattle.sheet_text.specs.declared.Used.{Used}
 use Rattle.sheet_text.specs.declared.Levels.{Levels}
 use Rattle.sheet_text.specs.Sheet.{usedBy, Row, usedRow, freeRow, usedIn, freeIn, leasesShown, rows, rowText, headText, sheetText}
@@ -29,23 +28,6 @@ use Rattle.sheet_text.specs.InnerLevels.{allLevels, noLevels}
 use Rattle.sheet_text.proofs.ShowLaws.{scanFirst}
 use Rattle.sheet_text.proofs.LevelLaws.{levelsFirst}
 use Rattle.sheet_text.proofs.SheetLaws.{blank, shown-at, shown-blocks, pools-are, pools-good, all-found, rows-found}
-
--- A POOL IN PLACE
-
-pool-read : (p : Pool) (q : List ℕ) → poolIn (poolRecord p ++ q) ≡ p
-unfolding poolRecord le16 le32 number32
-pool-read p q = λ i. record { network = spell32 (p .network) i; length = p .length }
-
-pool-at : (ps : List Pool) (j : ℕ) (q : List ℕ) → j < length ps → poolIn (drop (poolSize * j) (concatMap poolRecord ps ++ q)) ≡ getD ps j noPool
-pool-at [] j q h = absurd (omega arith)
-pool-at (p ∷ ps) zero q h = ap poolIn (append-assoc (poolRecord p) (concatMap poolRecord ps) q) ∙ pool-read p (concatMap poolRecord ps ++ q)
-pool-at (p ∷ ps) (suc j) q h =
-    let e : poolSize * suc j ≡ poolSize + poolSize * j = omega arith in
-    ap poolIn
-    (ap₂ drop e (append-assoc (poolRecord p) (concatMap poolRecord ps) q)
-    ∙ sym (drop-drop (poolSize * j) poolSize (poolRecord p ++ (concatMap poolRecord ps ++ q)))
-    ∙ ap (drop (poolSize * j)) (drop-at (poolRecord p) (concatMap poolRecord ps ++ q) poolSize (length-pool p)))
-    ∙ pool-at ps j q (omega arith)
 
 no-lease : leaseIn [] ≡ noLease
 unfolding number32
@@ -63,6 +45,9 @@ module _ (image : List ℕ) (k n : ℕ) (s : SoundImage image k n) where
   abbrev base : ℕ
   base = headSize + poolSize * k
 
+  whole : imageOf t ≡ take (length image) image
+  whole = s .bytes ∙ sym (take-all (length image) image (omega arith))
+
   lease-here : (i : ℕ) → leaseIn (drop (base + leaseSize * i) image) ≡ getD (usedLeases t) i noLease
   lease-here i =
       by-cases (decLe n i)
@@ -72,7 +57,7 @@ module _ (image : List ℕ) (k n : ℕ) (s : SoundImage image k n) where
       (λ h.
       ap (λ (m : ℕ). leaseIn (drop (headSize + poolSize * m + leaseSize * i) image)) (s .pools)
       ∙ lease-in-place image (headSize + poolSize * length (usedPools t)) (usedLeases t)
-      (image-records t image (length image) (s .bytes ∙ sym (take-all (length image) image (omega arith)))) i (omega (arith, s .leases)))
+      (image-records t image (length image) whole) i (omega (arith, s .leases)))
 
   leases-at : (i : ℕ) → leaseShown image base i ≡ getD (leasesShown t) i blank
   unfolding leaseShown
@@ -82,15 +67,9 @@ module _ (image : List ℕ) (k n : ℕ) (s : SoundImage image k n) where
   leases-are = λ j i. leases-at i j
 
   pool-here : (j : ℕ) → j < k → poolShown image j ≡ getD (poolsOf t) j (poolPrefix noPool)
-  unfolding imageOf
   pool-here j h =
-      let head : List ℕ = headRecord (headOf t) in
-      let rest : List ℕ = concatMap poolRecord (usedPools t) ++ concatMap leaseRecord (usedLeases t) in
-      ap (λ (l : List ℕ). poolPrefix (poolIn l))
-      (ap (drop (headSize + poolSize * j)) (sym (s .bytes))
-      ∙ sym (drop-drop (poolSize * j) headSize (head ++ rest))
-      ∙ ap (drop (poolSize * j)) (drop-at head rest headSize (length-head (headOf t))))
-      ∙ ap poolPrefix (pool-at (usedPools t) j (concatMap leaseRecord (usedLeases t)) (omega (arith, s .pools)))
+      ap (λ (l : List ℕ). poolPrefix (poolIn l)) (sym (drop-drop (poolSize * j) headSize image))
+      ∙ ap poolPrefix (image-pools t image (length image) whole j (omega (arith, s .pools)))
       ∙ sym (ap (λ (ps : List Prefix). getD ps j (poolPrefix noPool)) (pools-are t (s .sound)) ∙ List·getD-map poolPrefix (usedPools t) j noPool)
 
   pools-size : length (poolsOf t) ≡ k

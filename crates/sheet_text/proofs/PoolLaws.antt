@@ -17,7 +17,7 @@ use Rattle.lists.proofs.ListLaws.{any-all, all-map}
 use Rattle.prefix.specs.declared.Prefix.{Prefix}
 use Rattle.prefix.specs.Prefixes.{longest, end, Aligned, In, Inside}
 use Rattle.prefix.proofs.PrefixLaws.{size-positive}
-use Rattle.free_space.specs.Space.{walk, wholes}
+use Rattle.free_space.specs.Grant.{walk, wholes}
 use Rattle.table.proofs.Ascending.{Ascending, ascending-low}
 use Rattle.sheet_text.specs.declared.Used.{Used}
 use Rattle.sheet_text.specs.Sheet.{Row, usedIn, freeIn, prefixUsed, rowsIn}

@@ -21,7 +21,8 @@ use Rattle.prefix.specs.declared.Prefix.{Prefix}
 use Rattle.prefix.specs.Prefixes.{longest, end, Aligned, In, Inside, inside?, Apart, lower, upper}
 use Rattle.prefix.proofs.PrefixLaws.{size-positive, inside-of, lower-inside, upper-inside, upper-end}
 use Rattle.prefix.proofs.Nesting.{order, apart-sub, apart-absurd, inside-order, inside-same-order, aligned-lower, aligned-upper, in-half}
-use Rattle.free_space.specs.Space.{unused?, covered?, walk}
+use Rattle.free_space.specs.Space.{unused?}
+use Rattle.free_space.specs.Grant.{covered?, walk}
 use Rattle.free_space.proofs.WalkLaws.{unused-to, unused-of, covered-to, walk-unused, walk-covered, walk-halves}
 use Rattle.sheet_text.specs.declared.Used.{Used}
 use Rattle.sheet_text.specs.Sheet.{Row, usedRow, freeRow, usedIn, freeIn, prefixUsed, usedAt, rowsIn}

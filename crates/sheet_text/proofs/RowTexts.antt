@@ -10,7 +10,7 @@ use Rattle.text.proofs.TextLaws.{length-digits}
 use Rattle.prefix.specs.declared.Prefix.{Prefix}
 use Rattle.sheet_text.specs.declared.Used.{Used}
 use Rattle.sheet_text.specs.Sheet.{prefixUsed, usedRow, freeRow, prefixText, rowText, headText}
-use Rattle.sheet_text.specs.SheetSizes.{prefixMost, numberMost, usedMost, freeMost, leaseDigits, freeDigits, headMost}
+use Rattle.sheet_text.specs.SheetSizes.{prefixMost, numberMost, prefixMarks, usedWords, usedMost, freeMost, leaseDigits, freeDigits, headMost}
 use Rattle.sheet_text.specs.InnerScan.{prefixSize, usedSize, freeSize, headTextSize}
 
 -- THEIR PIECES
@@ -32,17 +32,17 @@ head-length leases free = simp length-append (omega arith)
 any-number : (n : ℕ) → length (decimal n) ≤ numberMost
 any-number n = length-digits 9 9 n (inl (omega arith))
 
-any-prefix : (p : Prefix) → prefixSize p ≤ 5 * numberMost + 4
+any-prefix : (p : Prefix) → prefixSize p ≤ 5 * numberMost + prefixMarks
 any-prefix p =
     omega (arith, any-number (p .network / 16777216), any-number (p .network / 65536 % 256), any-number (p .network / 256 % 256), any-number (p .network % 256), any-number (p .length))
 
-pub any-used : (x : Used) → usedSize x ≤ 7 * numberMost + 26
+pub any-used : (x : Used) → usedSize x ≤ 7 * numberMost + prefixMarks + usedWords
 any-used x = omega (arith, any-prefix (prefixUsed x), any-number (x .client), any-number (x .expires))
 
-pub any-free : (p : Prefix) → freeSize p ≤ 7 * numberMost + 26
+pub any-free : (p : Prefix) → freeSize p ≤ 7 * numberMost + prefixMarks + usedWords
 any-free p = omega (arith, any-prefix p)
 
-pub any-head : (leases free : ℕ) → headTextSize leases free ≤ 7 * numberMost + 26
+pub any-head : (leases free : ℕ) → headTextSize leases free ≤ 7 * numberMost + prefixMarks + usedWords
 any-head leases free = omega (arith, any-number leases, any-number free)
 
 -- A prefix of 32-bit addresses, with a length of two digits.

@@ -12,7 +12,9 @@ use Rattle.lists.proofs.ListLaws.{all-map, all-image, pairwise-image, any-all}
 use Rattle.prefix.specs.declared.Prefix.{Prefix}
 use Rattle.prefix.specs.Prefixes.{Aligned, Apart}
 use Rattle.prefix.proofs.PrefixLaws.{size-positive}
-use Rattle.free_space.specs.Space.{Length, Pools, Whole, wholes}
+use Rattle.free_space.specs.Space.{Whole}
+use Rattle.free_space.specs.Grant.{wholes}
+use Rattle.free_space.specs.Serving.{Length, Pools}
 use Rattle.free_space.proofs.GrantLaws.{ChosenWhole, wholes-found}
 use Rattle.free_space.proofs.Rules.{wholes-exactly}
 use Rattle.table.specs.declared.Lease.{Lease}
@@ -23,7 +25,8 @@ use Rattle.table.proofs.TableLaws.{GoodPool, Good, sound-pools, sound-used, sou
 use Rattle.image.specs.Image.{usedPools, usedLeases}
 use Rattle.sheet_text.specs.declared.SheetAnswer.{SheetAnswer}
 use Rattle.sheet_text.specs.declared.SheetAnswer.the-variants.{Written, TooSmall}
-use Rattle.sheet_text.specs.Sheet.{usedBy, prefixUsed, Row, usedRow, freeRow, usedIn, freeIn, rows, rowText, headText, sheetText, sheetOfImage}
+use Rattle.sheet_text.specs.Sheet.{usedBy, prefixUsed, Row, usedRow, freeRow, usedIn, freeIn, rows, rowText, headText, sheetText}
+use Rattle.sheet_text.specs.Answers.{sheetOfImage}
 use Rattle.sheet_text.specs.SheetSizes.{usedMost, freeMost, headMost, mostFree, sheetSize}
 use Rattle.sheet_text.proofs.RowTexts.{Short, used-most, free-most, head-most}
 use Rattle.sheet_text.proofs.SheetLaws.{pools-within, pools-number, leases-number, all-found, rows-found, answer-cases}

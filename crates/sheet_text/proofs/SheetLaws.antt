@@ -28,11 +28,13 @@ use Rattle.table.proofs.Ascending.{Ascending, ascending-low, ascending-image}
 use Rattle.table.proofs.TableLaws.{GoodPool, Good, Fine, sound-pool-slots, sound-slots, sound-pools, sound-used, sound-fine}
 use Rattle.image.specs.Fields.{Run}
 use Rattle.image.specs.declared.Head.{Head}
-use Rattle.image.specs.Image.{usedPools, usedLeases, tableWith, headSize, headAt, poolsAt, leasesAt, whole, afterHead, loadImage}
+use Rattle.image.specs.Image.{usedPools, usedLeases, headSize}
+use Rattle.image.specs.Reading.{tableWith, headAt, poolsAt, leasesAt, whole, afterHead, loadImage}
 use Rattle.sheet_text.specs.declared.Used.{Used}
 use Rattle.sheet_text.specs.declared.SheetAnswer.{SheetAnswer}
 use Rattle.sheet_text.specs.declared.SheetAnswer.the-variants.{Written, NotSound, TooSmall}
-use Rattle.sheet_text.specs.Sheet.{usedBy, prefixUsed, leasesShown, rows, sheetText, into, sheetOf, sheetOfLoaded, sheetOfImage}
+use Rattle.sheet_text.specs.Sheet.{usedBy, prefixUsed, leasesShown, rows, sheetText}
+use Rattle.sheet_text.specs.Answers.{into, sheetOf, sheetOfLoaded, sheetOfImage}
 use Rattle.sheet_text.specs.InnerScan.{scanAll}
 use Rattle.sheet_text.proofs.RowLaws.{Blocks}
 use Rattle.sheet_text.proofs.PoolLaws.{ScannedAll, scanned-all}

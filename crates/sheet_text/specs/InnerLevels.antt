@@ -1,6 +1,5 @@
 -- How many rows there are, told from the lengths and networks of the leases alone. A pool has one row more than it has prefixes that are shown as halves, and
 -- those are the prefixes around its leases: for each lease as many as its length is greater than the pool's, less those that were around the lease before it.
--- Assumes nothing: these are definitions.
 use Prim.Native.Nat.{ℕ, zero, suc, _+_, _-_, _*_, _≤_}
 use mathlib.Core.Bool.{cond}
 use mathlib.Core.List.{List, [], _∷_}
@@ -10,8 +9,7 @@ use lib.Dec.{leb}
 use Rattle.prefix.specs.declared.Prefix.{Prefix}
 use Rattle.prefix.specs.Prefixes.{end}
 use Rattle.table.specs.Table.{leaseSlots}
-use Rattle.sheet_text.specs.declared.Used.{Used}
-use Rattle.sheet_text.specs.declared.Levels.{Levels}
+use Rattle.sheet_text.specs.declared.{Used.Used, Levels.Levels}
 use Rattle.sheet_text.specs.InnerScan.{clear?}
 
 -- How many bits two networks have in common, from the first on: there are that many prefixes around both, and one more.

@@ -1,6 +1,5 @@
 -- The rows as the code finds them: one walk over the bytes of an image, with a cursor into its ascending leases. Nobody who reads the contract of
 -- `sheet_of_image` needs this file; the laws say that on the image of a sound table it finds the rows of `Sheet`.
--- Assumes nothing: these are definitions.
 use Prim.Native.Nat.{ℕ, zero, suc, _+_, _-_, _*_, _/_, _%_, _≤_, _<_}
 use mathlib.Core.Path.{_≡_}
 use mathlib.Core.Logic.{_⊎_}
@@ -16,24 +15,26 @@ use Rattle.prefix.specs.declared.Prefix.{Prefix}
 use Rattle.prefix.specs.Prefixes.{longest, end, lower, upper}
 use Rattle.table.specs.declared.LeaseTable.{LeaseTable}
 use Rattle.table.specs.Table.{addresses, poolSlots, leaseSlots, poolPrefix, sound}
-use Rattle.image.specs.Image.{headSize, poolSize, leaseSize, poolIn, leaseIn, usedPools, usedLeases, imageOf, loadImage}
+use Rattle.image.specs.Image.{headSize, poolSize, leaseSize, usedPools, usedLeases, imageOf}
+use Rattle.image.specs.Reading.{poolIn, leaseIn, loadImage}
 use Rattle.sheet_text.specs.declared.Used.{Used}
+use Rattle.sheet_text.specs.SheetSizes.{prefixMarks, usedWords, freeWords, headWords}
 use Rattle.sheet_text.specs.Sheet.{usedBy, prefixUsed, Row, usedRow, freeRow, rowText}
 
 -- HOW LONG ROWS ARE
 
 abbrev pub prefixSize : Prefix → ℕ
 prefixSize p =
-    length (decimal (p .network / 16777216)) + length (decimal (p .network / 65536 % 256)) + length (decimal (p .network / 256 % 256)) + length (decimal (p .network % 256)) + length (decimal (p .length)) + 4
+    length (decimal (p .network / 16777216)) + length (decimal (p .network / 65536 % 256)) + length (decimal (p .network / 256 % 256)) + length (decimal (p .network % 256)) + length (decimal (p .length)) + prefixMarks
 
 abbrev pub usedSize : Used → ℕ
-usedSize x = prefixSize (prefixUsed x) + length (decimal (x .client)) + length (decimal (x .expires)) + 22
+usedSize x = prefixSize (prefixUsed x) + length (decimal (x .client)) + length (decimal (x .expires)) + usedWords
 
 abbrev pub freeSize : Prefix → ℕ
-freeSize p = prefixSize p + 6
+freeSize p = prefixSize p + freeWords
 
 abbrev pub headTextSize : ℕ → ℕ → ℕ
-headTextSize leases free = length (decimal leases) + length (decimal free) + 19
+headTextSize leases free = length (decimal leases) + length (decimal free) + headWords
 
 -- A buffer has room for a text; or it is empty: then nothing is written, and the place after the text is told all the same.
 pub record Fits (out : List ℕ) (at : ℕ) (text : List ℕ) : Type 0 where

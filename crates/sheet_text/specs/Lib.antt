@@ -1,4 +1,5 @@
 pub mod Sheet
+pub mod Answers
 pub mod SheetSizes
 pub mod InnerScan
 pub mod InnerLevels

@@ -1,24 +1,15 @@
 -- The sheet of a lease table (document 01: of a saved book): which rows, in which order, every character.
--- Assumes nothing: these are definitions.
-use Prim.Native.Nat.{ℕ, zero, suc, _-_, _/_, _%_}
-use mathlib.Core.Bool.{Bool, true, false, not, cond, _&&_}
-use mathlib.Core.List.{List, [], _∷_, _++_, map}
-use mathlib.Core.Option.{Option, none, some}
-use lib.ListN.{length, drop}
-use lib.Dec.{ltb, eqb}
+use Rattle.lists.specs.Basics.{ℕ, zero, suc, _-_, _/_, _%_, Bool, true, false, cond, _&&_, List, [], _∷_, _++_, map, Option, none, some, length, eqb}
 use Rattle.lists.specs.Lists.{concatMap}
 use Rattle.text.specs.Ascii.{ascii}
 use Rattle.text.specs.Decimal.{decimal}
 use Rattle.prefix.specs.declared.Prefix.{Prefix}
 use Rattle.prefix.specs.Prefixes.{longest, prefix, lower, upper}
 use Rattle.free_space.specs.Space.{unused?}
-use Rattle.table.specs.declared.Lease.{Lease}
-use Rattle.table.specs.declared.LeaseTable.{LeaseTable}
-use Rattle.table.specs.Table.{poolsOf, sound}
-use Rattle.image.specs.Image.{usedLeases, loadImage}
+use Rattle.table.specs.declared.{Lease.Lease, LeaseTable.LeaseTable}
+use Rattle.table.specs.Table.{poolsOf}
+use Rattle.image.specs.Image.{usedLeases}
 use Rattle.sheet_text.specs.declared.Used.{Used}
-use Rattle.sheet_text.specs.declared.SheetAnswer.{SheetAnswer}
-use Rattle.sheet_text.specs.declared.SheetAnswer.the-variants.{Written, NotSound, TooSmall}
 
 -- What a row shows of a lease.
 abbrev pub usedBy : Lease → Used
@@ -90,33 +81,3 @@ headText leases freeRows = ascii "sheet lines=" ++ decimal leases ++ ascii " fre
 
 unfoldable pub sheetText : LeaseTable → List ℕ
 sheetText t = headText (length (usedLeases t)) (length (freeIn (rows t))) ++ concatMap rowText (rows t)
-
--- ANSWERS
-
--- Rows 5 and 14; 0 is accepted, with the bytes written.
-abbrev pub sheetNumber : SheetAnswer → ℕ
-sheetNumber (Written bytes) = 0
-sheetNumber NotSound = 5
-sheetNumber TooSmall = 14
-
-abbrev pub sheetBytes : SheetAnswer → ℕ
-sheetBytes (Written bytes) = bytes
-sheetBytes NotSound = 0
-sheetBytes TooSmall = 0
-
--- The sheet into a buffer; a refusal leaves "the old bytes everywhere", and bytes after those written keep their content.
-abbrev pub into : List ℕ → List ℕ → SheetAnswer × List ℕ
-into text buffer =
-    cond (ltb (length buffer) (length text)) (TooSmall, buffer)
-    (Written (length text), text ++ drop (length text) buffer)
-
-unfoldable pub sheetOf : LeaseTable → List ℕ → SheetAnswer × List ℕ
-sheetOf t buffer = cond (not (sound t)) (NotSound, buffer) (into (sheetText t) buffer)
-
--- Of an image: "for load and the sheet, the saved bytes only".
-abbrev pub sheetOfLoaded : Option LeaseTable → List ℕ → SheetAnswer × List ℕ
-sheetOfLoaded none buffer = (NotSound, buffer)
-sheetOfLoaded (some t) buffer = sheetOf t buffer
-
-unfoldable pub sheetOfImage : List ℕ → List ℕ → SheetAnswer × List ℕ
-sheetOfImage bytes buffer = sheetOfLoaded (loadImage bytes) buffer

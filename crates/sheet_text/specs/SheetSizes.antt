@@ -1,21 +1,36 @@
 -- How long a sheet can be, as the sizes in the code.
--- Assumes nothing: these are definitions.
 use Prim.Native.Nat.{ℕ, _+_, _-_, _*_}
+use mathlib.Core.List.{_++_}
+use lib.ListN.{length}
+use Rattle.text.specs.Ascii.{ascii}
 use Rattle.prefix.specs.Prefixes.{longest}
 use Rattle.table.specs.Table.{poolSlots, leaseSlots}
 
--- The longest prefix is as 255.255.255.252/30, and a number of 32 bits has at most ten digits.
+-- The longest prefix, and the longest number of 32 bits.
 abbrev pub prefixMost : ℕ
-prefixMost = 18
+prefixMost = length (ascii "255.255.255.252/30")
 
 abbrev pub numberMost : ℕ
-numberMost = 10
+numberMost = length (ascii "4294967295")
+
+-- The marks of a prefix, and the words of each row.
+abbrev pub prefixMarks : ℕ
+prefixMarks = length (ascii ".../")
+
+abbrev pub usedWords : ℕ
+usedWords = length (ascii "used " ++ ascii " station " ++ ascii " until " ++ ascii "\n")
+
+abbrev pub freeWords : ℕ
+freeWords = length (ascii "free " ++ ascii "\n")
+
+abbrev pub headWords : ℕ
+headWords = length (ascii "sheet lines=" ++ ascii " free=" ++ ascii "\n")
 
 abbrev pub usedMost : ℕ
-usedMost = 22 + prefixMost + 2 * numberMost
+usedMost = usedWords + prefixMost + 2 * numberMost
 
 abbrev pub freeMost : ℕ
-freeMost = 6 + prefixMost
+freeMost = freeWords + prefixMost
 
 -- A pool has a length of 8 or more, a lease one of 30 or less: 22 free rows for each lease, and one for each pool.
 abbrev pub halvings : ℕ
@@ -32,7 +47,7 @@ abbrev pub freeDigits : ℕ
 freeDigits = 4
 
 abbrev pub headMost : ℕ
-headMost = 19 + leaseDigits + freeDigits
+headMost = headWords + leaseDigits + freeDigits
 
 -- A buffer of this many bytes holds the sheet of every sound table.
 abbrev pub sheetSize : ℕ

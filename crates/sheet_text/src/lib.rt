@@ -5,6 +5,7 @@ use image::POOL;
 use prefix::Prefix;
 use table::LEASES;
 use table::POOLS;
+use table::SHORTEST_POOL;
 ghost use mathlib.Core.Path.{_≡_};
 ghost use Prim.Native.Nat.{_+_, _-_, _*_, _≤_, _<_};
 ghost use lib.ListN.{length};
@@ -13,17 +14,8 @@ ghost use Rattle.prefix.specs.Prefixes.{longest, end};
 ghost use Rattle.table.specs.Table.{leaseSlots};
 ghost use Rattle.image.specs.Image.{headSize, poolSize, leaseSize};
 ghost use Rattle.text.specs.Wrote.{Wrote};
-ghost use Rattle.sheet_text.specs.Sheet.{
-  prefixText,
-  usedRow,
-  freeRow,
-  freeIn,
-  rows,
-  rowText,
-  headText,
-  sheetText,
-  sheetOfImage,
-};
+ghost use Rattle.sheet_text.specs.Sheet.{prefixText, usedRow, freeRow, freeIn, rows, rowText, headText, sheetText};
+ghost use Rattle.sheet_text.specs.Answers.{sheetOfImage};
 ghost use Rattle.sheet_text.specs.SheetSizes.{sheetSize};
 ghost use Rattle.sheet_text.specs.InnerLevels.{
   commonBits,
@@ -54,26 +46,46 @@ ghost use Rattle.sheet_text.specs.InnerScan.{
   ReadyAll,
 };
 
-// SIZES: how long text gets. The digits are those of the largest numbers in the first row, LEASES and MOST_FREE.
-const PREFIX_TEXT: usize = 18;
+// WORDS of the rows.
+const LINES: [u8; 12] = *b"sheet lines=";
 
-const NUMBER_TEXT: usize = 10;
+const FREE_COUNT: [u8; 6] = *b" free=";
+
+const USED: [u8; 5] = *b"used ";
+
+const STATION: [u8; 9] = *b" station ";
+
+const UNTIL: [u8; 7] = *b" until ";
+
+const FREE: [u8; 5] = *b"free ";
+
+const END: [u8; 1] = *b"\n";
+
+// SIZES: how long text gets. No prefix and no number of 32 bits is longer than these. The digits are those of the largest numbers in
+// the first row, LEASES and MOST_FREE.
+const PREFIX_TEXT: usize = (*b"255.255.255.252/30").len();
+
+const PREFIX_MARKS: usize = (*b".../").len();
+
+const NUMBER_TEXT: usize = (*b"4294967295").len();
 
 const LEASE_DIGITS: usize = 3;
 
 const FREE_DIGITS: usize = 4;
 
-const FIRST_ROW: usize = 19 + LEASE_DIGITS + FREE_DIGITS;
+const FIRST_ROW: usize = LINES.len() + LEASE_DIGITS + FREE_COUNT.len() + FREE_DIGITS + END.len();
 
-const USED_ROW: usize = 22 + PREFIX_TEXT + 2 * NUMBER_TEXT;
+const USED_WORDS: usize = USED.len() + STATION.len() + UNTIL.len() + END.len();
 
-const FREE_ROW: usize = 6 + PREFIX_TEXT;
+const USED_ROW: usize = USED_WORDS + PREFIX_TEXT + 2 * NUMBER_TEXT;
 
-// A row with each of its seven numbers as long as any.
-const ANY_ROW: usize = 26 + 7 * NUMBER_TEXT;
+const FREE_ROW: usize = FREE.len() + PREFIX_TEXT + END.len();
+
+// A used row, the longest, with each of its seven numbers as long as any.
+const ANY_ROW: usize = USED_WORDS + PREFIX_MARKS + 7 * NUMBER_TEXT;
 
 // A pool can be halved so often, and so many free rows stand beside a lease at most.
-const HALVINGS: usize = 22;
+const HALVINGS: usize = (Prefix::LONGEST - SHORTEST_POOL) as usize;
 
 const MOST_FREE: usize = HALVINGS * LEASES + POOLS;
 
@@ -120,26 +132,26 @@ fn put_used(out: &mut [u8], at: usize, x: Used) -> usize
     requires { ⌜ at + usedSize x ≤ length (now out) ⌝ }
     ensures { λ r. ⌜ Wrote (now (out .entry)) at (rowText (usedRow x)) (now (out .exit)) r ⌝ }
 {
-    let word = text::put(out, at, b"used ");
+    let word = text::put(out, at, &USED);
     let p = Prefix {
         network: x.network,
         length: x.length,
     };
     let place = put_prefix(out, word, p);
-    let station = text::put(out, place, b" station ");
+    let station = text::put(out, place, &STATION);
     let client = text::decimal(out, station, x.client);
-    let until = text::put(out, client, b" until ");
+    let until = text::put(out, client, &UNTIL);
     let expires = text::decimal(out, until, x.expires);
-    text::put(out, expires, b"\n")
+    text::put(out, expires, &END)
 }
 
 fn put_free(out: &mut [u8], at: usize, p: Prefix) -> usize
     requires { ⌜ at + freeSize p ≤ length (now out) ⌝ }
     ensures { λ r. ⌜ Wrote (now (out .entry)) at (rowText (freeRow p)) (now (out .exit)) r ⌝ }
 {
-    let word = text::put(out, at, b"free ");
+    let word = text::put(out, at, &FREE);
     let place = put_prefix(out, word, p);
-    text::put(out, place, b"\n")
+    text::put(out, place, &END)
 }
 
 // The first row.
@@ -147,11 +159,11 @@ fn put_head(out: &mut [u8], leases: u32, free: u32) -> usize
     requires { ⌜ headTextSize leases free ≤ length (now out) ⌝ }
     ensures { λ r. ⌜ Wrote (now (out .entry)) 0 (headText leases free) (now (out .exit)) r ⌝ }
 {
-    let lines = text::put(out, 0, b"sheet lines=");
+    let lines = text::put(out, 0, &LINES);
     let count = text::decimal(out, lines, leases);
-    let word = text::put(out, count, b" free=");
+    let word = text::put(out, count, &FREE_COUNT);
     let rows = text::decimal(out, word, free);
-    text::put(out, rows, b"\n")
+    text::put(out, rows, &END)
 }
 
 // ROWS SHOWN. Each of these writes into a buffer that has room, or into an empty one, and then only tells how long the text is.

@@ -9,8 +9,7 @@ use native.Mathlib.Omega.{arith}
 use lib.ListN.{length, replicate}
 use lib.Dec.{leb, ltb}
 use borrow.Author.Tests.{leb-true, le-leb, ltb-true, ltb-false}
-use Rattle.lists.specs.Lists.{All, Pairwise, all?, filter}
-use Rattle.lists.specs.Sorting.{insertBy, sortBy}
+use Rattle.lists.specs.Lists.{All, Pairwise, all?, filter, insertBy, sortBy}
 use Rattle.lists.proofs.Tests.{bool-cases, and-to, and-of, cond-true, cond-false, not-of, not-to}
 use Rattle.lists.proofs.ListLaws.{all-map}
 use Rattle.lists.proofs.FilterLaws.{filter-yes, filter-no}

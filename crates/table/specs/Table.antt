@@ -1,17 +1,9 @@
 -- The lease table (document 01: the book): what is present at a time, when a table is sound, and what an accepted call stores.
--- Assumes nothing: these are definitions.
-use Prim.Native.Nat.{ℕ, _-_}
-use mathlib.Core.Bool.{Bool, true, false, not, cond, _&&_}
-use mathlib.Core.List.{List, [], _∷_, _++_, map}
-use lib.ListN.{length, replicate}
-use lib.Dec.{leb, ltb, eqb}
-use Rattle.lists.specs.Lists.{and, all?, any?, filter}
-use Rattle.lists.specs.Sorting.{insertBy}
+use Rattle.lists.specs.Basics.{ℕ, _-_, Bool, true, false, not, cond, _&&_, List, [], _∷_, _++_, map, length, replicate, leb, ltb, eqb}
+use Rattle.lists.specs.Lists.{and, all?, any?, filter, insertBy}
 use Rattle.prefix.specs.declared.Prefix.{Prefix}
 use Rattle.prefix.specs.Prefixes.{shortest, longest, prefix, end, aligned?, inside?}
-use Rattle.table.specs.declared.Pool.{Pool}
-use Rattle.table.specs.declared.Lease.{Lease}
-use Rattle.table.specs.declared.LeaseTable.{LeaseTable}
+use Rattle.table.specs.declared.{Pool.Pool, Lease.Lease, LeaseTable.LeaseTable}
 
 -- The slots of a table, as POOLS and LEASES in the code: "1 to 8 roots", "256 empty lines".
 abbrev pub poolSlots : ℕ
@@ -19,6 +11,10 @@ poolSlots = 8
 
 abbrev pub leaseSlots : ℕ
 leaseSlots = 256
+
+-- "A root has length 8 to 30", as SHORTEST_POOL in the code.
+abbrev pub shortestPool : ℕ
+shortestPool = 8
 
 -- Row 4 and row 12: no time is above 4,292,375,295.
 abbrev pub latest : ℕ
@@ -78,7 +74,7 @@ headOk term defaultLength last = and (headRules term defaultLength last)
 
 -- Row 12, a pool: "A root has length 8 to 30, is aligned (its network is a multiple of its size)". Its addresses have 32 bits.
 abbrev pub poolRules : Pool → List Bool
-poolRules p = leb 8 (p .length) ∷ leb (p .length) longest ∷ aligned? (poolPrefix p) ∷ leb (end (poolPrefix p)) addresses ∷ []
+poolRules p = leb shortestPool (p .length) ∷ leb (p .length) longest ∷ aligned? (poolPrefix p) ∷ leb (end (poolPrefix p)) addresses ∷ []
 
 unfoldable pub poolOk : Pool → Bool
 poolOk p = and (poolRules p)

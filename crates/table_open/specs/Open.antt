@@ -1,15 +1,8 @@
 -- Open: the table that pools, a term, a default length and a start time make.
--- Assumes nothing: these are definitions.
-use Prim.Native.Nat.{ℕ}
-use mathlib.Core.Bool.{Bool, true, _&&_}
-use mathlib.Core.List.{List, [], _∷_}
-use lib.ListN.{length, replicate}
-use lib.Dec.{leb, ltb, eqb}
-use Rattle.lists.specs.Lists.{and, all?}
-use Rattle.lists.specs.Sorting.{sortBy}
+use Rattle.lists.specs.Basics.{ℕ, Bool, true, _&&_, List, [], _∷_, length, replicate, leb, ltb, eqb}
+use Rattle.lists.specs.Lists.{and, all?, sortBy}
 use Rattle.prefix.specs.Prefixes.{apart?}
-use Rattle.table.specs.declared.Pool.{Pool}
-use Rattle.table.specs.declared.LeaseTable.{LeaseTable}
+use Rattle.table.specs.declared.{Pool.Pool, LeaseTable.LeaseTable}
 use Rattle.table.specs.Table.{poolSlots, leaseSlots, noLease, poolPrefix, headOk, poolOk, paddedPools}
 
 -- The pools that are given as networks and lengths, one of each at each place.

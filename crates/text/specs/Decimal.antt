@@ -1,9 +1,5 @@
 -- Decimal numbers as text.
--- Assumes nothing: these are definitions.
-use Prim.Native.Nat.{ℕ, zero, suc, _+_, _/_, _%_}
-use mathlib.Core.Bool.{cond}
-use mathlib.Core.List.{List, [], _∷_, _++_}
-use lib.Dec.{ltb}
+use Rattle.lists.specs.Basics.{ℕ, zero, suc, _+_, _/_, _%_, cond, List, [], _∷_, _++_, ltb}
 
 -- The last digit of a number.
 abbrev pub digit : ℕ → ℕ

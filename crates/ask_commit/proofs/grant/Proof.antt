@@ -10,7 +10,7 @@ use lib.Seq.{length-take-le}
 use borrow.Author.Needs.{needs}
 use Rattle.table.specs.Table.{present}
 use Rattle.image.specs.Image.{leaseSize, usedLeases}
-use Rattle.option.specs.Sizes.{mostRequests}
+use Rattle.option.specs.Values.{mostRequests}
 use Rattle.option.specs.Contents.{requestsIn}
 use Rattle.ledger.specs.declared.Answer.{Answer}
 use Rattle.ledger.specs.Ledger.{call, result, holdTime, addAll}

@@ -1,4 +1,4 @@
--- `grant_image::put_offer` meets its contract.
+-- `put_offer` meets its contract.
 -- Assumes nothing.
 use mathlib.Core.Path.{_∙_}
 use native.Mathlib.Omega.{arith}

@@ -1,4 +1,4 @@
--- `grant_image::put_offers` meets its contract: so far the head and k informations are put.
+-- `put_offers` meets its contract: so far the head and k informations are put.
 -- Assumes nothing.
 use Prim.Native.Nat.{ℕ, _+_, _-_, _*_, _≤_}
 use mathlib.Core.Path.{_≡_, refl, sym, ap, _∙_}

@@ -2,15 +2,14 @@
 -- made at most one. The measure is the number of leases ahead.
 -- Assumes nothing.
 use Prim.Native.Nat.{ℕ, _+_, _-_, _≤_}
-use mathlib.Core.Path.{_≡_, refl, sym, ap, subst, _∙_}
+use mathlib.Core.Path.{_≡_, refl, ap, subst, _∙_}
 use mathlib.Core.Logic.{⊎-elim}
-use mathlib.Core.List.{List}
 use native.Mathlib.Omega.{arith}
 use lib.ListN.{length}
 use borrow.Author.Needs.{needs}
 use Rattle.prefix.specs.Prefixes.{end}
 use Rattle.table.specs.Table.{prefixOf}
-use Rattle.ask_gaps.specs.Ground.{Went}
+use Rattle.ask_gaps.specs.InnerPass.{Went}
 use Rattle.ask_gaps.proofs.PassLaws.{Walked, walked-none, walked-expired, walked-lease, walked-past, walked-all}
 use Rattle.ask_gaps.proofs.in_pool.Statement.{statement}
 use Rattle.ask_gaps.proofs.in_pool.Tie as tie
@@ -49,35 +48,27 @@ loop-again c =
     let e = met .before .before .before .before in
     let a = e .before .before .before .before .args in
     let x = met .lease-at .result in
-    let Next : ℕ → ℕ → List ℕ → List ℕ → Type 0 =
-    λ cursor gaps ss ls. Walked (a .image .now) (a .from) (a .n) (a .time) (a .pool .network) (e .end .result) (a .at) (a .starts .now) (a .lasts .now) cursor gaps (l .i + 1) ss ls in
     ⊎-elim
     (λ w.
-    let went = walked-lease (a .image .now) (a .from) (a .n) (a .time) (a .pool .network) (e .end .result) (a .at) (a .starts .now) (a .lasts .now) (l .cursor) (l .gaps) (l .i) (l .starts) (l .lasts) (l .inv .5)
-    (omega arith) x (met .lease-at .ensures) (w .0 .taken) (w .5 .result) (w .5 .last .0) (w .5 .last .1 .0) (w .2 .left) (w .5 .ensures) in
     let cursor-is : j .cursor ≡ end (prefixOf x) = w .13 ∙ ap (λ (s : ℕ). x .network + s) (w .10 .ensures .0) in (
       omega arith,
       omega arith,
       omega (arith, w .5 .ensures .few, w .14),
       ap length (w .11) ∙ w .5 .kept .0 ∙ l .inv .3,
       ap length (w .12) ∙ w .5 .kept .1 .0 ∙ l .inv .4,
-      subst (λ (k : ℕ). Next k (j .gaps) (j .starts) (j .lasts)) (sym cursor-is)
-          (subst (λ (k : ℕ). Next (end (prefixOf x)) k (j .starts) (j .lasts)) (sym (w .14))
-          (subst (λ (ss : List ℕ). Next (end (prefixOf x)) (w .5 .result) ss (j .lasts)) (sym (w .11))
-          (subst (λ (ls : List ℕ). Next (end (prefixOf x)) (w .5 .result) (w .5 .last .0) ls) (sym (w .12)) went))),
+      rw (cursor-is, w .14, w .11, w .12)
+          (walked-lease (a .image .now) (a .from) (a .n) (a .time) (a .pool .network) (e .end .result) (a .at) (a .starts .now) (a .lasts .now) (l .cursor) (l .gaps) (l .i) (l .starts) (l .lasts) (l .inv .5)
+          (omega arith) x (met .lease-at .ensures) (w .0 .taken) (w .5 .result) (w .5 .last .0) (w .5 .last .1 .0) (w .2 .left) (w .5 .ensures)),
     ))
-    (λ w.
-    let went = walked-expired (a .image .now) (a .from) (a .n) (a .time) (a .pool .network) (e .end .result) (a .at) (a .starts .now) (a .lasts .now) (l .cursor) (l .gaps) (l .i) (l .starts) (l .lasts) (l .inv .5)
-    (omega arith) x (met .lease-at .ensures) (w .0 .left) in (
+    (λ w. (
       omega arith,
       omega arith,
       omega (arith, w .4),
       ap length (w .1) ∙ l .inv .3,
       ap length (w .2) ∙ l .inv .4,
-      subst (λ (k : ℕ). Next k (j .gaps) (j .starts) (j .lasts)) (sym (w .3))
-          (subst (λ (k : ℕ). Next (l .cursor) k (j .starts) (j .lasts)) (sym (w .4))
-          (subst (λ (ss : List ℕ). Next (l .cursor) (l .gaps) ss (j .lasts)) (sym (w .1))
-          (subst (λ (ls : List ℕ). Next (l .cursor) (l .gaps) (l .starts) ls) (sym (w .2)) went))),
+      rw (w .3, w .4, w .1, w .2)
+          (walked-expired (a .image .now) (a .from) (a .n) (a .time) (a .pool .network) (e .end .result) (a .at) (a .starts .now) (a .lasts .now) (l .cursor) (l .gaps) (l .i) (l .starts) (l .lasts) (l .inv .5)
+          (omega arith) x (met .lease-at .ensures) (w .0 .left)),
     ))
     (j .came)
 

@@ -1,4 +1,4 @@
--- `granting::ask_length` meets its contract.
+-- `ask_length` meets its contract.
 -- Assumes nothing.
 use borrow.Author.Tests.{eq-eqb, ne-eqb}
 use Rattle.ask_serve.proofs.ask_length.Statement.{statement}

@@ -12,7 +12,8 @@ use Rattle.table.specs.declared.LeaseTable.{LeaseTable}
 use Rattle.option.specs.Contents.{Request}
 use Rattle.ask_serve.specs.declared.Progress.{Progress}
 use Rattle.ask_serve.specs.declared.Start.{Start}
-use Rattle.ask_serve.specs.Granting.{columns, Served, Serving}
+use Rattle.ask_serve.specs.Granting.{Serving}
+use Rattle.ask_serve.specs.InnerServing.{columns, Served}
 use Rattle.ask_serve.proofs.ServeLaws.{After, serve-start, serve-turn, serve-end}
 use Rattle.ask_serve.proofs.serve.Statement.{statement}
 use Rattle.ask_serve.proofs.serve.Tie as tie

@@ -1,10 +1,10 @@
--- `granting::serve_one` meets its contract.
+-- `serve_one` meets its contract.
 -- Assumes nothing.
 use mathlib.Core.Bool.{false}
 use native.Mathlib.Omega.{arith}
 use Rattle.prefix.specs.Prefixes.{prefix}
 use Rattle.gap_list.proofs.ColumnLaws.{lies-below}
-use Rattle.ask_serve.specs.Granting.{columns}
+use Rattle.ask_serve.specs.InnerServing.{columns}
 use Rattle.ask_serve.proofs.GrantLaws.{not-back, served-full, served-none, served-granted}
 use borrow.Author.Needs.{needs}
 use Rattle.ask_serve.proofs.serve_one.Statement.{statement}

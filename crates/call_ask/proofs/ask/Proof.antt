@@ -2,28 +2,44 @@
 -- Assumes nothing.
 use Prim.Native.Nat.{_≤_}
 use mathlib.Core.Path.{sym, ap, _∙_}
-use mathlib.Core.List.{[]}
 use native.Mathlib.Omega.{arith}
 use lib.ListN.{length}
 use lib.Seq.{length-take-le}
 use borrow.Author.Tests.{not-true, not-false}
 use borrow.Author.Needs.{needs}
 use Rattle.image.proofs.FieldLaws.{bytes-all}
-use Rattle.option.specs.Sizes.{mostRequests}
+use Rattle.option.specs.Values.{mostRequests}
 use Rattle.ledger.specs.declared.Answer.{Answer}
-use Rattle.ledger.specs.Ledger.{call, result}
-use Rattle.call_spec.specs.ImageCalls.{lent}
-use Rattle.call_rows.proofs.RowLaws.{place-small, admitted-room}
+use Rattle.ledger.specs.Ledger.{Call, call, result}
+use Rattle.call_spec.specs.ImageCalls.{Lent, lent}
+use Rattle.call_rows.proofs.RowLaws.{place-small, ReadCall}
 use Rattle.call_ask.proofs.AskLaws.{and-few, ask-refused, ask-unread, ask-wrong, ask-ready, ask-asking}
 use Rattle.call_ask.proofs.ask.Statement.{statement}
 use Rattle.call_ask.proofs.ask.Tie as tie
 
--- Places further back in the code: where the option is read, and where the call is admitted.
+-- Places further back in the code: where the option is read, where the call is admitted, where it begins.
 abbrev read-of : tie.After-option-refusal → tie.After-read
 read-of c = c .before .before .before .before .before
 
 abbrev else-of : tie.After-read → tie.Else1
 else-of c = c .before .before .before .before .before
+
+abbrev start-of : tie.Else1 → tie.Start
+start-of c = c .before .before .before .before .before .before .before .before
+
+-- What is lent, and the call.
+abbrev lent-of : tie.Else1 → Lent
+lent-of c = let a = start-of c .args in lent (a .image .now) (a .image-bytes .now)
+
+abbrev call-of : tie.Else1 → Call
+call-of c = let a = start-of c .args in call (a .client) (a .option .now) (a .reply .now)
+
+abbrev read-call : (c : tie.After-option-refusal) → let else = else-of (read-of c) in ReadCall (length (call-of else .reply)) (lent-of else) (start-of else .args .time) (call-of else)
+read-call c =
+    let read = read-of c in
+    let else = else-of read in
+    let adm = else .before .before in
+    record { admission = adm .admit .result; admits = adm .admit .ensures; admitted = else .if1 .left; contents = read .read .result; columns = _; reads = read .read .ensures; answer = c .option-refusal .result; answer-is = c .option-refusal .ensures }
 
 returns : tie.Need-returns
 returns c =
@@ -43,27 +59,16 @@ option-refusal-requires c κs =
 returns-2 : tie.Need-returns-2
 returns-2 c =
     let answer = c .before .before in
-    let read = read-of answer in
-    let else = else-of read in
-    let adm = else .before .before in
-    let a = adm .before .before .before .before .before .before .args in
-    let h = lent (a .image .now) (a .image-bytes .now) in
-    let by = call (a .client) (a .option .now) (a .reply .now) in
-    ask-unread h (a .time) by (adm .admit .result) (adm .admit .ensures) (else .if1 .left) (read .read .result) _ (read .read .ensures) (answer .option-refusal .result) (answer .option-refusal .ensures) (c .if2 .taken)
+    let else = else-of (read-of answer) in
+    ask-unread (lent-of else) (start-of else .args .time) (call-of else) (read-call answer) (c .if2 .taken)
 
 returns-3 : tie.Need-returns-3
 returns-3 c =
     let tested = c .before .before in
-    let good = tested .before in
-    let answer = good .before .before in
-    let read = read-of answer in
-    let else = else-of read in
-    let adm = else .before .before in
-    let a = adm .before .before .before .before .before .before .args in
-    let h = lent (a .image .now) (a .image-bytes .now) in
-    let by = call (a .client) (a .option .now) (a .reply .now) in
-    ap (λ (r : Answer). result r h (a .reply .now)) (c .refused2 .ensures)
-    ∙ ask-wrong h (a .time) by (adm .admit .result) (adm .admit .ensures) (else .if1 .left) (read .read .result) _ (read .read .ensures) (answer .option-refusal .result) (answer .option-refusal .ensures) (good .if2 .left) (tested .for-ask .result) (tested .for-ask .ensures) (not-true _ (c .before .if3 .taken))
+    let answer = tested .before .before .before in
+    let else = else-of (read-of answer) in
+    ap (λ (r : Answer). result r (lent-of else) (call-of else .reply)) (c .refused2 .ensures)
+    ∙ ask-wrong (lent-of else) (start-of else .args .time) (call-of else) (read-call answer) (tested .before .if2 .left) (tested .for-ask .result) (tested .for-ask .ensures) (not-true _ (c .before .if3 .taken))
 
 -- No more than an ask may have.
 few-of : (c : tie.Else3) → read-of (c .before .before .before .before) .read .result .requests ≤ mostRequests
@@ -85,15 +90,10 @@ grant-requires : tie.Need-grant-requires
 grant-requires c κs =
     let else3 = c .before .before .before .before .before .before in
     let tested = else3 .before in
-    let good = tested .before in
-    let answer = good .before .before in
+    let answer = tested .before .before .before in
     let read = read-of answer in
     let else = else-of read in
-    let adm = else .before .before in
-    let a = adm .before .before .before .before .before .before .args in
-    let h = lent (a .image .now) (a .image-bytes .now) in
-    let by = call (a .client) (a .option .now) (a .reply .now) in
-    ask-ready h (a .time) by (adm .admit .result) (adm .admit .ensures) (else .if1 .left) (read .read .result) _ (read .read .ensures) (answer .option-refusal .result) (answer .option-refusal .ensures) (good .if2 .left) (tested .for-ask .result) (tested .for-ask .ensures) (not-false _ (else3 .if3 .left)) (admitted-room (length (a .reply .now)) h (a .time) (a .client) (adm .admit .result) (adm .admit .ensures) [] (else .if1 .left))
+    ask-ready (lent-of else) (start-of else .args .time) (call-of else) (read-call answer) (tested .before .if2 .left) (tested .for-ask .result) (tested .for-ask .ensures) (not-false _ (else3 .if3 .left))
     (record {
       askLengths = omega (arith, read .read .kept .1 .0);
       askH = omega (arith, read .read .kept .1 .1 .0);
@@ -103,17 +103,13 @@ grant-requires c κs =
 
 returns-4 : tie.Need-returns-4
 returns-4 c =
-    let else3 = c .before .before .before .before .before .before .before .before .before .before .before in
+    let granted = c .before .before .before .before in
+    let else3 = granted .before .before .before .before .before .before .before in
     let tested = else3 .before in
-    let good = tested .before in
-    let answer = good .before .before in
-    let read = read-of answer in
-    let else = else-of read in
-    let adm = else .before .before in
-    let a = adm .before .before .before .before .before .before .args in
-    let h = lent (a .image .now) (a .image-bytes .now) in
-    let by = call (a .client) (a .option .now) (a .reply .now) in
-    c .before .before .before .before .grant .ensures (a .option .now) (ask-asking h (a .time) by (adm .admit .result) (adm .admit .ensures) (else .if1 .left) (read .read .result) _ (read .read .ensures) (answer .option-refusal .result) (answer .option-refusal .ensures) (good .if2 .left) (tested .for-ask .result) (tested .for-ask .ensures) (not-false _ (else3 .if3 .left)))
+    let answer = tested .before .before .before in
+    let else = else-of (read-of answer) in
+    granted .grant .ensures (call-of else .option)
+    (ask-asking (lent-of else) (start-of else .args .time) (call-of else) (read-call answer) (tested .before .if2 .left) (tested .for-ask .result) (tested .for-ask .ensures) (not-false _ (else3 .if3 .left)))
 
 pub ask-spec : {M : Type 1} → statement M
 ask-spec =

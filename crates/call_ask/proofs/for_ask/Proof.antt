@@ -4,7 +4,7 @@ use mathlib.Core.Path.{_≡_, refl}
 use mathlib.Core.Bool.{Bool, true, false, _&&_}
 use native.Mathlib.Omega.{arith}
 use borrow.Author.Tests.{le-leb, lt-leb}
-use Rattle.option.specs.Sizes.{mostRequests}
+use Rattle.option.specs.Values.{mostRequests}
 use Rattle.call_ask.proofs.for_ask.Statement.{statement}
 use Rattle.call_ask.proofs.for_ask.Tie as tie
 

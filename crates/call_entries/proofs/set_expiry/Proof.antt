@@ -6,8 +6,7 @@ use mathlib.Core.Path.{refl, ap, _∙_}
 use lib.ListN.{length-set, set}
 use borrow.Author.Needs.{needs}
 use Rattle.lists.specs.Put.{put}
-use Rattle.image.specs.Fields.{le32}
-use Rattle.image.specs.Image.{leaseSize}
+use Rattle.image.specs.Image.{le32, leaseSize}
 use Rattle.call_entries.specs.EntryLeases.{named?}
 use Rattle.call_entries.proofs.NamedLaws.{set-expiry-none, set-expiry-here}
 use Rattle.call_entries.proofs.set_expiry.Statement.{statement}

@@ -1,34 +1,50 @@
 -- `list` meets its contract, row by row.
 -- Assumes nothing.
 use mathlib.Core.Path.{ap, _∙_}
-use mathlib.Core.List.{[]}
 use native.Mathlib.Omega.{arith}
 use lib.ListN.{length}
 use borrow.Author.Tests.{not-true, not-false}
 use borrow.Author.Needs.{needs}
 use Rattle.image.proofs.FieldLaws.{bytes-all}
 use Rattle.ledger.specs.declared.Answer.{Answer}
-use Rattle.ledger.specs.Ledger.{call, result}
-use Rattle.call_spec.specs.ImageCalls.{lent}
-use Rattle.call_rows.proofs.RowLaws.{place-small, admitted-room}
+use Rattle.ledger.specs.Ledger.{Call, call, result}
+use Rattle.call_spec.specs.ImageCalls.{Lent, lent}
+use Rattle.call_rows.proofs.RowLaws.{place-small, ReadCall}
 use Rattle.call_list.proofs.ListLaws.{list-refused, list-unread, list-wrong, list-passed}
 use Rattle.call_list.proofs.list.Statement.{statement}
 use Rattle.call_list.proofs.list.Tie as tie
 
--- Places further back in the code: where the option is read, and where the call is admitted.
+-- Places further back in the code: where the option is read, where the call is admitted, where it begins.
 abbrev read-of : tie.After-option-refusal → tie.After-read
 read-of c = c .before .before .before .before .before
 
 abbrev else-of : tie.After-read → tie.Else1
 else-of c = c .before .before .before .before .before
 
+abbrev start-of : tie.Else1 → tie.Start
+start-of c = c .before .before .before .before .before .before
+
+-- What is lent, and the call.
+abbrev lent-of : tie.Else1 → Lent
+lent-of c = let a = start-of c .args in lent (a .image .now) (a .image-bytes)
+
+abbrev call-of : tie.Else1 → Call
+call-of c = let a = start-of c .args in call (a .client) (a .option .now) (a .reply .now)
+
+abbrev read-call : (c : tie.After-option-refusal) → let else = else-of (read-of c) in ReadCall (length (call-of else .reply)) (lent-of else) (start-of else .args .time) (call-of else)
+read-call c =
+    let read = read-of c in
+    let else = else-of read in
+    let adm = else .before .before in
+    record { admission = adm .admit .result; admits = adm .admit .ensures; admitted = else .if1 .left; contents = read .read .result; columns = _; reads = read .read .ensures; answer = c .option-refusal .result; answer-is = c .option-refusal .ensures }
+
 returns : tie.Need-returns
 returns c =
     let adm = c .before .before .before in
     let a = adm .before .before .before .before .args in
     let h = lent (a .image .now) (a .image-bytes) in
-    let m = call (a .client) (a .option .now) (a .reply .now) in
-    ap (λ (r : Answer). result r h (a .reply .now)) (c .refused .ensures) ∙ list-refused h (a .time) m (adm .admit .result) (adm .admit .ensures) (c .before .if1 .taken)
+    ap (λ (r : Answer). result r h (a .reply .now)) (c .refused .ensures)
+    ∙ list-refused h (a .time) (call (a .client) (a .option .now) (a .reply .now)) (adm .admit .result) (adm .admit .ensures) (c .before .if1 .taken)
 
 option-refusal-requires : tie.Need-option-refusal-requires
 option-refusal-requires c κs =
@@ -40,38 +56,24 @@ option-refusal-requires c κs =
 returns-2 : tie.Need-returns-2
 returns-2 c =
     let answer = c .before .before in
-    let read = read-of answer in
-    let else = else-of read in
-    let adm = else .before .before in
-    let a = adm .before .before .before .before .args in
-    list-unread (lent (a .image .now) (a .image-bytes)) (a .time) (call (a .client) (a .option .now) (a .reply .now)) (adm .admit .result) (adm .admit .ensures) (else .if1 .left) (read .read .result) _ (read .read .ensures) (answer .option-refusal .result) (answer .option-refusal .ensures) (c .if2 .taken)
+    let else = else-of (read-of answer) in
+    list-unread (lent-of else) (start-of else .args .time) (call-of else) (read-call answer) (c .if2 .taken)
 
 returns-3 : tie.Need-returns-3
 returns-3 c =
     let tested = c .before .before in
-    let good = tested .before in
-    let answer = good .before .before in
-    let read = read-of answer in
-    let else = else-of read in
-    let adm = else .before .before in
-    let a = adm .before .before .before .before .args in
-    let h = lent (a .image .now) (a .image-bytes) in
-    ap (λ (r : Answer). result r h (a .reply .now)) (c .refused2 .ensures)
-    ∙ list-wrong h (a .time) (call (a .client) (a .option .now) (a .reply .now)) (adm .admit .result) (adm .admit .ensures) (else .if1 .left) (read .read .result) _ (read .read .ensures) (answer .option-refusal .result) (answer .option-refusal .ensures) (good .if2 .left) (tested .for-list .result) (tested .for-list .ensures) (not-true _ (c .before .if3 .taken))
+    let answer = tested .before .before .before in
+    let else = else-of (read-of answer) in
+    ap (λ (r : Answer). result r (lent-of else) (call-of else .reply)) (c .refused2 .ensures)
+    ∙ list-wrong (lent-of else) (start-of else .args .time) (call-of else) (read-call answer) (tested .before .if2 .left) (tested .for-list .result) (tested .for-list .ensures) (not-true _ (c .before .if3 .taken))
 
 show-listed-requires : tie.Need-show-listed-requires
 show-listed-requires c κs =
     let else3 = c .before .before in
     let tested = else3 .before in
-    let good = tested .before in
-    let answer = good .before .before in
-    let read = read-of answer in
-    let else = else-of read in
-    let adm = else .before .before in
-    let a = adm .before .before .before .before .args in
-    let h = lent (a .image .now) (a .image-bytes) in
-    list-passed h (a .time) (call (a .client) (a .option .now) (a .reply .now)) (adm .admit .result) (adm .admit .ensures) (else .if1 .left) (read .read .result) _ (read .read .ensures) (answer .option-refusal .result) (answer .option-refusal .ensures) (good .if2 .left) (tested .for-list .result) (tested .for-list .ensures) (not-false _ (else3 .if3 .left))
-    (admitted-room (length (a .reply .now)) h (a .time) (a .client) (adm .admit .result) (adm .admit .ensures) [] (else .if1 .left))
+    let answer = tested .before .before .before in
+    let else = else-of (read-of answer) in
+    list-passed (lent-of else) (start-of else .args .time) (call-of else) (read-call answer) (tested .before .if2 .left) (tested .for-list .result) (tested .for-list .ensures) (not-false _ (else3 .if3 .left))
 
 returns-4 : tie.Need-returns-4
 returns-4 c = c .before .before .show-listed .ensures

@@ -14,7 +14,7 @@ use Rattle.ledger.specs.Ledger.{call, result}
 use Rattle.option_reply.specs.Reply.{mostEntries}
 use Rattle.option_scan.specs.Scanned.{positionOf}
 use Rattle.call_spec.specs.ImageCalls.{lent, tableIn}
-use Rattle.call_list.specs.Page.{shown?, startOf, PageOf}
+use Rattle.call_list.specs.InnerPage.{shown?, startOf, PageOf}
 use Rattle.call_list.proofs.ListLaws.{list-nothing, list-empty, list-found}
 use Rattle.call_list.proofs.show_listed.Statement.{statement}
 use Rattle.call_list.proofs.show_listed.Tie as tie

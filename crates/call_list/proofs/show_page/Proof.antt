@@ -13,7 +13,7 @@ use Rattle.table.specs.declared.Lease.{Lease}
 use Rattle.image_records.specs.Records.{Records}
 use Rattle.image_records.proofs.RecordLaws.{lease-in-place}
 use Rattle.option_reply.specs.Reply.{mostEntries}
-use Rattle.call_list.specs.Page.{shown?}
+use Rattle.call_list.specs.InnerPage.{shown?}
 use Rattle.call_list.proofs.PageLaws.{Showing, showing-none, showing-skip, showing-more, page-full, page-last}
 use borrow.Author.Needs.{needs}
 use Rattle.call_list.proofs.show_page.Statement.{statement}

@@ -7,7 +7,8 @@ use mathlib.Core.Option.{some}
 use native.Mathlib.Omega.{arith}
 use borrow.Author.Tests.{not-true, not-false}
 use Rattle.lists.specs.Lists.{All}
-use Rattle.image.specs.Image.{loadImage, loadedTable}
+use Rattle.image.specs.Image.{loadedTable}
+use Rattle.image.specs.Reading.{loadImage}
 use Rattle.image.proofs.FieldLaws.{bytes-all}
 use Rattle.image_check.specs.declared.ImageSummary.{ImageSummary}
 use Rattle.image_check.proofs.SummaryLaws.{summary-some, summary-none}
@@ -50,7 +51,8 @@ copy-requires c κs =
     let two = c .before in
     let one = two .before in
     let a = one .before .before .before .before .before .args in
-    omega (arith, saved-short (lent (a .image .now) (a .image-bytes .now)) (a .saved .now) (loadedTable (loadImage (a .saved .now))) (loads one) (bytes one), two .if2 .left)
+    let short = saved-short (lent (a .image .now) (a .image-bytes .now)) (a .saved .now) (loadedTable (loadImage (a .saved .now))) (loads one) (bytes one) in
+    (short, omega (arith, short, two .if2 .left))
 
 returns-3 : tie.Need-returns-3
 returns-3 c =

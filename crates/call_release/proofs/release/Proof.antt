@@ -4,12 +4,33 @@ use mathlib.Core.Path.{sym, ap, _∙_}
 use mathlib.Core.List.{[]}
 use lib.Seq.{length-take-le}
 use Rattle.ledger.specs.declared.Answer.{Answer}
-use Rattle.ledger.specs.Ledger.{call, result}
-use Rattle.call_spec.specs.ImageCalls.{lent}
-use Rattle.call_release.proofs.ReleaseLaws.{release-refused, release-unread, release-passed, release-sized}
+use Rattle.ledger.specs.Ledger.{Call, call, result, leastReply}
+use Rattle.call_spec.specs.ImageCalls.{Lent, lent}
+use Rattle.call_entries.proofs.CallLaws.{EntriesCall, entries-sized}
+use Rattle.call_release.proofs.ReleaseLaws.{release-refused, release-unread, release-passed}
 use borrow.Author.Needs.{needs}
 use Rattle.call_release.proofs.release.Statement.{statement}
 use Rattle.call_release.proofs.release.Tie as tie
+
+-- Places further back in the code: where the call is admitted, where it begins.
+abbrev else-of : tie.After-read-entries → tie.Else1
+else-of c = c .before .before .before
+
+abbrev start-of : tie.Else1 → tie.Start
+start-of c = c .before .before .before .before .before .before .before
+
+-- What is lent, and the call.
+abbrev lent-of : tie.Else1 → Lent
+lent-of c = let a = start-of c .args in lent (a .image .now) (a .image-bytes .now)
+
+abbrev call-of : tie.Else1 → Call
+call-of c = let a = start-of c .args in call (a .client) (a .option .now) []
+
+abbrev entries-call : (c : tie.After-read-entries) → let else = else-of c in EntriesCall leastReply (lent-of else) (start-of else .args .time) (call-of else)
+entries-call c =
+    let else = else-of c in
+    let adm = else .before .before in
+    record { admission = adm .admit .result; admits = adm .admit .ensures; admitted = else .if1 .left; read = c .read-entries .result; networks = _; lengths = _; reads = c .read-entries .ensures }
 
 returns : tie.Need-returns
 returns c =
@@ -21,10 +42,8 @@ returns c =
 returns-2 : tie.Need-returns-2
 returns-2 c =
     let read = c .before .before .before .before .before in
-    let else = read .before .before .before in
-    let adm = else .before .before in
-    let a = adm .before .before .before .before .before .args in
-    release-unread (lent (a .image .now) (a .image-bytes .now)) (a .time) (call (a .client) (a .option .now) []) (adm .admit .result) (adm .admit .ensures) (else .if1 .left) (read .read-entries .result) _ _ (read .read-entries .ensures) (c .if2 .taken)
+    let else = else-of read in
+    release-unread (lent-of else) (start-of else .args .time) (call-of else) (entries-call read) (c .if2 .taken)
 
 slice-aggregate-strike-found : tie.Need-slice-aggregate-strike-found
 slice-aggregate-strike-found c = sym (length-take-le _ _ (search needs))
@@ -36,21 +55,16 @@ strike-found-requires : tie.Need-strike-found-requires
 strike-found-requires c κs =
     let good = c .before .before .before .before .before in
     let read = good .before .before .before .before .before in
-    let else = read .before .before .before in
-    let adm = else .before .before in
-    let a = adm .before .before .before .before .before .args in
-    release-sized (lent (a .image .now) (a .image-bytes .now)) (a .time) (call (a .client) (a .option .now) []) (adm .admit .result) (adm .admit .ensures) (else .if1 .left) (read .read-entries .result) _ _ (read .read-entries .ensures) (good .if2 .left)
+    let else = else-of read in
+    entries-sized leastReply (lent-of else) (start-of else .args .time) (call-of else) [] (entries-call read) (good .if2 .left)
 
 returns-3 : tie.Need-returns-3
 returns-3 c =
     let found = c .before .before in
     let good = found .before .before .before .before .before .before in
     let read = good .before .before .before .before .before in
-    let else = read .before .before .before in
-    let adm = else .before .before in
-    let a = adm .before .before .before .before .before .args in
-    found .strike-found .ensures (a .option .now)
-    (release-passed (lent (a .image .now) (a .image-bytes .now)) (a .time) (call (a .client) (a .option .now) []) (adm .admit .result) (adm .admit .ensures) (else .if1 .left) (read .read-entries .result) _ _ (read .read-entries .ensures) (good .if2 .left))
+    let else = else-of read in
+    found .strike-found .ensures (call-of else .option) (release-passed (lent-of else) (start-of else .args .time) (call-of else) (entries-call read) (good .if2 .left))
 
 pub release-spec : {M : Type 1} → statement M
 release-spec =

@@ -19,7 +19,7 @@ returns c =
     let a = start .args in
     let h = lent (a .image .now) (a .image-bytes .now) in
     ap (λ (r : Answer). result r (lent (struck .strike-named .last .0) (a .image-bytes .now)) []) (c .refused .ensures)
-    ∙ release-nothing h (a .time) (call (a .client) option []) (a .summary) (a .networks .now) (a .lengths .now) (start .pre) t _ (struck .strike-named .result) (struck .strike-named .ensures .1) (c .before .if1 .taken)
+    ∙ release-nothing h (a .time) (call (a .client) option []) (a .summary) (a .networks .now) (a .lengths .now) t _ (struck .strike-named .result) (struck .strike-named .ensures .1) (c .before .if1 .taken)
 
 remove-struck-requires : tie.Need-remove-struck-requires
 remove-struck-requires c κs =
@@ -37,7 +37,7 @@ returns-2 c =
     let a = start .args in
     let h = lent (a .image .now) (a .image-bytes .now) in
     ap (λ (r : Answer). result r (lent (removed .remove-struck .last .0) (removed .remove-struck .result)) []) (c .accepted .ensures)
-    ∙ release-found h (a .time) (call (a .client) option []) (a .summary) (a .networks .now) (a .lengths .now) (start .pre) t _ (struck .strike-named .result) (struck .strike-named .ensures .1) _ _ (removed .remove-struck .ensures) (some .if1 .left)
+    ∙ release-found h (a .time) (call (a .client) option []) (a .summary) (a .networks .now) (a .lengths .now) t _ (struck .strike-named .result) (struck .strike-named .ensures .1) _ _ (removed .remove-struck .ensures) (some .if1 .left)
 
 pub strike-found-spec : {M : Type 1} → statement M
 strike-found-spec =

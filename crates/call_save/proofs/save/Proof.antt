@@ -1,6 +1,6 @@
 -- `call_save::save` meets its contract: what is checked is copied.
 -- Assumes nothing.
-use Prim.Native.Nat.{_<_}
+use Prim.Native.Nat.{_≤_, _<_}
 use mathlib.Core.Path.{_≡_, sym, ap, _∙_}
 use mathlib.Core.Bool.{true}
 use native.Mathlib.Omega.{arith}
@@ -9,6 +9,7 @@ use lib.Seq.{length-take-le}
 use borrow.Author.Tests.{not-true, not-false}
 use Rattle.lists.specs.Lists.{All}
 use Rattle.table.specs.Table.{sound}
+use Rattle.image.specs.Image.{fullImage}
 use Rattle.image.proofs.FieldLaws.{bytes-all}
 use Rattle.image_check.specs.declared.ImageSummary.{ImageSummary}
 use Rattle.ledger.specs.declared.Answer.{Answer}
@@ -34,6 +35,12 @@ tells c =
 
 is-sound : (c : tie.Else3) → let a = c .before .before .before .before .before .before .before .before .args in sound (tableIn (lent (a .image .now) (a .image-bytes))) ≡ true
 is-sound c = sym (tells (c .before .before)) ∙ not-false _ (c .if3 .left)
+
+few : (c : tie.Else3) → c .before .before .before .before .before .before .before .before .args .image-bytes ≤ fullImage
+few c =
+    let two = c .before .before .before .before in
+    let a = two .before .before .before .before .args in
+    save-few (lent (a .image .now) (a .image-bytes)) (a .buffer .now) (bytes two) (is-sound c)
 
 returns : tie.Need-returns
 returns c =
@@ -66,15 +73,17 @@ slice-aggregate-copy : tie.Need-slice-aggregate-copy
 slice-aggregate-copy c = size (c .before .before .before .before .before .before)
 
 copy-requires : tie.Need-copy-requires
-copy-requires c κs = omega (arith, size (c .before .before .before .before .before .before .before), c .before .before .if4 .left)
+copy-requires c κs =
+    let four = c .before .before in
+    let three = four .before in
+    let two = three .before .before .before .before in
+    (omega (arith, size two, few three), omega (arith, size two, four .if4 .left))
 
 cast-accepted : tie.Need-cast-accepted
 cast-accepted c =
     let copy = c .before .before in
     let three = copy .before .before .before .before in
-    let two = three .before .before .before .before in
-    let a = two .before .before .before .before .args in
-    omega (arith, copy .copy .ensures .0, size two, save-few (lent (a .image .now) (a .image-bytes)) (a .buffer .now) (bytes two) (is-sound three))
+    omega (arith, copy .copy .ensures .0, size (three .before .before .before .before), few three)
 
 returns-5 : tie.Need-returns-5
 returns-5 c =

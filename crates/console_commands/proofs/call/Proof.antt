@@ -1,4 +1,4 @@
--- `commands::call` meets its contract: in each arm the call of its name.
+-- `call` meets its contract: in each arm the call of its name.
 -- Assumes nothing.
 use native.Mathlib.Omega.{arith}
 use mathlib.Core.List.{[]}

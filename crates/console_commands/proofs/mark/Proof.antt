@@ -1,4 +1,4 @@
--- `commands::mark` meets its contract.
+-- `mark` meets its contract.
 -- Assumes nothing.
 use native.Mathlib.Omega.{arith}
 use Rattle.console_lines.specs.Lines.{doneLine}

@@ -1,4 +1,4 @@
--- `commands::open` meets its contract.
+-- `open` meets its contract.
 -- Assumes nothing.
 use native.Mathlib.Omega.{arith}
 use borrow.Author.Tests.{not-true, not-false}

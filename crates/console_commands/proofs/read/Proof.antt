@@ -1,4 +1,4 @@
--- `commands::read` meets its contract.
+-- `read` meets its contract.
 -- Assumes nothing.
 use native.Mathlib.Omega.{arith}
 use Prim.Native.Nat.{_-_}

@@ -1,4 +1,4 @@
--- `commands::save` meets its contract.
+-- `save` meets its contract.
 -- Assumes nothing.
 use mathlib.Core.Path.{ap}
 use native.Mathlib.Omega.{arith}

@@ -1,4 +1,4 @@
--- `commands::write` meets its contract.
+-- `write` meets its contract.
 -- Assumes nothing.
 use native.Mathlib.Omega.{arith}
 use Rattle.console_commands.proofs.CommandLaws.{write-bad, write-of}

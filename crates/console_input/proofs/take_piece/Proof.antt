@@ -1,4 +1,4 @@
--- `line_input::take_piece` stays within the input and the line. The measure is what is left of the input.
+-- `take_piece` stays within the input and the line. The measure is what is left of the input.
 -- Assumes nothing.
 use Prim.Native.Nat.{_-_, _≤_}
 use mathlib.Core.Path.{_≡_}

@@ -1,4 +1,4 @@
--- `lines::error` meets its contract.
+-- `error` meets its contract.
 -- Assumes nothing.
 use native.Mathlib.Omega.{arith}
 use Rattle.console_lines.proofs.TextLaws.{text-wrote, number-wrote, then-wrote}

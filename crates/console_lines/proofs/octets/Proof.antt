@@ -1,4 +1,4 @@
--- `lines::octets` meets its contract.
+-- `octets` meets its contract.
 -- Assumes nothing.
 use native.Mathlib.Omega.{arith}
 use Rattle.console_lines.proofs.TextLaws.{text-wrote, octets-wrote, then-wrote}

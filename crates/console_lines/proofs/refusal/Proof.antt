@@ -1,4 +1,4 @@
--- `lines::refusal` meets its contract.
+-- `refusal` meets its contract.
 -- Assumes nothing.
 use native.Mathlib.Omega.{arith}
 use Rattle.console_lines.proofs.TextLaws.{filled-wrote, wrote-as}

@@ -1,4 +1,4 @@
--- `lines::replied` meets its contract.
+-- `replied` meets its contract.
 -- Assumes nothing.
 use native.Mathlib.Omega.{arith}
 use mathlib.Core.Path.{ap, _∙_}

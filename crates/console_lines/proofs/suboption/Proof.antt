@@ -1,8 +1,8 @@
--- `lines::suboption` stays within the buffer: each kind makes at most the text that `most` says.
+-- `suboption` stays within the buffer: each kind makes at most the text that `most` says.
 -- Assumes nothing.
 use mathlib.Core.Path.{ap, subst}
 use native.Mathlib.Omega.{arith}
-use Rattle.console_lines.specs.Sizes.{most, Within}
+use Rattle.console_lines.specs.InnerSizes.{most, Within}
 use borrow.Author.Needs.{needs}
 use Rattle.console_lines.proofs.suboption.Statement.{statement}
 use Rattle.console_lines.proofs.suboption.Tie as tie

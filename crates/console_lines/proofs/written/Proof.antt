@@ -1,4 +1,4 @@
--- `lines::written` meets its contract.
+-- `written` meets its contract.
 -- Assumes nothing.
 use native.Mathlib.Omega.{arith}
 use mathlib.Core.Path.{ap, _∙_}

@@ -1,4 +1,4 @@
--- `script::buffer_line` meets its contract.
+-- `buffer_line` meets its contract.
 -- Assumes nothing.
 use mathlib.Core.Path.{refl, sym, ap, _∙_}
 use lib.ListN.{drop}

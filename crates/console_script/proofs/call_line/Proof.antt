@@ -1,4 +1,4 @@
--- `script::call_line` meets its contract.
+-- `call_line` meets its contract.
 -- Assumes nothing.
 use mathlib.Core.Path.{refl, ap, _∙_}
 use lib.ListN.{drop}

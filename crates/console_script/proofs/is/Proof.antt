@@ -1,4 +1,4 @@
--- `script::is` meets its contract.
+-- `is` meets its contract.
 -- Assumes nothing.
 use Rattle.console_script.proofs.NameLaws.{same-is}
 use borrow.Author.Needs.{needs}

@@ -1,4 +1,4 @@
--- `script::load_line` meets its contract.
+-- `load_line` meets its contract.
 -- Assumes nothing.
 use borrow.Author.Tests.{not-true, not-false}
 use Rattle.console_script.proofs.LineLaws.{octets-good, octets-bad, load-bad, load-of}

@@ -1,4 +1,4 @@
--- `script::lone_line` meets its contract.
+-- `lone_line` meets its contract.
 -- Assumes nothing.
 use mathlib.Core.Path.{sym, _∙_}
 use borrow.Author.Tests.{not-true, not-false}

@@ -1,4 +1,4 @@
--- `script::mark_line` meets its contract.
+-- `mark_line` meets its contract.
 -- Assumes nothing.
 use mathlib.Core.Path.{refl, sym, ap, _∙_}
 use lib.ListN.{drop}

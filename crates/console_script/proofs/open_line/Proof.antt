@@ -1,4 +1,4 @@
--- `script::open_line` meets its contract.
+-- `open_line` meets its contract.
 -- Assumes nothing.
 use mathlib.Core.Path.{refl}
 use lib.ListN.{drop}

@@ -1,4 +1,4 @@
--- `script::read_command` meets its contract.
+-- `read_command` meets its contract.
 -- Assumes nothing.
 use mathlib.Core.Path.{sym, ap, _∙_}
 use Prim.Native.Nat.{ℕ}

@@ -1,4 +1,4 @@
--- `script::read_line` meets its contract.
+-- `read_line` meets its contract.
 -- Assumes nothing.
 use borrow.Author.Tests.{not-true, not-false}
 use Rattle.console_script.proofs.LineLaws.{octets-good, octets-bad, read-bad, read-of}

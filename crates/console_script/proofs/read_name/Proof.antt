@@ -1,4 +1,4 @@
--- `script::read_name` meets its contract: one name after the other.
+-- `read_name` meets its contract: one name after the other.
 -- Assumes nothing.
 use mathlib.Core.Path.{sym, _∙_}
 use Rattle.console_script.specs.Parsing.{nameOf}

@@ -1,4 +1,4 @@
--- `script::read_words` meets its contract: in each arm the line of its name.
+-- `read_words` meets its contract: in each arm the line of its name.
 -- Assumes nothing.
 use mathlib.Core.Path.{sym, ap, _∙_}
 use lib.ListN.{drop}

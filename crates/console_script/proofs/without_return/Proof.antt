@@ -1,4 +1,4 @@
--- `script::without_return` meets its contract.
+-- `without_return` meets its contract.
 -- Assumes nothing.
 use native.Mathlib.Omega.{arith}
 use Rattle.console_script.proofs.LineLaws.{returned, not-returned, no-line}

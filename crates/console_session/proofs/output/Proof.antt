@@ -1,13 +1,14 @@
--- `session::output` meets its contract.
+-- `output` meets its contract.
 -- Assumes nothing.
 use Prim.Native.Nat.{ℕ}
 use mathlib.Core.Path.{sym}
 use lib.ListN.{length-replicate}
+use Rattle.console_session.specs.States.{outputSpace}
 use Rattle.console_session.proofs.output.Statement.{statement}
 use Rattle.console_session.proofs.output.Tie as tie
 
 returns : tie.Need-returns
-returns c = sym (length-replicate {A = ℕ} 262144 0)
+returns c = sym (length-replicate {A = ℕ} outputSpace 0)
 
 pub output-spec : {M : Type 1} → statement M
 output-spec =

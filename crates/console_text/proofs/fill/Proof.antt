@@ -1,4 +1,4 @@
--- `show::fill` meets its contract: what is written so far begins a text that the pattern spells. The measure is what is left of the pattern.
+-- `fill` meets its contract: what is written so far begins a text that the pattern spells. The measure is what is left of the pattern.
 -- Assumes nothing.
 use Prim.Native.Nat.{_+_, _-_, _*_, _≤_}
 use mathlib.Core.Path.{_≡_, refl}

@@ -1,4 +1,4 @@
--- `show::glyph` meets its contract: the letters follow the digits.
+-- `glyph` meets its contract: the letters follow the digits.
 -- Assumes nothing.
 use borrow.Author.Tests.{lt-ltb, le-ltb}
 use borrow.Author.Needs.{needs}

@@ -1,4 +1,4 @@
--- `show::octets` meets its contract: the first i octets stand where they belong.
+-- `octets` meets its contract: the first i octets stand where they belong.
 -- Assumes nothing.
 use Prim.Native.Nat.{ℕ, _-_, _≤_}
 use mathlib.Core.Path.{_≡_, refl, ap, ap₂, _∙_}

@@ -1,4 +1,4 @@
--- `words::digit` meets its contract: one range of bytes after the other.
+-- `digit` meets its contract: one range of bytes after the other.
 -- Assumes nothing.
 use native.Mathlib.Omega.{arith}
 use borrow.Author.Tests.{lt-ltb, le-ltb, le-leb, lt-leb}

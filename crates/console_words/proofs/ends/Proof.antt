@@ -1,4 +1,4 @@
--- `words::ends` meets its contract.
+-- `ends` meets its contract.
 -- Assumes nothing.
 use Rattle.console_words.proofs.WordLaws.{ends-at}
 use borrow.Author.Needs.{needs}

@@ -1,4 +1,4 @@
--- `words::last_octets` meets its contract.
+-- `last_octets` meets its contract.
 -- Assumes nothing.
 use native.Mathlib.Omega.{arith}
 use mathlib.Core.Path.{sym, ap, _∙_}

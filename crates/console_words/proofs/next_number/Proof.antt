@@ -1,4 +1,4 @@
--- `words::next_number` meets its contract.
+-- `next_number` meets its contract.
 -- Assumes nothing.
 use mathlib.Core.Path.{ap, _∙_}
 use Rattle.console_words.specs.Numbers.{numberOf}

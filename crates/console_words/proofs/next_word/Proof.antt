@@ -1,4 +1,4 @@
--- `words::next_word` meets its contract.
+-- `next_word` meets its contract.
 -- Assumes nothing.
 use Rattle.console_words.proofs.WordLaws.{word-at}
 use borrow.Author.Needs.{needs}

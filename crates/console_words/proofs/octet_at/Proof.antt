@@ -1,4 +1,4 @@
--- `words::octet_at` meets its contract.
+-- `octet_at` meets its contract.
 -- Assumes nothing.
 use Prim.Native.Nat.{ℕ}
 use mathlib.Core.Path.{ap, _∙_}

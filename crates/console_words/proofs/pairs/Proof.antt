@@ -1,4 +1,4 @@
--- `words::pairs` meets its contract, octet by octet. The measure is the number of octets left.
+-- `pairs` meets its contract, octet by octet. The measure is the number of octets left.
 -- Assumes nothing.
 use Prim.Native.Nat.{_-_, _/_}
 use mathlib.Core.Path.{_≡_, refl}

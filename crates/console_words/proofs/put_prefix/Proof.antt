@@ -1,4 +1,4 @@
--- `words::put_prefix` meets its contract.
+-- `put_prefix` meets its contract.
 -- Assumes nothing.
 use mathlib.Core.Path.{sym, _∙_}
 use Rattle.console_words.proofs.PrefixLaws.{put-bad, put-of}

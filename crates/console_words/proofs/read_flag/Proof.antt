@@ -1,4 +1,4 @@
--- `words::read_flag` meets its contract.
+-- `read_flag` meets its contract.
 -- Assumes nothing.
 use Rattle.console_words.proofs.NumberLaws.{flag-long, flag-one, flag-zero, flag-other}
 use borrow.Author.Needs.{needs}

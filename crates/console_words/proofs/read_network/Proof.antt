@@ -1,4 +1,4 @@
--- `words::read_network` meets its contract, octet by octet. The measure is the number of dots left.
+-- `read_network` meets its contract, octet by octet. The measure is the number of dots left.
 -- Assumes nothing.
 use Prim.Native.Nat.{_-_}
 use mathlib.Core.Path.{_∙_}

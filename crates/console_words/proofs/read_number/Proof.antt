@@ -1,4 +1,4 @@
--- `words::read_number` meets its contract, digit by digit. The measure is what is left of the word.
+-- `read_number` meets its contract, digit by digit. The measure is what is left of the word.
 -- Assumes nothing.
 use Prim.Native.Nat.{_-_}
 use lib.ListN.{length}

@@ -1,4 +1,4 @@
--- `words::read_octet` meets its contract.
+-- `read_octet` meets its contract.
 -- Assumes nothing.
 use mathlib.Core.Path.{sym, ap, _∙_}
 use Rattle.console_words.proofs.NumberLaws.{octet-small, octet-large}

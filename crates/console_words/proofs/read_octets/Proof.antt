@@ -1,4 +1,4 @@
--- `words::read_octets` meets its contract.
+-- `read_octets` meets its contract.
 -- Assumes nothing.
 use native.Mathlib.Omega.{arith}
 use mathlib.Core.Path.{_∙_}

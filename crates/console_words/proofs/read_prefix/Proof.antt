@@ -1,4 +1,4 @@
--- `words::read_prefix` meets its contract.
+-- `read_prefix` meets its contract.
 -- Assumes nothing.
 use mathlib.Core.Path.{ap, _∙_}
 use native.Mathlib.Omega.{arith}

@@ -1,4 +1,4 @@
--- `words::read_prefixes` meets its contract, word by word. The measure is what is left of the line.
+-- `read_prefixes` meets its contract, word by word. The measure is what is left of the line.
 -- Assumes nothing.
 use Prim.Native.Nat.{_-_}
 use lib.ListN.{length}

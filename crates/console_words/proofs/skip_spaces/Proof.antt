@@ -1,4 +1,4 @@
--- `words::skip_spaces` meets its contract. The measure is what is left of the text.
+-- `skip_spaces` meets its contract. The measure is what is left of the text.
 -- Assumes nothing.
 use Prim.Native.Nat.{_-_, _≤_}
 use mathlib.Core.Path.{_≡_, refl, sym, _∙_}

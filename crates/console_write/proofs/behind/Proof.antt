@@ -1,4 +1,4 @@
--- `write::behind` meets its contract.
+-- `behind` meets its contract.
 -- Assumes nothing.
 use Rattle.console_write.proofs.WriteLaws.{piece-within}
 use borrow.Author.Needs.{needs}

@@ -1,4 +1,4 @@
--- `write::copied` stays within the octets. The measure is what is left to copy.
+-- `copied` stays within the octets. The measure is what is left to copy.
 -- Assumes nothing.
 use Prim.Native.Nat.{_-_, _≤_}
 use mathlib.Core.Path.{_≡_}

@@ -1,4 +1,4 @@
--- `write::read_figures` stays within the word. The measure is the number of figures left.
+-- `read_figures` stays within the word. The measure is the number of figures left.
 -- Assumes nothing.
 use Prim.Native.Nat.{_-_, _≤_}
 use mathlib.Core.Path.{_≡_}

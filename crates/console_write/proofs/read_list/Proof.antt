@@ -1,4 +1,4 @@
--- `write::read_list` stays within the line and the limits of a list. The measure is the number of turns left.
+-- `read_list` stays within the line and the limits of a list. The measure is the number of turns left.
 -- Assumes nothing.
 use Prim.Native.Nat.{_-_, _≤_}
 use mathlib.Core.Path.{_≡_, sym, subst, _∙_}

@@ -1,4 +1,4 @@
--- `write::with_piece` meets its contract.
+-- `with_piece` meets its contract.
 -- Assumes nothing.
 use native.Mathlib.Omega.{arith}
 use Rattle.console_write.proofs.WriteLaws.{piece-within}

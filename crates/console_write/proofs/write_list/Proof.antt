@@ -1,4 +1,4 @@
--- `write::write_list` meets its contract.
+-- `write_list` meets its contract.
 -- Assumes nothing.
 use native.Mathlib.Omega.{arith}
 use mathlib.Core.Path.{sym, ap, _∙_}

@@ -1,4 +1,4 @@
--- `gaps::at_end` meets its contract: the lowest bit of both ends is the size of the smallest whole prefix at an end.
+-- `at_end` meets its contract: the lowest bit of both ends is the size of the smallest whole prefix at an end.
 -- Assumes nothing.
 use Prim.Native.Nat.{_-_}
 use native.Mathlib.Omega.{arith}

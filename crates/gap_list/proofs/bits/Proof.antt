@@ -1,4 +1,4 @@
--- `gaps::bits` meets its contract.
+-- `bits` meets its contract.
 -- Assumes nothing.
 use mathlib.Core.Path.{sym}
 use Rattle.gap_list.proofs.EndLaws.{bits-some, bits-none}

@@ -1,4 +1,4 @@
--- `gaps::take_part` meets its contract: something is left of the gap on both sides, below, above, or nothing.
+-- `carve` meets its contract: something is left of the gap on both sides, below, above, or nothing.
 -- Assumes nothing.
 use Prim.Native.Nat.{ℕ, _+_}
 use mathlib.Core.Path.{ap}

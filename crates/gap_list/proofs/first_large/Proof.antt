@@ -1,9 +1,9 @@
--- `gaps::first_large` meets its contract. The loop's invariant: the gaps before i are too small. The measure is the number of gaps left.
+-- `first_large` meets its contract. The loop's invariant: the gaps before i are too small. The measure is the number of gaps left.
 -- Assumes nothing.
 use Prim.Native.Nat.{_-_}
 use native.Mathlib.Omega.{arith}
 use borrow.Author.Needs.{needs}
-use Rattle.gap_list.specs.Columns.{FirstLarge}
+use Rattle.gap_list.specs.InnerSearch.{FirstLarge}
 use Rattle.gap_list.proofs.SearchLaws.{large-none, large-next}
 use Rattle.gap_list.proofs.first_large.Statement.{statement}
 use Rattle.gap_list.proofs.first_large.Tie as tie

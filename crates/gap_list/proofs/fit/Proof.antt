@@ -1,16 +1,15 @@
--- `gaps::fit` meets its contract. The loop's invariant: the best fit in the rest is the best fit in all. The measure is the number of gaps left.
+-- `fit` meets its contract. The loop's invariant: the best fit in the rest is the best fit in all. The measure is the number of gaps left.
 -- Assumes nothing.
-use Prim.Native.Nat.{ℕ, _+_, _-_, _<_}
-use mathlib.Core.Path.{ap, sym, subst, _∙_}
+use Prim.Native.Nat.{_+_, _-_}
+use mathlib.Core.Path.{_∙_}
 use mathlib.Core.Logic.{⊎-elim}
 use mathlib.Core.Bool.{false≢true}
 use native.Mathlib.Omega.{arith}
-use lib.Bits.{bitAnd, and-le-l}
+use lib.Bits.{and-le-l}
 use lib.ListN.{getD}
 use borrow.Author.Needs.{needs}
 use Rattle.prefix.proofs.PrefixLaws.{size-positive}
-use Rattle.gap_list.specs.declared.Best.{Best}
-use Rattle.gap_list.proofs.EndLaws.{mask-up, mask-down, bits-some}
+use Rattle.gap_list.proofs.EndLaws.{bits-some}
 use Rattle.gap_list.proofs.SearchLaws.{Searching, search-start, search-end, size-pos, search-keep, search-open, search-small, search-better, search-exact}
 use Rattle.gap_list.proofs.fit.Statement.{statement}
 use Rattle.gap_list.proofs.fit.Tie as tie
@@ -63,57 +62,44 @@ at-end-requires : tie.Need-at-end-requires Inv-loop μ-loop
 at-end-requires c κs =
     let e = c .before in
     let b = e .before .before .before .before .before in
-    let a = b .before .before .before .before .before .before .args in
+    let start = b .before .before .before .before .before .before in
+    let a = start .args in
     let s = b .before .before .size in
-    let at-low = mask-up (a .length) (s .result) (s .ensures .0) (getD (a .starts .now) (b .loop .i) 0) in
-    let at-high = mask-down (a .length) (s .result) (s .ensures .0) (getD (a .lasts .now) (b .loop .i) 0 + 1) in
-    let last : getD (a .lasts .now) (b .loop .i) 0 < 4294967296 = omega (arith, e .before .before .shared-slice-known4 .given (b .loop .i)) in
-    let gap = search-open (a .starts .now) (a .lasts .now) (a .n) (a .length) (s .result) (b .loop .best) (b .loop .index) (b .loop .i) (b .loop .inv) (omega arith) (omega arith) (omega arith) _ _ (s .ensures .0) at-low at-high (λ z. c .if2 .taken (ap (λ (x : ℕ). bitAnd x (b .loop .best .size - 1)) (e .before .bits .ensures) ∙ z)) in
-    (gap, omega (arith, last), e .before .bits .ensures ∙ bits-some _ _ gap)
+    let gap = search-open (a .starts .now) (a .lasts .now) (a .n) (a .length) (s .result) (b .loop .best) (b .loop .index) (b .loop .i) (b .loop .inv) (start .pre .0) (start .pre .1) (omega arith) (s .ensures .0) (e .before .bits .result) (e .before .bits .ensures) (c .if2 .taken) in
+    (gap, omega (arith, e .before .before .shared-slice-known4 .given (b .loop .i)), e .before .bits .ensures ∙ bits-some _ _ gap)
 
 cast-t24 : tie.Need-cast-t24 Inv-loop μ-loop
 cast-t24 c =
-    let e = c .before .before .before .before .before in
+    let at-end = c .before .before .before in
+    let e = at-end .before .before in
     let b = e .before .before .before .before .before in
-    let a = b .before .before .before .before .before .before .args in
+    let start = b .before .before .before .before .before .before in
+    let a = start .args in
     let s = b .before .before .size in
-    let at-low = mask-up (a .length) (s .result) (s .ensures .0) (getD (a .starts .now) (b .loop .i) 0) in
-    let at-high = mask-down (a .length) (s .result) (s .ensures .0) (getD (a .lasts .now) (b .loop .i) 0 + 1) in
-    let last : getD (a .lasts .now) (b .loop .i) 0 < 4294967296 = omega (arith, e .before .before .shared-slice-known4 .given (b .loop .i)) in
-    omega (arith, search-small (a .starts .now) (a .lasts .now) (a .n) (a .length) (s .result) (b .loop .best) (b .loop .index) (b .loop .i) (b .loop .inv) (omega arith) (omega arith) (omega arith) _ _ (s .ensures .0) at-low at-high (λ z. c .before .before .before .before .if2 .taken (ap (λ (x : ℕ). bitAnd x (b .loop .best .size - 1)) (e .before .bits .ensures) ∙ z)) (omega arith) last (c .before .before .before .at-end .result) (c .before .before .before .at-end .ensures))
+    omega (arith, search-small (a .starts .now) (a .lasts .now) (a .n) (a .length) (s .result) (b .loop .best) (b .loop .index) (b .loop .i) (b .loop .inv) (start .pre .0) (start .pre .1) (omega arith) (s .ensures .0) (e .before .bits .result) (e .before .bits .ensures) (at-end .before .if2 .taken) (omega arith) (omega (arith, e .before .before .shared-slice-known4 .given (b .loop .i))) (at-end .at-end .result) (at-end .at-end .ensures))
 
 returns-2 : tie.Need-returns-2 Inv-loop μ-loop
 returns-2 c =
-    let e = c .before .before .before .before .before in
+    let at-end = c .before .before .before in
+    let e = at-end .before .before in
     let b = e .before .before .before .before .before in
-    let a = b .before .before .before .before .before .before .args in
+    let start = b .before .before .before .before .before .before in
+    let a = start .args in
     let s = b .before .before .size in
-    let at-low = mask-up (a .length) (s .result) (s .ensures .0) (getD (a .starts .now) (b .loop .i) 0) in
-    let at-high = mask-down (a .length) (s .result) (s .ensures .0) (getD (a .lasts .now) (b .loop .i) 0 + 1) in
-    let last : getD (a .lasts .now) (b .loop .i) 0 < 4294967296 = omega (arith, e .before .before .shared-slice-known4 .given (b .loop .i)) in
-    search-exact (a .starts .now) (a .lasts .now) (a .n) (a .length) (s .result) (b .loop .best) (b .loop .index) (b .loop .i) (b .loop .inv) (omega arith) (omega arith) (omega arith) _ _ (s .ensures .0) at-low at-high (λ z. c .before .before .before .before .if2 .taken (ap (λ (x : ℕ). bitAnd x (b .loop .best .size - 1)) (e .before .bits .ensures) ∙ z)) (omega arith) last (c .before .before .before .at-end .result) (c .before .before .before .at-end .ensures) (c .before .if3 .taken)
+    search-exact (a .starts .now) (a .lasts .now) (a .n) (a .length) (s .result) (b .loop .best) (b .loop .index) (b .loop .i) (b .loop .inv) (start .pre .0) (start .pre .1) (omega arith) (s .ensures .0) (e .before .bits .result) (e .before .bits .ensures) (at-end .before .if2 .taken) (omega arith) (omega (arith, e .before .before .shared-slice-known4 .given (b .loop .i))) (at-end .at-end .result) (at-end .at-end .ensures) (c .before .if3 .taken)
 
 loop-again : tie.Need-loop-again Inv-loop μ-loop
 loop-again c =
     let e = c .before in
     let b = e .before .before .before .before .before in
-    let a = b .before .before .before .before .before .before .args in
+    let start = b .before .before .before .before .before .before in
+    let a = start .args in
     let s = b .before .before .size in
-    let at-low = mask-up (a .length) (s .result) (s .ensures .0) (getD (a .starts .now) (b .loop .i) 0) in
-    let at-high = mask-down (a .length) (s .result) (s .ensures .0) (getD (a .lasts .now) (b .loop .i) 0 + 1) in
-    let last : getD (a .lasts .now) (b .loop .i) 0 < 4294967296 = omega (arith, e .before .before .shared-slice-known4 .given (b .loop .i)) in
-    let On : Best → ℕ → Type 0 = λ x j. Searching (a .starts .now) (a .lasts .now) (a .n) (a .length) x j (b .loop .i + 1) in
     ⊎-elim
     (λ t.
-    subst (λ (x : Best). On x (c .if2 .index)) (sym (t .4))
-    (subst (λ (j : ℕ). On (t .1 .result) j) (sym (t .5))
-    (search-better (a .starts .now) (a .lasts .now) (a .n) (a .length) (s .result) (b .loop .best) (b .loop .index) (b .loop .i) (b .loop .inv) (omega arith) (omega arith) (omega arith) _ _ (s .ensures .0) at-low at-high
-    (λ z. t .0 .taken (ap (λ (x : ℕ). bitAnd x (b .loop .best .size - 1)) (e .before .bits .ensures) ∙ z)) (omega arith) last (t .1 .result) (t .1 .ensures))))
-    (λ t.
-    subst (λ (x : Best). On x (c .if2 .index)) (sym (t .1))
-    (subst (λ (j : ℕ). On (b .loop .best) j) (sym (t .2))
-    (search-keep (a .starts .now) (a .lasts .now) (a .n) (a .length) (s .result) (b .loop .best) (b .loop .index) (b .loop .i) (b .loop .inv) (omega arith) (omega arith) (omega arith) _ _ (s .ensures .0) at-low at-high
-    (ap (λ (x : ℕ). bitAnd x (b .loop .best .size - 1)) (sym (e .before .bits .ensures)) ∙ t .0 .left))))
+    rw (t .4, t .5)
+    (search-better (a .starts .now) (a .lasts .now) (a .n) (a .length) (s .result) (b .loop .best) (b .loop .index) (b .loop .i) (b .loop .inv) (start .pre .0) (start .pre .1) (omega arith) (s .ensures .0) (e .before .bits .result) (e .before .bits .ensures) (t .0 .taken) (omega arith) (omega (arith, e .before .before .shared-slice-known4 .given (b .loop .i))) (t .1 .result) (t .1 .ensures)))
+    (λ t. rw (t .1, t .2) (search-keep (a .starts .now) (a .lasts .now) (a .n) (a .length) (s .result) (b .loop .best) (b .loop .index) (b .loop .i) (b .loop .inv) (start .pre .0) (start .pre .1) (omega arith) (s .ensures .0) (e .before .bits .result) (e .before .bits .ensures) (t .0 .left)))
     (c .if2 .came)
 
 cast-t25 : tie.Need-cast-t25 Inv-loop μ-loop

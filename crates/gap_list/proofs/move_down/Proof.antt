@@ -1,4 +1,4 @@
--- `gaps::move_down` meets its contract. The loop's invariant: the elements between `index` and k stand one place down, with the one at k kept in its
+-- `move_down` meets its contract. The loop's invariant: the elements between `index` and k stand one place down, with the one at k kept in its
 -- place too. The measure is what is left up to n.
 -- Assumes nothing.
 use Prim.Native.Nat.{_+_, _-_, _≤_}

@@ -1,4 +1,4 @@
--- `gaps::move_up` meets its contract. The loop's invariant: the elements from k on stand one place up, with the one at k kept in its place too.
+-- `move_up` meets its contract. The loop's invariant: the elements from k on stand one place up, with the one at k kept in its place too.
 -- The measure is k.
 -- Assumes nothing.
 use Prim.Native.Nat.{_-_, _≤_}

@@ -10,7 +10,8 @@ use lib.ListN.{length, take, drop}
 use borrow.Author.Tests.{not-true, not-false}
 use Rattle.lists.specs.Lists.{and}
 use Rattle.image.specs.declared.Head.{Head}
-use Rattle.image.specs.Image.{headSize, headTests, poolsAt, afterHead, loadImage}
+use Rattle.image.specs.Image.{headSize}
+use Rattle.image.specs.Reading.{headTests, poolsAt, afterHead, loadImage}
 use Rattle.image.proofs.ImageLaws.{head-long, load-no-head, load-head}
 use Rattle.image_check.specs.ImageSummary.{summaryOf}
 use Rattle.image_check.proofs.RunLaws.{part-rest}

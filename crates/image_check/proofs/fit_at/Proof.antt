@@ -8,11 +8,11 @@ use native.Mathlib.Omega.{arith}
 use borrow.Author.Tests.{not-true, not-false}
 use Rattle.prefix.specs.declared.Prefix.{Prefix}
 use Rattle.prefix.specs.Prefixes.{end, checked}
+use Rattle.prefix.proofs.BlockLaws.{refused-block, made-block}
 use Rattle.image.proofs.FieldLaws.{Bytes}
-use Rattle.image.specs.Image.{expiresIn, flagsByteIn, lengthIn, networkIn, stateByteIn}
+use Rattle.image.specs.Reading.{expiresIn, flagsByteIn, lengthIn, networkIn, stateByteIn}
 use Rattle.image_check.specs.declared.Fit.{Fit}
 use Rattle.image_check.specs.Inner.{prefixIn}
-use Rattle.image_check.proofs.BlockLaws.{refused-block, made-block}
 use Rattle.image_check.proofs.FitLaws.{Fits, word-bytes, bytes-told, fits-bytes, fit-other, fit-lease}
 use borrow.Author.Needs.{needs}
 use Rattle.image_check.proofs.fit_at.Statement.{statement}

@@ -7,7 +7,8 @@ use mathlib.Core.List.{List}
 use lib.ListN.{drop, length-drop}
 use borrow.Author.Tests.{not-true, not-false}
 use Rattle.table.specs.Table.{poolSlots}
-use Rattle.image.specs.Image.{poolIn, poolSize}
+use Rattle.image.specs.Image.{poolSize}
+use Rattle.image.specs.Reading.{poolIn}
 use Rattle.image.proofs.FieldLaws.{Bytes, bytes-drop}
 use Rattle.image_check.specs.Inner.{poolBegins?}
 use Rattle.image_check.proofs.PoolLaws.{end-bad, begins-long, begins-not, PoolsRead, pools-none, pools-stop, pools-full, pools-stopped, pools-good}

@@ -1,4 +1,4 @@
--- `records::clear` meets its contract: zeros stand from `from` up to i.
+-- `image_records::clear` meets its contract: zeros stand from `from` up to i.
 -- Assumes nothing.
 use Prim.Native.Nat.{ℕ, _-_, _≤_}
 use mathlib.Core.Path.{_≡_, refl, ap, _∙_}

@@ -1,11 +1,11 @@
--- `records::close_up` meets its contract: of the first i leases those present stand first.
+-- `image_records::close_up` meets its contract: of the first i leases those present stand first.
 -- Assumes nothing.
 use Rattle.image.specs.Image.{leaseSize}
 use Prim.Native.Nat.{_+_, _-_, _*_, _≤_}
 use mathlib.Core.Path.{_≡_, refl, subst, _∙_}
 use lib.ListN.{length, drop}
 use native.Mathlib.Omega.{arith}
-use Rattle.image_records.specs.Records.{Closed}
+use Rattle.image_records.specs.Inner.{Closed}
 use Rattle.image_records.proofs.RemoveLaws.{closed-first, closed-behind, closed-more}
 use borrow.Author.Needs.{needs}
 use Rattle.image_records.proofs.close_up.Statement.{statement}

@@ -1,4 +1,4 @@
--- `records::flags_byte` meets its contract.
+-- `image_records::flags_byte` meets its contract.
 -- Assumes nothing.
 use Rattle.image_records.proofs.flags_byte.Statement.{statement}
 use Rattle.image_records.proofs.flags_byte.Tie as tie

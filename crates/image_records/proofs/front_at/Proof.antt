@@ -1,20 +1,21 @@
--- `records::front_at` meets its contract: the first k bytes are copied.
+-- `image_records::front_at` meets its contract: the first k bytes are copied.
 -- Assumes nothing.
 use Prim.Native.Nat.{ℕ, _+_, _-_, _≤_}
 use mathlib.Core.Path.{_≡_, refl, sym, ap, _∙_}
 use lib.ListN.{length, getD, take, drop, length-set}
 use lib.Seq.{take-all}
 use native.Mathlib.Omega.{arith}
+use Rattle.image_records.specs.Inner.{frontSize}
 use Rattle.image_records.proofs.MoveLaws.{taken-more}
 use borrow.Author.Needs.{needs}
 use Rattle.image_records.proofs.front_at.Statement.{statement}
 use Rattle.image_records.proofs.front_at.Tie as tie
 
 abbrev Inv-loop : tie.InvT-loop
-Inv-loop image at bytes₀ k₀ bytes k = (k ≤ 16) × (take k bytes ≡ take k (drop at image)) × (length bytes ≡ 16)
+Inv-loop image at bytes₀ k₀ bytes k = (k ≤ frontSize) × (take k bytes ≡ take k (drop at image)) × (length bytes ≡ frontSize)
 
 abbrev μ-loop : tie.MeasureT-loop
-μ-loop image at bytes₀ k₀ bytes k = 16 - k
+μ-loop image at bytes₀ k₀ bytes k = frontSize - k
 
 loop-holds : tie.Need-loop-holds Inv-loop μ-loop
 loop-holds c = (omega arith, refl, refl)
@@ -31,7 +32,7 @@ loop-again c =
 returns : tie.Need-returns Inv-loop μ-loop
 returns c =
     let loop = c .before .loop in
-    let all : loop .k ≡ 16 = omega arith in
+    let all : loop .k ≡ frontSize = omega arith in
     sym (take-all (loop .k) (loop .bytes) (omega (arith, loop .inv .2))) ∙ loop .inv .1 ∙ ap (λ (n : ℕ). take n (drop (c .before .before .args .at) (c .before .before .args .image .now))) all
 
 pub front-at-spec : {M : Type 1} → statement M

@@ -1,4 +1,4 @@
--- `records::insert_above` meets its contract: the later records are raised, and the new one stands right before them.
+-- `image_records::insert_above` meets its contract: the later records are raised, and the new one stands right before them.
 -- Assumes nothing.
 use native.Mathlib.Omega.{arith}
 use Rattle.image_records.proofs.InsertLaws.{inserted}

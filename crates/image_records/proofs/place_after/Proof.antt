@@ -1,4 +1,4 @@
--- `records::place_after` meets its contract: the place lies between `low` and `low + left`.
+-- `image_records::place_after` meets its contract: the place lies between `low` and `low + left`.
 -- Assumes nothing.
 use Prim.Native.Nat.{_+_, _-_, _/_, _≤_}
 use mathlib.Core.Logic.{⊎-elim}

@@ -1,9 +1,9 @@
--- `records::put32` meets its contract.
+-- `image_records::put32` meets its contract.
 -- Assumes nothing.
 use native.Mathlib.Nat.{add-assoc}
 use lib.ListN.{length-set}
 use Rattle.lists.specs.Put.{put}
-use Rattle.image.specs.Fields.{le32}
+use Rattle.image.specs.Image.{le32}
 use borrow.Author.Needs.{needs}
 use native.Mathlib.Omega.{arith}
 use Rattle.image_records.proofs.put32.Statement.{statement}

@@ -1,4 +1,4 @@
--- `records::put_front` meets its contract: the first k bytes are put.
+-- `image_records::put_front` meets its contract: the first k bytes are put.
 -- Assumes nothing.
 use Prim.Native.Nat.{_+_, _-_, _≤_}
 use mathlib.Core.Path.{_≡_, refl, sym, ap, _∙_}
@@ -7,16 +7,17 @@ use lib.Seq.{take-all}
 use native.Mathlib.Omega.{arith}
 use Rattle.lists.specs.Put.{put}
 use Rattle.lists.proofs.PutLaws.{put-nothing}
+use Rattle.image_records.specs.Inner.{frontSize}
 use Rattle.image_records.proofs.MoveLaws.{given-more}
 use borrow.Author.Needs.{needs}
 use Rattle.image_records.proofs.put_front.Statement.{statement}
 use Rattle.image_records.proofs.put_front.Tie as tie
 
 abbrev Inv-loop : tie.InvT-loop
-Inv-loop image₀ at bytes k₀ image k = (k ≤ 16) × (image ≡ put image₀ at (take k bytes)) × (length image ≡ length image₀)
+Inv-loop image₀ at bytes k₀ image k = (k ≤ frontSize) × (image ≡ put image₀ at (take k bytes)) × (length image ≡ length image₀)
 
 abbrev μ-loop : tie.MeasureT-loop
-μ-loop image₀ at bytes k₀ image k = 16 - k
+μ-loop image₀ at bytes k₀ image k = frontSize - k
 
 loop-holds : tie.Need-loop-holds Inv-loop μ-loop
 loop-holds c = (omega arith, sym (put-nothing (c .args .image .now) (c .args .at)), refl)

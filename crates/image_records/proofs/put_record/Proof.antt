@@ -1,4 +1,4 @@
--- `records::put_record` meets its contract: the first k bytes are put.
+-- `image_records::put_record` meets its contract: the first k bytes are put.
 -- Assumes nothing.
 use Rattle.image.specs.Image.{leaseSize}
 use Prim.Native.Nat.{_+_, _-_, _≤_}

@@ -1,4 +1,4 @@
--- `records::record_at` meets its contract: the first k bytes are copied.
+-- `image_records::record_at` meets its contract: the first k bytes are copied.
 -- Assumes nothing.
 use Rattle.image.specs.Image.{leaseSize}
 use Prim.Native.Nat.{ℕ, _+_, _-_, _≤_}

@@ -1,4 +1,4 @@
--- `records::remove_expired` meets its contract.
+-- `image_records::remove_expired` meets its contract.
 -- Assumes nothing.
 use native.Mathlib.Omega.{arith}
 use Rattle.image_records.proofs.RemoveLaws.{removed}

@@ -1,4 +1,4 @@
--- `records::stays` meets its contract.
+-- `image_records::stays` meets its contract.
 -- Assumes nothing.
 use mathlib.Core.Path.{refl}
 use native.Mathlib.Omega.{arith}

@@ -7,7 +7,8 @@ use mathlib.Core.List.{map}
 use lib.ListN.{drop}
 use borrow.Author.Needs.{needs}
 use borrow.Author.Tests.{not-true, not-false}
-use Rattle.option.specs.Writing.{entryBytes, entryWritable?}
+use Rattle.option.specs.Writing.{entryBytes}
+use Rattle.option.specs.Writer.{entryWritable?}
 use Rattle.option_measure.specs.Lists.{entryOf, part}
 use Rattle.option_measure.specs.Measuring.{measureOf}
 use Rattle.option_measure.proofs.PartLaws.{length-map-part}

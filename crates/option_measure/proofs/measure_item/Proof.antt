@@ -2,7 +2,7 @@
 -- Assumes nothing.
 use mathlib.Core.Path.{sym, ap, _∙_}
 use borrow.Author.Needs.{needs}
-use Rattle.option.specs.Writing.{writable?}
+use Rattle.option.specs.Writer.{writable?}
 use Rattle.option_measure.specs.Lists.{valueOf}
 use Rattle.option_measure.specs.Measuring.{measureOne}
 use Rattle.option_measure.specs.declared.Item.{Item}

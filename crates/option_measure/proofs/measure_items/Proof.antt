@@ -6,7 +6,8 @@ use mathlib.Core.Path.{_≡_, sym, subst, _∙_}
 use mathlib.Core.List.{map}
 use lib.ListN.{length, take, drop, length-map, length-take}
 use borrow.Author.Needs.{needs}
-use Rattle.option.specs.Writing.{suboptionBytes, writable?}
+use Rattle.option.specs.Writing.{suboptionBytes}
+use Rattle.option.specs.Writer.{writable?}
 use Rattle.option_measure.specs.Lists.{valueAt}
 use Rattle.option_measure.specs.Measuring.{measureOf, Short}
 use Rattle.option_measure.proofs.MeasureLaws.{plus, plus-zero, measure-end, items-more, items-outside, listed-none, listed-empty, listed-measured}

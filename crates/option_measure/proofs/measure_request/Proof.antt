@@ -3,7 +3,8 @@
 use native.Mathlib.Omega.{arith}
 use borrow.Author.Tests.{le-leb, lt-leb}
 use Rattle.option.specs.Rules.{fields?}
-use Rattle.option.specs.Writing.{requestBytes, suboptionBytes, writable?}
+use Rattle.option.specs.Writing.{requestBytes, suboptionBytes}
+use Rattle.option.specs.Writer.{writable?}
 use Rattle.option_measure.specs.Measuring.{measureOne}
 use Rattle.option_measure.proofs.measure_request.Statement.{statement}
 use Rattle.option_measure.proofs.measure_request.Tie as tie

@@ -5,7 +5,8 @@ use Prim.Native.Nat.{ℕ}
 use mathlib.Core.Path.{_≡_, refl, sym, ap, subst, _∙_}
 use mathlib.Core.Bool.{true, false}
 use borrow.Author.Needs.{needs}
-use Rattle.option.specs.Writing.{requestBytes, suboptionBytes, writable?}
+use Rattle.option.specs.Writing.{requestBytes, suboptionBytes}
+use Rattle.option.specs.Writer.{writable?}
 use Rattle.option_measure.specs.Lists.{valueOf}
 use Rattle.option_write.specs.Inner.{Fitting}
 use Rattle.option_measure.specs.declared.Item.{Item}

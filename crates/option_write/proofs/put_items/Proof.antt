@@ -11,6 +11,7 @@ use Rattle.lists.proofs.PutLaws.{put-nothing}
 use Rattle.option.specs.Writing.{suboptionsBytes}
 use Rattle.option.proofs.WritingLaws.{suboptions-none}
 use Rattle.option_measure.specs.Lists.{valueAt}
+use Rattle.option_write.specs.Inner.{suboptionsAt, mostBytes}
 use Rattle.option_write.proofs.ItemPuts.{item-fitting, turned}
 use Rattle.option_write.proofs.put_items.Statement.{statement}
 use Rattle.option_write.proofs.put_items.Tie as tie
@@ -18,9 +19,9 @@ use Rattle.option_write.proofs.put_items.Tie as tie
 abbrev Inv-loop : tie.InvT-loop
 Inv-loop buf₀ count entries octets items p₀ i₀ buf p i =
     (i ≤ count)
-    × (buf ≡ put buf₀ 3 (suboptionsBytes (map (valueAt entries octets) (take i items))))
-    × (p ≡ 3 + length (suboptionsBytes (map (valueAt entries octets) (take i items))))
-    × (p ≤ 3 + 254 * i)
+    × (buf ≡ put buf₀ suboptionsAt (suboptionsBytes (map (valueAt entries octets) (take i items))))
+    × (p ≡ suboptionsAt + length (suboptionsBytes (map (valueAt entries octets) (take i items))))
+    × (p ≤ suboptionsAt + mostBytes * i)
     × (length buf ≡ length buf₀)
 
 abbrev μ-loop : tie.MeasureT-loop
@@ -54,7 +55,7 @@ returns c =
     let a = c .before .before .before .args in
     let l = c .before .loop .inv in
     let all : c .before .loop .i ≡ a .count = omega arith in
-    l .1 ∙ ap (λ (k : ℕ). put (a .buf .now) 3 (suboptionsBytes (map (valueAt (a .entries) (a .octets)) (take k (a .t2))))) all
+    l .1 ∙ ap (λ (k : ℕ). put (a .buf .now) suboptionsAt (suboptionsBytes (map (valueAt (a .entries) (a .octets)) (take k (a .t2))))) all
 
 pub put-items-spec : {M : Type 1} → statement M
 put-items-spec =

@@ -4,6 +4,7 @@ use native.Mathlib.Omega.{arith}
 use mathlib.Core.Path.{_≡_}
 use lib.ListN.{length}
 use borrow.Author.Needs.{needs}
+use Rattle.option_measure.specs.Lists.{octetSlots}
 use Rattle.option_measure.proofs.PartLaws.{length-part}
 use Rattle.option_write.proofs.ItemPuts.{name-fitting, name-put}
 use Rattle.option_write.proofs.put_name.Statement.{statement}
@@ -14,7 +15,7 @@ cast-store c =
     let s = c .before .before .before .before .before .before in
     let a = s .args in
     let r = name-fitting (a .octets) (a .n) (s .pre .1) in
-    let full : length (a .octets) ≡ 256 = omega arith in
+    let full : length (a .octets) ≡ octetSlots = omega arith in
     let size = length-part (a .octets) (a .n .first) (a .n .count) (omega (arith, r .placed)) in
     omega (arith, r .short)
 
@@ -23,7 +24,7 @@ put-octets-requires c κs =
     let s = c .before .before .before .before .before .before .before .before .before .before in
     let a = s .args in
     let r = name-fitting (a .octets) (a .n) (s .pre .1) in
-    let full : length (a .octets) ≡ 256 = omega arith in
+    let full : length (a .octets) ≡ octetSlots = omega arith in
     let size = length-part (a .octets) (a .n .first) (a .n .count) (omega (arith, r .placed)) in
     (omega arith, r .placed)
 
@@ -32,7 +33,7 @@ add-result-2 c =
     let s = c .before .before .before .before .before .before .before .before .before .before .before .before .before in
     let a = s .args in
     let r = name-fitting (a .octets) (a .n) (s .pre .1) in
-    let full : length (a .octets) ≡ 256 = omega arith in
+    let full : length (a .octets) ≡ octetSlots = omega arith in
     let size = length-part (a .octets) (a .n .first) (a .n .count) (omega (arith, r .placed)) in
     omega (arith, r .short)
 
@@ -41,7 +42,7 @@ returns c =
     let s = c .before .before .before .before .before .before .before .before .before .before .before .before .before in
     let a = s .args in
     let r = name-fitting (a .octets) (a .n) (s .pre .1) in
-    let full : length (a .octets) ≡ 256 = omega arith in
+    let full : length (a .octets) ≡ octetSlots = omega arith in
     let size = length-part (a .octets) (a .n .first) (a .n .count) (omega (arith, r .placed)) in
     name-put (a .octets) (a .n) _ _ _ _ (a .at) full r (c .before .before .before .before .before .before .before .before .before .before .store .ensures) (c .before .before .before .before .before .before .store2 .ensures) (c .before .before .put-octets .ensures)
 

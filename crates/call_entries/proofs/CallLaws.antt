@@ -1,0 +1,89 @@
+-- Laws of take and return as calls: the rows up to 8, and leases changed in place.
+-- Assumes nothing.
+use Prim.Native.Nat.{ℕ}
+use native.Mathlib.Omega.{arith}
+use mathlib.Core.Path.{_≡_, sym, ap, _∙_}
+use mathlib.Core.List.{List, _++_, map}
+use lib.ListN.{length, take, length-map}
+use Rattle.option.specs.Values.{Entry}
+use Rattle.option.specs.Contents.{entriesIn}
+use Rattle.table.specs.declared.Lease.{Lease}
+use Rattle.table.specs.Table.{present, store}
+use Rattle.image.specs.Image.{usedLeases}
+use Rattle.image_check.specs.declared.ImageSummary.{ImageSummary}
+use Rattle.image_records.specs.Records.{Records}
+use Rattle.ledger.specs.declared.Answer.{Answer}
+use Rattle.ledger.specs.Ledger.{State, Call, Result, result, Row, firstOf, byRows, refusalPlace}
+use Rattle.ledger.proofs.RowLaws.{first-before}
+use Rattle.call_spec.specs.ImageCalls.{Lent, lent, tableIn, stateIn, storedIn, settled}
+use Rattle.call_spec.proofs.StoreLaws.{row-refuses}
+use Rattle.call_rows.specs.declared.Admission.{Admission}
+use Rattle.call_rows.specs.Admission.{admissionRows, leasesFrom, Admitted, Admits, Finished}
+use Rattle.call_rows.proofs.RowLaws.{admitted-rows}
+use Rattle.call_rows.proofs.FinishLaws.{finished-in-place}
+use Rattle.call_entries.specs.declared.EntriesRead.{EntriesRead}
+use Rattle.call_entries.specs.EntryLeases.{changedBy, changedIn}
+use Rattle.call_entries.specs.EntryRows.{entryRows, ReadsEntries}
+use Rattle.call_entries.specs.EntryCalls.{Sized, Passed}
+use Rattle.call_entries.proofs.EntriesLaws.{changed-holds}
+
+-- THE ROWS UP TO 8
+
+-- The call is admitted, and its entries are read.
+pub record EntriesCall (room : ℕ) (h : Lent) (now : ℕ) (c : Call) : Type 0 where
+  pub admission : Admission
+  pub admits : Admits room h now (c .client) admission
+  pub admitted : admission .number ≡ 0
+  pub read : EntriesRead
+  pub networks : List ℕ
+  pub lengths : List ℕ
+  pub reads : ReadsEntries (c .option) read networks lengths
+
+module _ (room : ℕ) (h : Lent) (now : ℕ) (c : Call) (own : List Row) (s : EntriesCall room h now c) where
+  abbrev rows : List Row
+  rows = admissionRows room h now (c .client) ++ (entryRows (c .option) ++ own)
+
+  from-6 : firstOf rows ≡ firstOf (entryRows (c .option) ++ own)
+  from-6 = admitted-rows room h now (c .client) (s .admission) (s .admits) (entryRows (c .option) ++ own) (s .admitted)
+
+  -- Rows 6, 7 and 8.
+  pub refused-entries : (accepted : Result State) → (s .read .answer .number ≡ 0 → ⊥)
+      → result (s .read .answer) h (c .reply) ≡ settled (byRows rows (refusalPlace (c .option)) (stateIn h) (c .reply) accepted) h
+  refused-entries accepted k =
+      let r = s .reads .refused k in
+      ap (λ (y : Answer). result y h (c .reply)) (r .1)
+      ∙ row-refuses h rows (refusalPlace (c .option)) (c .reply) accepted (s .read .answer .number) k (from-6 ∙ first-before (entryRows (c .option)) own (s .read .answer .number) (r .0))
+
+  module _ (good : s .read .answer .number ≡ 0) where
+    pub entries-passed : Passed h now c (firstOf rows) own (s .admission .summary) (take (s .read .count) (s .networks)) (take (s .read .count) (s .lengths))
+    entries-passed = record { admitted = s .admits .admitted (s .admitted); left-rows = from-6 ∙ s .reads .passed good own; hold = s .reads .hold good .0 }
+
+    pub entries-sized : Sized h (s .admission .summary) (take (s .read .count) (s .networks)) (take (s .read .count) (s .lengths))
+    entries-sized =
+        let o = s .admits .admitted (s .admitted) in
+        let hold = s .reads .hold good in
+        let networks-many = ap length (hold .0 .0) ∙ length-map (entriesIn (c .option)) (λ e. e .network) in
+        let lengths-many = ap length (hold .0 .1) ∙ length-map (entriesIn (c .option)) (λ e. e .length) in
+        record {
+          pools = o .few-pools;
+          within = omega (arith, o .size, o .within);
+          columns = networks-many ∙ sym lengths-many;
+          few = omega (arith, networks-many, hold .1, s .reads .few);
+        }
+
+-- LEASES CHANGED IN PLACE: those that the entries name get this end.
+
+module _ (h : Lent) (now : ℕ) (c : Call) (summary : ImageSummary) (o : Admitted h now (c .client) summary) (expires : ℕ) (es : List Entry) (l : List ℕ)
+    (is : l ≡ changedIn now (c .client) expires es (h .image) (leasesFrom summary) (usedLeases (tableIn h))) where
+  abbrev ys : List Lease
+  ys = map (changedBy now (c .client) expires es) (usedLeases (tableIn h))
+
+  pub changed-many : summary .leases ≡ length ys
+  changed-many = o .leases ∙ sym (length-map (usedLeases (tableIn h)) (changedBy now (c .client) expires es))
+
+  pub changed-stand : Records l (leasesFrom summary) ys
+  changed-stand = changed-holds now (c .client) expires (h .image) (leasesFrom summary) (usedLeases (tableIn h)) (o .records) (omega (arith, o .size, o .within, o .leases)) es l is
+
+  -- Then the expired ones are removed.
+  pub changed-in-place : (after : List ℕ) (n : ℕ) → Finished l (leasesFrom summary) ys now after n → lent after n ≡ storedIn (store (tableIn h) now (present now ys)) (h .bytes) h
+  changed-in-place after n finished = finished-in-place h now (c .client) summary o ys (sym changed-many) l is after n finished

@@ -1,0 +1,215 @@
+-- RESULTS ON IMAGES ARE IN RANGE. A sound table is in range exactly if its image is bytes; so what the ledger leaves in range of the code's types, the calls on
+-- images leave as bytes, over every history.
+-- Assumes nothing.
+use Prim.Native.Nat.{ℕ, _-_, _/_, _<_}
+use mathlib.Core.Path.{_≡_, refl, sym, subst}
+use mathlib.Core.Logic.{⊎-elim}
+use mathlib.Core.Bool.{Bool, true, false, not, cond}
+use mathlib.Core.List.{List, [], _∷_, _++_}
+use mathlib.Core.Option.{Option, none, some}
+use native.Mathlib.Omega.{arith}
+use lib.ListN.{length, drop, replicate}
+use lib.Dec.{eqb}
+use borrow.Author.Tests.{eqb-true, eqb-false, not-false}
+use Rattle.lists.specs.Lists.{All, concatMap}
+use Rattle.lists.proofs.Tests.{bool-cases}
+use Rattle.lists.proofs.ListLaws.{all-map, all-append, all-left, all-right}
+use Rattle.lists.proofs.DropLaws.{all-drop}
+use Rattle.lists.proofs.FilterLaws.{filter-all, all-replicate}
+use Rattle.table.specs.declared.Pool.{Pool}
+use Rattle.table.specs.declared.Lease.{Lease}
+use Rattle.table.specs.declared.LeaseTable.{LeaseTable}
+use Rattle.table.specs.Table.{poolSlots, leaseSlots, unused?, empty?, sound}
+use Rattle.table_open.specs.Open.{given, openOk, fresh}
+use Rattle.table_open.proofs.OpenLaws.{open-sound}
+use Rattle.image.specs.declared.Head.{Head}
+use Rattle.image.specs.Image.{le16, le32, headSize, poolSize, leaseSize, fullImage, stateByte, flagsByte, headRecord, poolRecord, leaseRecord, usedPools, usedLeases, headOf, imageOf, loadedTable}
+use Rattle.image.specs.Reading.{loadImage}
+use Rattle.image.proofs.FieldLaws.{bytes-of}
+use Rattle.image.proofs.ImageLaws.{table-whole, image-loaded, longest-image}
+use Rattle.ledger.specs.Ledger.{State, Result, Row, openRows, ask, take, list, release, mark}
+use Rattle.ledger.specs.Demand3.{none?}
+use Rattle.ledger.specs.Sizes.{Byte, Bytes}
+use Rattle.ledger.specs.InRange.{Word, PoolInRange, LeaseInRange, TableInRange, StateInRange, ResultInRange, InRange, StaysInRange}
+use Rattle.ledger.proofs.RowLaws.{first-none}
+use Rattle.ledger.proofs.Counts.{upTo-all}
+use Rattle.ledger.proofs.SoundKept.{ask-sound, take-sound, list-sound, release-sound, mark-sound}
+use Rattle.ledger.proofs.InRange.{all-concatMap, pools-padded, leases-padded, blank-in-range, fresh-in-range, rows-in-range, accepted-in-range, in-range, stays-in-range}
+use Rattle.call_spec.specs.ImageCalls.{Lent, holds?, imageIn, tableIn, stateIn, over, stored, storedIn, settled, imageCalls, openImage, loadInto, roomRows}
+use Rattle.call_spec.specs.InRange.{LentInRange, OpensInRange, LoadsInRange}
+use Rattle.call_spec.proofs.StoreLaws.{settled-refused, settled-accepted}
+use Rattle.call_spec.proofs.OnImages.{is-some}
+
+-- RECORDS: fields in range are written as bytes, and bytes are the record of fields in range.
+
+two-bytes : (n : ℕ) → n < 65536 → Bytes (le16 n)
+unfolding le16
+two-bytes n l = (omega arith, (omega arith, tt))
+
+four-bytes : (n : ℕ) → Word n → Bytes (le32 n)
+unfolding le32
+four-bytes n l = (omega arith, (omega arith, (omega arith, (omega arith, tt))))
+
+four-word : (n : ℕ) → n / 16777216 < 256 → Word n
+four-word n l = omega arith
+
+state-byte : (leased : Bool) → Byte (stateByte leased)
+state-byte true = omega arith
+state-byte false = omega arith
+
+flags-byte : (h d : Bool) → Byte (flagsByte h d)
+flags-byte true true = omega arith
+flags-byte true false = omega arith
+flags-byte false true = omega arith
+flags-byte false false = omega arith
+
+-- Pieces that are bytes, one after the other.
+pieces : (ls : List (List ℕ)) → All Bytes ls → Bytes (concatMap (λ l. l) ls)
+pieces ls a = all-concatMap (λ l. l) Byte ls a
+
+head-bytes : (x : Head) → Word (x .term) → Byte (x .«default_length») → Word (x .last) → Bytes (headRecord x)
+unfolding headRecord le16 le32
+head-bytes x term len last =
+    pieces (le16 (headSize - 2) ∷ le16 1 ∷ le32 (x .term) ∷ (x .«default_length» ∷ []) ∷ le32 (x .last) ∷ [])
+    (two-bytes (headSize - 2) (omega arith), (two-bytes 1 (omega arith), (four-bytes (x .term) term, ((len, tt), (four-bytes (x .last) last, tt)))))
+
+pool-bytes : (p : Pool) → PoolInRange p → Bytes (poolRecord p)
+unfolding poolRecord le16 le32
+pool-bytes p f =
+    pieces (le16 (poolSize - 2) ∷ le16 2 ∷ le32 (p .network) ∷ (p .length ∷ []) ∷ [])
+    (two-bytes (poolSize - 2) (omega arith), (two-bytes 2 (omega arith), (four-bytes (p .network) (f .network), ((f .length, tt), tt))))
+
+lease-bytes : (x : Lease) → LeaseInRange x → Bytes (leaseRecord x)
+unfolding leaseRecord le16 le32
+lease-bytes x f =
+    pieces (le16 (leaseSize - 2) ∷ le16 3 ∷ le32 (x .network) ∷ (x .length ∷ stateByte (x .leased) ∷ flagsByte (x .h) (x .d) ∷ []) ∷ le32 (x .client) ∷ le32 (x .expires) ∷ []) (
+      two-bytes (leaseSize - 2) (omega arith),
+      (
+        two-bytes 3 (omega arith),
+        (
+          four-bytes (x .network) (f .network),
+          ((f .length, (state-byte (x .leased), (flags-byte (x .h) (x .d), tt))), (four-bytes (x .client) (f .client), (four-bytes (x .expires) (f .expires), tt))),
+        ),
+      ),
+    )
+
+bytes-head : (x : Head) → Bytes (headRecord x) → Word (x .term) × Byte (x .«default_length») × Word (x .last)
+unfolding headRecord le16 le32
+bytes-head x a = let b = bytes-of (headRecord x) a in (four-word (x .term) (b 7), b 8, four-word (x .last) (b 12))
+
+bytes-pool : (p : Pool) → Bytes (poolRecord p) → PoolInRange p
+unfolding poolRecord le16 le32
+bytes-pool p a = let b = bytes-of (poolRecord p) a in record { network = four-word (p .network) (b 7); length = b 8 }
+
+bytes-lease : (x : Lease) → Bytes (leaseRecord x) → LeaseInRange x
+unfolding leaseRecord le16 le32
+bytes-lease x a =
+    let b = bytes-of (leaseRecord x) a in
+    record { network = four-word (x .network) (b 7); length = b 8; client = four-word (x .client) (b 14); expires = four-word (x .expires) (b 18) }
+
+-- TABLES AND IMAGES
+
+concatMap-all : {A B : Type 0} (f : A → List B) (P : B → Type 0) (xs : List A) → All P (concatMap f xs) → All (λ x. All P (f x)) xs
+concatMap-all f P [] a = tt
+concatMap-all f P (x ∷ xs) a = (all-left P (f x) (concatMap f xs) a, concatMap-all f P xs (all-right P (f x) (concatMap f xs) a))
+
+pub image-bytes : (t : LeaseTable) → TableInRange t → Bytes (imageOf t)
+unfolding imageOf
+image-bytes t f =
+    let ps : List Pool = usedPools t in
+    let xs : List Lease = usedLeases t in
+    all-append Byte (headRecord (headOf t)) (concatMap poolRecord ps ++ concatMap leaseRecord xs) (head-bytes (headOf t) (f .term) (f .default) (f .last))
+    (all-append Byte (concatMap poolRecord ps) (concatMap leaseRecord xs)
+    (all-concatMap poolRecord Byte ps (all-map pool-bytes ps (filter-all (λ p. not (unused? p)) PoolInRange (t .pools) (f .pools))))
+    (all-concatMap leaseRecord Byte xs (all-map lease-bytes xs (filter-all (λ x. not (empty? x)) LeaseInRange (t .leases) (f .leases)))))
+
+pub bytes-image : (t : LeaseTable) → sound t ≡ true → Bytes (imageOf t) → TableInRange t
+unfolding imageOf
+bytes-image t s a =
+    let ps : List Pool = usedPools t in
+    let xs : List Lease = usedLeases t in
+    let body : List ℕ = concatMap poolRecord ps ++ concatMap leaseRecord xs in
+    let head = bytes-head (headOf t) (all-left Byte (headRecord (headOf t)) body a) in
+    let b : Bytes body = all-right Byte (headRecord (headOf t)) body a in
+    subst TableInRange (sym (table-whole t s))
+    (record {
+      pools = pools-padded ps (poolSlots - length ps) (all-map bytes-pool ps (concatMap-all poolRecord Byte ps (all-left Byte (concatMap poolRecord ps) (concatMap leaseRecord xs) b)));
+      leases = leases-padded xs (leaseSlots - length xs) (all-map bytes-lease xs (concatMap-all leaseRecord Byte xs (all-right Byte (concatMap poolRecord ps) (concatMap leaseRecord xs) b)));
+      term = head .0;
+      default = head .1;
+      last = head .2;
+    })
+
+-- What loads from bytes is in range, and so is what stands for bytes that do not load.
+loaded-in-range : (s : List ℕ) → Bytes s → TableInRange (loadedTable (loadImage s))
+loaded-in-range s b = go (loadImage s) refl
+  where
+    go : (o : Option LeaseTable) → loadImage s ≡ o → TableInRange (loadedTable o)
+    go none e = blank-in-range
+    go (some t) e = let k = image-loaded s t b e in bytes-image t (k .0) (subst Bytes (sym (k .1)) b)
+
+held-in-range : (h : Lent) → LentInRange h → StateInRange (stateIn h)
+unfolding tableIn
+held-in-range h f = loaded-in-range (imageIn h) (upTo-all Byte (cond (holds? h) (h .bytes) 0) (h .image) (f .image))
+
+-- The image of a table in range, stored.
+stored-in-range : (t : LeaseTable) (old : ℕ) (h : Lent) → sound t ≡ true → TableInRange t → LentInRange h → LentInRange (storedIn t old h)
+unfolding stored
+stored-in-range t old h s f g =
+    let new : List ℕ = over (imageOf t) old in
+    let zeros : List ℕ = replicate (old - length (imageOf t)) 0 in
+    record {
+      image = all-append Byte new (drop (length new) (h .image)) (all-append Byte (imageOf t) zeros (image-bytes t f) (all-replicate Byte (old - length (imageOf t)) 0 (omega arith)))
+          (all-drop Byte (length new) (h .image) (g .image));
+      bytes = omega (arith, longest-image t s);
+    }
+
+-- THE CALLS
+
+-- A call on an image, of the ledger's call on its table.
+settled-in-range : (h : Lent) (r : Result State) → LentInRange h → ResultInRange StateInRange r → (r .answer .number ≡ 0 → sound (r .state .table) ≡ true)
+    → ResultInRange LentInRange (settled r h)
+settled-in-range h r f k s =
+    ⊎-elim
+    (λ (e : eqb (r .answer .number) 0 ≡ true).
+    let z = eqb-true (r .answer .number) 0 e in
+    subst (ResultInRange LentInRange) (sym (settled-accepted r h z))
+    (record { answer = k .answer; left = stored-in-range (r .state .table) (h .bytes) h (s z) (k .left) f; reply = k .reply }))
+    (λ (e : eqb (r .answer .number) 0 ≡ false).
+    subst (ResultInRange LentInRange) (sym (settled-refused r h (eqb-false (r .answer .number) 0 e))) (record { answer = k .answer; left = f; reply = k .reply }))
+    (bool-cases (eqb (r .answer .number) 0))
+
+pub in-range-on-images : InRange LentInRange imageCalls
+in-range-on-images = record {
+  asks = λ h now c f k. settled-in-range h (ask (stateIn h) now c) f (in-range .asks (stateIn h) now c (held-in-range h f) k) (λ z. ask-sound (stateIn h) now c z .1);
+  takes = λ h now c f k. settled-in-range h (take (stateIn h) now c) f (in-range .takes (stateIn h) now c (held-in-range h f) k) (λ z. take-sound (stateIn h) now c z .1);
+  lists = λ h now c f k. settled-in-range h (list (stateIn h) now c) f (in-range .lists (stateIn h) now c (held-in-range h f) k) (λ z. list-sound (stateIn h) now c z .1);
+  releases = λ h now c f k. settled-in-range h (release (stateIn h) now c) f (in-range .releases (stateIn h) now c (held-in-range h f) k) (λ z. release-sound (stateIn h) now c z .1);
+  marks =
+      λ h now network len d f. settled-in-range h (mark (stateIn h) now network len d) f (in-range .marks (stateIn h) now network len d (held-in-range h f)) (λ z. mark-sound (stateIn h) now network len d z .1);
+}
+
+pub stays-in-range-on-images : StaysInRange LentInRange imageCalls
+stays-in-range-on-images = stays-in-range LentInRange imageCalls in-range-on-images
+
+-- OPEN AND LOAD
+
+pub opens-in-range-on-images : OpensInRange
+unfolding openImage
+opens-in-range-on-images h networks lengths term defaultLength start f o =
+    let rows : List Row = openRows networks lengths term defaultLength start ++ roomRows h in
+    let t : LeaseTable = fresh (given networks lengths) term defaultLength start in
+    rows-in-range LentInRange rows (λ n. 0) h [] _ refl (λ n. omega arith) f tt
+    (λ e.
+    let s : sound t ≡ true = open-sound networks lengths term defaultLength start (not-false (openOk networks lengths term defaultLength start) (first-none rows e .0)) in
+    accepted-in-range LentInRange (storedIn t fullImage h) [] 0 [] (stored-in-range t fullImage h s (fresh-in-range networks lengths term defaultLength start o) f) tt (omega arith) (omega arith) tt)
+
+pub loads-in-range-on-images : LoadsInRange
+unfolding loadInto
+loads-in-range-on-images h saved f b =
+    let rows : List Row = (5, none? (loadImage saved)) ∷ roomRows h in
+    let t : LeaseTable = loadedTable (loadImage saved) in
+    rows-in-range LentInRange rows (λ n. 0) h [] _ refl (λ n. omega arith) f tt
+    (λ e.
+    let s : sound t ≡ true = image-loaded saved t b (is-some (loadImage saved) (first-none rows e .0)) .0 in
+    accepted-in-range LentInRange (storedIn t fullImage h) [] 0 [] (stored-in-range t fullImage h s (loaded-in-range saved b) f) tt (omega arith) (omega arith) tt)

@@ -1,0 +1,97 @@
+-- WHATEVER FOLLOWS THE LEDGER KEEPS ITS THEOREMS (`Following`), of what each call answers: what take and list write reads back, a struck lease leaves nothing
+-- behind, and resuming a list skips and repeats nothing.
+-- Assumes nothing.
+use Prim.Native.Nat.{ℕ}
+use mathlib.Core.Path.{_≡_, sym, ap, subst, _∙_}
+use lib.ListN.{drop}
+use Rattle.lists.specs.Lists.{filter}
+use Rattle.option.specs.Values.{mostEntries}
+use Rattle.option.specs.Contents.{entriesIn}
+use Rattle.table.specs.Table.{present}
+use Rattle.ledger.specs.declared.Answer.{Answer}
+use Rattle.ledger.specs.Ledger.{State, call, Result, result, Calls, found, listedIn, ledger}
+use Rattle.ledger.specs.Histories.{afterwards}
+use Rattle.ledger.specs.ReadBack.{readIn, confirmation, page, TakesReadBack, ListsReadBack}
+use Rattle.ledger.specs.NothingBehind.{Same, Cleared, EndedForgotten, Clears}
+use Rattle.ledger.specs.Resuming.{Resumes}
+use Rattle.ledger.proofs.ReadBack.{take-reads-back, list-reads-back}
+use Rattle.ledger.proofs.NothingBehind.{ended-forgotten, clears}
+use Rattle.ledger.proofs.Resuming.{resumed-after-returns}
+use Rattle.ledger.proofs.Following.{Follows, FollowsAll, afterwards-same}
+
+-- ONE CALL
+
+module _ {S : Type 0} (stateOf : S → State) (s : S) (r : Result State) (q : Result S) (f : Follows stateOf s r q) where
+  -- What it gives, with the state that it leaves, is what the ledger gives.
+  seen-same : result (q .answer) (stateOf (q .state)) (q .reply) ≡ r
+  seen-same = λ i. record { answer = f .answer i; state = f .holds i; reply = f .reply i }
+
+  accepted-too : q .answer .number ≡ 0 → r .answer .number ≡ 0
+  accepted-too z = sym (ap (λ (a : Answer). a .number) (f .answer)) ∙ z
+
+  cleared-followed : (now : ℕ) → (r .answer .number ≡ 0 → Cleared now (r .state)) → q .answer .number ≡ 0 → Cleared now (stateOf (q .state))
+  cleared-followed now k z = subst (Cleared now) (sym (f .holds)) (k (accepted-too z))
+
+  same-followed : (s′ : S) (r′ : Result State) (q′ : Result S) → Follows stateOf s′ r′ q′ → Same (λ u. u) r r′ → Same stateOf q q′
+  same-followed s′ r′ q′ g a = record {
+    answer = f .answer ∙ a .answer ∙ sym (g .answer);
+    reply = f .reply ∙ a .reply ∙ sym (g .reply);
+    left = λ z. f .holds ∙ a .left (accepted-too z) ∙ sym (g .holds);
+  }
+
+module _ {S : Type 0} (calls : Calls S) (follows : FollowsAll calls) where
+  abbrev stateOf : S → State
+  stateOf s = calls .stateOf s
+
+  -- WHAT TAKE AND LIST WRITE
+
+  pub takes-read-back-followed : TakesReadBack calls
+  takes-read-back-followed s now c =
+      subst (λ (r : Result State). r .answer .number ≡ 0 → readIn r ≡ confirmation (found (c .client) (present now (stateOf s .table .leases)) (entriesIn (c .option))))
+      (sym (seen-same stateOf s _ _ (follows .takes s now c))) (take-reads-back (stateOf s) now c)
+
+  pub lists-read-back-followed : ListsReadBack calls
+  lists-read-back-followed s now c =
+      subst (λ (r : Result State). r .answer .number ≡ 0 → readIn r ≡ page (listedIn (stateOf s .table) now (c .client) (c .option)))
+      (sym (seen-same stateOf s _ _ (follows .lists s now c))) (list-reads-back (stateOf s) now c)
+
+  -- A STRUCK LEASE LEAVES NOTHING BEHIND
+
+  pub ended-forgotten-followed : EndedForgotten calls
+  ended-forgotten-followed now s u a =
+      let k = ended-forgotten now (stateOf s) (stateOf u) a in
+      record {
+        asks = λ c. same-followed stateOf s _ _ (follows .asks s now c) u _ _ (follows .asks u now c) (k .asks c);
+        takes = λ c. same-followed stateOf s _ _ (follows .takes s now c) u _ _ (follows .takes u now c) (k .takes c);
+        lists =
+            λ c. let f = follows .lists s now c in let g = follows .lists u now c in let e = k .lists c in
+            (f .answer ∙ e .0 ∙ sym (g .answer), f .reply ∙ e .1 ∙ sym (g .reply));
+        releases = λ c. same-followed stateOf s _ _ (follows .releases s now c) u _ _ (follows .releases u now c) (k .releases c);
+        marks = λ network len d. same-followed stateOf s _ _ (follows .marks s now network len d) u _ _ (follows .marks u now network len d) (k .marks network len d);
+      }
+
+  pub clears-followed : (s : S) (now : ℕ) → Clears calls s now
+  clears-followed s now =
+      let k = clears (stateOf s) now in
+      record {
+        asks = λ c. cleared-followed stateOf s _ _ (follows .asks s now c) now (k .asks c);
+        takes = λ c. cleared-followed stateOf s _ _ (follows .takes s now c) now (k .takes c);
+        releases = λ c. cleared-followed stateOf s _ _ (follows .releases s now c) now (k .releases c);
+        marks = λ network len d. cleared-followed stateOf s _ _ (follows .marks s now network len d) now (k .marks network len d);
+      }
+
+  -- RESUMING A LIST
+
+  pub resumes-followed : Resumes calls
+  resumes-followed s now later client option resuming es so l a e =
+      let r = resumed-after-returns (stateOf s) now later client option resuming es so l a e in
+      let u : S = afterwards calls s es in
+      let same : stateOf u ≡ afterwards ledger (stateOf s) es = afterwards-same calls follows es s in
+      let rest : listedIn (stateOf u .table) later client resuming ≡ filter (r .keep) (drop mostEntries (listedIn (stateOf s .table) now client option)) =
+      ap (λ (v : State). listedIn (v .table) later client resuming) same ∙ r .rest in
+      record {
+        keep = r .keep;
+        there = ap (λ (v : State). present later (v .table .leases)) same ∙ r .there;
+        rest = rest;
+        told = λ reply z. lists-read-back-followed u later (call client resuming reply) z ∙ ap page rest;
+      }

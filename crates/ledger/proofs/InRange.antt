@@ -1,0 +1,312 @@
+-- RESULTS ARE IN RANGE: of arguments within the sizes of the code's types every call, and so every history, gives tables, reply buffers and answers within
+-- them.
+-- Assumes nothing.
+use Prim.Native.Nat.{ℕ, _+_, _-_, _≤_}
+use mathlib.Core.Path.{_≡_, refl}
+use mathlib.Core.Bool.{Bool, true, false, not, cond}
+use mathlib.Core.List.{List, [], _∷_, _++_, map}
+use mathlib.Core.Option.{Option, none, some}
+use native.Mathlib.Omega.{arith}
+use lib.ListN.{length, drop, replicate}
+use lib.ListN.{take as upTo}
+use lib.Dec.{leb, ltb}
+use borrow.Author.Tests.{leb-true, ltb-false, eqb-false, not-false}
+use Rattle.lists.specs.Lists.{All, all?, filter, concatMap, catMaybes}
+use Rattle.lists.proofs.Tests.{all?-to}
+use Rattle.lists.proofs.TakeLaws.{take-short}
+use Rattle.lists.proofs.ListLaws.{all-map, all-append, all-image, all-every, any-all}
+use Rattle.lists.proofs.DropLaws.{all-drop}
+use Rattle.lists.proofs.FilterLaws.{filter-all, filter-fewer, all-replicate}
+use Rattle.lists.proofs.SortingLaws.{insertBy-all, sortBy-all}
+use Rattle.prefix.specs.Prefixes.{longest}
+use Rattle.prefix.proofs.PrefixLaws.{size-positive}
+use Rattle.option.specs.Values.{longestOption, mostRequests, mostEntries, Entry, SuboptionValue, information}
+use Rattle.option.specs.Writing.{flags, fourBytes, entryHead, entryBytes, entriesBytes, informationHead, suboptionBytes, suboptionsBytes, optionHead, optionBytes}
+use Rattle.option.specs.Contents.{Request, requestsIn, entriesIn}
+use Rattle.option.proofs.WritingLaws.{option-length}
+use Rattle.option_reply.specs.Reply.{entryOf}
+use Rattle.option_reply.proofs.ReplyLaws.{entries-length}
+use Rattle.table.specs.declared.Pool.{Pool}
+use Rattle.table.specs.declared.Lease.{Lease}
+use Rattle.table.specs.declared.LeaseTable.{LeaseTable}
+use Rattle.table.specs.Table.{poolSlots, leaseSlots, latest, noPool, noLease, blank, networkOf, poolsOf, present, sound, store}
+use Rattle.table.proofs.TableLaws.{Good, sound-term, sound-fine, sound-fewer}
+use Rattle.table_open.specs.Open.{poolNetwork, given, sortPools, fresh}
+use Rattle.ledger.specs.Ledger.{State, state, Call, Result, Row, firstOf, byRows, accept, refusalPlace, openRows, openTable, informationFor, askOffers, add, offer, offers, addAll, forAsk, askRows, ask, namedBy?, names?, found, renew, renewNamed, takeRows, take, listedIn, listRows, list, releaseRows, release, at?, withD, markRows, mark, Calls, ledger}
+use Rattle.ledger.specs.Histories.{Event, asked, taken, wasListed, returned, marked, saved, next, afterwards}
+use Rattle.ledger.specs.Sizes.{Byte, Bytes}
+use Rattle.ledger.specs.InRange.{Word, highestNumber, PoolInRange, LeaseInRange, TableInRange, StateInRange, CallInRange, ResultInRange, InRange, EventInRange, StaysInRange, OpenInRange, OpensInRange}
+use Rattle.ledger.proofs.RowLaws.{first-none, by-numbers}
+use Rattle.ledger.proofs.ReadLaws.{requests-short, entries-few, option-short, place-short}
+use Rattle.ledger.proofs.Counts.{upTo-all, granted-few, ask-fits, found-few, information-fits}
+use Rattle.ledger.proofs.OfferLaws.{pools-good, pools-within, Offered, Offer, offer-is, offers-good, length-bounds}
+
+-- A CALL THAT GOES BY ITS ROWS, on what is in range
+
+module _ {S : Type 0} (Fits : S → Type 0) where
+  pub rows-in-range : (rows : List Row) (place : ℕ → ℕ) (s : S) (reply : List ℕ) (accepted : Result S) → all? (λ r. leb (r .0) highestNumber) rows ≡ true
+      → ((n : ℕ) → place n ≤ longestOption) → Fits s → Bytes reply → (firstOf rows ≡ none → ResultInRange Fits accepted)
+      → ResultInRange Fits (byRows rows place s reply accepted)
+  rows-in-range rows place s reply accepted low near f b served =
+      by-numbers (λ n. n ≤ highestNumber) (ResultInRange Fits) rows _ _
+      (all?-to (λ (r : Row). leb (r .0) highestNumber) (λ r e. leb-true (r .0) highestNumber e) rows low)
+      (λ n l. record { answer = record { number = l; place = near n; bytes = omega arith; count = omega arith }; left = f; reply = b }) served
+
+  pub accepted-in-range : (s : S) (written : List ℕ) (count : ℕ) (reply : List ℕ) → Fits s → Bytes written → length written ≤ longestOption → count ≤ leaseSlots → Bytes reply
+      → ResultInRange Fits (accept s written count reply)
+  accepted-in-range s written count reply f a short few b = record {
+    answer = record { number = omega arith; place = omega arith; bytes = short; count = few };
+    left = f;
+    reply = all-append Byte written (drop (length written) reply) a (all-drop Byte (length written) reply b);
+  }
+
+-- THE BYTES OF A REPLY
+
+pub all-concatMap : {A B : Type 0} (f : A → List B) (P : B → Type 0) (xs : List A) → All (λ x. All P (f x)) xs → All P (concatMap f xs)
+all-concatMap f P [] a = tt
+all-concatMap f P (x ∷ xs) a = all-append P (f x) (concatMap f xs) (a .0) (all-concatMap f P xs (a .1))
+
+four-bytes : (n : ℕ) → Word n → Bytes (fourBytes n)
+unfolding fourBytes
+four-bytes n l = (omega arith, (omega arith, (omega arith, (omega arith, tt))))
+
+flags-byte : (b a : Bool) → Byte (flags b a)
+flags-byte true true = omega arith
+flags-byte true false = omega arith
+flags-byte false true = omega arith
+flags-byte false false = omega arith
+
+-- A lease whose network and length an entry can hold.
+abbrev Told : Lease → Type 0
+Told x = Word (x .network) × Byte (x .length)
+
+entry-bytes : (x : Lease) → Told x → Bytes (entryBytes (entryOf x))
+unfolding entryBytes entryHead
+entry-bytes x w =
+    let rest : List ℕ = x .length ∷ flags (x .h) (x .d) ∷ 0 ∷ [] in
+    all-append Byte (fourBytes (x .network) ++ rest) []
+    (all-append Byte (fourBytes (x .network)) rest (four-bytes (x .network) (w .0)) (w .1, (flags-byte (x .h) (x .d), (omega arith, tt)))) tt
+
+information-bytes : (c s : Bool) (xs : List Lease) → length xs ≤ mostEntries → All Told xs → Bytes (suboptionBytes (information c s (map entryOf xs)))
+unfolding suboptionBytes informationHead entriesBytes
+information-bytes c s xs few a =
+    all-append Byte (2 ∷ (1 + length (entriesBytes (map entryOf xs))) ∷ flags c s ∷ []) (entriesBytes (map entryOf xs))
+    (omega arith, (omega (arith, entries-length xs), (flags-byte c s, tt)))
+    (all-concatMap entryBytes Byte (map entryOf xs) (all-image entryOf (λ (e : Entry). Bytes (entryBytes e)) xs (all-map entry-bytes xs a)))
+
+option-bytes : (subs : List SuboptionValue) → length (optionBytes subs) ≤ longestOption → All (λ x. Bytes (suboptionBytes x)) subs → Bytes (optionBytes subs)
+unfolding optionBytes optionHead suboptionsBytes
+option-bytes subs l a =
+    all-append Byte (220 ∷ (1 + length (suboptionsBytes subs)) ∷ 0 ∷ []) (suboptionsBytes subs)
+    (omega arith, (omega (arith, option-length subs), (omega arith, tt))) (all-concatMap suboptionBytes Byte subs a)
+
+ask-bytes : (gs : List Lease) → length gs ≤ mostRequests → All Told gs → Bytes (optionBytes (map informationFor gs))
+ask-bytes gs few a =
+    option-bytes (map informationFor gs) (omega (arith, ask-fits gs few))
+    (all-image informationFor (λ (v : SuboptionValue). Bytes (suboptionBytes v)) gs (all-map (λ x (w : Told x). information-bytes false false (x ∷ []) (omega arith) (w, tt)) gs a))
+
+page-bytes : (c s : Bool) (gs : List Lease) → length gs ≤ mostEntries → All Told gs → Bytes (optionBytes (information c s (map entryOf gs) ∷ []))
+page-bytes c s gs few a = option-bytes (information c s (map entryOf gs) ∷ []) (omega (arith, information-fits c s gs few)) (information-bytes c s gs few a, tt)
+
+-- TABLES
+
+no-pool-in-range : PoolInRange noPool
+no-pool-in-range = record { network = omega arith; length = omega arith }
+
+no-lease-in-range : LeaseInRange noLease
+no-lease-in-range = record { network = omega arith; length = omega arith; client = omega arith; expires = omega arith }
+
+pub pools-padded : (ps : List Pool) (n : ℕ) → All PoolInRange ps → All PoolInRange (ps ++ replicate n noPool)
+pools-padded ps n a = all-append PoolInRange ps (replicate n noPool) a (all-replicate PoolInRange n noPool no-pool-in-range)
+
+pub leases-padded : (xs : List Lease) (n : ℕ) → All LeaseInRange xs → All LeaseInRange (xs ++ replicate n noLease)
+leases-padded xs n a = all-append LeaseInRange xs (replicate n noLease) a (all-replicate LeaseInRange n noLease no-lease-in-range)
+
+pub blank-in-range : TableInRange blank
+blank-in-range = record { pools = pools-padded [] poolSlots tt; leases = leases-padded [] leaseSlots tt; term = omega arith; default = omega arith; last = omega arith }
+
+store-in-range : (t : LeaseTable) (now : ℕ) (xs : List Lease) → TableInRange t → now ≤ latest → All LeaseInRange xs → TableInRange (store t now xs)
+unfolding store
+store-in-range t now xs f l a = record { pools = f .pools; leases = leases-padded xs (leaseSlots - length xs) a; term = f .term; default = f .default; last = omega arith }
+
+present-in-range : (t : LeaseTable) (now : ℕ) → TableInRange t → All LeaseInRange (present now (t .leases))
+unfolding present
+present-in-range t now f = filter-all (λ x. ltb now (x .expires)) LeaseInRange (t .leases) (f .leases)
+
+-- Leases of which some are changed.
+changed-in-range : (f : Lease → Lease) (p : Lease → Bool) → ((x : Lease) → LeaseInRange x → LeaseInRange (f x)) → (xs : List Lease) → All LeaseInRange xs
+    → All LeaseInRange (map (λ x. cond (p x) (f x) x) xs)
+changed-in-range f p k xs a = all-image (λ x. cond (p x) (f x) x) LeaseInRange xs (all-map (λ x (s : LeaseInRange x). pick x (p x) (k x s) s) xs a)
+  where
+    pick : (x : Lease) (b : Bool) → LeaseInRange (f x) → LeaseInRange x → LeaseInRange (cond b (f x) x)
+    pick x true a c = a
+    pick x false a c = c
+
+-- The leases of a sound table lie in its pools.
+good-told : (t : LeaseTable) (now : ℕ) → sound t ≡ true → (xs : List Lease) → All (Good (poolsOf t) now) xs → All Told xs
+good-told t now s xs a = all-map (λ x (g : Good (poolsOf t) now x). told x g) xs a
+  where
+    told : (x : Lease) → Good (poolsOf t) now x → Told x
+    told x g = let i = any-all (poolsOf t) (g .pooled) (pools-within t s) in (omega (arith, i .1, i .2, size-positive (x .length)), omega (arith, g .long))
+
+present-told : (t : LeaseTable) (now : ℕ) → sound t ≡ true → All Told (present now (t .leases))
+present-told t now s = good-told t now s (present now (t .leases)) (sound-fine t s now .0)
+
+-- What an ask adds.
+module _ (t : LeaseTable) (now client : ℕ) (s : sound t ≡ true) (l : now ≤ latest) (w : Word client) where
+  offered-in-range : (xs : List Lease) (r : Request) (x : Lease) → r .length ≤ longest → Offered t now client xs r x → LeaseInRange x
+  offered-in-range xs r x k o =
+      let i = any-all (poolsOf t) (o .free .pooled) (pools-within t s) in
+      record {
+        network = omega (arith, i .1, i .2, size-positive (x .length));
+        length = omega (arith, o .len, length-bounds t s r k);
+        client = omega (arith, o .owner);
+        expires = omega (arith, o .until);
+      }
+
+  add-in-range : (xs : List Lease) (r : Request) → r .length ≤ longest → (o : Option Lease) → Offer t now client xs r o → All LeaseInRange xs → All LeaseInRange (add o xs)
+  add-in-range xs r k none f a = a
+  add-in-range xs r k (some x) f a = insertBy-all networkOf LeaseInRange x xs (offered-in-range xs r x k f) a
+
+  offers-in-range : (rs : List Request) (xs : List Lease) → All (λ r. r .length ≤ longest) rs → All LeaseInRange xs → All LeaseInRange (addAll (offers t now client xs rs) xs)
+  unfolding offers addAll
+  offers-in-range [] xs k a = a
+  offers-in-range (r ∷ rs) xs k a =
+      offers-in-range rs (add (offer t now client xs r) xs) (k .1) (add-in-range xs r (k .0) (offer t now client xs r) (offer-is t now client (pools-good t s) xs r) a)
+
+-- THE CALLS
+
+module _ (s : State) (now : ℕ) (c : Call) (f : StateInRange s) (k : CallInRange c) where
+  abbrev t : LeaseTable
+  t = s .table
+
+  abbrev xs : List Lease
+  xs = present now (t .leases)
+
+  abbrev es : List Entry
+  es = entriesIn (c .option)
+
+  served-in-range : (rows : List Row) (accepted : Result State) → all? (λ r. leb (r .0) highestNumber) rows ≡ true
+      → (All (λ (r : Row). r .1 ≡ false) rows → ResultInRange StateInRange accepted) → ResultInRange StateInRange (byRows rows (refusalPlace (c .option)) s (c .reply) accepted)
+  served-in-range rows accepted low served =
+      rows-in-range StateInRange rows (refusalPlace (c .option)) s (c .reply) accepted low (place-short (c .option) (k .option)) f (k .reply) (λ e. served (first-none rows e))
+
+  ask-in-range : ResultInRange StateInRange (ask s now c)
+  unfolding ask askRows
+  ask-in-range =
+      served-in-range (askRows s now c) _ refl
+      (λ r.
+      let so : sound t ≡ true = not-false (sound t) (r .1 .0) in
+      let named : c .client ≡ 0 → ⊥ = eqb-false (c .client) 0 (r .1 .1 .0) in
+      let l : now ≤ latest = ltb-false latest now (r .1 .1 .1 .1 .0) in
+      let os : List (Option Lease) = askOffers t now (c .client) (c .option) in
+      let gs : List Lease = catMaybes os in
+      let few : length gs ≤ mostRequests = granted-few t now (c .client) xs (requestsIn (c .option)) (not-false (forAsk (requestsIn (c .option))) (r .1 .1 .1 .1 .1 .1 .1 .0)) in
+      let told : All Told gs = good-told t now so gs (offers-good t now (c .client) (pools-good t so) so named (requestsIn (c .option)) xs (requests-short (c .option))) in
+      accepted-in-range StateInRange (state (store t now (addAll os xs))) (optionBytes (map informationFor gs)) (length gs) (c .reply)
+      (store-in-range t now (addAll os xs) f l (offers-in-range t now (c .client) so l (k .client) (requestsIn (c .option)) xs (requests-short (c .option)) (present-in-range t now f)))
+      (ask-bytes gs few told) (omega (arith, ask-fits gs few)) (omega arith) (k .reply))
+
+  found-told : sound t ≡ true → All Told (found (c .client) xs es)
+  found-told so =
+      all-concatMap (λ e. filter (λ x. names? (c .client) x e) xs) Told es
+      (all-every {P = λ e. All Told (filter (λ x. names? (c .client) x e) xs)} (λ e. filter-all (λ x. names? (c .client) x e) Told xs (present-told t now so)) es)
+
+  take-in-range : ResultInRange StateInRange (take s now c)
+  unfolding take takeRows
+  take-in-range =
+      served-in-range (takeRows s now c) _ refl
+      (λ r.
+      let so : sound t ≡ true = not-false (sound t) (r .1 .0) in
+      let l : now ≤ latest = ltb-false latest now (r .1 .1 .1 .1 .0) in
+      let gs : List Lease = found (c .client) xs es in
+      let few : length gs ≤ mostEntries =
+      omega (arith, found-few t now (c .client) es so, entries-few (c .option) (option-short (c .option) (k .option) (r .1 .1 .1 .1 .1 .0))) in
+      accepted-in-range StateInRange (state (store t now (renewNamed now (t .term) (c .client) es xs))) (optionBytes (information false false (map entryOf gs) ∷ [])) (length gs) (c .reply)
+      (store-in-range t now (renewNamed now (t .term) (c .client) es xs) f l
+      (changed-in-range (renew now (t .term)) (namedBy? (c .client) es)
+      (λ x (v : LeaseInRange x). record { network = v .network; length = v .length; client = v .client; expires = omega (arith, sound-term t so .1) }) xs (present-in-range t now f)))
+      (page-bytes false false gs few (found-told so)) (omega (arith, information-fits false false gs few)) (omega arith) (k .reply))
+
+  list-in-range : ResultInRange StateInRange (list s now c)
+  unfolding list listRows
+  list-in-range =
+      served-in-range (listRows s now c) _ refl
+      (λ r.
+      let so : sound t ≡ true = not-false (sound t) (r .1 .0) in
+      let gs : List Lease = listedIn t now (c .client) (c .option) in
+      let page : List Lease = upTo mostEntries gs in
+      let more : Bool = ltb mostEntries (length gs) in
+      let few : length page ≤ mostEntries = take-short mostEntries gs in
+      accepted-in-range StateInRange s (optionBytes (information true more (map entryOf page) ∷ [])) (length page) (c .reply) f
+      (page-bytes true more page few (upTo-all Told mostEntries gs (filter-all _ Told xs (present-told t now so)))) (omega (arith, information-fits true more page few)) (omega arith) (k .reply))
+
+  release-in-range : ResultInRange StateInRange (release s now c)
+  unfolding release releaseRows
+  release-in-range =
+      served-in-range (releaseRows s now c) _ refl
+      (λ r.
+      let so : sound t ≡ true = not-false (sound t) (r .0) in
+      let l : now ≤ latest = ltb-false latest now (r .1 .1 .1 .0) in
+      let kept : List Lease = filter (λ x. not (namedBy? (c .client) es x)) xs in
+      accepted-in-range StateInRange (state (store t now kept)) [] (length (filter (namedBy? (c .client) es) xs)) (c .reply)
+      (store-in-range t now kept f l (filter-all (λ x. not (namedBy? (c .client) es x)) LeaseInRange xs (present-in-range t now f)))
+      tt (omega arith) (omega (arith, filter-fewer (namedBy? (c .client) es) xs, sound-fewer t so now)) (k .reply))
+
+mark-in-range : (s : State) (now network len : ℕ) (d : Bool) → StateInRange s → ResultInRange StateInRange (mark s now network len d)
+unfolding mark markRows
+mark-in-range s now network len d f =
+    rows-in-range StateInRange (markRows s now network len) (λ n. 0) s [] _ refl (λ n. omega arith) f tt
+    (λ e.
+    let r = first-none (markRows s now network len) e in
+    let xs : List Lease = present now (s .table .leases) in
+    let marks : List Lease = map (λ x. cond (at? network len x) (withD d x) x) xs in
+    accepted-in-range StateInRange (state (store (s .table) now marks)) [] 0 []
+    (store-in-range (s .table) now marks f (ltb-false latest now (r .1 .1 .0))
+    (changed-in-range (withD d) (at? network len) (λ x (v : LeaseInRange x). record { network = v .network; length = v .length; client = v .client; expires = v .expires }) xs (present-in-range (s .table) now f)))
+    tt (omega arith) (omega arith) tt)
+
+pub in-range : InRange StateInRange ledger
+in-range = record { asks = ask-in-range; takes = take-in-range; lists = list-in-range; releases = release-in-range; marks = mark-in-range }
+
+-- HISTORIES of any calls that are in range
+
+module _ {S : Type 0} (Fits : S → Type 0) (calls : Calls S) (i : InRange Fits calls) where
+  next-in-range : (s : S) (e : Event) → Fits s → EventInRange e → Fits (next calls s e)
+  next-in-range s (asked now c) f k = i .asks s now c f k .left
+  next-in-range s (taken now c) f k = i .takes s now c f k .left
+  next-in-range s (wasListed now c) f k = i .lists s now c f k .left
+  next-in-range s (returned now c) f k = i .releases s now c f k .left
+  next-in-range s (marked now network len d) f k = i .marks s now network len d f .left
+  next-in-range s saved f k = f
+
+  pub stays-in-range : StaysInRange Fits calls
+  unfolding afterwards
+  stays-in-range [] s f a = f
+  stays-in-range (e ∷ es) s f a = stays-in-range es (next calls s e) (next-in-range s e f (a .0)) (a .1)
+
+-- OPEN
+
+given-in-range : (networks lengths : List ℕ) → All Word networks → All Byte lengths → All PoolInRange (given networks lengths)
+unfolding given
+given-in-range [] lengths a b = tt
+given-in-range (n ∷ networks) [] a b = tt
+given-in-range (n ∷ networks) (l ∷ lengths) a b = (record { network = a .0; length = b .0 }, given-in-range networks lengths (a .1) (b .1))
+
+pub fresh-in-range : (networks lengths : List ℕ) (term defaultLength start : ℕ) → OpenInRange networks lengths term defaultLength start
+    → TableInRange (fresh (given networks lengths) term defaultLength start)
+fresh-in-range networks lengths term defaultLength start o =
+    let ps : List Pool = sortPools (given networks lengths) in
+    record {
+      pools = pools-padded ps (poolSlots - length ps) (sortBy-all poolNetwork PoolInRange (given networks lengths) (given-in-range networks lengths (o .networks-are) (o .lengths-are)));
+      leases = leases-padded [] leaseSlots tt;
+      term = o .term-is;
+      default = o .default-is;
+      last = o .start-is;
+    }
+
+pub opens-in-range : OpensInRange
+unfolding openTable
+opens-in-range networks lengths term defaultLength start o =
+    rows-in-range StateInRange (openRows networks lengths term defaultLength start) (λ n. 0) (state blank) [] _ refl (λ n. omega arith) blank-in-range tt
+    (λ e. accepted-in-range StateInRange (state (fresh (given networks lengths) term defaultLength start)) [] 0 [] (fresh-in-range networks lengths term defaultLength start o) tt (omega arith) (omega arith) tt)

@@ -1,0 +1,453 @@
+//! Flockdrift: leases of subnets over DHCP option 220 (RFC 6656), embedded in a server. A safe wrapper of the proved
+//! static library: what each call does is in `include/flockdrift.h`.
+//!
+//! A server holds a [`Book`] and makes its calls on it. A call that accepts changes the book, one that refuses has
+//! changed nothing. Networks are IPv4 addresses as numbers, 10.0.1.0 being `0x0a000100`; times are seconds of the
+//! server's clock; a client is a number that the server gives it, not 0.
+//!
+//! Buffers have the sizes that the library asks for and slices carry their lengths. The borrow checker sees to the
+//! rest: no two arguments overlap, and no two threads work on one book.
+#![deny(missing_docs)]
+
+use std::error::Error;
+use std::fmt;
+
+#[path = "../../../include/flockdrift.rs"]
+mod raw;
+
+pub use raw::{IMAGE_CAPACITY, REPLY_CAPACITY, SELECTION_CAPACITY, TEXT_CAPACITY};
+
+use raw::Answer;
+
+/// The version of this crate and of the library that belongs to it.
+pub const VERSION: &str = env!("CARGO_PKG_VERSION");
+
+// REFUSALS
+
+/// Why a call was refused. It displays as its number and what that says.
+#[derive(Clone, Copy, Debug, PartialEq, Eq)]
+pub struct Refusal {
+    /// The number that document 01 and the header have for it.
+    pub number: u32,
+    /// Where in the option a bad suboption begins (number 7), the code byte being at 0; 0 of every other number.
+    pub place: u32,
+}
+
+impl Refusal {
+    /// What the number says; the header's `flockdrift_text` has the same words.
+    pub fn text(&self) -> &'static str {
+        match self.number {
+            0 => "accepted",
+            1 => "the reply buffer is too small",
+            2 => "there is no client 0",
+            3 => "the time is before the last time of the table",
+            4 => "the time is too late",
+            5 => "not the image of a sound table",
+            6 => "not exactly the option",
+            7 => "a bad suboption",
+            8 => "the suboptions are not those that the call takes",
+            9 => "the table is full",
+            10 => "no free prefix of the length",
+            11 => "nothing found",
+            12 => "pools, term, default length or start are outside the rules",
+            14 => "the buffer is too small",
+            _ => "no number of this library",
+        }
+    }
+}
+
+impl fmt::Display for Refusal {
+    fn fmt(&self, f: &mut fmt::Formatter<'_>) -> fmt::Result {
+        write!(f, "refused {}: {}", self.number, self.text())?;
+        if self.number == 7 {
+            write!(f, " at {}", self.place)?;
+        }
+        Ok(())
+    }
+}
+
+impl Error for Refusal {}
+
+/// What is answered, where the number is that of no refusal.
+fn unless<T>(number: u32, place: u32, answer: T) -> Result<T, Refusal> {
+    match number {
+        0 => Ok(answer),
+        _ => Err(Refusal { number, place }),
+    }
+}
+
+fn accepted(a: Answer) -> Result<Answer, Refusal> {
+    unless(a.number, a.place, a)
+}
+
+// WHAT CALLS ANSWER
+
+/// The option that answers a client, and how many entries it has.
+#[derive(Clone, Debug)]
+pub struct Reply {
+    buffer: [u8; REPLY_CAPACITY],
+    bytes: usize,
+    count: u32,
+}
+
+impl Reply {
+    /// What a call writes.
+    fn of(call: impl FnOnce(&mut [u8]) -> Answer) -> Result<Reply, Refusal> {
+        let mut buffer = [0; REPLY_CAPACITY];
+        let a = accepted(call(&mut buffer))?;
+        Ok(Reply {
+            buffer,
+            bytes: a.bytes as usize,
+            count: a.count,
+        })
+    }
+
+    /// The bytes of the option.
+    pub fn option(&self) -> &[u8] {
+        &self.buffer[..self.bytes]
+    }
+
+    /// How many entries it has.
+    pub fn count(&self) -> u32 {
+        self.count
+    }
+}
+
+/// The head of a book, and how many pools and leases it has.
+#[derive(Clone, Copy, Debug, PartialEq, Eq)]
+pub struct Head {
+    /// Seconds of a lease.
+    pub term: u32,
+    /// The length for requests that suggest none.
+    pub default_length: u8,
+    /// The time of the last accepted call that changed the book.
+    pub last_time: u32,
+    /// How many pools there are.
+    pub pools: usize,
+    /// How many leases there are.
+    pub leases: usize,
+}
+
+/// A pool of a book.
+#[derive(Clone, Copy, Debug, PartialEq, Eq)]
+pub struct Pool {
+    /// Its first address.
+    pub network: u32,
+    /// Its prefix length.
+    pub length: u8,
+}
+
+/// Whether a lease is only offered or confirmed.
+#[derive(Clone, Copy, Debug, PartialEq, Eq)]
+pub enum State {
+    /// Offered, until it is taken or 120 seconds have passed.
+    Held,
+    /// Confirmed by a take.
+    Leased,
+}
+
+/// A lease of a book, as it stands there: there is no time here, so it may have ended.
+#[derive(Clone, Copy, Debug, PartialEq, Eq)]
+pub struct Lease {
+    /// Its first address.
+    pub network: u32,
+    /// Its prefix length.
+    pub length: u8,
+    /// Whose it is.
+    pub client: u32,
+    /// Held or leased.
+    pub state: State,
+    /// Whether its request had h set.
+    pub h: bool,
+    /// Whether it is deprecated.
+    pub d: bool,
+    /// The time of its end: from then on it is none.
+    pub expires: u32,
+}
+
+// THE BOOK
+
+/// A lease table, held as its image. A copy of it is a book to which a server can go back.
+#[derive(Clone)]
+pub struct Book {
+    image: [u8; IMAGE_CAPACITY],
+    bytes: usize,
+}
+
+// SAFETY of every call below: each pointer with a size is that of a live slice, with its length; the one without is
+// that of the image's length; and the library keeps none of them.
+impl Book {
+    /// No book yet: every call is refused with 5.
+    pub const fn none() -> Book {
+        Book {
+            image: [0; IMAGE_CAPACITY],
+            bytes: 0,
+        }
+    }
+
+    /// A book without leases: pools in any order, `networks[i]` with `lengths[i]`.
+    pub fn open(
+        networks: &[u32],
+        lengths: &[u8],
+        term: u32,
+        default_length: u32,
+        start: u32,
+    ) -> Result<Book, Refusal> {
+        let mut book = Book::none();
+        accepted(unsafe {
+            raw::flockdrift_open(
+                book.image.as_mut_ptr(),
+                book.image.len(),
+                &mut book.bytes,
+                networks.as_ptr(),
+                networks.len(),
+                lengths.as_ptr(),
+                lengths.len(),
+                term,
+                default_length,
+                start,
+            )
+        })?;
+        Ok(book)
+    }
+
+    /// The book that was saved; bytes that are no image are refused with 5.
+    pub fn load(saved: &[u8]) -> Result<Book, Refusal> {
+        let mut book = Book::none();
+        accepted(unsafe {
+            raw::flockdrift_load(
+                book.image.as_mut_ptr(),
+                book.image.len(),
+                &mut book.bytes,
+                saved.as_ptr(),
+                saved.len(),
+            )
+        })?;
+        Ok(book)
+    }
+
+    /// The bytes that load takes.
+    pub fn save(&self) -> Result<Vec<u8>, Refusal> {
+        let mut saved = vec![0; IMAGE_CAPACITY];
+        let a = accepted(unsafe {
+            raw::flockdrift_save(
+                self.image.as_ptr(),
+                self.image.len(),
+                self.bytes,
+                saved.as_mut_ptr(),
+                saved.len(),
+            )
+        })?;
+        saved.truncate(a.bytes as usize);
+        Ok(saved)
+    }
+
+    /// Offers free prefixes for the option's requests, and holds them for 120 seconds.
+    pub fn ask(&mut self, client: u32, now: u32, option: &[u8]) -> Result<Reply, Refusal> {
+        Reply::of(|reply| unsafe {
+            raw::flockdrift_ask(
+                self.image.as_mut_ptr(),
+                self.image.len(),
+                &mut self.bytes,
+                client,
+                now,
+                option.as_ptr(),
+                option.len(),
+                reply.as_mut_ptr(),
+                reply.len(),
+            )
+        })
+    }
+
+    /// Confirms or renews the client's leases that the option's entries name.
+    pub fn take(&mut self, client: u32, now: u32, option: &[u8]) -> Result<Reply, Refusal> {
+        Reply::of(|reply| unsafe {
+            raw::flockdrift_take(
+                self.image.as_mut_ptr(),
+                self.image.len(),
+                &mut self.bytes,
+                client,
+                now,
+                option.as_ptr(),
+                option.len(),
+                reply.as_mut_ptr(),
+                reply.len(),
+            )
+        })
+    }
+
+    /// Lists the client's leases, at most 35 in a reply.
+    pub fn list(&self, client: u32, now: u32, option: &[u8]) -> Result<Reply, Refusal> {
+        Reply::of(|reply| unsafe {
+            raw::flockdrift_list(
+                self.image.as_ptr(),
+                self.image.len(),
+                self.bytes,
+                client,
+                now,
+                option.as_ptr(),
+                option.len(),
+                reply.as_mut_ptr(),
+                reply.len(),
+            )
+        })
+    }
+
+    /// Removes the client's leases that the option's entries name; how many.
+    pub fn release(&mut self, client: u32, now: u32, option: &[u8]) -> Result<u32, Refusal> {
+        let a = accepted(unsafe {
+            raw::flockdrift_release(
+                self.image.as_mut_ptr(),
+                self.image.len(),
+                &mut self.bytes,
+                client,
+                now,
+                option.as_ptr(),
+                option.len(),
+            )
+        })?;
+        Ok(a.count)
+    }
+
+    /// Marks the lease with this network and length as deprecated, or as not.
+    pub fn mark(
+        &mut self,
+        network: u32,
+        length: u8,
+        deprecated: bool,
+        now: u32,
+    ) -> Result<(), Refusal> {
+        accepted(unsafe {
+            raw::flockdrift_mark(
+                self.image.as_mut_ptr(),
+                self.image.len(),
+                &mut self.bytes,
+                network,
+                length.into(),
+                deprecated.into(),
+                now,
+            )
+        })?;
+        Ok(())
+    }
+
+    /// The book as text for an operator.
+    pub fn sheet(&self) -> Result<String, Refusal> {
+        let mut text = vec![0; TEXT_CAPACITY];
+        let image = &self.image[..self.bytes];
+        let a = accepted(unsafe {
+            raw::flockdrift_sheet(image.as_ptr(), image.len(), text.as_mut_ptr(), text.len())
+        })?;
+        text.truncate(a.bytes as usize);
+        Ok(String::from_utf8(text).expect("a sheet is ASCII"))
+    }
+
+    /// Whether there is a book; 5 otherwise.
+    pub fn check(&self) -> Result<(), Refusal> {
+        accepted(unsafe {
+            raw::flockdrift_check(self.image.as_ptr(), self.image.len(), self.bytes)
+        })?;
+        Ok(())
+    }
+
+    /// The head of the book.
+    pub fn head(&self) -> Result<Head, Refusal> {
+        let a = unsafe { raw::flockdrift_head(self.image.as_ptr(), self.image.len(), self.bytes) };
+        let head = Head {
+            term: a.term,
+            default_length: a.default_length as u8,
+            last_time: a.last_time,
+            pools: a.pools as usize,
+            leases: a.leases as usize,
+        };
+        unless(a.number, 0, head)
+    }
+
+    /// The pool with this index, which counts from 0; 11 where there is none.
+    pub fn pool(&self, index: usize) -> Result<Pool, Refusal> {
+        let a = unsafe {
+            raw::flockdrift_pool(self.image.as_ptr(), self.image.len(), self.bytes, index)
+        };
+        let pool = Pool {
+            network: a.network,
+            length: a.length as u8,
+        };
+        unless(a.number, 0, pool)
+    }
+
+    /// The lease with this index, which counts from 0; 11 where there is none.
+    pub fn lease(&self, index: usize) -> Result<Lease, Refusal> {
+        let a = unsafe {
+            raw::flockdrift_lease(self.image.as_ptr(), self.image.len(), self.bytes, index)
+        };
+        let lease = Lease {
+            network: a.network,
+            length: a.length as u8,
+            client: a.client,
+            state: if a.state == 2 {
+                State::Leased
+            } else {
+                State::Held
+            },
+            h: a.h != 0,
+            d: a.d != 0,
+            expires: a.expires,
+        };
+        unless(a.number, 0, lease)
+    }
+
+    /// The pools, ascending; none where there is no book.
+    pub fn pools(&self) -> impl Iterator<Item = Pool> + '_ {
+        (0..).map_while(|index| self.pool(index).ok())
+    }
+
+    /// The leases, ascending; none where there is no book.
+    pub fn leases(&self) -> impl Iterator<Item = Lease> + '_ {
+        (0..).map_while(|index| self.lease(index).ok())
+    }
+}
+
+impl Default for Book {
+    fn default() -> Book {
+        Book::none()
+    }
+}
+
+/// Books are equal where their images are: one book has one image.
+impl PartialEq for Book {
+    fn eq(&self, other: &Book) -> bool {
+        self.image[..self.bytes] == other.image[..other.bytes]
+    }
+}
+
+impl Eq for Book {}
+
+impl fmt::Debug for Book {
+    fn fmt(&self, f: &mut fmt::Formatter<'_>) -> fmt::Result {
+        f.debug_struct("Book")
+            .field("head", &self.head())
+            .finish_non_exhaustive()
+    }
+}
+
+// OPTIONS
+
+/// Checks an option 220: 6 where it is none, 7 with the place of a bad suboption.
+pub fn check_option(option: &[u8]) -> Result<(), Refusal> {
+    accepted(unsafe { raw::flockdrift_check_option(option.as_ptr(), option.len()) })?;
+    Ok(())
+}
+
+/// The address of an option 118 (RFC 3011); 6 where it is none.
+pub fn read_selection(option: &[u8]) -> Result<u32, Refusal> {
+    let a = unsafe { raw::flockdrift_read_selection(option.as_ptr(), option.len()) };
+    unless(a.number, 0, a.address)
+}
+
+/// The option 118 with this address.
+pub fn write_selection(address: u32) -> [u8; SELECTION_CAPACITY] {
+    let mut option = [0; SELECTION_CAPACITY];
+    let a = unsafe { raw::flockdrift_write_selection(address, option.as_mut_ptr(), option.len()) };
+    debug_assert_eq!(a.bytes as usize, option.len());
+    option
+}

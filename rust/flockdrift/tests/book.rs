@@ -1,0 +1,123 @@
+//! What the wrapper adds to the library: its types, and that each method hands on what it is given.
+
+use flockdrift::*;
+
+const POOLS: ([u32; 2], [u8; 2]) = ([0x0a000800, 0x0a000100], [26, 24]);
+const ASK_26_H: &[u8] = &[0xdc, 5, 0, 1, 2, 1, 26];
+const NAME_26: &[u8] = &[0xdc, 11, 0, 2, 8, 0, 10, 0, 8, 0, 26, 0, 0];
+const LIST: &[u8] = &[0xdc, 5, 0, 1, 2, 2, 0];
+
+fn opened() -> Book {
+    Book::open(&POOLS.0, &POOLS.1, 3600, 28, 1000).unwrap()
+}
+
+fn number<T: std::fmt::Debug>(r: Result<T, Refusal>) -> u32 {
+    r.unwrap_err().number
+}
+
+#[test]
+fn no_book_is_refused() {
+    let mut book = Book::none();
+    assert_eq!(number(book.check()), 5);
+    assert_eq!(number(book.head()), 5);
+    assert_eq!(number(book.pool(0)), 5);
+    assert_eq!(number(book.lease(0)), 5);
+    assert_eq!(number(book.save()), 5);
+    assert_eq!(number(book.sheet()), 5);
+    assert_eq!(number(book.ask(7, 1000, ASK_26_H)), 5);
+    assert_eq!(book.pools().count() + book.leases().count(), 0);
+    assert_eq!(number(Book::load(&[])), 5);
+    assert_eq!(number(Book::open(&POOLS.0, &POOLS.1, 59, 28, 1000)), 12);
+}
+
+#[test]
+fn a_lease_from_ask_to_release() {
+    let mut book = opened();
+    book.check().unwrap();
+    let reply = book.ask(7, 1000, ASK_26_H).unwrap();
+    assert_eq!((reply.option().len(), reply.count()), (13, 1));
+    let held = Lease {
+        network: 0x0a000800,
+        length: 26,
+        client: 7,
+        state: State::Held,
+        h: true,
+        d: false,
+        expires: 1120,
+    };
+    assert_eq!(book.lease(0), Ok(held));
+    book.take(7, 1010, NAME_26).unwrap();
+    book.mark(0x0a000800, 26, true, 1020).unwrap();
+    let leased = Lease {
+        state: State::Leased,
+        d: true,
+        expires: 4610,
+        ..held
+    };
+    assert_eq!(book.leases().collect::<Vec<_>>(), [leased]);
+    assert_eq!(book.list(7, 1030, LIST).unwrap().count(), 1);
+    assert_eq!(book.release(7, 1040, NAME_26), Ok(1));
+    assert_eq!(book.leases().count(), 0);
+    assert_eq!(
+        book.sheet().unwrap(),
+        "sheet lines=0 free=2\nfree 10.0.1.0/24\nfree 10.0.8.0/26\n"
+    );
+}
+
+#[test]
+fn the_head_and_the_pools_ascend() {
+    let book = opened();
+    let head = Head {
+        term: 3600,
+        default_length: 28,
+        last_time: 1000,
+        pools: 2,
+        leases: 0,
+    };
+    assert_eq!(book.head(), Ok(head));
+    let pools: Vec<_> = book.pools().map(|p| (p.network, p.length)).collect();
+    assert_eq!(pools, [(0x0a000100, 24), (0x0a000800, 26)]);
+    assert_eq!(number(book.pool(2)), 11);
+    assert_eq!(number(book.pool(usize::MAX)), 11);
+    assert_eq!(number(book.lease(0)), 11);
+}
+
+#[test]
+fn a_refusal_and_going_back_leave_the_book() {
+    let mut book = opened();
+    let before = book.clone();
+    assert_eq!(number(book.ask(0, 1000, ASK_26_H)), 2);
+    assert_eq!(book, before);
+    book.ask(7, 1000, ASK_26_H).unwrap();
+    assert_ne!(book, before);
+    let saved = book.save().unwrap();
+    assert_eq!(Book::load(&saved), Ok(book.clone()));
+    assert_eq!(number(Book::load(&saved[1..])), 5);
+    book = before.clone();
+    assert_eq!(book, before);
+}
+
+#[test]
+fn options_without_a_book() {
+    assert_eq!(check_option(ASK_26_H), Ok(()));
+    assert_eq!(number(check_option(&ASK_26_H[1..])), 6);
+    let bad = check_option(&[0xdc, 5, 0, 1, 2, 0, 31]).unwrap_err();
+    assert_eq!(
+        bad,
+        Refusal {
+            number: 7,
+            place: 3
+        }
+    );
+    assert_eq!(write_selection(0x0a000100), [118, 4, 10, 0, 1, 0]);
+    assert_eq!(read_selection(&write_selection(u32::MAX)), Ok(u32::MAX));
+    assert_eq!(number(read_selection(&[118, 3, 10, 0, 1])), 6);
+}
+
+#[test]
+fn refusals_in_words() {
+    let words = |number, place| Refusal { number, place }.to_string();
+    assert_eq!(words(5, 0), "refused 5: not the image of a sound table");
+    assert_eq!(words(7, 13), "refused 7: a bad suboption at 13");
+    assert_eq!(words(13, 0), "refused 13: no number of this library");
+}

@@ -1,0 +1,36 @@
+// include/flockdrift.h from C++: the struct of a book, and that every inline function compiles and links.
+#include "flockdrift.h"
+
+#include <cstring>
+
+int main()
+{
+    const uint32_t network = 0x0a000100;
+    const uint8_t length = 24;
+    const uint8_t ask[] = {0xdc, 5, 0, 1, 2, 0, 26};
+    const uint8_t name[] = {0xdc, 11, 0, 2, 8, 0, 10, 0, 1, 0, 26, 0, 0};
+    const uint8_t all[] = {0xdc, 5, 0, 1, 2, 2, 0};
+    static char text[FLOCKDRIFT_TEXT_CAPACITY];
+    uint8_t reply[FLOCKDRIFT_REPLY_CAPACITY];
+    uint8_t saved[FLOCKDRIFT_IMAGE_CAPACITY];
+    flockdrift_book book{};
+
+    bool good = flockdrift_book_check(&book).number == FLOCKDRIFT_NOT_AN_IMAGE;
+    good = good && flockdrift_book_open(&book, &network, 1, &length, 1, 3600, 28, 1000).number == 0;
+    const flockdrift_book before = book;
+    good = good && flockdrift_book_ask(&book, 7, 1000, ask, sizeof ask, reply, sizeof reply).count == 1;
+    good = good && flockdrift_book_take(&book, 7, 1010, name, sizeof name, reply, sizeof reply).count == 1;
+    good = good && flockdrift_book_list(&book, 7, 1020, all, sizeof all, reply, sizeof reply).count == 1;
+    good = good && flockdrift_book_mark(&book, network, 26, 1, 1030).number == 0;
+    good = good && flockdrift_book_head(&book).leases == 1 && flockdrift_book_pool(&book, 0).network == network;
+    good = good && flockdrift_book_lease(&book, 0).state == FLOCKDRIFT_LEASED;
+    const uint32_t bytes = flockdrift_book_save(&book, saved, sizeof saved).bytes;
+    good = good && flockdrift_book_sheet(&book, text, sizeof text).number == 0;
+    good = good && flockdrift_book_release(&book, 7, 1040, name, sizeof name).count == 1;
+    good = good && flockdrift_book_load(&book, saved, bytes).number == 0;
+    good = good && flockdrift_book_lease(&book, 0).expires == 4610 && flockdrift_book_head(&before).leases == 0;
+    good = good && flockdrift_write_selection(network, reply, sizeof reply).bytes == FLOCKDRIFT_SELECTION_CAPACITY;
+    good = good && flockdrift_read_selection(reply, FLOCKDRIFT_SELECTION_CAPACITY).address == network;
+    good = good && flockdrift_check_option(ask, sizeof ask).number == 0;
+    return good && std::strcmp(flockdrift_text(11), "nothing found") == 0 ? 0 : 1;
+}
