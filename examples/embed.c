@@ -4,8 +4,9 @@
  *     cc -std=c99 -Iinclude examples/embed.c target/staticlib/libflockdrift.a -o embed
  *     ./embed DIRECTORY [STOP-AFTER] < messages
  *
- * The book is the file `leases` in DIRECTORY, as the library saves it. Each line of standard input stands for a message
- * or for a word from the operator, and its answer goes to standard output, both in the console's words:
+ * The book is the file `leases` in DIRECTORY, as the library saves it: without the figures that clients told, which are
+ * all untold after a start. Each line of standard input stands for a message or for a word from the operator, and its
+ * answer goes to standard output, both in the console's words:
  *
  *     open TERM DEFAULT START PREFIX..       a new book, where there is none yet
  *     ask|take|list|return CLIENT NOW OPTION the option in hexadecimal

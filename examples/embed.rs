@@ -3,8 +3,8 @@
 //!     cargo build --example embed --manifest-path rust/flockdrift/Cargo.toml
 //!     rust/flockdrift/target/debug/examples/embed DIRECTORY [STOP-AFTER] < messages
 //!
-//! embed.c says what the messages are, why a client gets its answer only after the new image is on the disk, and what
-//! the server does where that fails.
+//! embed.c says what the messages are, why a client gets its answer only after the new image is on the disk, what the
+//! server does where that fails, and that figures are not saved.
 #![deny(unsafe_code)]
 
 use std::env;

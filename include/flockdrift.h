@@ -1,9 +1,10 @@
 /*
  * Flockdrift: leases of subnets over DHCP option 220 (RFC 6656), embedded in a server.
  *
- * The server holds the lease table as a book: its image, at the front of a buffer, and the image's length. Both are
- * lent to each call: one that accepts leaves the new image and its length in them, one that refuses has changed
- * neither. The image is also the saved form, which the server writes to a file and loads from it.
+ * The server holds the lease table as a book: its image, at the front of a buffer, the image's length, and the figures
+ * sheet with what clients told of the use of their leases. They are lent to each call: one that accepts leaves the new
+ * ones in them, one that refuses has changed none. The image is also the saved form, which the server writes to a file
+ * and loads from it; figures are not saved.
  *
  *     static struct flockdrift_book book;            all zeros: no table yet, open or load makes one
  *     struct flockdrift_answer a = flockdrift_book_load(&book, saved, saved_bytes);
@@ -23,8 +24,8 @@
  *   other argument.
  * - Nothing is kept between two calls: no pointer, no allocation, no global. Any number of threads may call at once,
  *   each with buffers of its own; two calls on one book need a lock around them, unless both only read it (list, save,
- *   sheet, check, head, pool, lease). A call takes up to 6 KiB of stack (measured on x86-64; a proof says nothing of
- *   the stack).
+ *   sheet, check, head, pool, lease, figures). A call takes up to 6 KiB of stack (measured on x86-64; a proof says
+ *   nothing of the stack).
  *
  * Networks are IPv4 addresses as numbers, 10.0.1.0 being 0x0a000100, and lengths are prefix lengths. Times are seconds
  * of the server's clock, which does not run backwards. A client is a number that the server gives it, not 0. Options
@@ -45,6 +46,19 @@
  *
  * flockdrift_head, flockdrift_pool and flockdrift_lease answer the fields as numbers, so that a server need not read
  * them itself.
+ *
+ * THE FIGURES SHEET is 256 rows of 11 bytes, one for each place of a lease: first those of the leases, in their order,
+ * then those of the places that have none. All numbers are little-endian:
+ *
+ *     network 4, prefix length 1, high water 2, in use 2, unusable 2
+ *
+ * Network and length are the lease's. A figure is what the client told last in an entry of a take, 0xffff where it told
+ * none. The row of a place without a lease has network 0, length 0 and three times 0xffff. A sheet of which one row is
+ * not so does not match the table, nor does one of another size.
+ *
+ * Open and load fill the sheet, nothing told. An ask adds rows, nothing told; with a lease its row is removed, whether
+ * it ended or was released; a take files the figures of the entries that it finds, in order, where 0xffff or a missing
+ * one keeps what was told before; nothing else changes a figure. flockdrift_book_figures answers a row as numbers.
  */
 #ifndef FLOCKDRIFT_H
 #define FLOCKDRIFT_H
@@ -57,7 +71,7 @@ extern "C" {
 #endif
 
 /* Of this header and of the library that belongs to it. */
-#define FLOCKDRIFT_VERSION "0.9.0"
+#define FLOCKDRIFT_VERSION "0.10.0"
 
 /*
  * The image of a full table: 8 pools and 256 leases. No image is longer, and an image buffer must not be smaller. After
@@ -65,6 +79,10 @@ extern "C" {
  * leaves of the old one: of a removed lease, or of an older table, nothing stays behind. No call writes past this size.
  */
 #define FLOCKDRIFT_IMAGE_CAPACITY 4949
+
+/* A figures sheet has exactly this size: so many bytes in a row, and 256 rows. */
+#define FLOCKDRIFT_FIGURES_ROW 11
+#define FLOCKDRIFT_FIGURES_CAPACITY 2816
 
 /* What the smallest reply buffer has. No reply is longer. */
 #define FLOCKDRIFT_REPLY_CAPACITY 257
@@ -77,7 +95,7 @@ extern "C" {
 
 /*
  * The answer of every call. After a refusal all but `number` and `place` are 0, and nothing that was lent has changed:
- * no byte of image, reply, buffer or text, and not the image's length.
+ * no byte of image, figures, reply, buffer or text, and not the image's length.
  */
 struct flockdrift_answer {
     uint32_t number; /* 0: accepted; otherwise why not, see below */
@@ -87,8 +105,8 @@ struct flockdrift_answer {
 };
 
 /*
- * Why a call is refused. If several apply, the answer is the first in this order: 1, 5, 2, 3, 4, 6, 7, 8, 9, 10, 11,
- * 12, 14.
+ * Why a call is refused. If several apply, the answer is the first in this order: 1, 5, 15, 2, 3, 4, 6, 7, 8, 9, 10,
+ * 11, 12, 14.
  */
 enum {
     FLOCKDRIFT_ACCEPTED = 0,
@@ -105,8 +123,11 @@ enum {
     FLOCKDRIFT_NO_SPACE = 10,         /* ask: no free prefix of the length */
     FLOCKDRIFT_NOT_FOUND = 11,        /* take, list, release, mark: no such lease; pool, lease: none with the index */
     FLOCKDRIFT_OUTSIDE_RULES = 12,    /* open: pools, term, default length or start */
-    FLOCKDRIFT_BUFFER_TOO_SMALL = 14  /* open, load: the image buffer is below FLOCKDRIFT_IMAGE_CAPACITY; save, sheet,
+    FLOCKDRIFT_BUFFER_TOO_SMALL = 14, /* open, load: the image buffer is below FLOCKDRIFT_IMAGE_CAPACITY, or the
+                                         figures sheet is not of FLOCKDRIFT_FIGURES_CAPACITY; save, sheet,
                                          write_selection: what is written is longer than its buffer */
+    FLOCKDRIFT_FIGURES_UNSOUND = 15   /* ask, take, release, mark: the figures sheet does not match the table, as it is
+                                         lent, with the leases that have ended; or it is of another size */
 };
 
 /* A number in words, for a log; never null. */
@@ -127,38 +148,41 @@ static inline const char *flockdrift_text(uint32_t number)
     case FLOCKDRIFT_NOT_FOUND: return "nothing found";
     case FLOCKDRIFT_OUTSIDE_RULES: return "pools, term, default length or start are outside the rules";
     case FLOCKDRIFT_BUFFER_TOO_SMALL: return "the buffer is too small";
+    case FLOCKDRIFT_FIGURES_UNSOUND: return "the figures sheet does not match the table";
     default: return "no number of this library";
     }
 }
 
-/* THE CALLS */
+/* THE CALLS. Those that change the table are lent the figures sheet with it; the others do not look at it. */
 
 /*
- * Makes the image of a table without leases, whatever the buffer held before. There are 1 to 8 pools, in any order:
- * networks[i] with lengths[i], n and m being equal; each of length 8 to 30, aligned to its size, none overlapping
- * another. A lease is for `term` seconds, 60 to 2,592,000; a request that suggests no length asks for `default_length`,
- * 1 to 30; `start` is the time, at most 4,292,375,295. Numbers: 12, 14.
+ * Makes the image of a table without leases, and its figures sheet, whatever both held before. There are 1 to 8 pools,
+ * in any order: networks[i] with lengths[i], n and m being equal; each of length 8 to 30, aligned to its size, none
+ * overlapping another. A lease is for `term` seconds, 60 to 2,592,000; a request that suggests no length asks for
+ * `default_length`, 1 to 30; `start` is the time, at most 4,292,375,295. Numbers: 12, 14.
  */
-struct flockdrift_answer flockdrift_open(uint8_t *image, size_t capacity, size_t *image_bytes,
-                                         const uint32_t *networks, size_t n, const uint8_t *lengths, size_t m,
-                                         uint32_t term, uint32_t default_length, uint32_t start);
+struct flockdrift_answer flockdrift_open(uint8_t *image, size_t capacity, size_t *image_bytes, uint8_t *figures,
+                                         size_t figures_capacity, const uint32_t *networks, size_t n,
+                                         const uint8_t *lengths, size_t m, uint32_t term, uint32_t default_length,
+                                         uint32_t start);
 
 /*
  * Offers a free prefix for each of the option's 1 to 25 requests, where there is one, and holds it for 120 seconds; the
- * reply has one information for each, in order. At least one request must be granted. Numbers: 1, 5, 2, 3, 4, 6, 7, 8,
- * 9, 10.
+ * reply has one information for each, in order. At least one request must be granted. Numbers: 1, 5, 15, 2, 3, 4, 6, 7,
+ * 8, 9, 10.
  */
-struct flockdrift_answer flockdrift_ask(uint8_t *image, size_t capacity, size_t *image_bytes, uint32_t client,
-                                        uint32_t now, const uint8_t *option, size_t option_bytes, uint8_t *reply,
-                                        size_t reply_capacity);
+struct flockdrift_answer flockdrift_ask(uint8_t *image, size_t capacity, size_t *image_bytes, uint8_t *figures,
+                                        size_t figures_capacity, uint32_t client, uint32_t now, const uint8_t *option,
+                                        size_t option_bytes, uint8_t *reply, size_t reply_capacity);
 
 /*
- * Confirms or renews, for the table's term, the client's leases that the option's entries name; the reply names those
- * that were found. The option has entries and no request. Numbers: 1, 5, 2, 3, 4, 6, 7, 8, 11.
+ * Confirms or renews, for the table's term, the client's leases that the option's entries name, and files the figures
+ * of these entries; the reply names the leases that were found, without figures. The option has entries and no request.
+ * Numbers: 1, 5, 15, 2, 3, 4, 6, 7, 8, 11.
  */
-struct flockdrift_answer flockdrift_take(uint8_t *image, size_t capacity, size_t *image_bytes, uint32_t client,
-                                         uint32_t now, const uint8_t *option, size_t option_bytes, uint8_t *reply,
-                                         size_t reply_capacity);
+struct flockdrift_answer flockdrift_take(uint8_t *image, size_t capacity, size_t *image_bytes, uint8_t *figures,
+                                         size_t figures_capacity, uint32_t client, uint32_t now, const uint8_t *option,
+                                         size_t option_bytes, uint8_t *reply, size_t reply_capacity);
 
 /*
  * Lists the client's leases, ascending, at most 35 in a reply; whose s bit says that more remain, and an option with
@@ -169,24 +193,27 @@ struct flockdrift_answer flockdrift_list(const uint8_t *image, size_t capacity, 
                                          uint32_t now, const uint8_t *option, size_t option_bytes, uint8_t *reply,
                                          size_t reply_capacity);
 
-/* Removes the client's leases that the option's entries name. Numbers: 5, 2, 3, 4, 6, 7, 8, 11. */
-struct flockdrift_answer flockdrift_release(uint8_t *image, size_t capacity, size_t *image_bytes, uint32_t client,
-                                            uint32_t now, const uint8_t *option, size_t option_bytes);
+/* Removes the client's leases that the option's entries name. Numbers: 5, 15, 2, 3, 4, 6, 7, 8, 11. */
+struct flockdrift_answer flockdrift_release(uint8_t *image, size_t capacity, size_t *image_bytes, uint8_t *figures,
+                                            size_t figures_capacity, uint32_t client, uint32_t now,
+                                            const uint8_t *option, size_t option_bytes);
 
 /*
  * Marks the lease with this network and length as deprecated, or, where `deprecated` is 0, as not. The client learns of
- * it from its next take or list. Numbers: 5, 3, 4, 11.
+ * it from its next take or list. Numbers: 5, 15, 3, 4, 11.
  */
-struct flockdrift_answer flockdrift_mark(uint8_t *image, size_t capacity, size_t *image_bytes, uint32_t network,
-                                         uint32_t length, uint32_t deprecated, uint32_t now);
+struct flockdrift_answer flockdrift_mark(uint8_t *image, size_t capacity, size_t *image_bytes, uint8_t *figures,
+                                         size_t figures_capacity, uint32_t network, uint32_t length,
+                                         uint32_t deprecated, uint32_t now);
 
 /*
- * Makes saved bytes the table's image, whatever the buffer held before. They must be an image exactly, with nothing
- * missing and nothing after it; but an image has no checksum, so bytes that were changed may be the image of another
- * table: keep a checksum beside a file that may be. Numbers, 5 being for the saved bytes: 5, 14.
+ * Makes saved bytes the table's image, and makes its figures sheet, nothing told, whatever both held before. They must
+ * be an image exactly, with nothing missing and nothing after it; but an image has no checksum, so bytes that were
+ * changed may be the image of another table: keep a checksum beside a file that may be. Numbers, 5 being for the saved
+ * bytes: 5, 14.
  */
-struct flockdrift_answer flockdrift_load(uint8_t *image, size_t capacity, size_t *image_bytes, const uint8_t *saved,
-                                         size_t saved_bytes);
+struct flockdrift_answer flockdrift_load(uint8_t *image, size_t capacity, size_t *image_bytes, uint8_t *figures,
+                                         size_t figures_capacity, const uint8_t *saved, size_t saved_bytes);
 
 /*
  * Checks the image and copies it into a buffer, from which it can be written while other calls go on. Changes nothing
@@ -276,30 +303,31 @@ struct flockdrift_answer flockdrift_write_selection(uint32_t address, uint8_t *b
 struct flockdrift_book {
     size_t bytes; /* the image's length */
     uint8_t image[FLOCKDRIFT_IMAGE_CAPACITY];
+    uint8_t figures[FLOCKDRIFT_FIGURES_CAPACITY];
 };
 
 static inline struct flockdrift_answer flockdrift_book_open(struct flockdrift_book *book, const uint32_t *networks,
                                                             size_t n, const uint8_t *lengths, size_t m, uint32_t term,
                                                             uint32_t default_length, uint32_t start)
 {
-    return flockdrift_open(book->image, sizeof book->image, &book->bytes, networks, n, lengths, m, term, default_length,
-                           start);
+    return flockdrift_open(book->image, sizeof book->image, &book->bytes, book->figures, sizeof book->figures, networks,
+                           n, lengths, m, term, default_length, start);
 }
 
 static inline struct flockdrift_answer flockdrift_book_ask(struct flockdrift_book *book, uint32_t client, uint32_t now,
                                                            const uint8_t *option, size_t option_bytes, uint8_t *reply,
                                                            size_t reply_capacity)
 {
-    return flockdrift_ask(book->image, sizeof book->image, &book->bytes, client, now, option, option_bytes, reply,
-                          reply_capacity);
+    return flockdrift_ask(book->image, sizeof book->image, &book->bytes, book->figures, sizeof book->figures, client,
+                          now, option, option_bytes, reply, reply_capacity);
 }
 
 static inline struct flockdrift_answer flockdrift_book_take(struct flockdrift_book *book, uint32_t client, uint32_t now,
                                                             const uint8_t *option, size_t option_bytes, uint8_t *reply,
                                                             size_t reply_capacity)
 {
-    return flockdrift_take(book->image, sizeof book->image, &book->bytes, client, now, option, option_bytes, reply,
-                           reply_capacity);
+    return flockdrift_take(book->image, sizeof book->image, &book->bytes, book->figures, sizeof book->figures, client,
+                           now, option, option_bytes, reply, reply_capacity);
 }
 
 static inline struct flockdrift_answer flockdrift_book_list(const struct flockdrift_book *book, uint32_t client,
@@ -313,19 +341,22 @@ static inline struct flockdrift_answer flockdrift_book_list(const struct flockdr
 static inline struct flockdrift_answer flockdrift_book_release(struct flockdrift_book *book, uint32_t client,
                                                                uint32_t now, const uint8_t *option, size_t option_bytes)
 {
-    return flockdrift_release(book->image, sizeof book->image, &book->bytes, client, now, option, option_bytes);
+    return flockdrift_release(book->image, sizeof book->image, &book->bytes, book->figures, sizeof book->figures,
+                              client, now, option, option_bytes);
 }
 
 static inline struct flockdrift_answer flockdrift_book_mark(struct flockdrift_book *book, uint32_t network,
                                                             uint32_t length, uint32_t deprecated, uint32_t now)
 {
-    return flockdrift_mark(book->image, sizeof book->image, &book->bytes, network, length, deprecated, now);
+    return flockdrift_mark(book->image, sizeof book->image, &book->bytes, book->figures, sizeof book->figures, network,
+                           length, deprecated, now);
 }
 
 static inline struct flockdrift_answer flockdrift_book_load(struct flockdrift_book *book, const uint8_t *saved,
                                                             size_t saved_bytes)
 {
-    return flockdrift_load(book->image, sizeof book->image, &book->bytes, saved, saved_bytes);
+    return flockdrift_load(book->image, sizeof book->image, &book->bytes, book->figures, sizeof book->figures, saved,
+                           saved_bytes);
 }
 
 static inline struct flockdrift_answer flockdrift_book_save(const struct flockdrift_book *book, uint8_t *buffer,
@@ -359,6 +390,47 @@ static inline struct flockdrift_pool_answer flockdrift_book_pool(const struct fl
 static inline struct flockdrift_lease_answer flockdrift_book_lease(const struct flockdrift_book *book, size_t index)
 {
     return flockdrift_lease(book->image, sizeof book->image, book->bytes, index);
+}
+
+/* A figure that no client told. */
+#define FLOCKDRIFT_UNTOLD 0xffff
+
+struct flockdrift_figures {
+    uint32_t network;
+    uint32_t length;     /* 0 where there is no lease with the index */
+    uint32_t high_water; /* each figure is 0 to 65,534, or FLOCKDRIFT_UNTOLD */
+    uint32_t in_use;
+    uint32_t unusable;
+};
+
+/* A little-endian number of so many bytes. */
+static inline uint32_t flockdrift_little_endian(const uint8_t *from, size_t bytes)
+{
+    uint32_t number = 0;
+
+    while (bytes > 0)
+        number = number << 8 | from[--bytes];
+    return number;
+}
+
+/*
+ * The row of the figures sheet for the lease with this index, as it stands there: whether the sheet matches is for the
+ * calls to find out. Past the last row it is that of a place without a lease.
+ */
+static inline struct flockdrift_figures flockdrift_book_figures(const struct flockdrift_book *book, size_t index)
+{
+    struct flockdrift_figures figures = {0, 0, FLOCKDRIFT_UNTOLD, FLOCKDRIFT_UNTOLD, FLOCKDRIFT_UNTOLD};
+    const uint8_t *row;
+
+    if (index >= sizeof book->figures / FLOCKDRIFT_FIGURES_ROW)
+        return figures;
+    row = book->figures + index * FLOCKDRIFT_FIGURES_ROW;
+    figures.network = flockdrift_little_endian(row, 4);
+    figures.length = row[4];
+    figures.high_water = flockdrift_little_endian(row + 5, 2);
+    figures.in_use = flockdrift_little_endian(row + 7, 2);
+    figures.unusable = flockdrift_little_endian(row + 9, 2);
+    return figures;
 }
 
 #ifdef __cplusplus

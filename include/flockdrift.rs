@@ -3,6 +3,8 @@
 
 /// The image of a full table.
 pub const IMAGE_CAPACITY: usize = 4949;
+/// A figures sheet has exactly this size.
+pub const FIGURES_CAPACITY: usize = 2816;
 /// What the smallest reply buffer has.
 pub const REPLY_CAPACITY: usize = 257;
 /// An option 118 has this size.
@@ -68,6 +70,8 @@ unsafe extern "C" {
         image: *mut u8,
         capacity: usize,
         image_bytes: *mut usize,
+        figures: *mut u8,
+        figures_capacity: usize,
         networks: *const u32,
         n: usize,
         lengths: *const u8,
@@ -80,6 +84,8 @@ unsafe extern "C" {
         image: *mut u8,
         capacity: usize,
         image_bytes: *mut usize,
+        figures: *mut u8,
+        figures_capacity: usize,
         client: u32,
         now: u32,
         option: *const u8,
@@ -91,6 +97,8 @@ unsafe extern "C" {
         image: *mut u8,
         capacity: usize,
         image_bytes: *mut usize,
+        figures: *mut u8,
+        figures_capacity: usize,
         client: u32,
         now: u32,
         option: *const u8,
@@ -113,6 +121,8 @@ unsafe extern "C" {
         image: *mut u8,
         capacity: usize,
         image_bytes: *mut usize,
+        figures: *mut u8,
+        figures_capacity: usize,
         client: u32,
         now: u32,
         option: *const u8,
@@ -122,6 +132,8 @@ unsafe extern "C" {
         image: *mut u8,
         capacity: usize,
         image_bytes: *mut usize,
+        figures: *mut u8,
+        figures_capacity: usize,
         network: u32,
         length: u32,
         deprecated: u32,
@@ -131,6 +143,8 @@ unsafe extern "C" {
         image: *mut u8,
         capacity: usize,
         image_bytes: *mut usize,
+        figures: *mut u8,
+        figures_capacity: usize,
         saved: *const u8,
         saved_bytes: usize,
     ) -> Answer;

@@ -1,6 +1,8 @@
 //! The interface that the proved library, the peer and the reference share: what include/flockdrift.h says, with slices.
 
-pub use crate::flockdrift::{Answer, IMAGE_CAPACITY as FULL, REPLY_CAPACITY as REPLY, TEXT_CAPACITY as SHEET};
+pub use crate::flockdrift::{
+    Answer, FIGURES_CAPACITY as FIGURES, IMAGE_CAPACITY as FULL, REPLY_CAPACITY as REPLY, TEXT_CAPACITY as SHEET,
+};
 
 impl Answer {
     /// A refusal: its number, all counts 0.
@@ -14,18 +16,26 @@ impl Answer {
     }
 }
 
-/// Image, image bytes, networks, lengths, term, default length, start.
-pub type Open = fn(&mut [u8], &mut usize, &[u32], &[u8], u32, u32, u32) -> Answer;
+/// What is lent to a call that changes the table: the buffer with the image at its front, the image's length, and the
+/// figures sheet.
+pub struct Lent<'a> {
+    pub image: &'a mut [u8],
+    pub bytes: &'a mut usize,
+    pub figures: &'a mut [u8],
+}
+
+/// What is lent, networks, lengths, term, default length, start.
+pub type Open = fn(Lent, &[u32], &[u8], u32, u32, u32) -> Answer;
+/// What is lent, client, now, option, reply.
+pub type CallWithReply = fn(Lent, u32, u32, &[u8], &mut [u8]) -> Answer;
 /// Image, image bytes, client, now, option, reply.
-pub type CallWithReply = fn(&mut [u8], &mut usize, u32, u32, &[u8], &mut [u8]) -> Answer;
-/// The same, where nothing but the reply changes.
 pub type List = fn(&[u8], usize, u32, u32, &[u8], &mut [u8]) -> Answer;
-/// Image, image bytes, client, now, option.
-pub type Call = fn(&mut [u8], &mut usize, u32, u32, &[u8]) -> Answer;
-/// Image, image bytes, network, length, deprecated, now.
-pub type Mark = fn(&mut [u8], &mut usize, u32, u32, u32, u32) -> Answer;
-/// Image, image bytes, saved.
-pub type Load = fn(&mut [u8], &mut usize, &[u8]) -> Answer;
+/// What is lent, client, now, option.
+pub type Call = fn(Lent, u32, u32, &[u8]) -> Answer;
+/// What is lent, network, length, deprecated, now.
+pub type Mark = fn(Lent, u32, u32, u32, u32) -> Answer;
+/// What is lent, saved.
+pub type Load = fn(Lent, &[u8]) -> Answer;
 /// Image, image bytes, buffer.
 pub type Save = fn(&[u8], usize, &mut [u8]) -> Answer;
 /// Image, text.

@@ -1,4 +1,10 @@
-//! Images made by hand, sound or not.
+//! Images and figures sheets made by hand, sound or not.
+
+/// A row of a figures sheet.
+pub const ROW: usize = 11;
+pub const ROWS: usize = 256;
+/// The row of a place without a lease.
+pub const EMPTY_ROW: [u8; ROW] = [0, 0, 0, 0, 0, 0xff, 0xff, 0xff, 0xff, 0xff, 0xff];
 
 #[derive(Clone, Copy, Debug, PartialEq, Eq)]
 pub struct Lease {
@@ -42,6 +48,23 @@ impl Table {
             image.extend(lease.expires.to_le_bytes());
         }
         image
+    }
+
+    /// A figures sheet with the rows of these leases, and of places without one up to the sheet's end. Each figure is the
+    /// next that is told.
+    pub fn figures(&self, mut told: impl FnMut() -> u16) -> Vec<u8> {
+        let mut sheet = Vec::new();
+        for lease in &self.leases {
+            sheet.extend(lease.network.to_le_bytes());
+            sheet.push(lease.length);
+            for _ in 0..3 {
+                sheet.extend(told().to_le_bytes());
+            }
+        }
+        for _ in self.leases.len()..ROWS {
+            sheet.extend(EMPTY_ROW);
+        }
+        sheet
     }
 
     /// Reads a sound image back; what is not sound makes no sense here.

@@ -33,6 +33,17 @@ pub fn entries(prefixes: &[(u32, u8)]) -> Vec<u8> {
     option(&information(0, &entries))
 }
 
+/// A take of these prefixes with all three figures of each.
+pub fn entries_with_figures(entries: &[((u32, u8), [u16; 3])]) -> Vec<u8> {
+    let mut bytes = vec![2, (1 + 13 * entries.len()) as u8, 0];
+    for ((network, length), figures) in entries {
+        bytes.extend(network.to_be_bytes());
+        bytes.extend([*length, 0, 6]);
+        bytes.extend(figures.iter().flat_map(|figure| figure.to_be_bytes()));
+    }
+    option(&bytes)
+}
+
 /// A list from the start.
 pub fn list() -> Vec<u8> {
     option(&request(2, 0))

@@ -1,26 +1,20 @@
 //! The proved library, through its C interface (include/flockdrift.h).
 
-use crate::desk::{Answer, Desk};
+use crate::desk::{Answer, Desk, Lent};
 use crate::flockdrift::*;
 
 pub const PROVED: Desk = Desk { name: "proved", open, ask, take, list, release, mark, load, save, sheet };
 
 // Each pointer below comes from a slice, with that slice's length, or from a reference; the library keeps none of them.
 
-fn open(
-    image: &mut [u8],
-    bytes: &mut usize,
-    networks: &[u32],
-    lengths: &[u8],
-    term: u32,
-    default_length: u32,
-    start: u32,
-) -> Answer {
+fn open(lent: Lent, networks: &[u32], lengths: &[u8], term: u32, default_length: u32, start: u32) -> Answer {
     unsafe {
         flockdrift_open(
-            image.as_mut_ptr(),
-            image.len(),
-            bytes,
+            lent.image.as_mut_ptr(),
+            lent.image.len(),
+            lent.bytes,
+            lent.figures.as_mut_ptr(),
+            lent.figures.len(),
             networks.as_ptr(),
             networks.len(),
             lengths.as_ptr(),
@@ -32,12 +26,14 @@ fn open(
     }
 }
 
-fn ask(image: &mut [u8], bytes: &mut usize, client: u32, now: u32, option: &[u8], reply: &mut [u8]) -> Answer {
+fn ask(lent: Lent, client: u32, now: u32, option: &[u8], reply: &mut [u8]) -> Answer {
     unsafe {
         flockdrift_ask(
-            image.as_mut_ptr(),
-            image.len(),
-            bytes,
+            lent.image.as_mut_ptr(),
+            lent.image.len(),
+            lent.bytes,
+            lent.figures.as_mut_ptr(),
+            lent.figures.len(),
             client,
             now,
             option.as_ptr(),
@@ -48,12 +44,14 @@ fn ask(image: &mut [u8], bytes: &mut usize, client: u32, now: u32, option: &[u8]
     }
 }
 
-fn take(image: &mut [u8], bytes: &mut usize, client: u32, now: u32, option: &[u8], reply: &mut [u8]) -> Answer {
+fn take(lent: Lent, client: u32, now: u32, option: &[u8], reply: &mut [u8]) -> Answer {
     unsafe {
         flockdrift_take(
-            image.as_mut_ptr(),
-            image.len(),
-            bytes,
+            lent.image.as_mut_ptr(),
+            lent.image.len(),
+            lent.bytes,
+            lent.figures.as_mut_ptr(),
+            lent.figures.len(),
             client,
             now,
             option.as_ptr(),
@@ -80,16 +78,50 @@ fn list(image: &[u8], bytes: usize, client: u32, now: u32, option: &[u8], reply:
     }
 }
 
-fn release(image: &mut [u8], bytes: &mut usize, client: u32, now: u32, option: &[u8]) -> Answer {
-    unsafe { flockdrift_release(image.as_mut_ptr(), image.len(), bytes, client, now, option.as_ptr(), option.len()) }
+fn release(lent: Lent, client: u32, now: u32, option: &[u8]) -> Answer {
+    unsafe {
+        flockdrift_release(
+            lent.image.as_mut_ptr(),
+            lent.image.len(),
+            lent.bytes,
+            lent.figures.as_mut_ptr(),
+            lent.figures.len(),
+            client,
+            now,
+            option.as_ptr(),
+            option.len(),
+        )
+    }
 }
 
-fn mark(image: &mut [u8], bytes: &mut usize, network: u32, length: u32, deprecated: u32, now: u32) -> Answer {
-    unsafe { flockdrift_mark(image.as_mut_ptr(), image.len(), bytes, network, length, deprecated, now) }
+fn mark(lent: Lent, network: u32, length: u32, deprecated: u32, now: u32) -> Answer {
+    unsafe {
+        flockdrift_mark(
+            lent.image.as_mut_ptr(),
+            lent.image.len(),
+            lent.bytes,
+            lent.figures.as_mut_ptr(),
+            lent.figures.len(),
+            network,
+            length,
+            deprecated,
+            now,
+        )
+    }
 }
 
-fn load(image: &mut [u8], bytes: &mut usize, saved: &[u8]) -> Answer {
-    unsafe { flockdrift_load(image.as_mut_ptr(), image.len(), bytes, saved.as_ptr(), saved.len()) }
+fn load(lent: Lent, saved: &[u8]) -> Answer {
+    unsafe {
+        flockdrift_load(
+            lent.image.as_mut_ptr(),
+            lent.image.len(),
+            lent.bytes,
+            lent.figures.as_mut_ptr(),
+            lent.figures.len(),
+            saved.as_ptr(),
+            saved.len(),
+        )
+    }
 }
 
 fn save(image: &[u8], bytes: usize, buffer: &mut [u8]) -> Answer {

@@ -7,7 +7,7 @@ use ::reference::refusal::{Refusal, refusal};
 use ::reference::sheet::sheet as rows_of;
 use ::reference::table::Table;
 
-use crate::desk::{Answer, Desk, FULL};
+use crate::desk::{Answer, Desk, FULL, Lent};
 
 pub const REFERENCE: Desk = Desk { name: "reference", open, ask, take, list, release, mark, load, save, sheet };
 
@@ -29,9 +29,7 @@ fn length_of(number: u32) -> u8 {
 
 /// The table of an image; where it does not load, the zero table, which is not sound either.
 fn table_of(image: &[u8]) -> Table {
-    let mut table = Table::zero();
-    let _ = image::load(&mut table, image);
-    table
+    image::loaded(image).unwrap_or_else(|_| Table::zero())
 }
 
 /// The table of the image in a buffer; one that is too small for every image, or for this one, has none.
@@ -48,78 +46,65 @@ fn store(table: &Table, image: &mut [u8], old: usize) -> usize {
     bytes
 }
 
-/// A call on the image in a buffer.
-fn settle(
-    image: &mut [u8],
-    bytes: &mut usize,
-    call: impl FnOnce(&mut Table) -> Result<calls::Answer, Refusal>,
-) -> Answer {
-    let mut table = table_in(image, *bytes);
-    let result = call(&mut table);
+/// A call on the table of the image in a buffer, and on the figures sheet.
+fn settle(lent: Lent, call: impl FnOnce(&mut Table, &mut [u8]) -> Result<calls::Answer, Refusal>) -> Answer {
+    let mut table = table_in(lent.image, *lent.bytes);
+    let result = call(&mut table, lent.figures);
     if result.is_ok() {
-        *bytes = store(&table, image, *bytes);
+        *lent.bytes = store(&table, lent.image, *lent.bytes);
     }
     answer(result)
 }
 
-/// A table for a buffer, whatever that held before; row 14 is the last.
-fn fill(image: &mut [u8], bytes: &mut usize, table: Result<Table, Refusal>) -> Answer {
-    let filled = table.and_then(|table| {
-        if image.len() < FULL {
-            return Err(refusal(14));
-        }
-        *bytes = store(&table, image, FULL);
-        Ok(calls::Answer::default())
+/// A table for a buffer, whatever that held before, by a call that fills the figures sheet. Row 14 is the last: where the
+/// buffer is too small the call gets no sheet either, which is that row of its own.
+fn fill(lent: Lent, table: impl FnOnce(&mut [u8]) -> Result<Table, Refusal>) -> Answer {
+    let figures = if lent.image.len() < FULL { &mut [] } else { lent.figures };
+    let filled = table(figures).map(|table| {
+        *lent.bytes = store(&table, lent.image, FULL);
+        calls::Answer::default()
     });
     answer(filled)
 }
 
-fn open(
-    image: &mut [u8],
-    bytes: &mut usize,
-    networks: &[u32],
-    lengths: &[u8],
-    term: u32,
-    default_length: u32,
-    start: u32,
-) -> Answer {
+fn open(lent: Lent, networks: &[u32], lengths: &[u8], term: u32, default_length: u32, start: u32) -> Answer {
     let pools: Vec<Prefix> =
         networks.iter().zip(lengths).map(|(&network, &length)| Prefix { network, length }).collect();
-    let table = if networks.len() == lengths.len() {
-        calls::open(&pools, term, length_of(default_length), start)
-    } else {
-        Err(refusal(12))
-    };
-    fill(image, bytes, table)
+    fill(lent, |figures| {
+        if networks.len() != lengths.len() {
+            return Err(refusal(12));
+        }
+        calls::open(&pools, term, length_of(default_length), start, figures)
+    })
 }
 
-fn ask(image: &mut [u8], bytes: &mut usize, client: u32, now: u32, option: &[u8], reply: &mut [u8]) -> Answer {
-    settle(image, bytes, |table| calls::ask(table, client, now, option, reply))
+fn ask(lent: Lent, client: u32, now: u32, option: &[u8], reply: &mut [u8]) -> Answer {
+    settle(lent, |table, figures| calls::ask(table, figures, client, now, option, reply))
 }
 
-fn take(image: &mut [u8], bytes: &mut usize, client: u32, now: u32, option: &[u8], reply: &mut [u8]) -> Answer {
-    settle(image, bytes, |table| calls::take(table, client, now, option, reply))
+fn take(lent: Lent, client: u32, now: u32, option: &[u8], reply: &mut [u8]) -> Answer {
+    settle(lent, |table, figures| calls::take(table, figures, client, now, option, reply))
 }
 
 fn list(image: &[u8], bytes: usize, client: u32, now: u32, option: &[u8], reply: &mut [u8]) -> Answer {
     answer(calls::list(&table_in(image, bytes), client, now, option, reply))
 }
 
-fn release(image: &mut [u8], bytes: &mut usize, client: u32, now: u32, option: &[u8]) -> Answer {
-    settle(image, bytes, |table| calls::release(table, client, now, option))
+fn release(lent: Lent, client: u32, now: u32, option: &[u8]) -> Answer {
+    settle(lent, |table, figures| calls::release(table, figures, client, now, option))
 }
 
-fn mark(image: &mut [u8], bytes: &mut usize, network: u32, length: u32, deprecated: u32, now: u32) -> Answer {
-    settle(image, bytes, |table| {
-        let prefix = Prefix { network, length: length_of(length) };
-        calls::mark(table, now, prefix, deprecated != 0)
+fn mark(lent: Lent, network: u32, length: u32, deprecated: u32, now: u32) -> Answer {
+    let prefix = Prefix { network, length: length_of(length) };
+    settle(lent, |table, figures| calls::mark(table, figures, now, prefix, deprecated != 0))
+}
+
+fn load(lent: Lent, saved: &[u8]) -> Answer {
+    fill(lent, |figures| {
+        let mut table = Table::zero();
+        image::load(&mut table, figures, saved)?;
+        Ok(table)
     })
-}
-
-fn load(image: &mut [u8], bytes: &mut usize, saved: &[u8]) -> Answer {
-    let mut table = Table::zero();
-    let loaded = image::load(&mut table, saved);
-    fill(image, bytes, loaded.map(|()| table))
 }
 
 fn save(image: &[u8], bytes: usize, buffer: &mut [u8]) -> Answer {

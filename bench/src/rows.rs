@@ -1,7 +1,7 @@
 //! The calls that are measured, each on eight different tables, so that no branch is learnt by heart.
 
-use crate::desk::{Answer, Desk, FULL, REPLY, SHEET};
-use crate::images::{Lease, Table};
+use crate::desk::{Answer, Desk, FIGURES, FULL, Lent, REPLY, SHEET};
+use crate::images::{EMPTY_ROW, Lease, ROW, Table};
 use crate::options;
 use crate::random::Random;
 
@@ -42,6 +42,8 @@ pub struct Case {
     /// A buffer that holds a full image, zeros after the image.
     pub image: Vec<u8>,
     pub bytes: usize,
+    /// A sheet that matches, with something told in every row of a lease.
+    pub figures: Vec<u8>,
     pub client: u32,
     pub option: Vec<u8>,
     pub prefix: (u32, u8),
@@ -52,6 +54,7 @@ pub struct Case {
 pub struct Buffers {
     pub image: Vec<u8>,
     pub bytes: usize,
+    pub figures: Vec<u8>,
     pub reply: Vec<u8>,
     pub saved: Vec<u8>,
     pub text: Vec<u8>,
@@ -59,18 +62,36 @@ pub struct Buffers {
 
 impl Buffers {
     pub fn new() -> Buffers {
-        Buffers { image: vec![0; FULL], bytes: 0, reply: vec![0; REPLY], saved: vec![0; FULL], text: vec![0; SHEET] }
+        Buffers {
+            image: vec![0; FULL],
+            bytes: 0,
+            figures: EMPTY_ROW.repeat(FIGURES / ROW),
+            reply: vec![0; REPLY],
+            saved: vec![0; FULL],
+            text: vec![0; SHEET],
+        }
     }
 
     /// As a case has them.
     pub fn of(case: &Case) -> Buffers {
-        Buffers { image: case.image.clone(), bytes: case.bytes, ..Buffers::new() }
+        Buffers { image: case.image.clone(), bytes: case.bytes, figures: case.figures.clone(), ..Buffers::new() }
     }
 
-    /// The case's image, and the bytes after it that a call of the row can have changed.
+    /// Clears the rows of the figures sheet that are a lease's in no case of the row.
+    pub fn begin(&mut self, row: &Row) {
+        self.figures.copy_from_slice(&row.cases[0].figures);
+    }
+
+    /// The case's image and figures sheet, and the bytes after them that a call of the row can have changed.
     pub fn restore(&mut self, row: &Row, case: &Case) {
         self.image[..row.restored].copy_from_slice(&case.image[..row.restored]);
         self.bytes = case.bytes;
+        self.figures[..row.restored_figures].copy_from_slice(&case.figures[..row.restored_figures]);
+    }
+
+    fn lent(&mut self) -> (Lent<'_>, &mut [u8]) {
+        let Buffers { image, bytes, figures, reply, .. } = self;
+        (Lent { image, bytes, figures }, reply)
     }
 }
 
@@ -93,16 +114,20 @@ pub struct Row {
     pub number: u32,
     /// The bytes of the largest image before or after the call.
     pub restored: usize,
+    /// The bytes of all rows that are a lease's before or after the call.
+    pub restored_figures: usize,
     pub cases: Vec<Case>,
     pub run: Run,
 }
 
 fn ask(desk: &Desk, case: &Case, buffers: &mut Buffers) -> Answer {
-    (desk.ask)(&mut buffers.image, &mut buffers.bytes, case.client, NOW, &case.option, &mut buffers.reply)
+    let (lent, reply) = buffers.lent();
+    (desk.ask)(lent, case.client, NOW, &case.option, reply)
 }
 
 fn take(desk: &Desk, case: &Case, buffers: &mut Buffers) -> Answer {
-    (desk.take)(&mut buffers.image, &mut buffers.bytes, case.client, NOW, &case.option, &mut buffers.reply)
+    let (lent, reply) = buffers.lent();
+    (desk.take)(lent, case.client, NOW, &case.option, reply)
 }
 
 fn list(desk: &Desk, case: &Case, buffers: &mut Buffers) -> Answer {
@@ -110,16 +135,16 @@ fn list(desk: &Desk, case: &Case, buffers: &mut Buffers) -> Answer {
 }
 
 fn release(desk: &Desk, case: &Case, buffers: &mut Buffers) -> Answer {
-    (desk.release)(&mut buffers.image, &mut buffers.bytes, case.client, NOW, &case.option)
+    (desk.release)(buffers.lent().0, case.client, NOW, &case.option)
 }
 
 fn mark(desk: &Desk, case: &Case, buffers: &mut Buffers) -> Answer {
     let (network, length) = case.prefix;
-    (desk.mark)(&mut buffers.image, &mut buffers.bytes, network, length.into(), 1, NOW)
+    (desk.mark)(buffers.lent().0, network, length.into(), 1, NOW)
 }
 
 fn load(desk: &Desk, case: &Case, buffers: &mut Buffers) -> Answer {
-    (desk.load)(&mut buffers.image, &mut buffers.bytes, &case.image[..case.bytes])
+    (desk.load)(buffers.lent().0, &case.image[..case.bytes])
 }
 
 fn save(desk: &Desk, _: &Case, buffers: &mut Buffers) -> Answer {
@@ -133,7 +158,7 @@ fn sheet(desk: &Desk, _: &Case, buffers: &mut Buffers) -> Answer {
 fn open(desk: &Desk, _: &Case, buffers: &mut Buffers) -> Answer {
     let networks = [70, 60, 50, 40, 30, 20, 10, 80].map(|octet: u32| octet << 24);
     let lengths = [8, 9, 10, 11, 12, 13, 14, 15];
-    (desk.open)(&mut buffers.image, &mut buffers.bytes, &networks, &lengths, 3600, 28, LAST)
+    (desk.open)(buffers.lent().0, &networks, &lengths, 3600, 28, LAST)
 }
 
 fn lease(random: &mut Random, network: u32, length: u8) -> Lease {
@@ -250,6 +275,7 @@ struct Plan {
 
 fn row(plan: &Plan, shape: Shape, scale: usize, leases: usize) -> Row {
     let mut random = Random(leases as u64);
+    let mut told = Random(random.0 + 1);
     let mut cases = Vec::new();
     for _ in 0..CASES {
         let mut table = table_of(&mut random, shape, leases);
@@ -264,7 +290,11 @@ fn row(plan: &Plan, shape: Shape, scale: usize, leases: usize) -> Row {
         let mut image = table.image();
         let bytes = image.len();
         image.resize(FULL, 0);
-        cases.push(Case { image, bytes, client: plan.client, option, prefix });
+        let mut figures = table.figures(|| told.below(0xffff) as u16);
+        if plan.number == 15 {
+            figures[FIGURES - ROW] ^= 1;
+        }
+        cases.push(Case { image, bytes, figures, client: plan.client, option, prefix });
     }
     Row {
         call: plan.call,
@@ -274,6 +304,7 @@ fn row(plan: &Plan, shape: Shape, scale: usize, leases: usize) -> Row {
         shape,
         number: plan.number,
         restored: 0,
+        restored_figures: 0,
         cases,
         run: plan.run,
     }
@@ -308,6 +339,22 @@ fn entries_25(random: &mut Random, table: &Table) -> Vec<u8> {
     options::entries(&named(random, table, 25))
 }
 
+fn told_1(random: &mut Random, table: &Table) -> Vec<u8> {
+    with_figures(random, table, 1)
+}
+
+fn told_19(random: &mut Random, table: &Table) -> Vec<u8> {
+    with_figures(random, table, 19)
+}
+
+/// As many entries as there can be with three figures each are 19; one figure in four is untold.
+fn with_figures(random: &mut Random, table: &Table, count: usize) -> Vec<u8> {
+    let prefixes = named(random, table, count);
+    let mut figure = || if random.once_in(4) { 0xffff } else { random.below(0xffff) as u16 };
+    let entries: Vec<_> = prefixes.into_iter().map(|prefix| (prefix, [figure(), figure(), figure()])).collect();
+    options::entries_with_figures(&entries)
+}
+
 fn listing(_: &mut Random, _: &Table) -> Vec<u8> {
     options::list()
 }
@@ -328,9 +375,14 @@ pub fn rows(desks: &[&Desk]) -> Vec<Row> {
     let some = [(Packed, 64, 64), (Packed, 256, 256), (Fragmented, 64, 64), (Fragmented, 256, 256)];
     let refused = |plan, number| Plan { number, ..plan };
 
-    // Refused with 2, right after row 5: the image was checked and nothing else was done.
+    // Refused with 2, right after row 5: the image was checked and nothing else was done. In a take row 15 stands between
+    // them: the sheet was looked at too; where 15 is given its last row did not match.
     let checked = Plan { client: 0, number: 2, ..plan("list", "list", list, listing) };
-    for plan in [&checked, &plan("load", "load", load, listing), &plan("save", "save", save, listing)] {
+    let matched = Plan { client: 0, number: 2, ..plan("take 1", "take", take, entries_1) };
+    let unmatched = refused(plan("take 1", "take", take, entries_1), 15);
+    for plan in
+        [&checked, &matched, &unmatched, &plan("load", "load", load, listing), &plan("save", "save", save, listing)]
+    {
         add(plan, &zero);
         add(plan, &some);
     }
@@ -353,6 +405,8 @@ pub fn rows(desks: &[&Desk]) -> Vec<Row> {
     for (call, command, run, option) in [
         ("take 1", "take", take as Run, entries_1 as fn(&mut Random, &Table) -> Vec<u8>),
         ("take 25", "take", take, entries_25),
+        ("take 1, figures", "take", take, told_1),
+        ("take 19, figures", "take", take, told_19),
         ("return 1", "return", release, entries_1),
         ("return 25", "return", release, entries_25),
         ("list", "list", list, listing),
@@ -387,8 +441,14 @@ fn check(row: &mut Row, desks: &[&Desk]) {
                 assert!(*other == answer && *left == buffers, "{what}: {} and {} differ", desks[0].name, desk.name);
             } else {
                 row.restored = row.restored.max(case.bytes).max(buffers.bytes);
+                row.restored_figures = row.restored_figures.max(used(&case.figures)).max(used(&buffers.figures));
                 first = Some((answer, buffers));
             }
         }
     }
+}
+
+/// The bytes of a sheet up to the last row that is not an empty one.
+fn used(figures: &[u8]) -> usize {
+    figures.chunks(ROW).rposition(|row| row != EMPTY_ROW).map_or(0, |last| ROW * (last + 1))
 }

@@ -9,6 +9,7 @@ int main()
     const uint8_t length = 24;
     const uint8_t ask[] = {0xdc, 5, 0, 1, 2, 0, 26};
     const uint8_t name[] = {0xdc, 11, 0, 2, 8, 0, 10, 0, 1, 0, 26, 0, 0};
+    const uint8_t told[] = {0xdc, 13, 0, 2, 10, 0, 10, 0, 1, 0, 26, 0, 2, 1, 10};
     const uint8_t all[] = {0xdc, 5, 0, 1, 2, 2, 0};
     static char text[FLOCKDRIFT_TEXT_CAPACITY];
     uint8_t reply[FLOCKDRIFT_REPLY_CAPACITY];
@@ -20,6 +21,10 @@ int main()
     const flockdrift_book before = book;
     good = good && flockdrift_book_ask(&book, 7, 1000, ask, sizeof ask, reply, sizeof reply).count == 1;
     good = good && flockdrift_book_take(&book, 7, 1010, name, sizeof name, reply, sizeof reply).count == 1;
+    good = good && flockdrift_book_take(&book, 7, 1010, told, sizeof told, reply, sizeof reply).count == 1;
+    const flockdrift_figures figures = flockdrift_book_figures(&book, 0);
+    good = good && figures.network == network && figures.length == 26;
+    good = good && figures.high_water == 266 && figures.in_use == FLOCKDRIFT_UNTOLD;
     good = good && flockdrift_book_list(&book, 7, 1020, all, sizeof all, reply, sizeof reply).count == 1;
     good = good && flockdrift_book_mark(&book, network, 26, 1, 1030).number == 0;
     good = good && flockdrift_book_head(&book).leases == 1 && flockdrift_book_pool(&book, 0).network == network;
@@ -29,6 +34,7 @@ int main()
     good = good && flockdrift_book_release(&book, 7, 1040, name, sizeof name).count == 1;
     good = good && flockdrift_book_load(&book, saved, bytes).number == 0;
     good = good && flockdrift_book_lease(&book, 0).expires == 4610 && flockdrift_book_head(&before).leases == 0;
+    good = good && flockdrift_book_figures(&book, 0).high_water == FLOCKDRIFT_UNTOLD;
     good = good && flockdrift_write_selection(network, reply, sizeof reply).bytes == FLOCKDRIFT_SELECTION_CAPACITY;
     good = good && flockdrift_read_selection(reply, FLOCKDRIFT_SELECTION_CAPACITY).address == network;
     good = good && flockdrift_check_option(ask, sizeof ask).number == 0;

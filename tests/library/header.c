@@ -1,7 +1,8 @@
 /*
  * What include/flockdrift.h says, tried from C: the layout of the answers, sizes at their limits, null pointers, the
- * order of the refusals, what a refusal leaves, what an accepted call leaves behind the image, load and save, what a
- * book holds, options with no book, the struct of a book, and several threads. Prints a line for each difference.
+ * order of the refusals, what a refusal leaves, what an accepted call leaves behind the image, the figures sheet, load
+ * and save, what a book holds, options with no book, the struct of a book, and several threads. Prints a line for each
+ * difference.
  */
 #define _POSIX_C_SOURCE 200809L
 
@@ -15,13 +16,15 @@
 enum {
     FULL = FLOCKDRIFT_IMAGE_CAPACITY,
     BUFFER = FULL + 64, /* the last bytes stand outside of every image */
+    FIGURES = FLOCKDRIFT_FIGURES_CAPACITY,
+    ROW = FLOCKDRIFT_FIGURES_ROW,
     REPLY = FLOCKDRIFT_REPLY_CAPACITY,
     THREADS = 4,
     STACK = 32 * 1024 /* what the header says of a call's stack, and the rest for the thread itself */
 };
 
 /* What the buffers hold where no call has written. */
-enum { IMAGE_FILL = 0xa5, REPLY_FILL = 0x5a, SAVED_FILL = 0x69, TEXT_FILL = 0x3c };
+enum { IMAGE_FILL = 0xa5, FIGURES_FILL = 0x96, REPLY_FILL = 0x5a, SAVED_FILL = 0x69, TEXT_FILL = 0x3c };
 
 static int differences;
 
@@ -44,16 +47,22 @@ static void same(int line, const char *what, unsigned long got, unsigned long wa
 #define POOL(a, number, network, length) pool_is(__LINE__, a, (const uint32_t[3]){number, network, length})
 #define LEASE(a, number, network, length, client, state, h, d, expires) \
     lease_is(__LINE__, a, (const uint32_t[8]){number, network, length, client, state, h, d, expires})
+#define FIGURES_OF(a, network, length, high_water, in_use, unusable) \
+    figures_are(__LINE__, a, (const uint32_t[5]){network, length, high_water, in_use, unusable})
+#define ROWS(s, rows, n) rows_are(__LINE__, s, rows, n)
 #define SELECTION(a, number, address) selection_is(__LINE__, a, (const uint32_t[2]){number, address})
 
 /* All that is lent to the calls. Where a function has `s`, they get s[0], and s[1] is as s[0] was before the call. */
 struct lent {
     uint8_t image[BUFFER];
     size_t bytes;
+    uint8_t figures[FIGURES + 8]; /* the last bytes stand outside of the sheet */
     uint8_t reply[REPLY + 8];
     uint8_t saved[BUFFER];
     char text[FLOCKDRIFT_TEXT_CAPACITY];
 };
+
+#define NO 0xff, 0xff /* a figure that was not told */
 
 static const uint32_t network[2] = {0x0a000800, 0x0a000100};
 static const uint8_t length[2] = {26, 24};
@@ -65,6 +74,7 @@ static const uint8_t ask_8[] = {0xdc, 5, 0, 1, 2, 0, 8};
 static const uint8_t ask_31[] = {0xdc, 5, 0, 1, 2, 0, 31};
 static const uint8_t list_all[] = {0xdc, 5, 0, 1, 2, 2, 0};
 static const uint8_t name_26[] = {0xdc, 11, 0, 2, 8, 0, 10, 0, 8, 0, 26, 0, 0};
+static const uint8_t tell_26[] = {0xdc, 17, 0, 2, 14, 0, 10, 0, 8, 0, 26, 0, 6, 1, 10, NO, 0, 2};
 static const uint8_t name_and_bad[] = {0xdc, 13, 0, 2, 8, 0, 10, 0, 8, 0, 26, 0, 0, 1, 0};
 
 /* What stands in s[0] is what the next refusal has to leave. */
@@ -77,6 +87,7 @@ static void fill(struct lent *s)
 {
     memset(s, 0, sizeof *s);
     memset(s->image, IMAGE_FILL, sizeof s->image);
+    memset(s->figures, FIGURES_FILL, sizeof s->figures);
     memset(s->reply, REPLY_FILL, sizeof s->reply);
     memset(s->saved, SAVED_FILL, sizeof s->saved);
     memset(s->text, TEXT_FILL, sizeof s->text);
@@ -109,6 +120,7 @@ static void accepted(int line, struct lent *s, struct flockdrift_answer a, size_
     same(line, "count", a.count, count);
     same(line, "the image's length", s->bytes, image_bytes);
     same(line, "what changed past every image", memcmp(s->image + FULL, s[1].image + FULL, BUFFER - FULL) != 0, 0);
+    same(line, "what changed past the figures", memcmp(s->figures + FIGURES, s[1].figures + FIGURES, 8) != 0, 0);
     keep(s);
 }
 
@@ -116,6 +128,7 @@ static void accepted(int line, struct lent *s, struct flockdrift_answer a, size_
 static void accepted_reading(int line, struct lent *s, struct flockdrift_answer a, size_t bytes, uint32_t count)
 {
     same(line, "what a call that reads changed", memcmp(s->image, s[1].image, BUFFER) != 0, 0);
+    same(line, "figures that a call that reads changed", memcmp(s->figures, s[1].figures, FIGURES) != 0, 0);
     accepted(line, s, a, bytes, count, s[1].bytes);
 }
 
@@ -153,6 +166,21 @@ static void lease_is(int line, struct flockdrift_lease_answer a, const uint32_t 
     same_fields(line, &a, 8, wanted);
 }
 
+static void figures_are(int line, struct flockdrift_figures a, const uint32_t *wanted)
+{
+    same_fields(line, &a, 5, wanted);
+}
+
+/* The sheet has these rows, and after them only such of places without a lease. */
+static void rows_are(int line, const struct lent *s, const uint8_t *rows, size_t n)
+{
+    static const uint8_t none[ROW] = {0, 0, 0, 0, 0, 255, 255, 255, 255, 255, 255};
+    size_t i;
+
+    for (i = 0; i < FIGURES / ROW; i++)
+        same(line, "whether a row differs", memcmp(s->figures + i * ROW, i < n ? rows + i * ROW : none, ROW) != 0, 0);
+}
+
 static void selection_is(int line, struct flockdrift_selection_answer a, const uint32_t *wanted)
 {
     same_fields(line, &a, 2, wanted);
@@ -162,17 +190,17 @@ static void selection_is(int line, struct flockdrift_selection_answer a, const u
 
 static struct flockdrift_answer open_at(struct lent *s, size_t capacity)
 {
-    return flockdrift_open(s->image, capacity, &s->bytes, network, 2, length, 2, 3600, 28, 1000);
+    return flockdrift_open(s->image, capacity, &s->bytes, s->figures, FIGURES, network, 2, length, 2, 3600, 28, 1000);
 }
 
 static struct flockdrift_answer ask(struct lent *s, uint32_t client, uint32_t now, const uint8_t *option, size_t n)
 {
-    return flockdrift_ask(s->image, BUFFER, &s->bytes, client, now, option, n, s->reply, REPLY);
+    return flockdrift_ask(s->image, BUFFER, &s->bytes, s->figures, FIGURES, client, now, option, n, s->reply, REPLY);
 }
 
 static struct flockdrift_answer take(struct lent *s, uint32_t client, uint32_t now, const uint8_t *option, size_t n)
 {
-    return flockdrift_take(s->image, BUFFER, &s->bytes, client, now, option, n, s->reply, REPLY);
+    return flockdrift_take(s->image, BUFFER, &s->bytes, s->figures, FIGURES, client, now, option, n, s->reply, REPLY);
 }
 
 static struct flockdrift_answer list(struct lent *s, uint32_t client, uint32_t now, const uint8_t *option, size_t n)
@@ -182,17 +210,17 @@ static struct flockdrift_answer list(struct lent *s, uint32_t client, uint32_t n
 
 static struct flockdrift_answer release(struct lent *s, uint32_t client, uint32_t now, const uint8_t *option, size_t n)
 {
-    return flockdrift_release(s->image, BUFFER, &s->bytes, client, now, option, n);
+    return flockdrift_release(s->image, BUFFER, &s->bytes, s->figures, FIGURES, client, now, option, n);
 }
 
 static struct flockdrift_answer mark(struct lent *s, uint32_t of, uint32_t prefix, uint32_t deprecated, uint32_t now)
 {
-    return flockdrift_mark(s->image, BUFFER, &s->bytes, of, prefix, deprecated, now);
+    return flockdrift_mark(s->image, BUFFER, &s->bytes, s->figures, FIGURES, of, prefix, deprecated, now);
 }
 
 static struct flockdrift_answer load(struct lent *s, size_t capacity, size_t saved_bytes)
 {
-    return flockdrift_load(s->image, capacity, &s->bytes, s->saved, saved_bytes);
+    return flockdrift_load(s->image, capacity, &s->bytes, s->figures, FIGURES, s->saved, saved_bytes);
 }
 
 static struct flockdrift_answer save(struct lent *s, size_t buffer_capacity)
@@ -228,11 +256,12 @@ static void begin(struct lent *s)
     ACCEPTED(s, ask(s, 7, 1000, ask_26, sizeof ask_26), 13, 1, 50);
 }
 
-/* An image that the caller puts into the buffer, with other bytes after it. */
-static void put(struct lent *s, const uint8_t *image, size_t bytes)
+/* An image that the caller puts into the buffer, with other bytes after it, and its figures. */
+static void put(struct lent *s, const uint8_t *image, size_t bytes, const uint8_t *figures)
 {
     memset(s->image, IMAGE_FILL, sizeof s->image);
     memcpy(s->image, image, bytes);
+    memcpy(s->figures, figures, FIGURES);
     set_bytes(s, bytes);
 }
 
@@ -252,6 +281,7 @@ static void layout(void)
     SAME("the lease's size", sizeof(struct flockdrift_lease_answer), 32);
     SAME("the offset of state", offsetof(struct flockdrift_lease_answer, state), 16);
     SAME("the offset of expires", offsetof(struct flockdrift_lease_answer, expires), 28);
+    SAME("the figures sheet's size", FIGURES, 256 * ROW);
     SAME("the selection's size", sizeof(struct flockdrift_selection_answer), 8);
     SAME("the offset of address", offsetof(struct flockdrift_selection_answer, address), 4);
 }
@@ -262,18 +292,23 @@ static void nulls(struct lent *s)
     size_t *b = &s->bytes;
 
     begin(s);
-    REFUSED(s, flockdrift_open(NULL, 0, b, NULL, 0, NULL, 0, 3600, 28, 1000), 12, 0);
-    REFUSED(s, flockdrift_open(NULL, 0, b, network, 2, length, 2, 3600, 28, 1000), 14, 0);
-    REFUSED(s, flockdrift_ask(NULL, 0, b, 0, 0, NULL, 0, NULL, 0), 1, 0);
-    REFUSED(s, flockdrift_ask(NULL, 0, b, 0, 0, NULL, 0, s->reply, REPLY), 5, 0);
-    REFUSED(s, flockdrift_take(NULL, 0, b, 0, 0, NULL, 0, NULL, 0), 1, 0);
-    REFUSED(s, flockdrift_take(NULL, 0, b, 0, 0, NULL, 0, s->reply, REPLY), 5, 0);
+    REFUSED(s, flockdrift_open(NULL, 0, b, NULL, 0, NULL, 0, NULL, 0, 3600, 28, 1000), 12, 0);
+    REFUSED(s, flockdrift_open(NULL, 0, b, NULL, 0, network, 2, length, 2, 3600, 28, 1000), 14, 0);
+    REFUSED(s, flockdrift_ask(NULL, 0, b, NULL, 0, 0, 0, NULL, 0, NULL, 0), 1, 0);
+    REFUSED(s, flockdrift_ask(NULL, 0, b, NULL, 0, 0, 0, NULL, 0, s->reply, REPLY), 5, 0);
+    REFUSED(s, flockdrift_take(NULL, 0, b, NULL, 0, 0, 0, NULL, 0, NULL, 0), 1, 0);
+    REFUSED(s, flockdrift_take(NULL, 0, b, NULL, 0, 0, 0, NULL, 0, s->reply, REPLY), 5, 0);
     REFUSED(s, flockdrift_list(NULL, 0, 0, 0, 0, NULL, 0, NULL, 0), 1, 0);
     REFUSED(s, flockdrift_list(NULL, 0, 0, 0, 0, NULL, 0, s->reply, REPLY), 5, 0);
-    REFUSED(s, flockdrift_release(NULL, 0, b, 0, 0, NULL, 0), 5, 0);
-    REFUSED(s, flockdrift_mark(NULL, 0, b, 0, 0, 0, 0), 5, 0);
-    REFUSED(s, flockdrift_load(NULL, 0, b, NULL, 0), 5, 0);
-    REFUSED(s, flockdrift_load(NULL, 0, b, s->image, 50), 14, 0);
+    REFUSED(s, flockdrift_release(NULL, 0, b, NULL, 0, 0, 0, NULL, 0), 5, 0);
+    REFUSED(s, flockdrift_mark(NULL, 0, b, NULL, 0, 0, 0, 0, 0), 5, 0);
+    REFUSED(s, flockdrift_load(NULL, 0, b, NULL, 0, NULL, 0), 5, 0);
+    REFUSED(s, flockdrift_load(NULL, 0, b, NULL, 0, s->image, 50), 14, 0);
+    REFUSED(s, flockdrift_open(s->image, BUFFER, b, NULL, 0, network, 2, length, 2, 3600, 28, 1000), 14, 0);
+    REFUSED(s, flockdrift_ask(s->image, BUFFER, b, NULL, 0, 0, 0, NULL, 0, s->reply, REPLY), 15, 0);
+    REFUSED(s, flockdrift_take(s->image, BUFFER, b, NULL, 0, 0, 0, NULL, 0, s->reply, REPLY), 15, 0);
+    REFUSED(s, flockdrift_release(s->image, BUFFER, b, NULL, 0, 0, 0, NULL, 0), 15, 0);
+    REFUSED(s, flockdrift_mark(s->image, BUFFER, b, NULL, 0, 0, 0, 0, 0), 15, 0);
     REFUSED(s, flockdrift_save(NULL, 0, 0, NULL, 0), 5, 0);
     REFUSED(s, save(s, 0), 14, 0);
     REFUSED(s, flockdrift_save(s->image, BUFFER, 50, NULL, 0), 14, 0);
@@ -293,13 +328,16 @@ static void sizes(struct lent *s)
 {
     static const size_t no_image[] = {0, 1, 30, 32, 49, 51, FULL, BUFFER, BUFFER + 1, SIZE_MAX};
     size_t *b = &s->bytes, i;
+    uint8_t *f = s->figures;
 
     begin(s);
-    REFUSED(s, flockdrift_ask(s->image, FULL - 1, b, 7, 1000, ask_26, sizeof ask_26, s->reply, REPLY), 5, 0);
-    REFUSED(s, flockdrift_take(s->image, FULL - 1, b, 7, 1000, name_26, sizeof name_26, s->reply, REPLY), 5, 0);
+    REFUSED(s, flockdrift_ask(s->image, FULL - 1, b, f, FIGURES, 7, 1000, ask_26, sizeof ask_26, s->reply, REPLY), 5,
+            0);
+    REFUSED(s, flockdrift_take(s->image, FULL - 1, b, f, FIGURES, 7, 1000, name_26, sizeof name_26, s->reply, REPLY), 5,
+            0);
     REFUSED(s, flockdrift_list(s->image, FULL - 1, 50, 7, 1000, list_all, sizeof list_all, s->reply, REPLY), 5, 0);
-    REFUSED(s, flockdrift_release(s->image, FULL - 1, b, 7, 1000, name_26, sizeof name_26), 5, 0);
-    REFUSED(s, flockdrift_mark(s->image, FULL - 1, b, network[0], 26, 1, 1000), 5, 0);
+    REFUSED(s, flockdrift_release(s->image, FULL - 1, b, f, FIGURES, 7, 1000, name_26, sizeof name_26), 5, 0);
+    REFUSED(s, flockdrift_mark(s->image, FULL - 1, b, f, FIGURES, network[0], 26, 1, 1000), 5, 0);
     REFUSED(s, flockdrift_save(s->image, FULL - 1, 50, s->saved, BUFFER), 5, 0);
     REFUSED(s, flockdrift_check(s->image, FULL - 1, 50), 5, 0);
     HEAD(head(s, FULL - 1), 5, 0, 0, 0, 0, 0);
@@ -325,12 +363,14 @@ static void sizes(struct lent *s)
     HEAD(head(s, FULL), 0, 3600, 28, 1000, 2, 1);
     POOL(pool(s, FULL, 1), 0, 0x0a000800, 26);
     LEASE(lease(s, FULL, 0), 0, 0x0a000800, 26, 7, 1, 0, 0, 1120);
-    ACCEPTED(s, flockdrift_mark(s->image, FULL, b, network[0], 26, 1, 1000), 0, 0, 50);
-    ACCEPTED(s, flockdrift_ask(s->image, FULL, b, 8, 1000, ask_two, sizeof ask_two, s->reply, REPLY), 23, 2, 88);
-    ACCEPTED(s, flockdrift_take(s->image, FULL, b, 7, 1000, name_26, sizeof name_26, s->reply, REPLY), 13, 1, 88);
+    ACCEPTED(s, flockdrift_mark(s->image, FULL, b, f, FIGURES, network[0], 26, 1, 1000), 0, 0, 50);
+    ACCEPTED(s, flockdrift_ask(s->image, FULL, b, f, FIGURES, 8, 1000, ask_two, sizeof ask_two, s->reply, REPLY), 23, 2,
+             88);
+    ACCEPTED(s, flockdrift_take(s->image, FULL, b, f, FIGURES, 7, 1000, name_26, sizeof name_26, s->reply, REPLY), 13,
+             1, 88);
     READ(s, flockdrift_list(s->image, FULL, 88, 7, 1000, list_all, sizeof list_all, s->reply, REPLY), 13, 1);
     READ(s, flockdrift_save(s->image, FULL, 88, s->saved, 88), 88, 0);
-    ACCEPTED(s, flockdrift_release(s->image, FULL, b, 7, 1000, name_26, sizeof name_26), 0, 1, 69);
+    ACCEPTED(s, flockdrift_release(s->image, FULL, b, f, FIGURES, 7, 1000, name_26, sizeof name_26), 0, 1, 69);
     ACCEPTED(s, load(s, FULL, 88), 0, 0, 88);
     ACCEPTED(s, open_at(s, FULL), 0, 0, 31);
 }
@@ -339,22 +379,23 @@ static void sizes(struct lent *s)
 static void order(struct lent *s)
 {
     size_t *b = &s->bytes;
+    uint8_t *f = s->figures;
     uint32_t late = 4292375296u;
 
     fill(s);
-    REFUSED(s, flockdrift_open(s->image, FULL - 1, b, network, 2, length, 2, 59, 28, 1000), 12, 0);
+    REFUSED(s, flockdrift_open(s->image, FULL - 1, b, f, FIGURES, network, 2, length, 2, 59, 28, 1000), 12, 0);
     REFUSED(s, open_at(s, FULL - 1), 14, 0);
-    REFUSED(s, flockdrift_open(s->image, BUFFER, b, network, 2, length, 1, 3600, 28, 1000), 12, 0);
-    REFUSED(s, flockdrift_open(s->image, BUFFER, b, network, 1, length, 2, 3600, 28, 1000), 12, 0);
-    REFUSED(s, flockdrift_open(s->image, BUFFER, b, network, 2, length, 2, 3600, 256 + 28, 1000), 12, 0);
-    REFUSED(s, flockdrift_open(s->image, BUFFER, b, network, 2, length, 2, 3600, 28, late), 12, 0);
+    REFUSED(s, flockdrift_open(s->image, BUFFER, b, f, FIGURES, network, 2, length, 1, 3600, 28, 1000), 12, 0);
+    REFUSED(s, flockdrift_open(s->image, BUFFER, b, f, FIGURES, network, 1, length, 2, 3600, 28, 1000), 12, 0);
+    REFUSED(s, flockdrift_open(s->image, BUFFER, b, f, FIGURES, network, 2, length, 2, 3600, 256 + 28, 1000), 12, 0);
+    REFUSED(s, flockdrift_open(s->image, BUFFER, b, f, FIGURES, network, 2, length, 2, 3600, 28, late), 12, 0);
     REFUSED(s, load(s, FULL - 1, 50), 5, 0);
 
     begin(s);
     set_bytes(s, 49);
-    REFUSED(s, flockdrift_ask(s->image, BUFFER, b, 0, 999, NULL, 0, s->reply, REPLY - 1), 1, 0);
+    REFUSED(s, flockdrift_ask(s->image, BUFFER, b, f, FIGURES, 0, 999, NULL, 0, s->reply, REPLY - 1), 1, 0);
     REFUSED(s, ask(s, 0, 999, NULL, 0), 5, 0);
-    REFUSED(s, flockdrift_take(s->image, BUFFER, b, 0, 999, NULL, 0, s->reply, REPLY - 1), 1, 0);
+    REFUSED(s, flockdrift_take(s->image, BUFFER, b, f, FIGURES, 0, 999, NULL, 0, s->reply, REPLY - 1), 1, 0);
     REFUSED(s, take(s, 0, 999, NULL, 0), 5, 0);
     REFUSED(s, flockdrift_list(s->image, BUFFER, 49, 0, 999, NULL, 0, s->reply, REPLY - 1), 1, 0);
     REFUSED(s, list(s, 0, 999, NULL, 0), 5, 0);
@@ -431,38 +472,140 @@ static void calls(struct lent *s)
  */
 static void removed(struct lent *s)
 {
-    uint8_t image[88];
+    uint8_t image[88], figures[FIGURES];
 
     begin(s);
     ACCEPTED(s, take(s, 7, 1010, name_26, sizeof name_26), 13, 1, 50);
     ACCEPTED(s, ask(s, 8, 1010, ask_two, sizeof ask_two), 23, 2, 88);
     memcpy(image, s->image, sizeof image);
+    memcpy(figures, s->figures, sizeof figures);
 
-    put(s, image, sizeof image);
+    put(s, image, sizeof image, figures);
     ACCEPTED(s, ask(s, 9, 1130, ask_25, sizeof ask_25), 13, 1, 69);
     FILLED(s->image + 69, 88 - 69, 0);
     FILLED(s->image + 88, BUFFER - 88, IMAGE_FILL);
-    put(s, image, sizeof image);
+    put(s, image, sizeof image, figures);
     ACCEPTED(s, take(s, 7, 1130, name_26, sizeof name_26), 13, 1, 50);
     FILLED(s->image + 50, 88 - 50, 0);
     FILLED(s->image + 88, BUFFER - 88, IMAGE_FILL);
-    put(s, image, sizeof image);
+    put(s, image, sizeof image, figures);
     ACCEPTED(s, mark(s, network[0], 26, 1, 1130), 0, 0, 50);
     FILLED(s->image + 50, 88 - 50, 0);
     FILLED(s->image + 88, BUFFER - 88, IMAGE_FILL);
     /* removes three and counts the one that its entry names */
-    put(s, image, sizeof image);
+    put(s, image, sizeof image, figures);
     ACCEPTED(s, release(s, 7, 1130, name_26, sizeof name_26), 0, 1, 31);
     FILLED(s->image + 31, 88 - 31, 0);
     FILLED(s->image + 88, BUFFER - 88, IMAGE_FILL);
 
     /* of an older image, and of what is past it, open leaves nothing up to a full image's size */
-    put(s, image, sizeof image);
+    put(s, image, sizeof image, figures);
     ACCEPTED(s, open_at(s, BUFFER), 0, 0, 31);
     FILLED(s->image + 31, FULL - 31, 0);
     FILLED(s->image + FULL, BUFFER - FULL, IMAGE_FILL);
     set_bytes(s, sizeof image);
     REFUSED(s, save(s, BUFFER), 5, 0);
+}
+
+/*
+ * A sheet that does not match, or of another size, is refused in the place of 15: after 1 and 5, before 2 and 3. Open
+ * and load, which would fill it, refuse its size last.
+ */
+static void not_the_sheet(struct lent *s, size_t size)
+{
+    size_t *b = &s->bytes, bytes = s->bytes;
+    uint8_t *f = s->figures;
+
+    keep(s);
+    REFUSED(s, flockdrift_ask(s->image, BUFFER, b, f, size, 0, 999, NULL, 0, s->reply, REPLY - 1), 1, 0);
+    REFUSED(s, flockdrift_ask(s->image, BUFFER, b, f, size, 0, 999, NULL, 0, s->reply, REPLY), 15, 0);
+    REFUSED(s, flockdrift_take(s->image, BUFFER, b, f, size, 0, 999, NULL, 0, s->reply, REPLY - 1), 1, 0);
+    REFUSED(s, flockdrift_take(s->image, BUFFER, b, f, size, 0, 999, NULL, 0, s->reply, REPLY), 15, 0);
+    REFUSED(s, flockdrift_release(s->image, BUFFER, b, f, size, 0, 999, NULL, 0), 15, 0);
+    REFUSED(s, flockdrift_mark(s->image, BUFFER, b, f, size, 0, 0, 0, 999), 15, 0);
+    REFUSED(s, flockdrift_open(s->image, BUFFER, b, f, size, network, 2, length, 2, 59, 28, 1000), 12, 0);
+    REFUSED(s, flockdrift_load(s->image, BUFFER, b, f, size, s->saved, 0), 5, 0);
+    if (size != FIGURES) {
+        REFUSED(s, flockdrift_open(s->image, BUFFER, b, f, size, network, 2, length, 2, 3600, 28, 1000), 14, 0);
+        REFUSED(s, flockdrift_load(s->image, BUFFER, b, f, size, s->saved, 50), 14, 0);
+    }
+    set_bytes(s, bytes - 1);
+    REFUSED(s, flockdrift_ask(s->image, BUFFER, b, f, size, 0, 999, NULL, 0, s->reply, REPLY), 5, 0);
+    REFUSED(s, flockdrift_take(s->image, BUFFER, b, f, size, 0, 999, NULL, 0, s->reply, REPLY), 5, 0);
+    REFUSED(s, flockdrift_release(s->image, BUFFER, b, f, size, 0, 999, NULL, 0), 5, 0);
+    REFUSED(s, flockdrift_mark(s->image, BUFFER, b, f, size, 0, 0, 0, 999), 5, 0);
+    set_bytes(s, bytes);
+    READ(s, list(s, 7, 1010, list_all, sizeof list_all), 13, 1);
+    READ(s, save(s, BUFFER), bytes, 0);
+    READ(s, check(s), 0, 0);
+}
+
+static void unsound_figures(struct lent *s)
+{
+    static const size_t sizes[] = {0, 1, ROW, FIGURES - ROW, FIGURES - 1, FIGURES + 1};
+    size_t i;
+
+    begin(s);
+    ACCEPTED(s, take(s, 7, 1010, name_26, sizeof name_26), 13, 1, 50);
+    READ(s, save(s, BUFFER), 50, 0);
+    for (i = 0; i < sizeof sizes / sizeof sizes[0]; i++)
+        not_the_sheet(s, sizes[i]);
+    /* network and length of the lease, every byte of the first row without one and of the last */
+    for (i = 0; i < FIGURES; i++)
+        if (i < 5 || (i >= ROW && i < 2 * ROW) || i >= FIGURES - ROW) {
+            s->figures[i] ^= 1;
+            not_the_sheet(s, FIGURES);
+            s->figures[i] ^= 1;
+        }
+    /* the lease's figures may be any */
+    memset(s->figures + 5, 0, 6);
+    keep(s);
+    ACCEPTED(s, take(s, 7, 1010, name_26, sizeof name_26), 13, 1, 50);
+}
+
+/* What each call does to the rows. */
+static void figures(struct lent *s)
+{
+    /* in use and no high water, then high water and nothing else */
+    static const uint8_t tell_twice[] = {0xdc, 28, 0, 2, 25, 0, 10, 0, 8, 0, 26, 0, 4, NO, 0, 7,
+                                         10, 0, 8, 0, 26, 0, 6, 0, 11, NO, NO};
+    static const uint8_t once[] = {10, 1, NO, 2, 0}, twice[] = {11, 0, 7, 0, 2, 0}, untold[] = {NO, NO, NO};
+    uint8_t rows[] = {0, 1, 0, 10, 25, NO, NO, NO, 128, 1, 0, 10, 28, NO, NO, NO, 0, 8, 0, 10, 26, NO, NO, NO};
+    uint8_t *row = rows + 2 * ROW;
+
+    fill(s);
+    ACCEPTED(s, open_at(s, BUFFER), 0, 0, 31);
+    ROWS(s, row, 0);
+    ACCEPTED(s, ask(s, 7, 1000, ask_26, sizeof ask_26), 13, 1, 50);
+    ROWS(s, row, 1);
+    ACCEPTED(s, ask(s, 8, 1000, ask_two, sizeof ask_two), 23, 2, 88);
+    ROWS(s, rows, 3);
+    ACCEPTED(s, take(s, 7, 1010, tell_26, sizeof tell_26), 13, 1, 88);
+    memcpy(row + 5, once, sizeof once);
+    ROWS(s, rows, 3);
+    REFUSED(s, take(s, 8, 1010, tell_twice, sizeof tell_twice), 11, 0);
+    ACCEPTED(s, take(s, 7, 1020, tell_twice, sizeof tell_twice), 20, 2, 88);
+    memcpy(row + 5, twice, sizeof twice);
+    ROWS(s, rows, 3);
+
+    /* what is not told stays, in a take with no figures and in a mark */
+    ACCEPTED(s, take(s, 7, 1030, name_26, sizeof name_26), 13, 1, 88);
+    ACCEPTED(s, mark(s, network[0], 26, 1, 1030), 0, 0, 88);
+    ROWS(s, rows, 3);
+    READ(s, list(s, 7, 1030, list_all, sizeof list_all), 13, 1);
+    READ(s, save(s, BUFFER), 88, 0);
+
+    /* at 1130 the two others have ended: their rows go, and the third moves to the front */
+    ACCEPTED(s, mark(s, network[0], 26, 0, 1130), 0, 0, 50);
+    ROWS(s, row, 1);
+    ACCEPTED(s, release(s, 7, 1140, tell_26, sizeof tell_26), 0, 1, 31);
+    ROWS(s, row, 0);
+    /* the same prefix again has nothing of what was told before; nor has a book that was saved */
+    memcpy(row + 5, untold, sizeof untold);
+    ACCEPTED(s, ask(s, 9, 1140, ask_26, sizeof ask_26), 13, 1, 50);
+    ROWS(s, row, 1);
+    ACCEPTED(s, load(s, BUFFER, 88), 0, 0, 88);
+    ROWS(s, rows, 3);
 }
 
 static void load_and_save(struct lent *s)
@@ -603,27 +746,36 @@ static void book(struct lent *s)
     SAME("ask", flockdrift_book_ask(&held, 7, 1000, ask_26, sizeof ask_26, s->reply, REPLY).bytes, 13);
     held = before;
     SAME("ask again", flockdrift_book_ask(&held, 7, 1000, ask_26, sizeof ask_26, s->reply, REPLY).count, 1);
-    ACCEPTED(s, take(s, 7, 1010, name_26, sizeof name_26), 13, 1, 50);
-    SAME("take", flockdrift_book_take(&held, 7, 1010, name_26, sizeof name_26, s->reply, REPLY).count, 1);
+    ACCEPTED(s, take(s, 7, 1010, tell_26, sizeof tell_26), 13, 1, 50);
+    SAME("take", flockdrift_book_take(&held, 7, 1010, tell_26, sizeof tell_26, s->reply, REPLY).count, 1);
     SAME("list", flockdrift_book_list(&held, 7, 1020, list_all, sizeof list_all, s->reply, REPLY).count, 1);
     ACCEPTED(s, mark(s, 0x0a000800, 26, 1, 1030), 0, 0, 50);
     SAME("mark", flockdrift_book_mark(&held, 0x0a000800, 26, 1, 1030).number, 0);
     SAME("the length", held.bytes, s->bytes);
     SAME("the image", memcmp(held.image, s->image, FULL) != 0, 0);
+    SAME("the figures", memcmp(held.figures, s->figures, FIGURES) != 0, 0);
 
     HEAD(flockdrift_book_head(&held), 0, 3600, 28, 1030, 2, 1);
     POOL(flockdrift_book_pool(&held, 1), 0, 0x0a000800, 26);
     LEASE(flockdrift_book_lease(&held, 0), 0, 0x0a000800, 26, 7, FLOCKDRIFT_LEASED, 0, 1, 4610);
+    FIGURES_OF(flockdrift_book_figures(&held, 0), 0x0a000800, 26, 266, FLOCKDRIFT_UNTOLD, 2);
+    FIGURES_OF(flockdrift_book_figures(&held, 1), 0, 0, 65535, 65535, 65535);
+    FIGURES_OF(flockdrift_book_figures(&held, 255), 0, 0, 65535, 65535, 65535);
+    FIGURES_OF(flockdrift_book_figures(&held, 256), 0, 0, 65535, 65535, 65535);
+    FIGURES_OF(flockdrift_book_figures(&held, SIZE_MAX), 0, 0, 65535, 65535, 65535);
     SAME("save", flockdrift_book_save(&held, s->saved, sizeof s->saved).bytes, 50);
     SAME("sheet", flockdrift_book_sheet(&held, s->text, sizeof s->text).number, 0);
     SAME("release", flockdrift_book_release(&held, 7, 1040, name_26, sizeof name_26).count, 1);
     SAME("load", flockdrift_book_load(&held, s->saved, 50).number, 0);
     SAME("what is loaded", memcmp(held.image, s->image, FULL) != 0, 0);
+    FIGURES_OF(flockdrift_book_figures(&held, 0), 0x0a000800, 26, 65535, 65535, 65535);
+    held.figures[4] = 25;
+    SAME("other figures", flockdrift_book_mark(&held, 0x0a000800, 26, 1, 1030).number, FLOCKDRIFT_FIGURES_UNSOUND);
     held.bytes = SIZE_MAX;
     SAME("a length past the buffer", flockdrift_book_sheet(&held, s->text, sizeof s->text).number, 5);
     SAME("a length past the buffer", flockdrift_book_check(&held).number, 5);
 
-    for (i = 0; i <= 15; i++)
+    for (i = 0; i <= 16; i++)
         SAME("no words", flockdrift_text(i)[0] == '\0', 0);
     SAME("words", strcmp(flockdrift_text(5), "not the image of a sound table") != 0, 0);
 }
@@ -634,13 +786,14 @@ static void full(struct lent *s)
     static const uint32_t pools[8] = {0, 1u << 30, 2u << 30, 3u << 30, 5u << 28, 6u << 28, 7u << 28, 9u << 28};
     static const uint8_t eights[8] = {8, 8, 8, 8, 8, 8, 8, 8};
     size_t *b = &s->bytes;
+    uint8_t *f = s->figures;
     struct flockdrift_answer a;
     uint32_t i;
 
     fill(s);
-    ACCEPTED(s, flockdrift_open(s->image, FULL, b, pools, 8, eights, 8, 60, 30, 0), 0, 0, 85);
+    ACCEPTED(s, flockdrift_open(s->image, FULL, b, f, FIGURES, pools, 8, eights, 8, 60, 30, 0), 0, 0, 85);
     for (i = 1; i <= 256; i++) {
-        a = flockdrift_ask(s->image, FULL, b, 7, 0, ask_26, sizeof ask_26, s->reply, REPLY);
+        a = flockdrift_ask(s->image, FULL, b, f, FIGURES, 7, 0, ask_26, sizeof ask_26, s->reply, REPLY);
         ACCEPTED(s, a, 13, 1, 85 + 19 * i);
     }
     SAME("the length of a full image", s->bytes, FULL);
@@ -649,7 +802,7 @@ static void full(struct lent *s)
     LEASE(lease(s, FULL, 255), 0, 255u << 6, 26, 7, FLOCKDRIFT_HELD, 0, 0, 120);
     LEASE(lease(s, FULL, 256), 11, 0, 0, 0, 0, 0, 0, 0);
     /* neither a lease more nor a prefix of this length */
-    REFUSED(s, flockdrift_ask(s->image, FULL, b, 7, 0, ask_8, sizeof ask_8, s->reply, REPLY), 9, 0);
+    REFUSED(s, flockdrift_ask(s->image, FULL, b, f, FIGURES, 7, 0, ask_8, sizeof ask_8, s->reply, REPLY), 9, 0);
 
     REFUSED(s, save(s, FULL - 1), 14, 0);
     READ(s, save(s, FULL), FULL, 0);
@@ -662,7 +815,7 @@ static void full(struct lent *s)
     READ(s, a, a.bytes, 0);
 
     /* all of them end at 120 */
-    a = flockdrift_ask(s->image, FULL, b, 7, 120, ask_26, sizeof ask_26, s->reply, REPLY);
+    a = flockdrift_ask(s->image, FULL, b, f, FIGURES, 7, 120, ask_26, sizeof ask_26, s->reply, REPLY);
     ACCEPTED(s, a, 13, 1, 104);
     FILLED(s->image + 104, FULL - 104, 0);
     ACCEPTED(s, load(s, FULL, FULL), 0, 0, FULL);
@@ -710,6 +863,8 @@ int main(void)
     order(s);
     calls(s);
     removed(s);
+    unsound_figures(s);
+    figures(s);
     load_and_save(s);
     sheet(s);
     queries(s);

@@ -1,6 +1,6 @@
 //! Runs the same random and damaged calls through the peer, the reference and, if it was linked, the proved library, and
-//! compares every field of every answer, every byte of the image's buffer, the image's length and every byte of the buffer
-//! that a call writes to.
+//! compares every field of every answer, every byte of the image's buffer, the image's length, every byte of the figures
+//! sheet and every byte of the buffer that a call writes to.
 //!
 //!     agree [CALLS [SEED]]
 //!
@@ -9,8 +9,8 @@
 use std::collections::BTreeMap;
 use std::process::exit;
 
-use bench::desk::{Answer, Desk, FULL, REPLY, SHEET};
-use bench::images::{Lease, Table};
+use bench::desk::{Answer, Desk, FIGURES, FULL, Lent, REPLY, SHEET};
+use bench::images::{EMPTY_ROW, Lease, ROW, Table};
 use bench::options::{information, option, request};
 use bench::peer::PEER;
 use bench::random::Random;
@@ -21,6 +21,7 @@ const SEED: u64 = 6656;
 /// Calls from one table to the next.
 const HISTORY: u64 = 60;
 const LATEST: u32 = 4_292_375_295;
+const UNTOLD: u16 = 0xffff;
 
 #[derive(Clone, Debug)]
 enum Call {
@@ -50,32 +51,38 @@ impl Call {
         }
     }
 
-    fn run(&self, desk: &Desk, lent: &mut Lent) -> Answer {
-        let Lent { image, bytes, out } = lent;
+    fn run(&self, desk: &Desk, buffers: &mut Buffers) -> Answer {
+        let Buffers { image, bytes, figures, out } = buffers;
+        let size = *bytes;
+        match self {
+            Call::List { client, now, option } => return (desk.list)(image, size, *client, *now, option, out),
+            Call::Save => return (desk.save)(image, size, out),
+            // The sheet has no capacity of the image: what is lent is the image.
+            Call::Sheet => return (desk.sheet)(image.get(..size).unwrap_or(image), out),
+            _ => {}
+        }
+        let lent = Lent { image, bytes, figures };
         match self {
             Call::Open { networks, lengths, term, default_length, start } => {
-                (desk.open)(image, bytes, networks, lengths, *term, *default_length, *start)
+                (desk.open)(lent, networks, lengths, *term, *default_length, *start)
             }
-            Call::Ask { client, now, option } => (desk.ask)(image, bytes, *client, *now, option, out),
-            Call::Take { client, now, option } => (desk.take)(image, bytes, *client, *now, option, out),
-            Call::List { client, now, option } => (desk.list)(image, *bytes, *client, *now, option, out),
-            Call::Release { client, now, option } => (desk.release)(image, bytes, *client, *now, option),
-            Call::Mark { network, length, deprecated, now } => {
-                (desk.mark)(image, bytes, *network, *length, *deprecated, *now)
-            }
-            Call::Load { saved } => (desk.load)(image, bytes, saved),
-            Call::Save => (desk.save)(image, *bytes, out),
-            // The sheet has no capacity of the image: what is lent is the image.
-            Call::Sheet => (desk.sheet)(image.get(..*bytes).unwrap_or(image), out),
+            Call::Ask { client, now, option } => (desk.ask)(lent, *client, *now, option, out),
+            Call::Take { client, now, option } => (desk.take)(lent, *client, *now, option, out),
+            Call::Release { client, now, option } => (desk.release)(lent, *client, *now, option),
+            Call::Mark { network, length, deprecated, now } => (desk.mark)(lent, *network, *length, *deprecated, *now),
+            Call::Load { saved } => (desk.load)(lent, saved),
+            Call::List { .. } | Call::Save | Call::Sheet => unreachable!("they are above"),
         }
     }
 }
 
-/// What a call may change: the image's buffer, the image's length, and the buffer for a reply, an image or a text.
+/// What a call may change: the image's buffer, the image's length, the figures sheet, and the buffer for a reply, an image
+/// or a text.
 #[derive(Clone, PartialEq, Eq)]
-struct Lent {
+struct Buffers {
     image: Vec<u8>,
     bytes: usize,
+    figures: Vec<u8>,
     out: Vec<u8>,
 }
 
@@ -84,8 +91,8 @@ fn hex(bytes: &[u8]) -> String {
 }
 
 /// Runs a call through every desk; answers what all of them left, or says where they differ.
-fn agreed(desks: &[Desk], call: &Call, given: &Lent) -> Result<(Answer, Lent), String> {
-    let mut first: Option<(Answer, Lent)> = None;
+fn agreed(desks: &[Desk], call: &Call, given: &Buffers) -> Result<(Answer, Buffers), String> {
+    let mut first: Option<(Answer, Buffers)> = None;
     for desk in desks {
         let mut left = given.clone();
         let answer = call.run(desk, &mut left);
@@ -100,7 +107,11 @@ fn agreed(desks: &[Desk], call: &Call, given: &Lent) -> Result<(Answer, Lent), S
         if first_left.bytes != left.bytes {
             return Err(format!("{names}: images of {} and {} bytes", first_left.bytes, left.bytes));
         }
-        for (what, one, other) in [("image", &first_left.image, &left.image), ("output", &first_left.out, &left.out)] {
+        for (what, one, other) in [
+            ("image", &first_left.image, &left.image),
+            ("figures", &first_left.figures, &left.figures),
+            ("output", &first_left.out, &left.out),
+        ] {
             if let Some(at) = (0..one.len()).find(|&at| one[at] != other[at]) {
                 return Err(format!("{names}: {what} byte {at} is {} and {}", one[at], other[at]));
             }
@@ -110,7 +121,7 @@ fn agreed(desks: &[Desk], call: &Call, given: &Lent) -> Result<(Answer, Lent), S
 }
 
 /// What every answer has to be, whoever gave it.
-fn plausible(call: &Call, given: &Lent, answer: &Answer, left: &Lent) -> Result<(), String> {
+fn plausible(call: &Call, given: &Buffers, answer: &Answer, left: &Buffers) -> Result<(), String> {
     if answer.number != 0 {
         if left != given {
             return Err("a refusal changed what was lent".into());
@@ -125,10 +136,10 @@ fn plausible(call: &Call, given: &Lent, answer: &Answer, left: &Lent) -> Result<
     }
     let zeroed = match call {
         Call::List { .. } | Call::Save | Call::Sheet => {
-            return if (left.bytes, &left.image) == (given.bytes, &given.image) {
+            return if (left.bytes, &left.image, &left.figures) == (given.bytes, &given.image, &given.figures) {
                 Ok(())
             } else {
-                Err("a call that only reads changed the image".into())
+                Err("a call that only reads changed the image or the figures".into())
             };
         }
         Call::Open { .. } | Call::Load { .. } => FULL,
@@ -140,7 +151,28 @@ fn plausible(call: &Call, given: &Lent, answer: &Answer, left: &Lent) -> Result<
     if left.image[zeroed..] != given.image[zeroed..] {
         return Err("bytes past the image have changed".into());
     }
+    // "Rows match lines, place for place, after every accepted call that has the sheet".
+    let leases = Table::of_image(&left.image[..left.bytes]).leases;
+    for (place, row) in left.figures.chunks(ROW).enumerate() {
+        let matches = match leases.get(place) {
+            Some(lease) => row[..4] == lease.network.to_le_bytes() && row[4] == lease.length,
+            None => row == EMPTY_ROW,
+        };
+        if !matches {
+            return Err(format!("row {place} of the figures does not match"));
+        }
+    }
     Ok(())
+}
+
+/// Whether an accepted take has filed something: a row is other than it was, in its figures only.
+fn filed(given: &Buffers, left: &Buffers) -> bool {
+    let mut before = given.figures.chunks(ROW);
+    // Rows go and the others stay in their order, so each is found after the one before it.
+    left.figures.chunks(ROW).filter(|row| *row != EMPTY_ROW).any(|row| {
+        let old = before.by_ref().find(|old| old[..5] == row[..5]);
+        old.is_some_and(|old| old != row)
+    })
 }
 
 /// A length of at least `shortest`, mostly not much longer.
@@ -277,20 +309,29 @@ fn random_prefix(random: &mut Random, table: &Table) -> (u32, u8) {
     if random.once_in(60) { (network, length) } else { (network & (u32::MAX << (32 - length)), length) }
 }
 
+/// A figure that is told, or none.
+fn random_figure(random: &mut Random) -> u16 {
+    match random.below(8) {
+        0..=2 => UNTOLD,
+        3 => random.pick(&[0, 1, 255, 256, UNTOLD - 1]),
+        _ => random.word() as u16,
+    }
+}
+
 /// An information of some entries, some of them with figures.
 fn random_information(random: &mut Random, table: &Table, flags: u8, most: u64) -> Vec<u8> {
     let mut body = vec![flags];
     for _ in 0..1 + random.below(most) {
         let (network, length) = random_prefix(random, table);
-        let figures = if random.once_in(6) { 2 * random.below(6) as usize } else { 0 };
-        if body.len() + 7 + figures > 249 {
+        let figures = if random.once_in(3) { random.pick(&[0, 1, 2, 3, 3, 3, 4, 5]) } else { 0 };
+        if body.len() + 7 + 2 * figures > 249 {
             break;
         }
         body.extend(network.to_be_bytes());
         let entry_flags = if random.once_in(4) { random.word() as u8 } else { random.below(4) as u8 };
-        body.extend([length, entry_flags, figures as u8]);
+        body.extend([length, entry_flags, 2 * figures as u8]);
         for _ in 0..figures {
-            body.push(random.word() as u8);
+            body.extend(random_figure(random).to_be_bytes());
         }
     }
     let mut bytes = vec![2, body.len() as u8];
@@ -593,9 +634,53 @@ fn random_load(random: &mut Random, table: &Table) -> Call {
     Call::Load { saved }
 }
 
-fn random_given(random: &mut Random, image: &[u8]) -> (Call, Lent) {
-    let call = random_call(random, &Table::of_image(image));
+/// One change to a figures sheet; some leave it one that matches.
+fn damage_figures(random: &mut Random, table: &Table, figures: &mut Vec<u8>) {
+    let leases = table.leases.len();
+    let row = random.below(256) as usize;
+    // Rows of leases and the first that is none are few in most tables.
+    let near = random.below(leases.min(255) as u64 + 1) as usize;
+    let row = ROW * if random.once_in(3) { row } else { near };
+    let byte = row + random.below(ROW as u64) as usize;
+    match random.below(12) {
+        0 | 1 => figures[byte] ^= 1 << random.below(8),
+        2 => figures[byte] = random.word() as u8,
+        3 => figures[row + 4] = random.pick(&[0, 1, 8, 30, 31, 255]),
+        4 => figures[row..row + 5].fill(0),
+        5 => figures[row..row + ROW].fill(0),
+        6 => figures[row..row + ROW].copy_from_slice(&EMPTY_ROW),
+        // A row gone, and those after it moved; or a row that stands there twice.
+        7 => {
+            figures.drain(row..row + ROW);
+            figures.extend(EMPTY_ROW);
+        }
+        8 => {
+            let twice = figures[row..row + ROW].to_vec();
+            figures.splice(row..row, twice);
+            figures.truncate(FIGURES);
+        }
+        // Without those that end next: the sheet of another time.
+        9 => {
+            let end = table.leases.iter().map(|lease| lease.expires).min();
+            let present = table.leases.iter().filter(|lease| Some(lease.expires) != end).copied().collect();
+            *figures = Table { leases: present, ..table.clone() }.figures(|| random_figure(random));
+        }
+        10 => random.fill(figures),
+        _ => {
+            let size = random.pick(&[0, 1, ROW, ROW * leases, FIGURES - ROW, FIGURES - 1, FIGURES + 1, FIGURES + ROW]);
+            figures.resize(size, 0xff);
+        }
+    }
+}
+
+fn random_given(random: &mut Random, image: &[u8], figures: &[u8]) -> (Call, Buffers) {
+    let table = Table::of_image(image);
+    let call = random_call(random, &table);
     let mut image = image.to_vec();
+    let mut figures = figures.to_vec();
+    if random.once_in(10) {
+        damage_figures(random, &table, &mut figures);
+    }
     if random.once_in(8) {
         damage_image(random, &mut image);
     }
@@ -632,7 +717,7 @@ fn random_given(random: &mut Random, image: &[u8]) -> (Call, Lent) {
     buffer.truncate(capacity);
     let mut out = vec![0; room];
     random.fill(&mut out);
-    (call, Lent { image: buffer, bytes, out })
+    (call, Buffers { image: buffer, bytes, figures, out })
 }
 
 fn desks() -> Vec<Desk> {
@@ -661,13 +746,15 @@ fn main() {
     }
     let mut random = Random(seed);
     let mut answers: BTreeMap<(&str, u32), u64> = BTreeMap::new();
-    let (mut most, mut full) = (0, 0);
-    let mut image = Vec::new();
+    let (mut most, mut full, mut filing) = (0, 0, 0);
+    let (mut image, mut figures) = (Vec::new(), Vec::new());
     for index in 0..calls {
         if index % HISTORY == 0 {
-            image = random_table(&mut random).image();
+            let table = random_table(&mut random);
+            image = table.image();
+            figures = table.figures(|| random_figure(&mut random));
         }
-        let (call, given) = random_given(&mut random, &image);
+        let (call, given) = random_given(&mut random, &image, &figures);
         let result = agreed(&desks, &call, &given).and_then(|(answer, left)| {
             plausible(&call, &given, &answer, &left)?;
             Ok((answer, left))
@@ -678,13 +765,19 @@ fn main() {
                 most = most.max(answer.count);
                 if answer.number == 0 {
                     full += u64::from(left.bytes == FULL);
-                    image = left.image[..left.bytes].to_vec();
+                    filing += u64::from(matches!(call, Call::Take { .. }) && filed(&given, &left));
+                    // A call that only reads may have been given the image of another sound table, or another's figures.
+                    if !matches!(call, Call::List { .. } | Call::Save | Call::Sheet) {
+                        image = left.image[..left.bytes].to_vec();
+                        figures = left.figures;
+                    }
                 }
             }
             Err(difference) => {
                 println!("call {index} of seed {seed}: {difference}");
                 println!("{call:?}");
                 println!("image of {} bytes in {}: {}", given.bytes, given.image.len(), hex(&given.image));
+                println!("figures of {} bytes: {}", given.figures.len(), hex(&given.figures));
                 println!("output buffer of {}", given.out.len());
                 exit(1);
             }
@@ -698,6 +791,8 @@ fn main() {
         }
         print!(" {number} x{count}");
     }
+    let unsound: u64 = answers.iter().filter(|((_, number), _)| *number == 15).map(|(_, count)| count).sum();
     println!("\nmost entries in an answer: {most}; full images: {full}");
-    println!("agree: {calls} calls, the same answer, image and output by all {}", names.len());
+    println!("figures sheets refused with 15: {unsound}; takes that filed a figure: {filing}");
+    println!("agree: {calls} calls, the same answer, image, figures and output by all {}", names.len());
 }

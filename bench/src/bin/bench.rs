@@ -43,6 +43,7 @@ enum Work<'a> {
 /// All cases of a row, `times` over; ns per case.
 #[inline(never)]
 fn batch(row: &Row, buffers: &mut Buffers, work: Work, times: usize) -> f64 {
+    buffers.begin(row);
     let mut run = |times: usize| {
         for _ in 0..times {
             for case in &row.cases {
@@ -54,7 +55,8 @@ fn batch(row: &Row, buffers: &mut Buffers, work: Work, times: usize) -> f64 {
                         black_box(checksum(black_box(&case.image[..case.bytes])));
                     }
                     Work::Call(desk) => {
-                        black_box((row.run)(desk, case, buffers));
+                        let answer = black_box((row.run)(desk, case, buffers));
+                        assert_eq!(answer.number, row.number, "{}: it is another call that is measured", row.call);
                     }
                 }
             }

@@ -2,6 +2,7 @@
 //!
 //! A sound image is one head, 1 to 8 pools and up to 256 leases, records of fixed sizes, so the place of each is known.
 
+use super::figures::{self, Row};
 use crate::desk::FULL;
 
 const HEAD: usize = 13;
@@ -258,8 +259,9 @@ pub fn set_last(image: &mut [u8], now: u32) {
     image[9..13].copy_from_slice(&now.to_le_bytes());
 }
 
-/// Removes the leases at some places: each run of records between two of them moves once. Answers how many are left.
-pub fn remove(leases: &mut [Record], places: &Places) -> usize {
+/// Removes what stands at some places, leases or their rows: each run between two of them moves once. Answers how many
+/// are left.
+pub fn remove<T: Copy>(items: &mut [T], places: &Places) -> usize {
     let (mut kept, mut next) = (0, 0);
     for (index, word) in places.iter().enumerate() {
         let mut word = *word;
@@ -267,25 +269,29 @@ pub fn remove(leases: &mut [Record], places: &Places) -> usize {
             let place = 64 * index + word.trailing_zeros() as usize;
             word &= word - 1;
             if kept != next {
-                leases.copy_within(next..place, kept);
+                items.copy_within(next..place, kept);
             }
             kept += place - next;
             next = place + 1;
         }
     }
     if kept != next {
-        leases.copy_within(next.., kept);
+        items.copy_within(next.., kept);
     }
-    kept + leases.len() - next
+    kept + items.len() - next
 }
 
-/// Puts new leases, in ascending order, into the first `used` records, from the back: each record moves at most once.
-pub fn insert(leases: &mut [Record], used: usize, new: &[Record]) {
+/// Puts new leases, in ascending order, into the first `used` records, and their rows beside them, from the back: each
+/// record and each row moves at most once.
+pub fn insert(leases: &mut [Record], rows: &mut [Row], used: usize, new: &[Record]) {
     let mut end = used;
     for (before, lease) in new.iter().enumerate().rev() {
         let place = leases[..end].partition_point(|other| network(other) < network(lease));
-        leases.copy_within(place..end, place + before + 1);
-        leases[place + before] = *lease;
+        let after = place + before;
+        leases.copy_within(place..end, after + 1);
+        leases[after] = *lease;
+        rows.copy_within(place..end, after + 1);
+        rows[after] = figures::untold(lease);
         end = place;
     }
 }

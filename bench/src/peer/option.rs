@@ -21,7 +21,7 @@ pub const ENTRIES: usize = 35;
 pub trait Pieces {
     fn request(&mut self, flags: u8, length: u8);
     /// An entry, and the flags of its information.
-    fn entry(&mut self, information: u8, network: u32, length: u8);
+    fn entry(&mut self, information: u8, network: u32, length: u8, figures: &[u8]);
 }
 
 /// Reads the option; a refusal is 6, or 7 with the place of the first bad suboption.
@@ -55,13 +55,14 @@ fn suboption(bytes: &[u8], pieces: &mut impl Pieces) -> Option<usize> {
                 return None;
             }
             while !entries.is_empty() {
-                let (&[a, b, c, d, length, _, figures], rest) = entries.split_first_chunk()?;
+                let (&[a, b, c, d, length, _, size], rest) = entries.split_first_chunk()?;
                 let network = u32::from_be_bytes([a, b, c, d]);
-                if !matches!(length, 1..=30) || network << length != 0 || figures % 2 != 0 {
+                if !matches!(length, 1..=30) || network << length != 0 || size % 2 != 0 {
                     return None;
                 }
-                pieces.entry(flags, network, length);
-                entries = rest.get(usize::from(figures)..)?;
+                let (figures, rest) = rest.split_at_checked(size.into())?;
+                pieces.entry(flags, network, length, figures);
+                entries = rest;
             }
         }
         NAME if *body.last()? == 0 => return None,

@@ -29,21 +29,26 @@ use Rattle.image_check.specs.declared.ImageSummary.{ImageSummary}
 use Rattle.image_check.specs.Inner.{nthPool}
 use Rattle.image_records.specs.Records.{Ascending}
 use Rattle.image_records.proofs.SoundLaws.{ascending-prefixes}
+use Rattle.figures.specs.declared.FigureRow.{FigureRow}
+use Rattle.figures.specs.Figures.{followed}
+use Rattle.image_figures.specs.Sheets.{rowSize, sheetOf}
 use Rattle.gap_list.specs.Gaps.{gapsOf}
 use Rattle.gap_list.specs.Columns.{heldIn}
 use Rattle.ask_gaps.specs.Ground.{ahead, Ground}
 use Rattle.ask_gaps.proofs.GroundLaws.{ground, ground-ends, held-few}
 use Rattle.option.specs.Contents.{Request, requestsIn}
-use Rattle.ledger.specs.Ledger.{State, state, Call, call, Result, result, refusal, acceptance, accept, firstOf, refusalPlace, nothing?, holdTime, offers, addAll, askOffers, informationFor, grantRows, askRows, ask}
+use Rattle.ledger.specs.Ledger.{State, left, Call, call, Result, result, refusal, acceptance, accept, firstOf, refusalPlace, nothing?, holdTime, offers, addAll, askOffers, informationFor, grantRows, askRows, ask}
 use Rattle.ledger.proofs.OfferLaws as offer-laws
 use Rattle.ledger.proofs.RowLaws.{nothing-none, nothing-some}
 use Rattle.ledger.proofs.ReadLaws.{requests-short}
 use Rattle.ledger.proofs.ReplyLaws.{ask-bytes}
 use Rattle.ask_serve.specs.Granting.{grantedIn, Serving, Granted}
+use Rattle.ask_insert.specs.Growing.{Standing, Fresh, Grown}
 use Rattle.ask_insert.proofs.AddLaws.{with-length}
 use Rattle.call_spec.specs.ImageCalls.{Lent, lent, tableIn, stateIn, askImage}
 use Rattle.call_spec.proofs.StoreLaws.{row-refuses}
-use Rattle.call_rows.specs.Admission.{leasesFrom, Admitted, left}
+use Rattle.call_rows.specs.Admission.{leasesFrom, Admitted}
+use Rattle.call_rows.specs.Admission.{left as leftIn}
 use Rattle.call_rows.proofs.RowLaws.{accepts}
 use Rattle.call_rows.proofs.FinishLaws.{left-in-place}
 use Rattle.ask_commit.specs.Asking.{Ready, Asking}
@@ -83,7 +88,7 @@ here h now = present now (tableIn h .leases)
 module _ (h : Lent) (now client : ℕ) (reply : List ℕ) (summary : ImageSummary) (askLengths askH : List ℕ) (a : Ready h now client reply summary askLengths askH) where
   -- THE IMAGE: how many leases are present, and where pools and leases stand.
 
-  o : Admitted h now client summary
+  o : Admitted true h now client summary
   o = a .admitted
 
   present-is : length (here h now) ≡ length (present now (usedLeases (tableIn h)))
@@ -109,11 +114,30 @@ module _ (h : Lent) (now client : ℕ) (reply : List ℕ) (summary : ImageSummar
   unfolding o
   pools-end k lt = ground-ends (tableIn h) (o .sound) (h .image) (h .bytes) (o .image) k (omega (arith, o .pools))
 
-  -- What is granted to empty slots fits the buffer.
+  -- What is granted to empty slots fits the buffer and the sheet.
   pub fits : (n : ℕ) → n ≤ leaseSlots - (summary .leases - summary .expired) → summary .leases - summary .expired < leaseSlots
-      → leasesFrom summary + leaseSize * (summary .leases - summary .expired + n) ≤ length (h .image)
+      → (leasesFrom summary + leaseSize * (summary .leases - summary .expired + n) ≤ length (h .image)) × (rowSize * (summary .leases - summary .expired + n) ≤ length (h .figures))
   unfolding o
-  fits n few space = omega (arith, o .few-pools, o .room)
+  fits n few space = (omega (arith, o .few-pools, o .room), omega (arith, o .sheet-in refl .size))
+
+  pub rows-fit : rowSize * summary .leases ≤ length (h .figures)
+  unfolding o
+  rows-fit = omega (arith, o .few-leases, o .sheet-in refl .size)
+
+  -- What the leases are put among.
+  pub standing : Standing (h .image) (h .figures) (leasesFrom summary) (summary .leases) (summary .expired) now (tableIn h) (stateIn h .rows)
+  unfolding o
+  standing =
+      let sheet = o .sheet-in refl in
+      record {
+        sound = o .sound;
+        matched = sheet .matched;
+        whole = sheet .whole;
+        records = o .records;
+        leases = o .leases;
+        none-expired = o .none-expired;
+        present-many = present-many ∙ ap length (o .present-used);
+      }
 
   -- The gaps that requests are served on.
   module _ (starts lasts : List ℕ) (g : ℕ)
@@ -139,7 +163,7 @@ module _ (h : Lent) (now client : ℕ) (reply : List ℕ) (summary : ImageSummar
     asked = askOffers (tableIn h) now client option
 
     abbrev outcome : Result State
-    outcome = accept (state (store (tableIn h) now (addAll asked (here h now)))) (optionBytes (map informationFor (catMaybes asked))) (length (catMaybes asked)) reply
+    outcome = accept (left (stateIn h) now (addAll asked (here h now))) (optionBytes (map informationFor (catMaybes asked))) (length (catMaybes asked)) reply
 
     own-row : (n : ℕ) → (n ≡ 0 → ⊥) → refusalPlace option n ≡ 0 → firstOf (grantRows (stateIn h) now c) ≡ some n → result (refusal n 0) h reply ≡ askImage h now c
     unfolding ask
@@ -196,11 +220,14 @@ module _ (h : Lent) (now client : ℕ) (reply : List ℕ) (summary : ImageSummar
       after-many : length (addAll asked (here h now)) ≡ summary .leases - summary .expired + n
       after-many = omega (arith, ap length (addAll-catMaybes asked (here h now)), with-length (catMaybes asked) (here h now), granted .count, present-many)
 
-      pub ask-ascends : Ascending (addAll (map some gs) (present now (usedLeases (tableIn h))))
-      ask-ascends = subst Ascending (sym after-is) (ascending-prefixes 0 (addAll asked (here h now)) (after .fine .1))
+      pub ask-fresh : Fresh (tableIn h) now gs
+      ask-fresh = record {
+        ascends = subst Ascending (sym after-is) (ascending-prefixes 0 (addAll asked (here h now)) (after .fine .1));
+        fits = omega (arith, ap length after-is, after .fit);
+      }
 
-      module _ (some-granted : n ≡ 0 → ⊥) (upTo : n ≤ length askLengths) (image offers : List ℕ)
-          (e : image ≡ left (h .image) (leasesFrom summary) (summary .leases) (addAll (map some gs) (present now (usedLeases (tableIn h)))) now)
+      module _ (some-granted : n ≡ 0 → ⊥) (upTo : n ≤ length askLengths) (image sheet offers : List ℕ)
+          (g : Grown (h .image) (leasesFrom summary) (summary .leases) now (tableIn h) (stateIn h .rows) gs image sheet)
           (f : offers ≡ put reply 0 (optionBytes (map informationFor gs))) where
         written : List ℕ
         written = optionBytes (map informationFor (catMaybes asked))
@@ -217,15 +244,19 @@ module _ (h : Lent) (now client : ℕ) (reply : List ℕ) (summary : ImageSummar
             ∙ put-fits written reply 0 (omega (arith, written-many, a .room, a .few))
             ∙ ap (λ (k : ℕ). written ++ drop k reply) (zero-add (length written))
 
-        pub ask-granted : (bytes : ℕ) → bytes ≡ leasesFrom summary + leaseSize * (summary .leases - summary .expired + n) → result (acceptance (3 + 10 * n) n) (lent image bytes) offers ≡ askImage h now c
-        unfolding written ask
+        pub ask-granted : (bytes : ℕ) → bytes ≡ leasesFrom summary + leaseSize * (summary .leases - summary .expired + n)
+            → result (acceptance (3 + 10 * n) n) (lent image bytes sheet) offers ≡ askImage h now c
+        unfolding written ask left
         ask-granted bytes ends =
             let some-lease : nothing? (catMaybes asked) ≡ false = nothing-some (catMaybes asked) (λ z. some-granted (granted .count ∙ z)) in
             let full-slots : All (λ x. empty? x ≡ false) (addAll asked (here h now)) =
             all-map (λ x l. long-not-empty x (omega arith)) (addAll asked (here h now)) (fine-long (poolsOf (tableIn h)) now 0 (addAll asked (here h now)) (after .fine)) in
+            let rows-after : List Lease → List FigureRow = λ zs. followed now (tableIn h) (stateIn h .rows) (store (tableIn h) now zs) in
             let place =
-            left-in-place h now client summary (a .admitted) (addAll asked (here h now)) (after .fit) full-slots image
-            (e ∙ ap (λ (zs : List Lease). left (h .image) (leasesFrom summary) (summary .leases) zs now) after-is) in
-            ap₂ (λ (m : ℕ) (w : List ℕ). result (acceptance m n) (lent image bytes) w) (sym written-many) reply-is
-            ∙ ap₂ (λ (m b : ℕ). result (acceptance (length written) m) (lent image b) (written ++ drop (length written) reply)) (granted .count) (ends ∙ ap (λ (m : ℕ). leasesFrom summary + leaseSize * m) (sym after-many))
-            ∙ accepts h (askRows (stateIn h) now c) (refusalPlace option) reply outcome (k .left-rows ∙ rw some-lease) outcome refl refl (lent image (leasesFrom summary + leaseSize * length (addAll asked (here h now)))) place
+            left-in-place true h now client summary (a .admitted) (addAll asked (here h now)) (after .fit) full-slots image
+            (g .after-is ∙ ap (λ (zs : List Lease). leftIn (h .image) (leasesFrom summary) (summary .leases) zs now) after-is)
+            (rows-after (addAll asked (here h now))) sheet (g .sheet-is ∙ ap (λ (zs : List Lease). sheetOf (rows-after zs)) after-is) in
+            ap₂ (λ (m : ℕ) (w : List ℕ). result (acceptance m n) (lent image bytes sheet) w) (sym written-many) reply-is
+            ∙ ap₂ (λ (m b : ℕ). result (acceptance (length written) m) (lent image b sheet) (written ++ drop (length written) reply)) (granted .count) (ends ∙ ap (λ (m : ℕ). leasesFrom summary + leaseSize * m) (sym after-many))
+            ∙ accepts h (askRows (stateIn h) now c) (refusalPlace option) reply outcome (k .left-rows ∙ rw some-lease) outcome refl refl
+            (lent image (leasesFrom summary + leaseSize * length (addAll asked (here h now))) sheet) place

@@ -1,6 +1,7 @@
 -- What is known where an ask has passed every row before 9.
 use Prim.Native.Nat.{ℕ, _≤_}
 use mathlib.Core.Path.{_≡_}
+use mathlib.Core.Bool.{true}
 use mathlib.Core.List.{List, map}
 use lib.ListN.{length}
 use Rattle.option.specs.Values.{mostRequests}
@@ -11,9 +12,9 @@ use Rattle.option_scan.specs.Scanned.{flagOf}
 use Rattle.call_spec.specs.ImageCalls.{Lent, stateIn}
 use Rattle.call_rows.specs.Admission.{Admitted}
 
--- The call is admitted, the reply has room for every offer, and two columns have as many requests.
+-- The call is admitted, with its figures sheet, the reply has room for every offer, and two columns have as many requests.
 pub record Ready (h : Lent) (now client : ℕ) (reply : List ℕ) (summary : ImageSummary) (askLengths askH : List ℕ) : Type 0 where
-  pub admitted : Admitted h now client summary
+  pub admitted : Admitted true h now client summary
   pub room : leastReply ≤ length reply
   pub few : length askLengths ≤ mostRequests
   pub same : length askH ≡ length askLengths

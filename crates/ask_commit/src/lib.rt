@@ -1,4 +1,5 @@
-// The end of ask as a call on an image: its requests are served on the gaps of the image, and what is granted becomes records.
+// The end of ask as a call on an image: its requests are served on the gaps of the image, and what is granted becomes records
+// and rows of the figures sheet.
 use ask_serve::Start;
 use image_check::ImageSummary;
 use ledger::Answer;
@@ -61,22 +62,29 @@ fn put_offers(reply: &mut [u8], networks: &[u32], lengths: &[u8], flags: &[u8], 
 
 // THE CALL
 
+// Who asks, and when.
+pub struct Asker {
+    pub client: u32,
+    pub time: u32,
+}
+
 // Rows 9 and 10, and what is granted, once every row before them has passed. Nothing is written before a request is granted.
 // The columns have the length and h of each request.
 pub fn grant(
     image: &mut [u8],
     image_bytes: &mut usize,
-    client: u32,
-    time: u32,
+    figures: &mut [u8],
+    asker: Asker,
     reply: &mut [u8],
     summary: ImageSummary,
     ask_lengths: &[u8],
     ask_h: &[u8],
 ) -> Answer
-    requires { ⌜ Ready (lent (now image) (now «image_bytes»)) time client (now reply) summary (now «ask_lengths») (now «ask_h») ⌝ }
-    ensures { λ r. ⌜ ((option : List ℕ) → Asking (lent (now (image .entry)) (now («image_bytes» .entry))) time (call client option (now (reply .entry))) (now («ask_lengths» .entry)) (now («ask_h» .entry))
-        → result r (lent (now (image .exit)) (now («image_bytes» .exit))) (now (reply .exit))
-        ≡ askImage (lent (now (image .entry)) (now («image_bytes» .entry))) time (call client option (now (reply .entry)))) ⌝ }
+    requires { ⌜ Ready (lent (now image) (now «image_bytes») (now figures)) (asker .time) (asker .client) (now reply) summary (now «ask_lengths») (now «ask_h») ⌝ }
+    ensures { λ r. ⌜ ((option : List ℕ)
+        → Asking (lent (now (image .entry)) (now («image_bytes» .entry)) (now (figures .entry))) (asker .time) (call (asker .client) option (now (reply .entry))) (now («ask_lengths» .entry)) (now («ask_h» .entry))
+        → result r (lent (now (image .exit)) (now («image_bytes» .exit)) (now (figures .exit))) (now (reply .exit))
+        ≡ askImage (lent (now (image .entry)) (now («image_bytes» .entry)) (now (figures .entry))) (asker .time) (call (asker .client) option (now (reply .entry)))) ⌝ }
 {
     let present = summary.leases - summary.expired;
     if LEASES <= present {
@@ -88,7 +96,7 @@ pub fn grant(
         image,
         summary.pools,
         summary.leases,
-        time,
+        asker.time,
         &mut starts,
         &mut lasts,
     );
@@ -115,9 +123,10 @@ pub fn grant(
     }
     *image_bytes = ask_insert::commit_grants(
         image,
+        figures,
         summary,
-        client,
-        time,
+        asker.client,
+        asker.time,
         &networks[..granted],
         &lengths[..granted],
         &flags[..granted],

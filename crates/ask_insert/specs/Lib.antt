@@ -1,1 +1,3 @@
+pub mod Growing
 pub mod InnerMerging
+pub mod InnerDropping

@@ -15,15 +15,16 @@ use Rattle.lists.proofs.Tests.{bool-cases, and-list-to}
 use Rattle.option.specs.Values.{mostRequests, SuboptionValue}
 use Rattle.option.specs.Reading.{readOption}
 use Rattle.option.specs.Contents.{Request, suboptions, requests, requestsIn}
-use Rattle.ledger.specs.Ledger.{State, state, Call, Result, result, refusal, accept, forAsk, addAll, askOffers, informationFor, grantRows, askRows, ask}
+use Rattle.ledger.specs.Ledger.{State, left, Call, Result, result, refusal, accept, refusalPlace, forAsk, addAll, askOffers, informationFor, grantRows, askRows, ask}
 use Rattle.option.specs.Writing.{optionBytes}
-use Rattle.table.specs.Table.{present, store}
+use Rattle.table.specs.Table.{present}
 use Rattle.option_scan.specs.declared.Contents.{Contents}
 use Rattle.option_scan.specs.Scanned.{Long, ScannedOf}
 use Rattle.call_spec.specs.ImageCalls.{Lent, tableIn, stateIn, askImage}
 use Rattle.call_rows.specs.declared.Admission.{Admission}
 use Rattle.call_rows.specs.Admission.{Admits}
-use Rattle.call_rows.proofs.RowLaws.{ReadCall, scan-of, admitted-room, refused-admission, refused-option, refused-8, own-left}
+use Rattle.call_spec.proofs.StoreLaws.{row-refuses}
+use Rattle.call_rows.proofs.RowLaws.{ReadCall, RefusedBy, rowsWith8, scan-of, admitted-room, refused-admission, refused-option, refused-8, own-left}
 use Rattle.ask_commit.specs.Asking.{Ready, Asking}
 
 -- No request has i exactly where none of them is counted.
@@ -50,21 +51,23 @@ wanted subs = forAsk (requests subs)
 abbrev accepted : Lent → ℕ → Call → Result State
 accepted h now c =
     let os = askOffers (tableIn h) now (c .client) (c .option) in
-    accept (state (store (tableIn h) now (addAll os (present now (tableIn h .leases))))) (optionBytes (map informationFor (catMaybes os))) (length (catMaybes os)) (c .reply)
+    accept (left (stateIn h) now (addAll os (present now (tableIn h .leases)))) (optionBytes (map informationFor (catMaybes os))) (length (catMaybes os)) (c .reply)
 
 module _ (h : Lent) (now : ℕ) (c : Call) where
-  pub ask-refused : (a : Admission) → Admits (length (c .reply)) h now (c .client) a → (a .number ≡ 0 → ⊥) → result (refusal (a .number) 0) h (c .reply) ≡ askImage h now c
+  by-row : RefusedBy (rowsWith8 true (length (c .reply)) h now c wanted (grantRows (stateIn h) now c)) h c (askImage h now c)
   unfolding ask askRows
-  ask-refused = refused-admission (length (c .reply)) h now c wanted (grantRows (stateIn h) now c) (accepted h now c)
+  by-row = row-refuses h (askRows (stateIn h) now c) (refusalPlace (c .option)) (c .reply) (accepted h now c)
 
-  module _ (s : ReadCall (length (c .reply)) h now c) where
+  pub ask-refused : (a : Admission) → Admits true (length (c .reply)) h now (c .client) a → (a .number ≡ 0 → ⊥) → result (refusal (a .number) 0) h (c .reply) ≡ askImage h now c
+  ask-refused = refused-admission true (length (c .reply)) h now c wanted (grantRows (stateIn h) now c) (askImage h now c) by-row
+
+  module _ (s : ReadCall true (length (c .reply)) h now c) where
     pub ask-unread : (s .answer .number ≡ 0 → ⊥) → result (s .answer) h (c .reply) ≡ askImage h now c
-    unfolding ask askRows
-    ask-unread = refused-option (length (c .reply)) h now c wanted (grantRows (stateIn h) now c) (accepted h now c) s
+    ask-unread = refused-option true (length (c .reply)) h now c wanted (grantRows (stateIn h) now c) (askImage h now c) by-row s
 
     module _ (good : s .answer .number ≡ 0) (b : Bool) (is : b ≡ asks? (s .contents)) where
       holding : ScannedOf (s .contents) (s .columns) (suboptions (readOption (c .option)))
-      holding = scan-of (length (c .reply)) h now c s good
+      holding = scan-of true (length (c .reply)) h now c s good
 
       asks-are : b ≡ forAsk (requestsIn (c .option))
       asks-are =
@@ -74,8 +77,7 @@ module _ (h : Lent) (now : ℕ) (c : Call) where
           ∙ ap (λ (t : Bool). and (leb 1 (length rs) ∷ leb (length rs) mostRequests ∷ t ∷ [])) (sym (none-listing rs))
 
       pub ask-wrong : b ≡ false → result (refusal 8 0) h (c .reply) ≡ askImage h now c
-      unfolding ask askRows
-      ask-wrong w = refused-8 (length (c .reply)) h now c wanted (grantRows (stateIn h) now c) (accepted h now c) s good (sym asks-are ∙ w)
+      ask-wrong w = refused-8 true (length (c .reply)) h now c wanted (grantRows (stateIn h) now c) (askImage h now c) by-row s good (sym asks-are ∙ w)
 
       module _ (w : b ≡ true) where
         ask-few : s .contents .requests ≤ mostRequests
@@ -88,15 +90,15 @@ module _ (h : Lent) (now : ℕ) (c : Call) where
             let many = length-take-le (s .contents .requests) (s .columns .askLengths) (omega (arith, ask-few, long .askLengths)) in
             record {
               admitted = s .admits .admitted (s .admitted);
-              room = admitted-room (length (c .reply)) h now (c .client) (s .admission) (s .admits) [] (s .admitted);
+              room = admitted-room true (length (c .reply)) h now (c .client) (s .admission) (s .admits) [] (s .admitted);
               few = omega (arith, many, ask-few);
               same = length-take-le (s .contents .requests) (s .columns .askH) (omega (arith, ask-few, long .askH)) ∙ sym many;
             }
 
         pub ask-asking : Asking h now c (take (s .contents .requests) (s .columns .askLengths)) (take (s .contents .requests) (s .columns .askH))
-        unfolding ask askRows
+        unfolding askRows
         ask-asking = record {
-          left-rows = own-left (length (c .reply)) h now c wanted (grantRows (stateIn h) now c) (accepted h now c) s good (sym asks-are ∙ w);
+          left-rows = own-left true (length (c .reply)) h now c wanted (grantRows (stateIn h) now c) (askImage h now c) by-row s good (sym asks-are ∙ w);
           lengths = holding .askLengths ask-few;
           flags = holding .askH ask-few;
         }

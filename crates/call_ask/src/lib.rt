@@ -1,4 +1,5 @@
 // Ask as a call on an image, in place.
+use ask_commit::Asker;
 use ledger::Answer;
 use option_scan::MOST_ENTRIES;
 use option_scan::MOST_REQUESTS;
@@ -26,16 +27,17 @@ fn for_ask(requests: usize, listing: usize) -> bool
 pub fn ask(
     image: &mut [u8],
     image_bytes: &mut usize,
+    figures: &mut [u8],
     client: u32,
     time: u32,
     option: &[u8],
     reply: &mut [u8],
 ) -> Answer
-    ensures { λ r. ⌜ result r (lent (now (image .exit)) (now («image_bytes» .exit))) (now (reply .exit))
-        ≡ askImage (lent (now (image .entry)) (now («image_bytes» .entry))) time (call client (now (option .entry)) (now (reply .entry))) ⌝ }
+    ensures { λ r. ⌜ result r (lent (now (image .exit)) (now («image_bytes» .exit)) (now (figures .exit))) (now (reply .exit))
+        ≡ askImage (lent (now (image .entry)) (now («image_bytes» .entry)) (now (figures .entry))) time (call client (now (option .entry)) (now (reply .entry))) ⌝ }
 {
     let bytes = *image_bytes;
-    let admission = call_rows::admit(image, bytes, reply.len(), client, time);
+    let admission = call_rows::admit(image, bytes, figures, true, reply.len(), client, time);
     if admission.number != 0 {
         return call_spec::refused(admission.number, 0);
     }
@@ -63,8 +65,8 @@ pub fn ask(
     ask_commit::grant(
         image,
         image_bytes,
-        client,
-        time,
+        figures,
+        Asker { client, time },
         reply,
         summary,
         &ask_lengths[..n],

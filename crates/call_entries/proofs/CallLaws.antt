@@ -2,7 +2,8 @@
 -- Assumes nothing.
 use Prim.Native.Nat.{ℕ}
 use native.Mathlib.Omega.{arith}
-use mathlib.Core.Path.{_≡_, sym, ap, _∙_}
+use mathlib.Core.Path.{_≡_, refl, sym, ap, _∙_}
+use mathlib.Core.Bool.{true}
 use mathlib.Core.List.{List, _++_, map}
 use lib.ListN.{length, take, length-map}
 use Rattle.option.specs.Values.{Entry}
@@ -13,7 +14,9 @@ use Rattle.image.specs.Image.{usedLeases}
 use Rattle.image_check.specs.declared.ImageSummary.{ImageSummary}
 use Rattle.image_records.specs.Records.{Records}
 use Rattle.ledger.specs.declared.Answer.{Answer}
-use Rattle.ledger.specs.Ledger.{State, Call, Result, result, Row, firstOf, byRows, refusalPlace}
+use Rattle.figures.specs.declared.FigureRow.{FigureRow}
+use Rattle.image_figures.specs.Sheets.{sheetOf}
+use Rattle.ledger.specs.Ledger.{State, state, Call, Result, result, Row, firstOf, byRows, refusalPlace}
 use Rattle.ledger.proofs.RowLaws.{first-before}
 use Rattle.call_spec.specs.ImageCalls.{Lent, lent, tableIn, stateIn, storedIn, settled}
 use Rattle.call_spec.proofs.StoreLaws.{row-refuses}
@@ -32,7 +35,7 @@ use Rattle.call_entries.proofs.EntriesLaws.{changed-holds}
 -- The call is admitted, and its entries are read.
 pub record EntriesCall (room : ℕ) (h : Lent) (now : ℕ) (c : Call) : Type 0 where
   pub admission : Admission
-  pub admits : Admits room h now (c .client) admission
+  pub admits : Admits true room h now (c .client) admission
   pub admitted : admission .number ≡ 0
   pub read : EntriesRead
   pub networks : List ℕ
@@ -41,10 +44,10 @@ pub record EntriesCall (room : ℕ) (h : Lent) (now : ℕ) (c : Call) : Type 0 w
 
 module _ (room : ℕ) (h : Lent) (now : ℕ) (c : Call) (own : List Row) (s : EntriesCall room h now c) where
   abbrev rows : List Row
-  rows = admissionRows room h now (c .client) ++ (entryRows (c .option) ++ own)
+  rows = admissionRows true room h now (c .client) ++ (entryRows (c .option) ++ own)
 
   from-6 : firstOf rows ≡ firstOf (entryRows (c .option) ++ own)
-  from-6 = admitted-rows room h now (c .client) (s .admission) (s .admits) (entryRows (c .option) ++ own) (s .admitted)
+  from-6 = admitted-rows true room h now (c .client) (s .admission) (s .admits) (entryRows (c .option) ++ own) (s .admitted)
 
   -- Rows 6, 7 and 8.
   pub refused-entries : (accepted : Result State) → (s .read .answer .number ≡ 0 → ⊥)
@@ -56,7 +59,7 @@ module _ (room : ℕ) (h : Lent) (now : ℕ) (c : Call) (own : List Row) (s : En
 
   module _ (good : s .read .answer .number ≡ 0) where
     pub entries-passed : Passed h now c (firstOf rows) own (s .admission .summary) (take (s .read .count) (s .networks)) (take (s .read .count) (s .lengths))
-    entries-passed = record { admitted = s .admits .admitted (s .admitted); left-rows = from-6 ∙ s .reads .passed good own; hold = s .reads .hold good .0 }
+    entries-passed = record { admitted = s .admits .admitted (s .admitted); left-rows = from-6 ∙ s .reads .passed good own; hold = s .reads .hold good .0; left = s .reads .left good }
 
     pub entries-sized : Sized h (s .admission .summary) (take (s .read .count) (s .networks)) (take (s .read .count) (s .lengths))
     entries-sized =
@@ -67,13 +70,14 @@ module _ (room : ℕ) (h : Lent) (now : ℕ) (c : Call) (own : List Row) (s : En
         record {
           pools = o .few-pools;
           within = omega (arith, o .size, o .within);
+          rows = omega (arith, o .sheet-in refl .size, o .few-leases);
           columns = networks-many ∙ sym lengths-many;
           few = omega (arith, networks-many, hold .1, s .reads .few);
         }
 
 -- LEASES CHANGED IN PLACE: those that the entries name get this end.
 
-module _ (h : Lent) (now : ℕ) (c : Call) (summary : ImageSummary) (o : Admitted h now (c .client) summary) (expires : ℕ) (es : List Entry) (l : List ℕ)
+module _ (h : Lent) (now : ℕ) (c : Call) (summary : ImageSummary) (o : Admitted true h now (c .client) summary) (expires : ℕ) (es : List Entry) (l : List ℕ)
     (is : l ≡ changedIn now (c .client) expires es (h .image) (leasesFrom summary) (usedLeases (tableIn h))) where
   abbrev ys : List Lease
   ys = map (changedBy now (c .client) expires es) (usedLeases (tableIn h))
@@ -84,6 +88,7 @@ module _ (h : Lent) (now : ℕ) (c : Call) (summary : ImageSummary) (o : Admitte
   pub changed-stand : Records l (leasesFrom summary) ys
   changed-stand = changed-holds now (c .client) expires (h .image) (leasesFrom summary) (usedLeases (tableIn h)) (o .records) (omega (arith, o .size, o .within, o .leases)) es l is
 
-  -- Then the expired ones are removed.
-  pub changed-in-place : (after : List ℕ) (n : ℕ) → Finished l (leasesFrom summary) ys now after n → lent after n ≡ storedIn (store (tableIn h) now (present now ys)) (h .bytes) h
-  changed-in-place after n finished = finished-in-place h now (c .client) summary o ys (sym changed-many) l is after n finished
+  -- Then the expired ones are removed, and the sheet is that of these rows.
+  pub changed-in-place : (after : List ℕ) (n : ℕ) → Finished l (leasesFrom summary) ys now after n → (rows : List FigureRow) (sheet : List ℕ) → sheet ≡ sheetOf rows
+      → lent after n sheet ≡ storedIn (state (store (tableIn h) now (present now ys)) rows) (h .bytes) h
+  changed-in-place after n finished = finished-in-place true h now (c .client) summary o ys (sym changed-many) l is after n finished

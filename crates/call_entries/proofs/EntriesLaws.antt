@@ -4,16 +4,18 @@ use Prim.Native.Nat.{ℕ, _+_, _*_, _≤_, _<_}
 use native.Mathlib.Omega.{arith}
 use native.Mathlib.Numerals.{add-one}
 use mathlib.Core.Path.{_≡_, refl, sym, ap, ap₂, subst, _∙_}
-use mathlib.Core.Bool.{Bool, true, false}
+use mathlib.Core.Bool.{Bool, true, false, _&&_}
 use mathlib.Core.List.{List, [], _∷_, _++_, map}
 use lib.ListN.{length, getD, take, length-map, List·getD-map}
 use lib.Seq.{take-suc}
+use lib.Dec.{ltb}
 use Rattle.lists.specs.Lists.{All, filter, concatMap}
 use Rattle.lists.specs.Put.{put}
 use Rattle.lists.proofs.ListLaws.{pairwise-map, pairwise-image}
 use Rattle.lists.proofs.FilterLaws.{filter-none}
 use Rattle.option.specs.Values.{Entry}
 use Rattle.table.specs.declared.Lease.{Lease}
+use Rattle.ledger.specs.Ledger.{namedBy?}
 use Rattle.image.specs.Image.{leaseSize, leaseRecord}
 use Rattle.image_records.specs.Records.{Records, Ascending}
 use Rattle.image_records.proofs.PutForms.{put-over}
@@ -54,18 +56,33 @@ next-entry es k h = rw (add-one k) (take-suc es k noEntry h)
 -- LEASES CHANGED BY ENTRIES
 
 module _ (now client expires : ℕ) where
-  changed-network : (es : List Entry) (x : Lease) → changedBy now client expires es x .network ≡ x .network
-  changed-network es x = go (namedByPresent? now client es x)
+  -- It keeps its prefix and its client, and an ended one is not changed.
+  pub changed-prefix : (es : List Entry) (x : Lease) → (changedBy now client expires es x .network ≡ x .network) × (changedBy now client expires es x .length ≡ x .length)
+  changed-prefix es x = go (namedByPresent? now client es x)
     where
-      go : (b : Bool) → changedIf (λ y. b) expires x .network ≡ x .network
+      go : (b : Bool) → (changedIf (λ y. b) expires x .network ≡ x .network) × (changedIf (λ y. b) expires x .length ≡ x .length)
+      go true = (refl, refl)
+      go false = (refl, refl)
+
+  pub changed-client : (es : List Entry) (x : Lease) → changedBy now client expires es x .client ≡ x .client
+  changed-client es x = go (namedByPresent? now client es x)
+    where
+      go : (b : Bool) → changedIf (λ y. b) expires x .client ≡ x .client
       go true = refl
       go false = refl
+
+  pub changed-fewer : (es : List Entry) (x : Lease) → ltb now (changedBy now client expires es x .expires) ≡ true → ltb now (x .expires) ≡ true
+  changed-fewer es x = go (ltb now (x .expires)) (namedBy? client es x) refl
+    where
+      go : (p q : Bool) → ltb now (x .expires) ≡ p → ltb now (changedIf (λ y. p && q) expires x .expires) ≡ true → p ≡ true
+      go true q e k = refl
+      go false q e k = sym e ∙ k
 
   pub changed-ascend : (es : List Entry) (xs : List Lease) → Ascending xs → Ascending (map (changedBy now client expires es) xs)
   unfolding Ascending
   changed-ascend es xs a =
       pairwise-image (changedBy now client expires es) (λ x y. x .network < y .network) xs
-      (pairwise-map (λ x y (h : x .network < y .network). omega (arith, changed-network es x, changed-network es y)) xs a)
+      (pairwise-map (λ x y (h : x .network < y .network). omega (arith, changed-prefix es x .0, changed-prefix es y .0)) xs a)
 
   module _ (l : List ℕ) (from : ℕ) (xs : List Lease) (held : Records l from xs) where
     pub changed-by-none : l ≡ changedIn now client expires [] l from xs

@@ -112,6 +112,12 @@ module _ (now client expires : ℕ) (passed : expires ≤ now) (es : List Entry)
 -- WHAT TAKE MAKES OF THEM, where the time that the lease gets has not passed.
 
 module _ (now client expires : ℕ) (later : now < expires) (es : List Entry) where
+  -- An entry names what it named before.
+  pub named-same : (e : Entry) (x : Lease) → named? now client (e .network) (e .length) (changedBy now client expires es x) ≡ named? now client (e .network) (e .length) x
+  named-same e x =
+      keeps-of expires x (named? now client (e .network) (e .length)) (present? now x) (namedBy? client es x)
+      (λ (t : present? now x ≡ true). ap (λ (b : Bool). b && names? client x e) (lt-ltb now expires later ∙ sym t))
+
   still : (x : Lease) → present? now (changedBy now client expires es x) ≡ present? now x
   still x = keeps-of expires x (present? now) (present? now x) (namedBy? client es x) (λ e. lt-ltb now expires later ∙ sym e)
 
@@ -135,10 +141,7 @@ module _ (now client expires : ℕ) (later : now < expires) (es : List Entry) wh
         let g : Lease → Bool = named? now client (e .network) (e .length) in
         let f : Lease → Lease = changedBy now client expires es in
         ap (map entryOf)
-        (filter-map g f f
-        (λ x. keeps-of expires x g (present? now x) (namedBy? client es x) (λ (t : present? now x ≡ true). ap (λ (b : Bool). b && names? client x e) (lt-ltb now expires later ∙ sym t)))
-        (λ x t. refl)
-        xs)
+        (filter-map g f f (named-same e) (λ x t. refl) xs)
         ∙ map-map f entryOf (filter g xs)
         ∙ map-same (λ x. entryOf (f x)) entryOf (λ x. same-entry x (namedByPresent? now client es x)) (filter g xs)
       where

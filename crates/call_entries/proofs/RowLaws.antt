@@ -2,22 +2,26 @@
 -- Assumes nothing.
 use Prim.Native.Nat.{ℕ}
 use native.Mathlib.Omega.{arith}
-use mathlib.Core.Path.{_≡_, refl, sym, ap, _∙_}
-use mathlib.Core.Bool.{Bool, true, false, not}
+use mathlib.Core.Path.{_≡_, refl, sym, ap, subst, _∙_}
+use mathlib.Core.Bool.{Bool, true, false, not, cond}
 use mathlib.Core.List.{List, [], _∷_}
 use mathlib.Core.Option.{none, some}
 use Rattle.lists.proofs.Tests.{cond-true, cond-false, not-of, not-to}
-use Rattle.option.specs.Values.{SuboptionValue}
-use Rattle.option.specs.Reading.{readOption}
-use Rattle.option.specs.Contents.{suboptions, requests, entries}
+use Rattle.option.specs.Values.{SuboptionValue, Outcome, refused, accepted}
+use Rattle.option.specs.Reading.{End, whole, badAt, option?, ended, readSuboptions, readOption}
+use Rattle.option.specs.Contents.{suboptions, requests, entries, entriesIn}
+use Rattle.option.proofs.SuboptionLaws.{option-long}
 use Rattle.ledger.specs.declared.Answer.{Answer}
 use Rattle.ledger.specs.Ledger.{Call, call, firstOf, refusal, refusalPlace, optionRows, forTake}
 use Rattle.ledger.proofs.RowLaws.{first-after, nothing-none, nothing-some}
+use Rattle.ledger.proofs.CommonRows.{option-passed}
 use Rattle.ledger.specs.Answers.{checkedAnswer}
 use Rattle.option_scan.specs.declared.Contents.{Contents}
 use Rattle.option_scan.specs.Scanned.{Columns, ScannedOf, Reads}
 use Rattle.call_rows.proofs.RowLaws.{option-refuses, option-none, scanned}
+use Rattle.call_entries.specs.EntryFigures.{firstEntries, LeftAt}
 use Rattle.call_entries.specs.EntryRows.{entryRows, ReadsEntries}
+use Rattle.call_entries.proofs.FiguresLaws.{left-first}
 
 -- ROW 8
 module _ (m : Contents) (c : Columns) (subs : List SuboptionValue) (h : ScannedOf m c subs) where
@@ -33,6 +37,12 @@ module _ (m : Contents) (c : Columns) (subs : List SuboptionValue) (h : ScannedO
 
 -- WHAT IS READ
 
+-- An option that is accepted is one, and its suboptions are read to the end.
+good-option : (b : Bool) (subs : List SuboptionValue) (e : End) (others : List SuboptionValue) → cond b (ended subs e) (refused 6 0) ≡ accepted others → (b ≡ true) × (e ≡ whole)
+good-option true subs whole others k = (refl, refl)
+good-option true subs (badAt p) others k = let z : _≡_ {A = ℕ} 0 1 = cc in absurd (omega arith)
+good-option false subs e others k = let z : _≡_ {A = ℕ} 0 1 = cc in absurd (omega arith)
+
 module _ (option : List ℕ) (m : Contents) (c : Columns) (reads : Reads option m c) (a : Answer) (g : a ≡ checkedAnswer (m .checked)) where
   abbrev by : Call
   by = call 0 option []
@@ -46,6 +56,7 @@ module _ (option : List ℕ) (m : Contents) (c : Columns) (reads : Reads option 
     refused = option-refuses by m c reads a g ((8, not right) ∷ []);
     passed = λ z. absurd (k z);
     few = omega arith;
+    left = λ z. absurd (k z);
     hold = λ z. absurd (k z);
   }
 
@@ -56,6 +67,15 @@ module _ (option : List ℕ) (m : Contents) (c : Columns) (reads : Reads option 
     holding : ScannedOf m c (suboptions (readOption option))
     holding = scanned by m c reads a g good
 
+    -- The figures are left to read.
+    figures-left : LeftAt option firstEntries (entriesIn option)
+    unfolding readOption
+    figures-left =
+        let read : readOption option ≡ accepted (readSuboptions option 3 .0) = option-passed by none-of-two in
+        let good = good-option (option? option) (readSuboptions option 3 .0) (readSuboptions option 3 .1) (readSuboptions option 3 .0) read in
+        subst (LeftAt option firstEntries) (ap (λ (o : Outcome). entries (suboptions o)) (sym read))
+        (left-first option (readSuboptions option 3 .0) (omega (arith, option-long option (good .0))) (ap (λ (e : End). (readSuboptions option 3 .0, e)) (good .1)))
+
     eighth : (x : Answer) → x ≡ refusal 8 0 → right ≡ false → ReadsEntries option (record { answer = x; count = 0 }) (c .networks) (c .lengths)
     eighth x e wrong =
         let number : x .number ≡ 8 = ap (λ (y : Answer). y .number) e in
@@ -65,6 +85,7 @@ module _ (option : List ℕ) (m : Contents) (c : Columns) (reads : Reads option 
           refused = λ _. (eight ∙ ap some (sym number), e ∙ ap (λ (n : ℕ). refusal n (refusalPlace option n)) (sym number));
           passed = λ z. absurd (omega (arith, number, z));
           few = omega arith;
+          left = λ z. absurd (omega (arith, number, z));
           hold = λ z. absurd (omega (arith, number, z));
         }
 
@@ -82,5 +103,6 @@ module _ (option : List ℕ) (m : Contents) (c : Columns) (reads : Reads option 
             first-after (optionRows by) ((8, not right) ∷ rest) none-of-two
             ∙ cond-false (not right) (some 8) (firstOf rest) (not-to right (names-something m c (suboptions (readOption option)) holding none-asked k));
         few = holding .few;
+        left = λ _. figures-left;
         hold = λ _. ((holding .networks, holding .lengths), holding .entries);
       }

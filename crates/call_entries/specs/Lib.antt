@@ -1,3 +1,4 @@
 pub mod EntryLeases
+pub mod EntryFigures
 pub mod EntryRows
 pub mod EntryCalls

@@ -3,16 +3,27 @@ use image::EXPIRES;
 use image::LEASE;
 use image::STATE;
 use ledger::Answer;
+use option::EntryCursor;
+use option::EntryStep;
+use option::Figures;
+use option_entry::HighWater;
+use option_entry::InUse;
+use option_entry::Unusable;
+use option_entry::wide;
 ghost use mathlib.Core.Path.{_≡_};
-ghost use mathlib.Core.List.{List};
-ghost use Prim.Native.Nat.{_+_, _*_, _≤_};
+ghost use mathlib.Core.List.{List, _∷_};
+ghost use Prim.Native.Nat.{_+_, _*_, _≤_, _<_};
 ghost use lib.ListN.{length as count};
 ghost use Rattle.table.specs.declared.Lease.{Lease};
 ghost use Rattle.image.specs.Image.{leaseSize};
-ghost use Rattle.option.specs.Values.{mostEntries};
+ghost use Rattle.option.specs.Values.{mostEntries, Entry, SuboptionValue};
+ghost use Rattle.option.specs.Reading.{whole, readSuboptions};
+ghost use Rattle.option.specs.Contents.{entries};
+ghost use Rattle.option.specs.Answers.{figuresOf};
 ghost use Rattle.image_records.specs.Records.{Records, Ascending};
 ghost use Rattle.call_entries.specs.EntryLeases.{named?, FoundAt, ExpirySet};
 ghost use Rattle.call_entries.specs.EntryRows.{ReadsEntries};
+ghost use Rattle.call_entries.specs.EntryFigures.{firstEntries, LeftAt};
 
 // THE ENTRIES
 
@@ -49,6 +60,84 @@ pub fn read_entries(option: &[u8], networks: &mut [u32], lengths: &mut [u8]) -> 
         };
     }
     EntriesRead { answer, count: n }
+}
+
+// THE FIGURES OF THE ENTRIES, which only a take looks at: read from an option that has passed the rows, entry by entry. The
+// suboption after an information begins where its entries end, so a cursor over these is all that goes from one to the next.
+
+// Of an information, its number.
+const INFORMATION: u8 = 2;
+
+// Where the suboptions begin, before the first entry.
+pub fn first_entries() -> EntryCursor
+    ensures { λ r. ⌜ r ≡ firstEntries ⌝ }
+{
+    EntryCursor { at: 3, end: 3 }
+}
+
+// The entries of the first information from a place on.
+fn information_from(s: &[u8], at: usize) -> EntryCursor
+    ensures { λ r. ⌜ ((later : List SuboptionValue) → at ≤ count (now (s .entry)) → readSuboptions (now (s .entry)) at ≡ (later, whole) → 0 < count (entries later)
+        → LeftAt (now (s .entry)) r (entries later) × (r .at < r .end)) ⌝ }
+{
+    let mut place = at;
+    while place < s.len() {
+        if s.len() < place + 2 {
+            return EntryCursor {
+                at: place,
+                end: place,
+            };
+        }
+        let end = place + 2 + wide(s[place + 1]);
+        if s[place] == INFORMATION {
+            return EntryCursor { at: place + 3, end };
+        }
+        place = end;
+    }
+    EntryCursor {
+        at: place,
+        end: place,
+    }
+}
+
+// Where the next entry stands: in this information or in a later one.
+fn next_entry(s: &[u8], entries: EntryCursor) -> EntryCursor
+    ensures { λ r. ⌜ ((e : Entry) (es : List Entry) → LeftAt (now (s .entry)) entries (e ∷ es) → LeftAt (now (s .entry)) r (e ∷ es) × (r .at < r .end)) ⌝ }
+{
+    if entries.at < entries.end {
+        return entries;
+    }
+    information_from(s, entries.end)
+}
+
+// The figures of an entry, and where the reading goes on.
+pub struct FiguresRead {
+    pub figures: Figures,
+    pub next: EntryCursor,
+}
+
+pub fn read_figures(s: &[u8], entries: EntryCursor) -> FiguresRead
+    ensures { λ r. ⌜ ((e : Entry) (es : List Entry) → LeftAt (now (s .entry)) entries (e ∷ es) → (r .figures ≡ figuresOf (e .figures)) × LeftAt (now (s .entry)) (r .next) es) ⌝ }
+{
+    let here = next_entry(s, entries);
+    match here.step(s) {
+        EntryStep::Entry(e, next) => {
+            let figures = e.figures;
+            FiguresRead { figures, next }
+        }
+        _ => {
+            let figures = Figures {
+                count: 0,
+                high_water: HighWater(0),
+                in_use: InUse(0),
+                unusable: Unusable(0),
+            };
+            FiguresRead {
+                figures,
+                next: here,
+            }
+        }
+    }
 }
 
 // THE LEASE THAT AN ENTRY NAMES

@@ -22,17 +22,16 @@ use Rattle.table.specs.Table.{present}
 use Rattle.image.specs.Image.{usedLeases}
 use Rattle.option.specs.Contents.{Request, requests, requestsIn}
 use Rattle.ledger.specs.Ledger.{State, Call, Result, result, refusal, acceptance, accept, refusalPlace, leastReply, nothing?, forList, listed, listRows, list}
-use Rattle.ledger.specs.Sizes.{Bytes}
 use Rattle.option_reply.specs.Reply.{mostEntries, replyBytes, entryOf}
 use Rattle.option_reply.proofs.ReplyLaws.{entries-none, heads-last, reply-length}
 use Rattle.option_scan.specs.declared.Contents.{Contents}
 use Rattle.option_scan.specs.Scanned.{positionOf}
 use Rattle.image_check.specs.declared.ImageSummary.{ImageSummary}
-use Rattle.call_spec.specs.ImageCalls.{Lent, lent, tableIn, stateIn, listImage}
-use Rattle.call_spec.proofs.TableLaws.{held-length, held-stays}
+use Rattle.call_spec.specs.ImageCalls.{Lent, tableIn, stateIn, listImage}
+use Rattle.call_spec.proofs.StoreLaws.{list-row-refuses, list-no-row}
 use Rattle.call_rows.specs.declared.Admission.{Admission}
 use Rattle.call_rows.specs.Admission.{Admits}
-use Rattle.call_rows.proofs.RowLaws.{ReadCall, scan-of, admitted-room, refused-admission, refused-option, refused-8, own-left, nothing-found, none-left, accepts}
+use Rattle.call_rows.proofs.RowLaws.{ReadCall, RefusedBy, rowsWith8, scan-of, admitted-room, refused-admission, refused-option, refused-8, own-left, nothing-found, none-left}
 use Rattle.call_list.specs.declared.Page.{Page}
 use Rattle.call_list.specs.InnerPage.{shown?, startOf, PageOf}
 use Rattle.call_list.specs.InnerListing.{listedBy, eleven, Listing}
@@ -83,34 +82,32 @@ page-none now client reply (x ∷ xs) e from = absurd (omega arith)
 -- THE CALL, UP TO ROW 8
 
 module _ (h : Lent) (now : ℕ) (c : Call) where
-  abbrev accepted : Result State
-  accepted = outcome (stateIn h) (listedBy h now c) (c .reply)
-
-  pub list-refused : (a : Admission) → Admits (length (c .reply)) h now (c .client) a → (a .number ≡ 0 → ⊥) → result (refusal (a .number) 0) h (c .reply) ≡ listImage h now c
+  by-row : RefusedBy (rowsWith8 false (length (c .reply)) h now c wanted (eleven h now c)) h c (listImage h now c)
   unfolding list listRows
-  list-refused = refused-admission (length (c .reply)) h now c wanted (eleven h now c) accepted
+  by-row = list-row-refuses h (listRows (stateIn h) now c) (refusalPlace (c .option)) (c .reply) (outcome (stateIn h) (listedBy h now c) (c .reply))
 
-  module _ (s : ReadCall (length (c .reply)) h now c) where
+  pub list-refused : (a : Admission) → Admits false (length (c .reply)) h now (c .client) a → (a .number ≡ 0 → ⊥) → result (refusal (a .number) 0) h (c .reply) ≡ listImage h now c
+  list-refused = refused-admission false (length (c .reply)) h now c wanted (eleven h now c) (listImage h now c) by-row
+
+  module _ (s : ReadCall false (length (c .reply)) h now c) where
     pub list-unread : (s .answer .number ≡ 0 → ⊥) → result (s .answer) h (c .reply) ≡ listImage h now c
-    unfolding list listRows
-    list-unread = refused-option (length (c .reply)) h now c wanted (eleven h now c) accepted s
+    list-unread = refused-option false (length (c .reply)) h now c wanted (eleven h now c) (listImage h now c) by-row s
 
     module _ (good : s .answer .number ≡ 0) (b : Bool) (is : b ≡ (not (eqb (s .contents .requests) 0) && eqb (s .contents .listing) (s .contents .requests))) where
       asks-are : b ≡ forList (requestsIn (c .option))
-      asks-are = let holding = scan-of (length (c .reply)) h now c s good in is ∙ rw (holding .requests, holding .listing) (sym (for-list (requestsIn (c .option))))
+      asks-are = let holding = scan-of false (length (c .reply)) h now c s good in is ∙ rw (holding .requests, holding .listing) (sym (for-list (requestsIn (c .option))))
 
       pub list-wrong : b ≡ false → result (refusal 8 0) h (c .reply) ≡ listImage h now c
-      unfolding list listRows
-      list-wrong w = refused-8 (length (c .reply)) h now c wanted (eleven h now c) accepted s good (sym asks-are ∙ w)
+      list-wrong w = refused-8 false (length (c .reply)) h now c wanted (eleven h now c) (listImage h now c) by-row s good (sym asks-are ∙ w)
 
       -- Every row before 11 has passed.
       pub list-passed : b ≡ true → Listing h now c (s .admission .summary) (s .contents)
-      unfolding list listRows
+      unfolding listRows
       list-passed w = record {
         admitted = s .admits .admitted (s .admitted);
-        room = admitted-room (length (c .reply)) h now (c .client) (s .admission) (s .admits) [] (s .admitted);
-        left-rows = own-left (length (c .reply)) h now c wanted (eleven h now c) accepted s good (sym asks-are ∙ w);
-        position-is = scan-of (length (c .reply)) h now c s good .position;
+        room = admitted-room false (length (c .reply)) h now (c .client) (s .admission) (s .admits) [] (s .admitted);
+        left-rows = own-left false (length (c .reply)) h now c wanted (eleven h now c) (listImage h now c) by-row s good (sym asks-are ∙ w);
+        position-is = scan-of false (length (c .reply)) h now c s good .position;
       }
 
 -- ROW 11, AND THE PAGE
@@ -121,6 +118,11 @@ module _ (h : Lent) (now : ℕ) (c : Call) (summary : ImageSummary) (m : Content
       (p : PageOf (filter (shown? now (c .client)) (drop from (usedLeases (tableIn h)))) (c .reply) reply₁ page) where
     gs : List Lease
     gs = listedBy h now c
+
+    -- Whichever row refuses it.
+    by-row-11 : RefusedBy (listRows (stateIn h) now c) h c (listImage h now c)
+    unfolding list
+    by-row-11 = list-row-refuses h (listRows (stateIn h) now c) (refusalPlace (c .option)) (c .reply) (outcome (stateIn h) (listedBy h now c) (c .reply))
 
     shown-are : filter (shown? now (c .client)) (drop from (usedLeases (tableIn h))) ≡ gs
     unfolding gs
@@ -138,18 +140,18 @@ module _ (h : Lent) (now : ℕ) (c : Call) (summary : ImageSummary) (m : Content
 
     -- Row 11: no lease to show, so nothing was written.
     pub list-nothing : page .count ≡ 0 → result (refusal 11 0) h reply₁ ≡ listImage h now c
-    unfolding gs list
+    unfolding gs
     list-nothing k =
         let empty : length (take mostEntries gs) ≡ 0 = sym count-is ∙ k in
         ap (λ (l : List ℕ). result (refusal 11 0) h l) (entries-are ∙ entries-none (take mostEntries gs) (c .reply) empty)
-        ∙ nothing-found h c (listRows (stateIn h) now c) (outcome (stateIn h) gs (c .reply)) gs (listing-is .left-rows) (short-none mostEntries gs (omega arith) empty)
+        ∙ nothing-found h c (listRows (stateIn h) now c) (listImage h now c) by-row-11 gs (listing-is .left-rows) (short-none mostEntries gs (omega arith) empty)
 
-    -- Accepted: the image stays as it is.
-    pub list-found : Bytes (h .image) → (page .count ≡ 0 → ⊥) → (reply₂ : List ℕ) (n : ℕ) → n ≡ 7 * page .count + 6
+    -- Accepted.
+    pub list-found : (page .count ≡ 0 → ⊥) → (reply₂ : List ℕ) (n : ℕ) → n ≡ 7 * page .count + 6
         → reply₂ ≡ put (put reply₁ 0 (optionHead (7 * page .count + 4))) 3 (informationHead (7 * page .count + 1) true (page .more))
         → result (acceptance n (page .count)) h reply₂ ≡ listImage h now c
     unfolding gs list
-    list-found b k reply₂ n size e₂ =
+    list-found k reply₂ n size e₂ =
         let more-is : page .more ≡ ltb mostEntries (length gs) = p .more ∙ ap (λ (xs : List Lease). ltb mostEntries (length xs)) shown-are in
         let whole : reply₂ ≡ put (c .reply) 0 (replyBytes true (ltb mostEntries (length gs)) (take mostEntries gs)) =
         heads-last true (page .more) (take mostEntries gs) (page .count) count-is (c .reply) reply₁ reply₂ entries-are e₂
@@ -160,9 +162,9 @@ module _ (h : Lent) (now : ℕ) (c : Call) (summary : ImageSummary) (m : Content
         ap (λ (l : List ℕ). result (acceptance n (page .count)) (stateIn h) l) whole
         ∙ ap₂ (λ (x y : ℕ). result (acceptance x y) (stateIn h) (put (c .reply) 0 (replyBytes true (ltb mostEntries (length gs)) (take mostEntries gs)))) n-is count-is
         ∙ sym (outcome-is (stateIn h) gs (c .reply) (listing-is .room)) in
-        accepts h (listRows (stateIn h) now c) (refusalPlace (c .option)) (c .reply) (outcome (stateIn h) gs (c .reply))
-        (none-left h c (listRows (stateIn h) now c) (outcome (stateIn h) gs (c .reply)) gs (listing-is .left-rows) (λ w. k (count-is ∙ short-of mostEntries gs w))) left refl left-is h
-        (ap₂ lent (sym (held-stays h (listing-is .admitted .sound) b)) (sym (held-length h (listing-is .admitted .sound) b)))
+        ap (λ (w : Result State). result (w .answer) h (w .reply)) left-is
+        ∙ list-no-row h (listRows (stateIn h) now c) (refusalPlace (c .option)) (c .reply) (outcome (stateIn h) gs (c .reply))
+        (none-left h c (listRows (stateIn h) now c) (listImage h now c) by-row-11 gs (listing-is .left-rows) (λ w. k (count-is ∙ short-of mostEntries gs w)))
 
   -- Row 11 of a table without leases.
   pub list-empty : summary .leases ≡ 0 → result (refusal 11 0) h (c .reply) ≡ listImage h now c

@@ -1,6 +1,7 @@
 -- What is known where a list has passed every row before 11.
 use Prim.Native.Nat.{ℕ, _≤_}
 use mathlib.Core.Path.{_≡_}
+use mathlib.Core.Bool.{false}
 use mathlib.Core.List.{List, [], _∷_}
 use mathlib.Core.Option.{none}
 use lib.ListN.{length}
@@ -22,7 +23,7 @@ abbrev pub eleven : Lent → ℕ → Call → List Row
 eleven h now c = (11, nothing? (listedBy h now c)) ∷ []
 
 pub record Listing (h : Lent) (now : ℕ) (c : Call) (summary : ImageSummary) (pieces : Contents) : Type 0 where
-  pub admitted : Admitted h now (c .client) summary
+  pub admitted : Admitted false h now (c .client) summary
   pub room : leastReply ≤ length (c .reply)
   pub left-rows : firstOf (listRows (stateIn h) now c) ≡ firstOf (eleven h now c)
   pub position-is : positionOf pieces ≡ position none (suboptions (readOption (c .option)))

@@ -7,7 +7,7 @@ use ledger::Answer;
 use option_scan::Contents;
 use table::Lease;
 ghost use mathlib.Core.Path.{_≡_};
-ghost use mathlib.Core.List.{List};
+ghost use mathlib.Core.List.{List, []};
 ghost use mathlib.Core.Bool.{true, not, cond, _&&_};
 ghost use mathlib.Core.Option.{none, some};
 ghost use Prim.Native.Nat.{_+_, _*_, _≤_};
@@ -105,9 +105,9 @@ fn show_listed(
     summary: ImageSummary,
     pieces: Contents,
 ) -> Answer
-    requires { ⌜ Listing (lent (now image) «image_bytes») time (call client (now option) (now reply)) summary pieces ⌝ }
-    ensures { λ r. ⌜ result r (lent (now (image .entry)) «image_bytes») (now (reply .exit))
-        ≡ listImage (lent (now (image .entry)) «image_bytes») time (call client (now (option .entry)) (now (reply .entry))) ⌝ }
+    requires { ⌜ Listing (lent (now image) «image_bytes» []) time (call client (now option) (now reply)) summary pieces ⌝ }
+    ensures { λ r. ⌜ result r (lent (now (image .entry)) «image_bytes» []) (now (reply .exit))
+        ≡ listImage (lent (now (image .entry)) «image_bytes» []) time (call client (now (option .entry)) (now (reply .entry))) ⌝ }
 {
     let n = summary.leases;
     if n == 0 {
@@ -124,7 +124,7 @@ fn show_listed(
     call_spec::accepted(bytes as u32, shown as u32)
 }
 
-// List changes nothing, so the image is only read.
+// List changes nothing, so the image is only read; it has no figures sheet.
 pub fn list(
     image: &[u8],
     image_bytes: usize,
@@ -133,10 +133,18 @@ pub fn list(
     option: &[u8],
     reply: &mut [u8],
 ) -> Answer
-    ensures { λ r. ⌜ result r (lent (now (image .entry)) «image_bytes») (now (reply .exit))
-        ≡ listImage (lent (now (image .entry)) «image_bytes») time (call client (now (option .entry)) (now (reply .entry))) ⌝ }
+    ensures { λ r. ⌜ result r (lent (now (image .entry)) «image_bytes» []) (now (reply .exit))
+        ≡ listImage (lent (now (image .entry)) «image_bytes» []) time (call client (now (option .entry)) (now (reply .entry))) ⌝ }
 {
-    let admission = call_rows::admit(image, image_bytes, reply.len(), client, time);
+    let admission = call_rows::admit(
+        image,
+        image_bytes,
+        &image[..0],
+        false,
+        reply.len(),
+        client,
+        time,
+    );
     if admission.number != 0 {
         return call_spec::refused(admission.number, 0);
     }

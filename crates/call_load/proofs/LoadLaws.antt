@@ -1,19 +1,28 @@
 -- Laws of load as a call: its rows, and that what is copied is the image of the table that was read, with zeros after it.
 -- Assumes nothing.
-use Prim.Native.Nat.{ℕ, _-_, _≤_, _<_}
-use mathlib.Core.Path.{_≡_, sym, ap, ap₂, _∙_}
-use mathlib.Core.List.{List, [], _++_}
+use Prim.Native.Nat.{ℕ, _+_, _-_, _*_, _≤_, _<_}
+use mathlib.Core.Path.{_≡_, sym, ap, ap₂, subst, _∙_}
+use mathlib.Core.List.{List, [], _++_, map}
 use mathlib.Core.Option.{none, some}
 use native.Mathlib.Omega.{arith}
 use lib.ListN.{length, drop, replicate}
-use borrow.Author.Tests.{lt-ltb, le-ltb}
+use lib.Seq.{take-all}
+use borrow.Author.Tests.{lt-ltb, le-ltb, eq-eqb, ne-eqb}
 use Rattle.lists.specs.Lists.{All}
 use Rattle.lists.specs.Put.{put}
 use Rattle.lists.proofs.PutLaws.{put-front}
+use Rattle.table.specs.declared.Lease.{Lease}
 use Rattle.table.specs.declared.LeaseTable.{LeaseTable}
-use Rattle.image.specs.Image.{fullImage, imageOf}
+use Rattle.table.specs.Table.{leaseSlots, padded}
+use Rattle.figures.specs.Figures.{untoldRow}
+use Rattle.image.specs.Image.{fullImage, headSize, poolSize, leaseSize, usedPools, usedLeases, imageOf}
 use Rattle.image.specs.Reading.{loadImage}
-use Rattle.image.proofs.ImageLaws.{image-loaded, longest-image}
+use Rattle.image.proofs.ImageLaws.{image-loaded, length-image, longest-image, table-whole}
+use Rattle.image_check.specs.declared.ImageSummary.{ImageSummary}
+use Rattle.image_check.specs.ImageSummary.{summaryOf}
+use Rattle.image_records.specs.Records.{Records}
+use Rattle.image_records.proofs.SoundLaws.{used-few, image-records}
+use Rattle.image_figures.specs.Sheets.{figuresSize, sheetOf}
 use Rattle.ledger.specs.Ledger.{result, refusal, acceptance}
 use Rattle.call_spec.specs.ImageCalls.{Lent, lent, stored, loadInto}
 use Rattle.call_spec.proofs.StoreLaws.{stores}
@@ -28,21 +37,51 @@ module _ (h : Lent) (saved : List ℕ) where
     unfolding loadInto
     load-small small = rw (e, lt-ltb (length (h .image)) fullImage small)
 
-    load-made : fullImage ≤ length (h .image) → result (acceptance 0 0) (lent (stored t fullImage (h .image)) (length (imageOf t))) [] ≡ loadInto h saved
+    pub load-other : fullImage ≤ length (h .image) → (length (h .figures) ≡ figuresSize → ⊥) → result (refusal 14 0) h [] ≡ loadInto h saved
     unfolding loadInto
-    load-made room = rw (e, le-ltb (length (h .image)) fullImage room)
+    load-other room other = rw (e, le-ltb (length (h .image)) fullImage room, ne-eqb (length (h .figures)) figuresSize other)
+
+    load-made : fullImage ≤ length (h .image) → length (h .figures) ≡ figuresSize
+        → result (acceptance 0 0) (lent (stored t fullImage (h .image)) (length (imageOf t)) (sheetOf (map untoldRow (t .leases)))) [] ≡ loadInto h saved
+    unfolding loadInto
+    load-made room size = rw (e, le-ltb (length (h .image)) fullImage room, eq-eqb (length (h .figures)) figuresSize size)
 
     module _ (bytes : All (λ b. b < 256) saved) where
       -- The saved bytes are the image.
       pub saved-short : length saved ≤ fullImage
       saved-short = let r = image-loaded saved t bytes e in omega (arith, longest-image t (r .0), ap length (r .1))
 
-      pub load-accepted : fullImage ≤ length (h .image) → (n : ℕ) → n ≡ length saved → (l₁ l₂ : List ℕ) → l₁ ≡ saved ++ drop (length saved) (h .image)
-          → l₂ ≡ put l₁ n (replicate (fullImage - n) 0) → result (acceptance 0 0) (lent l₂ n) [] ≡ loadInto h saved
-      load-accepted room n size l₁ l₂ e₁ e₂ =
+      -- The check has counted its pools and leases, which stand in them.
+      module _ (summary : ImageSummary) (is : summary ≡ summaryOf 0 (some t)) where
+        counted : summary .leases ≡ length (usedLeases t)
+        counted = ap (λ (x : ImageSummary). x .leases) is
+
+        pools-are : summary .pools ≡ length (usedPools t)
+        pools-are = ap (λ (x : ImageSummary). x .pools) is
+
+        pub saved-within : (summary .leases ≤ leaseSlots) × (headSize + poolSize * summary .pools + leaseSize * summary .leases ≤ length saved)
+        saved-within =
+            let r = image-loaded saved t bytes e in
+            (omega (arith, counted, used-few t (r .0) .1), omega (arith, counted, pools-are, length-image t, ap length (r .1)))
+
+        saved-records : Records saved (headSize + poolSize * summary .pools) (usedLeases t)
+        saved-records =
+            let r = image-loaded saved t bytes e in
+            subst (λ (n : ℕ). Records saved (headSize + poolSize * n) (usedLeases t)) (sym pools-are) (image-records t saved (length saved) (r .1 ∙ sym (take-all (length saved) saved (omega arith))))
+
+        -- What fills the sheet is of all slots of the table.
+        pub load-filled : (f : List ℕ) → ((xs : List Lease) → Records saved (headSize + poolSize * summary .pools) xs → summary .leases ≡ length xs → f ≡ sheetOf (map untoldRow (padded xs)))
+            → f ≡ sheetOf (map untoldRow (t .leases))
+        load-filled f fills =
+            fills (usedLeases t) saved-records counted ∙ ap (λ (u : LeaseTable). sheetOf (map untoldRow (u .leases))) (sym (table-whole t (image-loaded saved t bytes e .0)))
+
+      pub load-accepted : fullImage ≤ length (h .image) → length (h .figures) ≡ figuresSize → (n : ℕ) → n ≡ length saved → (l₁ l₂ : List ℕ) → l₁ ≡ saved ++ drop (length saved) (h .image)
+          → l₂ ≡ put l₁ n (replicate (fullImage - n) 0) → (f : List ℕ) → f ≡ sheetOf (map untoldRow (t .leases)) → result (acceptance 0 0) (lent l₂ n f) [] ≡ loadInto h saved
+      load-accepted room sheet n size l₁ l₂ e₁ e₂ f filled =
           let r = image-loaded saved t bytes e in
           let written : l₁ ≡ put (h .image) 0 (imageOf t) =
           e₁ ∙ sym (put-front saved (h .image) (omega (arith, saved-short))) ∙ ap (put (h .image) 0) (sym (r .1)) in
           let long : n ≡ length (imageOf t) = size ∙ ap length (sym (r .1)) in
-          ap₂ (λ (l : List ℕ) (k : ℕ). result (acceptance 0 0) (lent l k) []) (stores t (r .0) (h .image) room fullImage n room long l₁ l₂ written e₂) long
-          ∙ load-made room
+          ap₂ (λ (l : List ℕ) (k : ℕ). result (acceptance 0 0) (lent l k f) []) (stores t (r .0) (h .image) room fullImage n room long l₁ l₂ written e₂) long
+          ∙ ap (λ (s : List ℕ). result (acceptance 0 0) (lent (stored t fullImage (h .image)) (length (imageOf t)) s) []) filled
+          ∙ load-made room sheet

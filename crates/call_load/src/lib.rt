@@ -1,14 +1,19 @@
-// Load as a call: saved bytes that are the image of a sound table are checked and copied into a lent buffer.
+// Load as a call: saved bytes that are the image of a sound table are checked and copied into a lent buffer, and the figures
+// sheet is filled.
 use image::FULL_IMAGE;
+use image::HEAD;
+use image::POOL;
+use image_figures::FIGURES;
 use ledger::Answer;
 ghost use mathlib.Core.Path.{_≡_};
 ghost use mathlib.Core.List.{[]};
 ghost use Rattle.ledger.specs.Ledger.{result};
 ghost use Rattle.call_spec.specs.ImageCalls.{lent, loadInto};
 
-// Zeros follow up to the end of a full image, so that of an older one nothing is left behind.
-pub fn load(image: &mut [u8], image_bytes: &mut usize, saved: &[u8]) -> Answer
-    ensures { λ r. ⌜ result r (lent (now (image .exit)) (now («image_bytes» .exit))) [] ≡ loadInto (lent (now (image .entry)) (now («image_bytes» .entry))) (now (saved .entry)) ⌝ }
+// Zeros follow up to the end of a full image, so that of an older one nothing is left behind. A loaded lease has nothing told.
+pub fn load(image: &mut [u8], image_bytes: &mut usize, figures: &mut [u8], saved: &[u8]) -> Answer
+    ensures { λ r. ⌜ result r (lent (now (image .exit)) (now («image_bytes» .exit)) (now (figures .exit))) []
+        ≡ loadInto (lent (now (image .entry)) (now («image_bytes» .entry)) (now (figures .entry))) (now (saved .entry)) ⌝ }
 {
     let summary = image_check::check(saved, 0);
     if !summary.sound {
@@ -17,8 +22,12 @@ pub fn load(image: &mut [u8], image_bytes: &mut usize, saved: &[u8]) -> Answer
     if image.len() < FULL_IMAGE {
         return call_spec::refused(14, 0);
     }
+    if figures.len() != FIGURES {
+        return call_spec::refused(14, 0);
+    }
     let n = image_records::copy(saved, image);
     image_records::clear(image, n, FULL_IMAGE);
+    image_figures::fill(figures, saved, HEAD + POOL * summary.pools, summary.leases);
     *image_bytes = n;
     call_spec::accepted(0, 0)
 }

@@ -23,20 +23,27 @@ use Rattle.prefix.specs.Prefixes.{size, prefix, checked}
 use Rattle.prefix.proofs.Checked.{the-type}
 use Rattle.prefix.proofs.BlockLaws.{Block, refused-block, made-block}
 use Rattle.table.specs.declared.Lease.{Lease}
-use Rattle.table.specs.Table.{noLease, present, store, poolsOf}
+use Rattle.table.specs.Table.{leaseSlots, noLease, present, store, poolsOf}
 use Rattle.table.proofs.TableLaws.{Good as GoodLease, present?, sound-fine}
 use Rattle.image.specs.Image.{leaseSize, leaseRecord, usedLeases}
 use Rattle.image.specs.Reading.{leaseIn}
 use Rattle.image_records.specs.Records.{Records}
 use Rattle.image_records.proofs.RecordLaws.{lease-in-place, edit-is, edit-holds}
 use Rattle.image_records.proofs.FindLaws.{none-any, found-within, found-none, found-other, found-any, found-map}
-use Rattle.ledger.specs.Ledger.{State, state, Result, result, refusal, acceptance, accept, Row, firstOf, leastReply, at?, withD, markRows, mark}
+use Rattle.figures.specs.declared.FigureRow.{FigureRow}
+use Rattle.figures.specs.Figures.{followed}
+use Rattle.figures.specs.Inner.{struckRows}
+use Rattle.image_figures.specs.Sheets.{sheetOf}
+use Rattle.image_figures.proofs.AcceptedLaws.{strike-changed, nothing-changed, stays-follow}
+use Rattle.ledger.specs.Ledger.{State, left, Result, result, refusal, acceptance, accept, Row, firstOf, leastReply, at?, withD, markRows, mark}
 use Rattle.call_spec.specs.ImageCalls.{Lent, lent, tableIn, stateIn, markImage}
 use Rattle.call_spec.proofs.StoreLaws.{row-refuses}
 use Rattle.call_rows.specs.declared.Admission.{Admission}
 use Rattle.call_rows.specs.Admission.{admissionRows, leasesFrom, Admitted, Admits, Finished}
 use Rattle.call_rows.proofs.RowLaws.{not-admitted, admitted-rows, accepts}
+use Rattle.call_rows.specs.StruckRows.{struckIf}
 use Rattle.call_rows.proofs.FinishLaws.{finished-in-place}
+use Rattle.call_rows.proofs.StruckLaws.{struck-is}
 
 -- THE PREFIX: as the constructor answers what the call is given.
 
@@ -83,6 +90,10 @@ keeps : (now : ℕ) (d b : Bool) (x : Lease) → present? now (cond b (withD d x
 keeps now d true x = refl
 keeps now d false x = refl
 
+stays-at : (d b : Bool) (x : Lease) → (cond b (withD d x) x .network ≡ x .network) × (cond b (withD d x) x .length ≡ x .length)
+stays-at d true x = (refl, refl)
+stays-at d false x = (refl, refl)
+
 module _ (now network len : ℕ) (d : Bool) (xs : List Lease) where
   -- Those that are left are the present ones, each marked if it has the network and length.
   marked-present : present now (map (markedWith now network len d) xs) ≡ map (λ x. cond (at? network len x) (withD d x) x) (present now xs)
@@ -118,22 +129,22 @@ own h now network len = (11, not (meant? h now network len)) ∷ []
 
 -- What it leaves where no row applies.
 abbrev outcome : Lent → ℕ → ℕ → ℕ → Bool → Result State
-outcome h now network len d = accept (state (store (tableIn h) now (map (λ x. cond (at? network len x) (withD d x) x) (present now (tableIn h .leases))))) [] 0 []
+outcome h now network len d = accept (left (stateIn h) now (map (λ x. cond (at? network len x) (withD d x) x) (present now (tableIn h .leases)))) [] 0 []
 
-module _ (h : Lent) (now network len : ℕ) (d : Bool) (a : Admission) (ad : Admits leastReply h now 1 a) where
-  by-row : (n : ℕ) → (n ≡ 0 → ⊥) → firstOf (admissionRows leastReply h now 1 ++ own h now network len) ≡ some n → result (refusal n 0) h [] ≡ markImage h now network len d
+module _ (h : Lent) (now network len : ℕ) (d : Bool) (a : Admission) (ad : Admits true leastReply h now 1 a) where
+  by-row : (n : ℕ) → (n ≡ 0 → ⊥) → firstOf (admissionRows true leastReply h now 1 ++ own h now network len) ≡ some n → result (refusal n 0) h [] ≡ markImage h now network len d
   unfolding mark markRows
   by-row n k e = row-refuses h (markRows (stateIn h) now network len) (λ m. 0) [] (outcome h now network len d) n k e
 
   pub mark-refused : (a .number ≡ 0 → ⊥) → result (refusal (a .number) 0) h [] ≡ markImage h now network len d
-  mark-refused k = by-row (a .number) k (not-admitted leastReply h now 1 a ad (own h now network len) k .0)
+  mark-refused k = by-row (a .number) k (not-admitted true leastReply h now 1 a ad (own h now network len) k .0)
 
   module _ (z : a .number ≡ 0) where
-    o : Admitted h now 1 (a .summary)
+    o : Admitted true h now 1 (a .summary)
     o = ad .admitted z
 
-    row-left : firstOf (admissionRows leastReply h now 1 ++ own h now network len) ≡ firstOf (own h now network len)
-    row-left = admitted-rows leastReply h now 1 a ad (own h now network len) z
+    row-left : firstOf (admissionRows true leastReply h now 1 ++ own h now network len) ≡ firstOf (own h now network len)
+    row-left = admitted-rows true leastReply h now 1 a ad (own h now network len) z
 
     found-is : meant? h now network len ≡ any? (marked? now network len) (leasesIn h)
     unfolding o
@@ -199,7 +210,7 @@ module _ (h : Lent) (now network len : ℕ) (d : Bool) (a : Admission) (ad : Adm
               ∙ ap (λ (y : Lease). set (leasesIn h) (r - 1) (withD d y)) (sym it-is)
 
           -- No row applies.
-          no-row-left : firstOf (admissionRows leastReply h now 1 ++ own h now network len) ≡ none
+          no-row-left : firstOf (admissionRows true leastReply h now 1 ++ own h now network len) ≡ none
           unfolding o
           no-row-left =
               row-left ∙ cond-false (not (meant? h now network len)) (some 11) none
@@ -219,18 +230,37 @@ module _ (h : Lent) (now network len : ℕ) (d : Bool) (a : Admission) (ad : Adm
             unfolding ys o
             counted = length-set (leasesIn h) (r - 1) (withD d x) ∙ sym (o .leases)
 
+            held : Records l₁ (leasesFrom (a .summary)) ys
+            unfolding ys o
+            held = subst (λ (l : List ℕ). Records l (leasesFrom (a .summary)) ys) (sym e₁) (edit-holds (h .image) (leasesFrom (a .summary)) (leasesIn h) (o .records) (r - 1) inside (withD d x))
+
             finished : Finished l₁ (leasesFrom (a .summary)) ys now l₂ n
             unfolding ys o
             finished =
-                let held : Records l₁ (leasesFrom (a .summary)) ys =
-                subst (λ (l : List ℕ). Records l (leasesFrom (a .summary)) ys) (sym e₁) (edit-holds (h .image) (leasesFrom (a .summary)) (leasesIn h) (o .records) (r - 1) inside (withD d x)) in
                 let none-gone : a .summary .expired ≡ 0 → present now ys ≡ ys =
                 λ g. subst (λ (l : List Lease). present now l ≡ l) ys-are (marked-all now network len d (leasesIn h) (o .none-expired g)) in
                 finish ys held (sym counted) none-gone
 
-            pub mark-found : result (acceptance 0 0) (lent l₂ n) [] ≡ markImage h now network len d
-            unfolding ys o mark markRows
-            mark-found =
-                accepts h (markRows (stateIn h) now network len) (λ m. 0) [] (outcome h now network len d) no-row-left (result (acceptance 0 0) (state (store (tableIn h) now (present now ys))) []) refl
-                (ap (λ (zs : List Lease). result (acceptance 0 0) (state (store (tableIn h) now zs)) []) (sym leases-are)) (lent l₂ n)
-                (finished-in-place h now 1 (a .summary) o ys counted l₁ (e₁ ∙ edit-is (h .image) (leasesFrom (a .summary)) (leasesIn h) (o .records) (r - 1) inside (withD d x)) l₂ n finished)
+            -- The rows are those that follow the leases.
+            rows-follow : struckIf (a .summary .expired) now ys (stateIn h .rows) ≡ followed now (tableIn h) (stateIn h .rows) (store (tableIn h) now (present now ys))
+            unfolding o
+            rows-follow =
+                let f : Lease → Lease = markedWith now network len d in
+                let is = o .sheet-in refl .matched in
+                let same : (x : Lease) → (f x .network ≡ x .network) × (f x .length ≡ x .length) = λ x. stays-at d (marked? now network len x) x in
+                let fewer : (x : Lease) → ltb now (f x .expires) ≡ true → ltb now (x .expires) ≡ true = λ x e. sym (keeps now d (marked? now network len x) x) ∙ e in
+                subst (λ (zs : List Lease). struckIf (a .summary .expired) now zs (stateIn h .rows) ≡ followed now (tableIn h) (stateIn h .rows) (store (tableIn h) now (present now zs))) ys-are
+                (struck-is (a .summary .expired) now (map f (leasesIn h)) (stateIn h .rows) (struckRows leaseSlots now (map f (leasesIn h)) (stateIn h .rows))
+                (λ g. nothing-changed (tableIn h) (o .sound) (stateIn h .rows) is now f same fewer (marked-all now network len d (leasesIn h) (o .none-expired g)))
+                (strike-changed (tableIn h) (o .sound) (stateIn h .rows) is now f same fewer _ _ refl refl)
+                ∙ stays-follow (tableIn h) (o .sound) (stateIn h .rows) is now f same fewer)
+
+            pub mark-found : (s : List ℕ) → ((rows : List FigureRow) (zs : List Lease) → h .figures ≡ sheetOf rows → Records l₁ (leasesFrom (a .summary)) zs → a .summary .leases ≡ length zs
+                → s ≡ sheetOf (struckIf (a .summary .expired) now zs rows)) → result (acceptance 0 0) (lent l₂ n s) [] ≡ markImage h now network len d
+            unfolding ys o mark markRows left
+            mark-found s strikes =
+                let sheet : s ≡ sheetOf (struckIf (a .summary .expired) now ys (stateIn h .rows)) = strikes (stateIn h .rows) ys (o .sheet-in refl .whole) held (sym counted) in
+                accepts h (markRows (stateIn h) now network len) (λ m. 0) [] (outcome h now network len d) no-row-left (result (acceptance 0 0) (left (stateIn h) now (present now ys)) []) refl
+                (ap (λ (zs : List Lease). result (acceptance 0 0) (left (stateIn h) now zs) []) (sym leases-are)) (lent l₂ n s)
+                (finished-in-place true h now 1 (a .summary) o ys counted l₁ (e₁ ∙ edit-is (h .image) (leasesFrom (a .summary)) (leasesIn h) (o .records) (r - 1) inside (withD d x)) l₂ n finished
+                (followed now (tableIn h) (stateIn h .rows) (store (tableIn h) now (present now ys))) s (sheet ∙ ap sheetOf rows-follow))

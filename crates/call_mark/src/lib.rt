@@ -15,21 +15,30 @@ ghost use Rattle.call_spec.specs.ImageCalls.{lent, markImage};
 // Mark has no client and no reply: what stands for them at the admission is refused by no row.
 const ANY_CLIENT: u32 = 1;
 
-// d is set or cleared in the lease's record; then the expired leases are removed. Nothing is written before the call is
-// sure to be accepted.
+// d is set or cleared in the lease's record; then the expired leases are removed, and their rows. Nothing is written before the
+// call is sure to be accepted.
 pub fn mark(
     image: &mut [u8],
     image_bytes: &mut usize,
+    figures: &mut [u8],
     network: u32,
     length: u32,
     deprecated: u32,
     time: u32,
 ) -> Answer
-    ensures { λ r. ⌜ result r (lent (now (image .exit)) (now («image_bytes» .exit))) []
-        ≡ markImage (lent (now (image .entry)) (now («image_bytes» .entry))) time network length (not (eqb deprecated 0)) ⌝ }
+    ensures { λ r. ⌜ result r (lent (now (image .exit)) (now («image_bytes» .exit)) (now (figures .exit))) []
+        ≡ markImage (lent (now (image .entry)) (now («image_bytes» .entry)) (now (figures .entry))) time network length (not (eqb deprecated 0)) ⌝ }
 {
     let bytes = *image_bytes;
-    let admission = call_rows::admit(image, bytes, call_rows::SHORTEST_REPLY, ANY_CLIENT, time);
+    let admission = call_rows::admit(
+        image,
+        bytes,
+        figures,
+        true,
+        call_rows::SHORTEST_REPLY,
+        ANY_CLIENT,
+        time,
+    );
     if admission.number != 0 {
         return call_spec::refused(admission.number, 0);
     }
@@ -57,6 +66,7 @@ pub fn mark(
     }
     x.d = deprecated != 0;
     image_records::put_lease(image, at, x);
+    call_rows::strike_expired(figures, image, from, n, summary.expired, time);
     *image_bytes = call_rows::remove_expired(image, from, n, summary.expired, time);
     call_spec::accepted(0, 0)
 }

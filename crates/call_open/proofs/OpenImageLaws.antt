@@ -3,12 +3,12 @@
 use Prim.Native.Nat.{ℕ, _+_, _-_, _*_, _≤_, _<_}
 use mathlib.Core.Path.{_≡_, sym, ap, ap₂, _∙_}
 use mathlib.Core.Bool.{true, false, cond}
-use mathlib.Core.List.{List, [], _++_, append-nil}
+use mathlib.Core.List.{List, [], _++_, map, append-nil}
 use native.Mathlib.Omega.{arith}
-use lib.ListN.{length, take, replicate}
+use lib.ListN.{length, take, drop, replicate}
 use lib.Seq.{take-at}
 use lib.Dec.{ltb}
-use borrow.Author.Tests.{lt-ltb, le-ltb}
+use borrow.Author.Tests.{lt-ltb, le-ltb, eq-eqb, ne-eqb}
 use Rattle.lists.specs.Lists.{concatMap}
 use Rattle.lists.specs.Put.{put}
 use Rattle.lists.proofs.Tests.{cond-false}
@@ -17,13 +17,16 @@ use Rattle.lists.proofs.SortingLaws.{sortBy-all, sortBy-length}
 use Rattle.table.specs.declared.Pool.{Pool}
 use Rattle.table.specs.declared.Lease.{Lease}
 use Rattle.table.specs.declared.LeaseTable.{LeaseTable}
-use Rattle.table.specs.Table.{poolSlots, noPool, sound, paddedPools}
+use Rattle.table.specs.Table.{poolSlots, noPool, sound, padded, paddedPools}
 use Rattle.table.proofs.TableLaws.{GoodPool, long-not-unused, sound-default}
 use Rattle.image.specs.Image.{headSize, poolSize, fullImage, headRecord, poolRecord, leaseRecord, usedPools, usedLeases, headOf, imageOf}
-use Rattle.image.proofs.ImageLaws.{used-pools, length-head, length-image}
+use Rattle.image.proofs.ImageLaws.{used-pools, length-head, length-image, table-whole}
 use Rattle.image.proofs.WriteLaws.{then-put}
 use Rattle.table_open.specs.Open.{given, poolNetwork, sortPools, openOk, fresh}
 use Rattle.table_open.proofs.OpenLaws.{OpenRules, given-length, openOk-to, open-sound, fresh-none}
+use Rattle.image_records.specs.Records.{Records}
+use Rattle.figures.specs.Figures.{untoldRow}
+use Rattle.image_figures.specs.Sheets.{figuresSize, sheetOf}
 use Rattle.ledger.specs.Ledger.{result, refusal, acceptance}
 use Rattle.call_spec.specs.ImageCalls.{Lent, lent, stored, openImage}
 use Rattle.call_spec.proofs.StoreLaws.{stores}
@@ -80,6 +83,18 @@ module _ (ns ls : List ℕ) (term len start : ℕ) (ok : openOk ns ls term len s
       image-stored (fresh (given ns ls) term len start) sorted its-pools (fresh-none (given ns ls) term len start) buffer (open-sound ns ls term len start ok) room (length ns) (sym many) l₁ l₂ l₃ e₁
       (e₂ ∙ ap (λ (ps : List Pool). put l₁ headSize (concatMap poolRecord ps)) first) e₃
 
+  -- Every slot of it is empty.
+  its-rows : sheetOf (map untoldRow (padded [])) ≡ sheetOf (map untoldRow (fresh (given ns ls) term len start .leases))
+  its-rows =
+      let t : LeaseTable = fresh (given ns ls) term len start in
+      ap (λ (xs : List Lease). sheetOf (map untoldRow (padded xs))) (sym (fresh-none (given ns ls) term len start))
+      ∙ ap (λ (u : LeaseTable). sheetOf (map untoldRow (u .leases))) (sym (table-whole t (open-sound ns ls term len start ok)))
+
+-- No lease stands anywhere.
+pub no-records : (l : List ℕ) (from : ℕ) → Records l from []
+unfolding Records
+no-records l from = let same : from ≡ from + 0 = omega arith in ap (λ (k : ℕ). drop k l) same
+
 -- THE CALL. A default length that a byte cannot hold is taken as 0.
 
 module _ (h : Lent) (ns ls : List ℕ) (term len start : ℕ) where
@@ -98,17 +113,26 @@ module _ (h : Lent) (ns ls : List ℕ) (term len start : ℕ) where
     unfolding openImage
     open-small small = rw (is-ok, lt-ltb (length (h .image)) fullImage small)
 
-    open-made : fullImage ≤ length (h .image) → result (acceptance 0 0) (lent (stored (fresh (given ns ls) term len start) fullImage (h .image)) (length (imageOf (fresh (given ns ls) term len start)))) [] ≡ openImage h ns ls term len start
+    pub open-other : fullImage ≤ length (h .image) → (length (h .figures) ≡ figuresSize → ⊥) → result (refusal 14 0) h [] ≡ openImage h ns ls term len start
     unfolding openImage
-    open-made room = rw (is-ok, le-ltb (length (h .image)) fullImage room)
+    open-other room other = rw (is-ok, le-ltb (length (h .image)) fullImage room, ne-eqb (length (h .figures)) figuresSize other)
+
+    open-made : fullImage ≤ length (h .image) → length (h .figures) ≡ figuresSize
+        → result (acceptance 0 0) (lent (stored (fresh (given ns ls) term len start) fullImage (h .image)) (length (imageOf (fresh (given ns ls) term len start))) (sheetOf (map untoldRow (fresh (given ns ls) term len start .leases)))) []
+        ≡ openImage h ns ls term len start
+    unfolding openImage
+    open-made room size = rw (is-ok, le-ltb (length (h .image)) fullImage room, eq-eqb (length (h .figures)) figuresSize size)
 
     short-is : cond (ltb 255 len) 0 len ≡ len
     short-is = cond-false (ltb 255 len) 0 len (le-ltb 255 len (omega (arith, sound-default (fresh (given ns ls) term len start) (open-sound ns ls term len start is-ok) .1)))
 
-    pub open-accepted : fullImage ≤ length (h .image) → (l₁ l₂ l₃ : List ℕ) → l₁ ≡ put (h .image) 0 (headRecord (record { term = term; «default_length» = cond (ltb 255 len) 0 len; last = start }))
+    pub open-accepted : fullImage ≤ length (h .image) → length (h .figures) ≡ figuresSize → (l₁ l₂ l₃ : List ℕ) → l₁ ≡ put (h .image) 0 (headRecord (record { term = term; «default_length» = cond (ltb 255 len) 0 len; last = start }))
         → l₂ ≡ put l₁ headSize (concatMap poolRecord (take (length ns) (paddedPools (sortPools (given ns ls)))))
         → l₃ ≡ put l₂ (headSize + poolSize * length ns) (replicate (fullImage - (headSize + poolSize * length ns)) 0)
-        → result (acceptance 0 0) (lent l₃ (headSize + poolSize * length ns)) [] ≡ openImage h ns ls term len start
-    open-accepted room l₁ l₂ l₃ e₁ e₂ e₃ =
+        → (f : List ℕ) → f ≡ sheetOf (map untoldRow (padded [])) → result (acceptance 0 0) (lent l₃ (headSize + poolSize * length ns) f) [] ≡ openImage h ns ls term len start
+    open-accepted room sheet l₁ l₂ l₃ e₁ e₂ e₃ f filled =
         let kept = its-image ns ls term short start ok (h .image) room l₁ l₂ l₃ e₁ e₂ e₃ ∙ ap (λ (n : ℕ). stored (fresh (given ns ls) term n start) fullImage (h .image)) short-is in
-        ap₂ (λ (l : List ℕ) (n : ℕ). result (acceptance 0 0) (lent l n) []) kept (sym (its-size ns ls term len start is-ok)) ∙ open-made room
+        ap₂ (λ (l : List ℕ) (n : ℕ). result (acceptance 0 0) (lent l n f) []) kept (sym (its-size ns ls term len start is-ok))
+        ∙ ap (λ (s : List ℕ). result (acceptance 0 0) (lent (stored (fresh (given ns ls) term len start) fullImage (h .image)) (length (imageOf (fresh (given ns ls) term len start))) s) [])
+        (filled ∙ its-rows ns ls term len start is-ok)
+        ∙ open-made room sheet

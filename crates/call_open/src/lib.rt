@@ -1,8 +1,10 @@
-// Open as a call: the table that pools, a term, a default length and a start time make, as an image in a lent buffer.
+// Open as a call: the table that pools, a term, a default length and a start time make, as an image in a lent buffer,
+// and its figures sheet.
 use image::FULL_IMAGE;
 use image::HEAD;
 use image::Head;
 use image::POOL;
+use image_figures::FIGURES;
 use ledger::Answer;
 use table::POOLS;
 use table::Pool;
@@ -30,17 +32,20 @@ fn put_pools(image: &mut [u8], pools: [Pool; POOLS], n: usize)
     }
 }
 
-// The fresh table is empty at every index, so its image is its head and its pools; zeros follow up to the end of a full one.
+// The fresh table is empty at every index, so its image is its head and its pools, and every row of its sheet an empty one; zeros follow up to the end
+// of a full image.
 pub fn open(
     image: &mut [u8],
     image_bytes: &mut usize,
+    figures: &mut [u8],
     networks: &[u32],
     lengths: &[u8],
     term: u32,
     default_length: u32,
     start: u32,
 ) -> Answer
-    ensures { λ r. ⌜ result r (lent (now (image .exit)) (now («image_bytes» .exit))) [] ≡ openImage (lent (now (image .entry)) (now («image_bytes» .entry))) (now (networks .entry)) (now (lengths .entry)) term «default_length» start ⌝ }
+    ensures { λ r. ⌜ result r (lent (now (image .exit)) (now («image_bytes» .exit)) (now (figures .exit))) []
+        ≡ openImage (lent (now (image .entry)) (now («image_bytes» .entry)) (now (figures .entry))) (now (networks .entry)) (now (lengths .entry)) term «default_length» start ⌝ }
 {
     let length = call_spec::length_of(default_length);
     let mut keys = [0u64; POOLS];
@@ -48,6 +53,9 @@ pub fn open(
         return call_spec::refused(12, 0);
     }
     if image.len() < FULL_IMAGE {
+        return call_spec::refused(14, 0);
+    }
+    if figures.len() != FIGURES {
         return call_spec::refused(14, 0);
     }
     let n = networks.len();
@@ -61,6 +69,7 @@ pub fn open(
     image_records::put_head(image, head);
     put_pools(image, pools, n);
     image_records::clear(image, HEAD + POOL * n, FULL_IMAGE);
+    image_figures::fill(figures, image, HEAD + POOL * n, 0);
     *image_bytes = HEAD + POOL * n;
     call_spec::accepted(0, 0)
 }

@@ -6,13 +6,13 @@ use Rattle.table.specs.declared.{Pool.Pool, Lease.Lease, LeaseTable.LeaseTable}
 use Rattle.table.specs.Table.{noPool, noLease}
 use Rattle.image.specs.Image.{stateByte, bit, usedPools, usedLeases}
 use Rattle.ledger.specs.declared.Answer.{Answer}
-use Rattle.ledger.specs.Ledger.{Row, firstOf, orElse, refusal, acceptance, stateRows}
+use Rattle.ledger.specs.Ledger.{Row, firstOf, orElse, refusal, acceptance, tableRows}
 use Rattle.call_spec.specs.ImageCalls.{Lent, tableIn, stateIn}
 use Rattle.call_query.specs.declared.{HeadAnswer.HeadAnswer, PoolAnswer.PoolAnswer, LeaseAnswer.LeaseAnswer}
 
 -- CHECK: row 5 alone.
 unfoldable pub checkImage : Lent → Answer
-checkImage h = orElse (firstOf (stateRows (stateIn h))) (λ number. refusal number 0) (acceptance 0 0)
+checkImage h = orElse (firstOf (tableRows (stateIn h))) (λ number. refusal number 0) (acceptance 0 0)
 
 -- HEAD: "a term (60 to 2,592,000 s), a length for asks with prefix 0 (1 to 30), the last time", and how many pools and leases there are.
 abbrev pub headRefusal : ℕ → HeadAnswer
@@ -29,11 +29,11 @@ headOf t = record {
 }
 
 unfoldable pub headImage : Lent → HeadAnswer
-headImage h = orElse (firstOf (stateRows (stateIn h))) headRefusal (headOf (tableIn h))
+headImage h = orElse (firstOf (tableRows (stateIn h))) headRefusal (headOf (tableIn h))
 
 -- ONE OF SO MANY, by its index, which counts from 0: row 5, then row 11, "nothing found", where there is none with that index.
 abbrev pub indexRows : Lent → ℕ → ℕ → List Row
-indexRows h many index = stateRows (stateIn h) ++ ((11, leb many index) ∷ [])
+indexRows h many index = tableRows (stateIn h) ++ ((11, leb many index) ∷ [])
 
 -- A POOL, of those used, in the image's order: "ascending".
 abbrev pub poolAnswer : ℕ → Pool → PoolAnswer

@@ -9,6 +9,7 @@ use table::Lease;
 use table::Pool;
 ghost use mathlib.Core.Path.{_≡_};
 ghost use mathlib.Core.Bool.{cond};
+ghost use mathlib.Core.List.{[]};
 ghost use Rattle.image.specs.Image.{bit};
 ghost use Rattle.image.specs.Reading.{loadImage};
 ghost use Rattle.image_check.specs.ImageSummary.{summaryOf};
@@ -56,7 +57,7 @@ pub struct LeaseAnswer {
 // What the check says of the image; of no bytes, where the buffer has fewer than the image is said to have or cannot hold a full
 // table. No query looks at which leases have expired.
 fn summary_in(image: &[u8], image_bytes: usize) -> ImageSummary
-    ensures { λ r. ⌜ r ≡ summaryOf 0 (loadImage (imageIn (lent (now (image .entry)) «image_bytes»))) ⌝ }
+    ensures { λ r. ⌜ r ≡ summaryOf 0 (loadImage (imageIn (lent (now (image .entry)) «image_bytes» []))) ⌝ }
 {
     if image.len() < image::FULL_IMAGE {
         return image_check::check(&image[..0], 0);
@@ -68,7 +69,7 @@ fn summary_in(image: &[u8], image_bytes: usize) -> ImageSummary
 }
 
 pub fn check(image: &[u8], image_bytes: usize) -> Answer
-    ensures { λ r. ⌜ r ≡ checkImage (lent (now (image .entry)) «image_bytes») ⌝ }
+    ensures { λ r. ⌜ r ≡ checkImage (lent (now (image .entry)) «image_bytes» []) ⌝ }
 {
     let summary = summary_in(image, image_bytes);
     if !summary.sound {
@@ -86,7 +87,7 @@ fn row_5(sound: bool) -> u32
 
 // Where there is no table the summary is all 0.
 pub fn head(image: &[u8], image_bytes: usize) -> HeadAnswer
-    ensures { λ r. ⌜ r ≡ headImage (lent (now (image .entry)) «image_bytes») ⌝ }
+    ensures { λ r. ⌜ r ≡ headImage (lent (now (image .entry)) «image_bytes» []) ⌝ }
 {
     let summary = summary_in(image, image_bytes);
     HeadAnswer {
@@ -112,7 +113,7 @@ fn pool_answer(number: u32, p: Pool) -> PoolAnswer
 }
 
 pub fn pool(image: &[u8], image_bytes: usize, index: usize) -> PoolAnswer
-    ensures { λ r. ⌜ r ≡ poolImage (lent (now (image .entry)) «image_bytes») index ⌝ }
+    ensures { λ r. ⌜ r ≡ poolImage (lent (now (image .entry)) «image_bytes» []) index ⌝ }
 {
     let summary = summary_in(image, image_bytes);
     if !summary.sound {
@@ -149,7 +150,7 @@ fn lease_answer(number: u32, state: u8, x: Lease) -> LeaseAnswer
 }
 
 pub fn lease(image: &[u8], image_bytes: usize, index: usize) -> LeaseAnswer
-    ensures { λ r. ⌜ r ≡ leaseImage (lent (now (image .entry)) «image_bytes») index ⌝ }
+    ensures { λ r. ⌜ r ≡ leaseImage (lent (now (image .entry)) «image_bytes» []) index ⌝ }
 {
     let summary = summary_in(image, image_bytes);
     if !summary.sound {

@@ -3,7 +3,7 @@
 use Prim.Native.Nat.{ℕ}
 use native.Mathlib.Omega.{arith}
 use mathlib.Core.Path.{_≡_, refl, sym, ap, ap₂, _∙_}
-use mathlib.Core.Bool.{false, not}
+use mathlib.Core.Bool.{true, false, not}
 use mathlib.Core.List.{List, [], map}
 use lib.ListN.{length}
 use lib.ListN.{take as upTo}
@@ -11,21 +11,26 @@ use Rattle.lists.specs.Lists.{All, filter}
 use Rattle.option.specs.Values.{Entry}
 use Rattle.option.specs.Contents.{entriesIn}
 use Rattle.table.specs.declared.Lease.{Lease}
-use Rattle.table.specs.Table.{present, store}
+use Rattle.table.specs.declared.LeaseTable.{LeaseTable}
+use Rattle.table.specs.Table.{present}
 use Rattle.image.specs.Image.{usedLeases}
 use Rattle.image_records.specs.Records.{Records, Ascending, ExpiredIn}
 use Rattle.image_check.specs.declared.ImageSummary.{ImageSummary}
-use Rattle.ledger.specs.Ledger.{State, state, Call, Result, result, refusal, acceptance, accept, refusalPlace, leastReply, forTake, namedBy?, releaseRows, release}
+use Rattle.figures.specs.declared.FigureRow.{FigureRow}
+use Rattle.image_figures.specs.Sheets.{sheetOf}
+use Rattle.image_figures.proofs.AcceptedLaws.{strike-changed, stays-follow}
+use Rattle.ledger.specs.Ledger.{State, left, Call, Result, result, refusal, acceptance, accept, refusalPlace, leastReply, forTake, namedBy?, releaseRows, release}
 use Rattle.call_spec.specs.ImageCalls.{Lent, lent, tableIn, stateIn, releaseImage}
 use Rattle.call_rows.specs.declared.Admission.{Admission}
-use Rattle.call_rows.specs.Admission.{leasesFrom, Admitted, Admits, Finished}
-use Rattle.call_rows.proofs.RowLaws.{refused-admission, nothing-found, none-left, accepts}
+use Rattle.call_spec.proofs.StoreLaws.{row-refuses}
+use Rattle.call_rows.specs.Admission.{leasesFrom, Admitted, Admits}
+use Rattle.call_rows.proofs.RowLaws.{RefusedBy, refused-admission, nothing-found, none-left, accepts}
 use Rattle.call_entries.specs.EntryLeases.{Hold, changedBy}
 use Rattle.call_entries.proofs.ManyLaws.{namedByPresent?, none-of, struck-all, struck-left}
-use Rattle.call_entries.proofs.EntriesLaws.{unchanged}
+use Rattle.call_entries.proofs.EntriesLaws.{unchanged, changed-prefix, changed-fewer}
 use Rattle.call_entries.proofs.CallLaws.{EntriesCall, refused-entries, entries-passed, changed-many, changed-stand, changed-in-place}
 use Rattle.call_release.specs.declared.Strikes.{Strikes}
-use Rattle.call_release.specs.InnerStruck.{Struck}
+use Rattle.call_release.specs.InnerStruck.{Struck, Removed}
 use Rattle.call_release.specs.InnerReleasing.{foundBy, eleven, Releasing}
 
 -- WHAT IT LEAVES where no row applies: the leases that no entry names.
@@ -33,14 +38,19 @@ abbrev others : Lent → ℕ → Call → List Lease
 others h now c = filter (λ x. not (namedBy? (c .client) (entriesIn (c .option)) x)) (present now (tableIn h .leases))
 
 abbrev outcome : Lent → ℕ → Call → Result State
-outcome h now c = accept (state (store (tableIn h) now (others h now c))) [] (length (foundBy h now c)) (c .reply)
+outcome h now c = accept (left (stateIn h) now (others h now c)) [] (length (foundBy h now c)) (c .reply)
 
 -- THE CALL, UP TO ROW 8
 
 module _ (h : Lent) (now : ℕ) (c : Call) where
-  pub release-refused : (a : Admission) → Admits leastReply h now (c .client) a → (a .number ≡ 0 → ⊥) → result (refusal (a .number) 0) h (c .reply) ≡ releaseImage h now c
-  unfolding release releaseRows
-  release-refused = refused-admission leastReply h now c forTake (eleven h now c) (outcome h now c)
+  -- A row that applies refuses it.
+  by-row : RefusedBy (releaseRows (stateIn h) now c) h c (releaseImage h now c)
+  unfolding release
+  by-row = row-refuses h (releaseRows (stateIn h) now c) (refusalPlace (c .option)) (c .reply) (outcome h now c)
+
+  pub release-refused : (a : Admission) → Admits true leastReply h now (c .client) a → (a .number ≡ 0 → ⊥) → result (refusal (a .number) 0) h (c .reply) ≡ releaseImage h now c
+  unfolding releaseRows
+  release-refused = refused-admission true leastReply h now c forTake (eleven h now c) (releaseImage h now c) by-row
 
   module _ (s : EntriesCall leastReply h now c) where
     pub release-unread : (s .read .answer .number ≡ 0 → ⊥) → result (s .read .answer) h (c .reply) ≡ releaseImage h now c
@@ -55,7 +65,7 @@ module _ (h : Lent) (now : ℕ) (c : Call) where
 -- ROW 11, AND WHAT IS FOUND
 
 module _ (h : Lent) (now : ℕ) (c : Call) (summary : ImageSummary) (networks lengths : List ℕ) (t : Releasing h now c summary networks lengths) where
-  o : Admitted h now (c .client) summary
+  o : Admitted true h now (c .client) summary
   o = t .admitted
 
   xs : List Lease
@@ -77,34 +87,51 @@ module _ (h : Lent) (now : ℕ) (c : Call) (summary : ImageSummary) (networks le
     struck-is = done .counted ∙ ap (λ (l : List Lease). length (filter (namedBy? (c .client) es) l)) (sym (o .present-used))
 
     -- Row 11: there are none, so nothing was written.
-    pub release-nothing : strikes .count ≡ 0 → result (refusal 11 0) (lent l₁ (h .bytes)) (c .reply) ≡ releaseImage h now c
-    unfolding xs es o release
+    pub release-nothing : strikes .count ≡ 0 → result (refusal 11 0) (lent l₁ (h .bytes) (h .figures)) (c .reply) ≡ releaseImage h now c
+    unfolding xs es o
     release-nothing k =
         let no-one : All (λ x. namedByPresent? now (c .client) es x ≡ false) xs =
         none-of (namedByPresent? now (c .client) es) xs (ap length (struck-all now (c .client) 0 (omega arith) es xs) ∙ sym (done .counted) ∙ k) in
-        ap (λ (l : List ℕ). result (refusal 11 0) (lent l (h .bytes)) (c .reply)) (done .after-is ∙ unchanged now (c .client) 0 (h .image) (leasesFrom summary) xs (o .records) es no-one)
-        ∙ nothing-found h c (releaseRows (stateIn h) now c) (outcome h now c) (foundBy h now c) (t .left-rows) (sym struck-is ∙ k)
+        ap (λ (l : List ℕ). result (refusal 11 0) (lent l (h .bytes) (h .figures)) (c .reply)) (done .after-is ∙ unchanged now (c .client) 0 (h .image) (leasesFrom summary) xs (o .records) es no-one)
+        ∙ nothing-found h c (releaseRows (stateIn h) now c) (releaseImage h now c) (by-row h now c) (foundBy h now c) (t .left-rows) (sym struck-is ∙ k)
 
-    -- Accepted: they are removed with the expired ones.
-    module _ (l₂ : List ℕ) (n : ℕ)
+    -- Accepted: they are removed with the expired ones, and so are their rows.
+    module _ (l₂ sheet : List ℕ) (n : ℕ)
         (finish : (zs : List Lease) → Records l₁ (leasesFrom summary) zs → summary .leases ≡ length zs → (summary .expired ≡ 0 → ExpiredIn now (strikes .first) (strikes .last) zs)
-        → Finished l₁ (leasesFrom summary) zs now l₂ n) where
-      ys : List Lease
-      ys = map (changedBy now (c .client) 0 es) xs
+        → Removed l₁ (h .figures) (leasesFrom summary) zs now l₂ sheet n) where
+      struck : Lease → Lease
+      struck = changedBy now (c .client) 0 es
 
-      finished : Finished l₁ (leasesFrom summary) ys now l₂ n
-      unfolding xs es ys o
-      finished =
+      ys : List Lease
+      ys = map struck xs
+
+      removed : Removed l₁ (h .figures) (leasesFrom summary) ys now l₂ sheet n
+      unfolding xs es ys struck o
+      removed =
           finish ys (changed-stand h now c summary o 0 es l₁ (done .after-is)) (changed-many h now c summary o 0 es l₁ (done .after-is)) (λ w. done .between (o .none-expired w))
 
-      pub release-found : (strikes .count ≡ 0 → ⊥) → result (acceptance 0 (strikes .count)) (lent l₂ n) (c .reply) ≡ releaseImage h now c
-      unfolding xs es ys o release
+      -- The rows are those that follow the leases that are left.
+      rows-left : sheet ≡ sheetOf (left (stateIn h) now (present now ys) .rows)
+      unfolding xs es ys struck o left
+      rows-left =
+          let t : LeaseTable = tableIn h in
+          let rows : List FigureRow = stateIn h .rows in
+          let known = o .sheet-in refl in
+          let same = changed-prefix now (c .client) 0 es in
+          let fewer = changed-fewer now (c .client) 0 es in
+          removed .rows rows (known .whole)
+          ∙ ap sheetOf
+          (strike-changed t (o .sound) rows (known .matched) now struck same fewer (length ys) (length (present now ys)) refl refl
+          ∙ stays-follow t (o .sound) rows (known .matched) now struck same fewer)
+
+      pub release-found : (strikes .count ≡ 0 → ⊥) → result (acceptance 0 (strikes .count)) (lent l₂ n sheet) (c .reply) ≡ releaseImage h now c
+      unfolding xs es ys struck o left release
       release-found k =
           let left-are : present now ys ≡ others h now c =
           struck-left now (c .client) 0 (omega arith) es xs ∙ ap (filter (λ (x : Lease). not (namedBy? (c .client) es x))) (sym (o .present-used)) in
-          let left : Result State = result (acceptance 0 (strikes .count)) (state (store (tableIn h) now (present now ys))) (c .reply) in
-          let left-is : left ≡ outcome h now c =
-          ap₂ (λ (l : List Lease) (m : ℕ). result (acceptance 0 m) (state (store (tableIn h) now l)) (c .reply)) left-are struck-is in
+          let after : Result State = result (acceptance 0 (strikes .count)) (left (stateIn h) now (present now ys)) (c .reply) in
+          let after-is : after ≡ outcome h now c =
+          ap₂ (λ (l : List Lease) (m : ℕ). result (acceptance 0 m) (left (stateIn h) now l) (c .reply)) left-are struck-is in
           accepts h (releaseRows (stateIn h) now c) (refusalPlace (c .option)) (c .reply) (outcome h now c)
-          (none-left h c (releaseRows (stateIn h) now c) (outcome h now c) (foundBy h now c) (t .left-rows) (λ w. k (struck-is ∙ w))) left refl left-is (lent l₂ n)
-          (changed-in-place h now c summary o 0 es l₁ (done .after-is) l₂ n finished)
+          (none-left h c (releaseRows (stateIn h) now c) (releaseImage h now c) (by-row h now c) (foundBy h now c) (t .left-rows) (λ w. k (struck-is ∙ w))) after refl after-is (lent l₂ n sheet)
+          (changed-in-place h now c summary o 0 es l₁ (done .after-is) l₂ n (removed .finished) (left (stateIn h) now (present now ys) .rows) sheet rows-left)

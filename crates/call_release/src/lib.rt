@@ -16,9 +16,9 @@ ghost use Rattle.image_records.specs.Records.{Records, Ascending, ExpiredIn};
 ghost use Rattle.call_entries.specs.EntryLeases.{Hold};
 ghost use Rattle.call_entries.specs.EntryCalls.{Sized};
 ghost use Rattle.call_spec.specs.ImageCalls.{lent, releaseImage};
-ghost use Rattle.call_rows.specs.Admission.{Finished};
+ghost use Rattle.image_figures.specs.Sheets.{rowSize};
 ghost use Rattle.call_release.specs.InnerReleasing.{Releasing};
-ghost use Rattle.call_release.specs.InnerStruck.{Struck};
+ghost use Rattle.call_release.specs.InnerStruck.{Struck, Removed};
 
 // How many leases are struck; all of them stand from the place `first` up to `last`.
 struct Strikes {
@@ -75,9 +75,11 @@ fn strike_named(
     Strikes { count, first, last }
 }
 
-// Removes the leases that are struck and those that have expired, if there are any of these, which can stand anywhere.
+// Removes the leases that are struck and those that have expired, if there are any of these, which can stand anywhere; their rows
+// first, while the ends are in the image.
 fn remove_struck(
     image: &mut [u8],
+    figures: &mut [u8],
     from: usize,
     n: usize,
     expired: usize,
@@ -85,13 +87,15 @@ fn remove_struck(
     last: usize,
     time: u32,
 ) -> usize
-    requires { ⌜ (headSize ≤ from) × (first ≤ last) × (last ≤ n) × (from + leaseSize * n ≤ length (now image)) ⌝ }
+    requires { ⌜ (headSize ≤ from) × (first ≤ last) × (last ≤ n) × (from + leaseSize * n ≤ length (now image)) × (rowSize * n ≤ length (now figures)) ⌝ }
     ensures { λ r. ⌜ ((xs : List Lease) → Records (now (image .entry)) from xs → n ≡ length xs → (expired ≡ 0 → ExpiredIn time first last xs)
-        → Finished (now (image .entry)) from xs time (now (image .exit)) r) ⌝ }
+        → Removed (now (image .entry)) (now (figures .entry)) from xs time (now (image .exit)) (now (figures .exit)) r) ⌝ }
 {
     if expired == 0 {
+        image_figures::strike(figures, image, from, n, first, last, time);
         return call_rows::remove_expired_between(image, from, n, first, last, time);
     }
+    image_figures::strike(figures, image, from, n, 0, n, time);
     call_rows::remove_expired_between(image, from, n, 0, n, time)
 }
 
@@ -99,15 +103,17 @@ fn remove_struck(
 fn strike_found(
     image: &mut [u8],
     image_bytes: &mut usize,
+    figures: &mut [u8],
     client: u32,
     time: u32,
     summary: ImageSummary,
     networks: &[u32],
     lengths: &[u8],
 ) -> Answer
-    requires { ⌜ Sized (lent (now image) (now «image_bytes»)) summary (now networks) (now lengths) ⌝ }
-    ensures { λ r. ⌜ ((option : List ℕ) → Releasing (lent (now (image .entry)) (now («image_bytes» .entry))) time (call client option []) summary (now (networks .entry)) (now (lengths .entry))
-        → result r (lent (now (image .exit)) (now («image_bytes» .exit))) [] ≡ releaseImage (lent (now (image .entry)) (now («image_bytes» .entry))) time (call client option [])) ⌝ }
+    requires { ⌜ Sized (lent (now image) (now «image_bytes») (now figures)) summary (now networks) (now lengths) ⌝ }
+    ensures { λ r. ⌜ ((option : List ℕ) → Releasing (lent (now (image .entry)) (now («image_bytes» .entry)) (now (figures .entry))) time (call client option []) summary (now (networks .entry)) (now (lengths .entry))
+        → result r (lent (now (image .exit)) (now («image_bytes» .exit)) (now (figures .exit))) []
+        ≡ releaseImage (lent (now (image .entry)) (now («image_bytes» .entry)) (now (figures .entry))) time (call client option [])) ⌝ }
 {
     let from = HEAD + POOL * summary.pools;
     let n = summary.leases;
@@ -118,6 +124,7 @@ fn strike_found(
     }
     *image_bytes = remove_struck(
         image,
+        figures,
         from,
         n,
         summary.expired,
@@ -131,15 +138,24 @@ fn strike_found(
 pub fn release(
     image: &mut [u8],
     image_bytes: &mut usize,
+    figures: &mut [u8],
     client: u32,
     time: u32,
     option: &[u8],
 ) -> Answer
-    ensures { λ r. ⌜ result r (lent (now (image .exit)) (now («image_bytes» .exit))) []
-        ≡ releaseImage (lent (now (image .entry)) (now («image_bytes» .entry))) time (call client (now (option .entry)) []) ⌝ }
+    ensures { λ r. ⌜ result r (lent (now (image .exit)) (now («image_bytes» .exit)) (now (figures .exit))) []
+        ≡ releaseImage (lent (now (image .entry)) (now («image_bytes» .entry)) (now (figures .entry))) time (call client (now (option .entry)) []) ⌝ }
 {
     let bytes = *image_bytes;
-    let admission = call_rows::admit(image, bytes, call_rows::SHORTEST_REPLY, client, time);
+    let admission = call_rows::admit(
+        image,
+        bytes,
+        figures,
+        true,
+        call_rows::SHORTEST_REPLY,
+        client,
+        time,
+    );
     if admission.number != 0 {
         return call_spec::refused(admission.number, 0);
     }
@@ -155,6 +171,7 @@ pub fn release(
     strike_found(
         image,
         image_bytes,
+        figures,
         client,
         time,
         summary,

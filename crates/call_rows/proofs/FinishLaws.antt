@@ -1,9 +1,9 @@
--- Laws of what an accepted call leaves: the image of the table that the ledger stores, in place.
+-- Laws of what an accepted call leaves: the image of the table that the ledger stores, in place, beside the sheet of its rows.
 -- Assumes nothing.
 use Prim.Native.Nat.{ℕ, _+_, _-_, _*_, _≤_}
 use native.Mathlib.Omega.{arith}
 use mathlib.Core.Path.{_≡_, sym, ap, ap₂, _∙_}
-use mathlib.Core.Bool.{true, false}
+use mathlib.Core.Bool.{Bool, true, false}
 use mathlib.Core.List.{List, _++_, append-nil}
 use lib.ListN.{length, replicate, length-append, length-replicate}
 use borrow.Author.Tests.{ltb-true}
@@ -21,6 +21,9 @@ use Rattle.image_check.specs.declared.ImageSummary.{ImageSummary}
 use Rattle.image_records.specs.Records.{Records}
 use Rattle.image_records.proofs.PutForms.{put-over}
 use Rattle.image_records.proofs.RecordLaws.{length-leases, put-leases-same}
+use Rattle.figures.specs.declared.FigureRow.{FigureRow}
+use Rattle.image_figures.specs.Sheets.{sheetOf}
+use Rattle.ledger.specs.Ledger.{state}
 use Rattle.call_spec.specs.ImageCalls.{Lent, lent, tableIn, stored, storedIn}
 use Rattle.call_spec.proofs.InPlace.{length-stored, stored-in-place}
 use Rattle.call_rows.specs.Admission.{leasesFrom, Admitted, left, Finished}
@@ -64,14 +67,14 @@ present-not-empty now xs =
     not-true⇒false (empty? x) (λ t. omega (arith, ltb-true now (x .expires) e, ap (λ (y : Lease). y .expires) (empty-to x t))))
     (present now xs) (filter-pass (present? now) xs)
 
-module _ (h : Lent) (now client : ℕ) (summary : ImageSummary) (o : Admitted h now client summary) where
+module _ (sheet : Bool) (h : Lent) (now client : ℕ) (summary : ImageSummary) (o : Admitted sheet h now client summary) where
   from-is : leasesFrom summary ≡ headSize + poolSize * length (usedPools (tableIn h))
   from-is = ap (λ (n : ℕ). headSize + poolSize * n) (o .pools)
 
   -- Leases written in the place of the table's, with zeros up to the end of the old image, are the ledger's table stored.
   pub left-in-place : (zs : List Lease) → length zs ≤ leaseSlots → All (λ x. empty? x ≡ false) zs → (l : List ℕ) → l ≡ left (h .image) (leasesFrom summary) (summary .leases) zs now
-      → lent l (leasesFrom summary + leaseSize * length zs) ≡ storedIn (store (tableIn h) now zs) (h .bytes) h
-  left-in-place zs few full l e =
+      → (rows : List FigureRow) (f : List ℕ) → f ≡ sheetOf rows → lent l (leasesFrom summary + leaseSize * length zs) f ≡ storedIn (state (store (tableIn h) now zs) rows) (h .bytes) h
+  left-in-place zs few full l e rows f sheet-is =
       let t : LeaseTable = tableIn h in
       let from : ℕ = headSize + poolSize * length (usedPools t) in
       let zeros : leaseSize * (summary .leases - length zs) ≡ h .bytes - (from + leaseSize * length zs) = omega (arith, from-is, o .size) in
@@ -80,12 +83,12 @@ module _ (h : Lent) (now client : ℕ) (summary : ImageSummary) (o : Admitted h 
       e
       ∙ ap₂ (λ (f k : ℕ). put (put (h .image) f (concatMap leaseRecord zs ++ replicate k 0)) 9 (le32 now)) from-is zeros
       ∙ sym (stored-in-place t (o .sound) (h .image) (h .bytes) (o .image) (o .within) (o .room) now zs few full) in
-      ap₂ lent whole size
+      ap₂ (λ (m : List ℕ) (k : ℕ). lent m k f) whole size ∙ ap (lent (stored (store t now zs) (h .bytes) (h .image)) (length (imageOf (store t now zs)))) sheet-is
 
   -- The same of leases edited in place, after the expired ones are removed.
   pub finished-in-place : (xs : List Lease) → length xs ≡ summary .leases → (edited : List ℕ) → edited ≡ put (h .image) (leasesFrom summary) (concatMap leaseRecord xs) → (l : List ℕ) (n : ℕ)
-      → Finished edited (leasesFrom summary) xs now l n → lent l n ≡ storedIn (store (tableIn h) now (present now xs)) (h .bytes) h
-  finished-in-place xs counted edited e l n f =
+      → Finished edited (leasesFrom summary) xs now l n → (rows : List FigureRow) (s : List ℕ) → s ≡ sheetOf rows → lent l n s ≡ storedIn (state (store (tableIn h) now (present now xs)) rows) (h .bytes) h
+  finished-in-place xs counted edited e l n f rows s sheet-is =
       let from : ℕ = leasesFrom summary in
       let zs : List Lease = present now xs in
       let new : List ℕ = concatMap leaseRecord zs ++ replicate (leaseSize * (length xs - length zs)) 0 in
@@ -97,5 +100,5 @@ module _ (h : Lent) (now client : ℕ) (summary : ImageSummary) (o : Admitted h 
       f .after-is
       ∙ ap (λ (k : List ℕ). put k 9 (le32 now)) alone
       ∙ ap (λ (k : ℕ). left (h .image) from k zs now) counted in
-      ap (lent l) (f .bytes-are)
-      ∙ left-in-place zs (omega (arith, fewer, o .few-leases)) (present-not-empty now xs) l after
+      ap (λ (k : ℕ). lent l k s) (f .bytes-are)
+      ∙ left-in-place zs (omega (arith, fewer, o .few-leases)) (present-not-empty now xs) l after rows s sheet-is

@@ -10,7 +10,9 @@ use mathlib.Core.Option.{Option, none, some}
 use lib.ListN.{length}
 use lib.Dec.{eqb}
 use borrow.Author.Tests.{eqb-false, ltb-false}
+use Rattle.lists.specs.Lists.{All}
 use Rattle.lists.proofs.Tests.{cond-true, cond-false, not-of, not-to}
+use Rattle.lists.proofs.ListLaws.{all-map}
 use Rattle.option.specs.Reading.{readSuboptions, readOption}
 use Rattle.option.specs.Values.{SuboptionValue, Outcome}
 use Rattle.option.specs.Values as values
@@ -28,7 +30,7 @@ use Rattle.ledger.proofs.CommonRows.{option-rows, option-passed}
 use Rattle.option_scan.specs.declared.Contents.{Contents}
 use Rattle.option_scan.specs.Scanned.{Columns, ScannedOf, Reads}
 use Rattle.call_spec.specs.ImageCalls.{Lent, stateIn, storedIn, settled}
-use Rattle.call_spec.proofs.StoreLaws.{settled-accepted, row-refuses, no-row}
+use Rattle.call_spec.proofs.StoreLaws.{settled-accepted, no-row}
 use Rattle.call_rows.specs.declared.Admission.{Admission}
 use Rattle.call_rows.specs.Admission.{admissionRows, numberOf, Admits}
 
@@ -64,21 +66,36 @@ module _ (rows : List Row) (numbered : Numbered rows) (n : ℕ) (e : n ≡ numbe
 
 -- THE ROWS UP TO THE OPTION, AND WHAT FOLLOWS THEM
 
-module _ (room : ℕ) (h : Lent) (now client : ℕ) (a : Admission) (ad : Admits room h now client a) (rest : List Row) where
-  numbered : Numbered (admissionRows room h now client)
-  numbered = (refl, (refl, (refl, (refl, (refl, tt)))))
+-- None of them has number 0, or 7, which has a place.
+admission-numbers : (sheet : Bool) (room : ℕ) (h : Lent) (now client : ℕ)
+    → All (λ (r : Row). (eqb (r .0) 0 ≡ false) × (eqb (r .0) 7 ≡ false)) (admissionRows sheet room h now client)
+admission-numbers true room h now client = ((refl, refl), ((refl, refl), ((refl, refl), ((refl, refl), ((refl, refl), ((refl, refl), tt))))))
+admission-numbers false room h now client = ((refl, refl), ((refl, refl), ((refl, refl), ((refl, refl), ((refl, refl), tt)))))
 
-  pub not-admitted : (a .number ≡ 0 → ⊥) → (firstOf (admissionRows room h now client ++ rest) ≡ some (a .number)) × (eqb (a .number) 7 ≡ false)
+module _ (sheet : Bool) (room : ℕ) (h : Lent) (now client : ℕ) (a : Admission) (ad : Admits sheet room h now client a) (rest : List Row) where
+  abbrev first : List Row
+  first = admissionRows sheet room h now client
+
+  numbered : Numbered first
+  numbered = all-map (λ (r : Row) (k : (eqb (r .0) 0 ≡ false) × (eqb (r .0) 7 ≡ false)). k .0) first (admission-numbers sheet room h now client)
+
+  placeless : All (λ (r : Row). eqb (r .0) 7 ≡ false) first
+  placeless = all-map (λ (r : Row) (k : (eqb (r .0) 0 ≡ false) × (eqb (r .0) 7 ≡ false)). k .1) first (admission-numbers sheet room h now client)
+
+  pub not-admitted : (a .number ≡ 0 → ⊥) → (firstOf (first ++ rest) ≡ some (a .number)) × (eqb (a .number) 7 ≡ false)
   not-admitted k =
-      let one = number-some (admissionRows room h now client) numbered (a .number) (ad .number) k in
-      (first-before (admissionRows room h now client) rest (a .number) one, first-number (λ (n : ℕ). eqb n 7 ≡ false) (admissionRows room h now client) (refl, (refl, (refl, (refl, (refl, tt))))) (a .number) one)
+      let one = number-some first numbered (a .number) (ad .number) k in
+      (first-before first rest (a .number) one, first-number (λ (n : ℕ). eqb n 7 ≡ false) first placeless (a .number) one)
+
+  none-of : a .number ≡ 0 → firstOf first ≡ none
+  none-of = number-none first numbered (a .number) (ad .number)
 
   -- Row 1 has passed.
   pub admitted-room : a .number ≡ 0 → leastReply ≤ room
-  admitted-room z = ltb-false room leastReply (first-none (admissionRows room h now client) (number-none (admissionRows room h now client) numbered (a .number) (ad .number) z) .0)
+  admitted-room z = ltb-false room leastReply (first-none first (none-of z) .0)
 
-  pub admitted-rows : a .number ≡ 0 → firstOf (admissionRows room h now client ++ rest) ≡ firstOf rest
-  admitted-rows z = first-after (admissionRows room h now client) rest (number-none (admissionRows room h now client) numbered (a .number) (ad .number) z)
+  pub admitted-rows : a .number ≡ 0 → firstOf (first ++ rest) ≡ firstOf rest
+  admitted-rows z = first-after first rest (none-of z)
 
 -- ROWS 6 AND 7, what follows them, and what is read of an option that passes them.
 
@@ -115,9 +132,9 @@ module _ (c : Call) (m : Contents) (k : Columns) (reads : Reads (c .option) m k)
 -- A CALL WITH AN OPTION, at each of its steps. Its rows are those up to the option, rows 6 and 7, row 8, which is about the option's suboptions, and its own.
 
 -- It is admitted, its option is read, and this is the answer of rows 6 and 7.
-pub record ReadCall (room : ℕ) (h : Lent) (now : ℕ) (c : Call) : Type 0 where
+pub record ReadCall (sheet : Bool) (room : ℕ) (h : Lent) (now : ℕ) (c : Call) : Type 0 where
   pub admission : Admission
-  pub admits : Admits room h now (c .client) admission
+  pub admits : Admits sheet room h now (c .client) admission
   pub admitted : admission .number ≡ 0
   pub contents : Contents
   pub columns : Columns
@@ -125,32 +142,35 @@ pub record ReadCall (room : ℕ) (h : Lent) (now : ℕ) (c : Call) : Type 0 wher
   pub answer : Answer
   pub answer-is : answer ≡ checkedAnswer (contents .checked)
 
-pub scan-of : (room : ℕ) (h : Lent) (now : ℕ) (c : Call) (s : ReadCall room h now c) → s .answer .number ≡ 0 → ScannedOf (s .contents) (s .columns) (suboptions (readOption (c .option)))
-scan-of room h now c s = scanned c (s .contents) (s .columns) (s .reads) (s .answer) (s .answer-is)
+pub scan-of : (sheet : Bool) (room : ℕ) (h : Lent) (now : ℕ) (c : Call) (s : ReadCall sheet room h now c) → s .answer .number ≡ 0
+    → ScannedOf (s .contents) (s .columns) (suboptions (readOption (c .option)))
+scan-of sheet room h now c s = scanned c (s .contents) (s .columns) (s .reads) (s .answer) (s .answer-is)
 
-module _ (room : ℕ) (h : Lent) (now : ℕ) (c : Call) (wanted : List SuboptionValue → Bool) (own : List Row) (accepted : Result State) where
+-- The call gives `after`, whichever of these rows refuses it (`row-refuses`, `list-row-refuses` of crate `call_spec`).
+abbrev pub RefusedBy : List Row → Lent → Call → Result Lent → Type 0
+RefusedBy rows h c after = (n : ℕ) → (n ≡ 0 → ⊥) → firstOf rows ≡ some n → result (refusal n (refusalPlace (c .option) n)) h (c .reply) ≡ after
+
+abbrev pub rowsWith8 : Bool → ℕ → Lent → ℕ → Call → (List SuboptionValue → Bool) → List Row → List Row
+rowsWith8 sheet room h now c wanted own = admissionRows sheet room h now (c .client) ++ (optionRows c ++ ((8, not (wanted (suboptions (readOption (c .option))))) ∷ own))
+
+module _ (sheet : Bool) (room : ℕ) (h : Lent) (now : ℕ) (c : Call) (wanted : List SuboptionValue → Bool) (own : List Row) (after : Result Lent)
+    (by-row : RefusedBy (rowsWith8 sheet room h now c wanted own) h c after) where
   abbrev row-8 : List Row
   row-8 = (8, not (wanted (suboptions (readOption (c .option))))) ∷ own
 
   abbrev rows : List Row
-  rows = admissionRows room h now (c .client) ++ (optionRows c ++ row-8)
+  rows = rowsWith8 sheet room h now c wanted own
 
-  abbrev after : Result Lent
-  after = settled (byRows rows (refusalPlace (c .option)) (stateIn h) (c .reply) accepted) h
-
-  by-row : (n : ℕ) → (n ≡ 0 → ⊥) → firstOf rows ≡ some n → result (refusal n (refusalPlace (c .option) n)) h (c .reply) ≡ after
-  by-row = row-refuses h rows (refusalPlace (c .option)) (c .reply) accepted
-
-  -- Rows 1, 5, 2, 3 and 4: none of them has a place.
-  pub refused-admission : (a : Admission) → Admits room h now (c .client) a → (a .number ≡ 0 → ⊥) → result (refusal (a .number) 0) h (c .reply) ≡ after
+  -- Rows 1, 5, 15, 2, 3 and 4: none of them has a place.
+  pub refused-admission : (a : Admission) → Admits sheet room h now (c .client) a → (a .number ≡ 0 → ⊥) → result (refusal (a .number) 0) h (c .reply) ≡ after
   refused-admission a ad k =
-      let r = not-admitted room h now (c .client) a ad (optionRows c ++ row-8) k in
+      let r = not-admitted sheet room h now (c .client) a ad (optionRows c ++ row-8) k in
       ap (λ (p : ℕ). result (refusal (a .number) p) h (c .reply)) (sym (cond-false (eqb (a .number) 7) (placeIn (readOption (c .option))) 0 (r .1)))
       ∙ by-row (a .number) k (r .0)
 
-  module _ (s : ReadCall room h now c) where
+  module _ (s : ReadCall sheet room h now c) where
     up-to-option : firstOf rows ≡ firstOf (optionRows c ++ row-8)
-    up-to-option = admitted-rows room h now (c .client) (s .admission) (s .admits) (optionRows c ++ row-8) (s .admitted)
+    up-to-option = admitted-rows sheet room h now (c .client) (s .admission) (s .admits) (optionRows c ++ row-8) (s .admitted)
 
     -- Rows 6 and 7.
     pub refused-option : (s .answer .number ≡ 0 → ⊥) → result (s .answer) h (c .reply) ≡ after
@@ -171,18 +191,17 @@ module _ (room : ℕ) (h : Lent) (now : ℕ) (c : Call) (wanted : List Suboption
 
 -- WHERE ROW 11 IS LEFT: nothing is found, or something.
 
-module _ {A : Type 0} (h : Lent) (c : Call) (rows : List Row) (accepted : Result State) (found : List A) (left : firstOf rows ≡ firstOf ((11, nothing? found) ∷ [])) where
-  pub nothing-found : length found ≡ 0 → result (refusal 11 0) h (c .reply) ≡ settled (byRows rows (refusalPlace (c .option)) (stateIn h) (c .reply) accepted) h
-  nothing-found e =
-      row-refuses h rows (refusalPlace (c .option)) (c .reply) accepted 11 (λ z. omega arith) (left ∙ cond-true (nothing? found) (some 11) none (nothing-none found e))
+module _ {A : Type 0} (h : Lent) (c : Call) (rows : List Row) (after : Result Lent) (by-row : RefusedBy rows h c after) (found : List A) (left : firstOf rows ≡ firstOf ((11, nothing? found) ∷ [])) where
+  pub nothing-found : length found ≡ 0 → result (refusal 11 0) h (c .reply) ≡ after
+  nothing-found e = by-row 11 (λ z. omega arith) (left ∙ cond-true (nothing? found) (some 11) none (nothing-none found e))
 
   pub none-left : (length found ≡ 0 → ⊥) → firstOf rows ≡ none
   none-left k = left ∙ cond-false (nothing? found) (some 11) none (nothing-some found k)
 
--- WHERE NO ROW IS LEFT: what is lent holds the table that the ledger stores.
+-- WHERE NO ROW IS LEFT: what is lent holds the table and the rows that the ledger leaves.
 
 pub accepts : (h : Lent) (rows : List Row) (place : ℕ → ℕ) (reply : List ℕ) (accepted : Result State) → firstOf rows ≡ none
-    → (r : Result State) → r .answer .number ≡ 0 → r ≡ accepted → (g : Lent) → g ≡ storedIn (r .state .table) (h .bytes) h
+    → (r : Result State) → r .answer .number ≡ 0 → r ≡ accepted → (g : Lent) → g ≡ storedIn (r .state) (h .bytes) h
     → result (r .answer) g (r .reply) ≡ settled (byRows rows place (stateIn h) reply accepted) h
 accepts h rows place reply accepted none-of r number is g here =
     ap (λ (w : Lent). result (r .answer) w (r .reply)) here

@@ -2,8 +2,8 @@
 -- leaves of the leases' records.
 use Prim.Native.Nat.{ℕ, _+_, _-_, _*_, _≤_}
 use mathlib.Core.Path.{_≡_}
-use mathlib.Core.Bool.{true, false}
-use mathlib.Core.List.{List, [], _∷_, _++_}
+use mathlib.Core.Bool.{Bool, true, false, cond}
+use mathlib.Core.List.{List, _∷_, _++_}
 use mathlib.Core.Option.{Option}
 use lib.ListN.{length, take, replicate}
 use lib.Dec.{leb, ltb, eqb}
@@ -16,16 +16,18 @@ use Rattle.image.specs.Image.{le32, fullImage, headSize, poolSize, leaseSize, l
 use Rattle.image.specs.Reading.{lastAt}
 use Rattle.image_check.specs.declared.ImageSummary.{ImageSummary}
 use Rattle.image_records.specs.Records.{Records, Ascending}
-use Rattle.ledger.specs.Ledger.{Row, firstOf, orElse, leastReply, stateRows, timeRows}
+use Rattle.image_figures.specs.Sheets.{figuresSize, sheetOf}
+use Rattle.ledger.specs.Ledger.{Row, firstOf, orElse, leastReply, tableRows, stateRows, timeRows}
+use Rattle.ledger.specs.FiguresKept.{Matched}
 use Rattle.call_spec.specs.ImageCalls.{Lent, tableIn, stateIn}
 use Rattle.call_rows.specs.declared.Admission.{Admission}
 
 -- ADMISSION
 
--- The rows up to the option, of a call with this client whose reply buffer has so many bytes. A call that has no reply buffer, or no client, passes what no
--- row refuses.
-abbrev pub admissionRows : ℕ → Lent → ℕ → ℕ → List Row
-admissionRows room h now client = (1, ltb room leastReply) ∷ (stateRows (stateIn h) ++ ((2, eqb client 0) ∷ timeRows (stateIn h) now))
+-- The rows up to the option, of a call with this client whose reply buffer has so many bytes; row 15 only if it has the figures sheet. A call that has no
+-- reply buffer, or no client, passes what no row refuses.
+abbrev pub admissionRows : Bool → ℕ → Lent → ℕ → ℕ → List Row
+admissionRows sheet room h now client = (1, ltb room leastReply) ∷ (cond sheet (stateRows (stateIn h)) (tableRows (stateIn h)) ++ ((2, eqb client 0) ∷ timeRows (stateIn h) now))
 
 -- The number of the row that applies; 0 where none does.
 abbrev pub numberOf : Option ℕ → ℕ
@@ -35,8 +37,14 @@ numberOf row = orElse row (λ number. number) 0
 abbrev pub leasesFrom : ImageSummary → ℕ
 leasesFrom summary = headSize + poolSize * summary .pools
 
--- What is known of the buffer, and of the table in it, where none of the rows applies.
-pub record Admitted (h : Lent) (now client : ℕ) (summary : ImageSummary) : Type 0 where
+-- What is known of the figures sheet that has passed row 15: it has its size, and is the sheet of its rows.
+pub record SheetIn (h : Lent) : Type 0 where
+  pub matched : Matched (stateIn h)
+  pub size : length (h .figures) ≡ figuresSize
+  pub whole : h .figures ≡ sheetOf (stateIn h .rows)
+
+-- What is known of the buffer, of the table in it, and of the sheet, where none of the rows applies.
+pub record Admitted (sheet : Bool) (h : Lent) (now client : ℕ) (summary : ImageSummary) : Type 0 where
   pub sound : soundOf (tableIn h) ≡ true
   pub some-client : eqb client 0 ≡ false
   pub since : tableIn h .last ≤ now
@@ -57,11 +65,12 @@ pub record Admitted (h : Lent) (now client : ℕ) (summary : ImageSummary) : Typ
   pub ascending : Ascending (usedLeases (tableIn h))
   pub present-used : present now (tableIn h .leases) ≡ present now (usedLeases (tableIn h))
   pub none-expired : summary .expired ≡ 0 → present now (usedLeases (tableIn h)) ≡ usedLeases (tableIn h)
+  pub sheet-in : sheet ≡ true → SheetIn h
 
 -- What the admission answers.
-pub record Admits (room : ℕ) (h : Lent) (now client : ℕ) (a : Admission) : Type 0 where
-  pub number : a .number ≡ numberOf (firstOf (admissionRows room h now client))
-  pub admitted : a .number ≡ 0 → Admitted h now client (a .summary)
+pub record Admits (sheet : Bool) (room : ℕ) (h : Lent) (now client : ℕ) (a : Admission) : Type 0 where
+  pub number : a .number ≡ numberOf (firstOf (admissionRows sheet room h now client))
+  pub admitted : a .number ≡ 0 → Admitted sheet h now client (a .summary)
 
 -- WHAT AN ACCEPTED CALL LEAVES
 

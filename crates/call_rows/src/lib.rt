@@ -1,14 +1,16 @@
 // What the calls have in common that work on an image in place: the rows that come before a call's own, and the end of an
 // accepted call.
+use image::HEAD;
 use image::LAST;
 use image::LEASE;
+use image::POOL;
 use image_check::ImageSummary;
 use ledger::Answer;
 use option::Checked;
 ghost use mathlib.Core.Path.{_≡_};
 ghost use mathlib.Core.Bool.{not};
 ghost use mathlib.Core.List.{List, [], _∷_};
-ghost use Prim.Native.Nat.{_+_, _*_, _≤_};
+ghost use Prim.Native.Nat.{ℕ, _+_, _*_, _≤_};
 ghost use lib.ListN.{length};
 ghost use lib.Dec.{ltb, eqb};
 ghost use Rattle.table.specs.declared.Lease.{Lease};
@@ -17,11 +19,14 @@ ghost use Rattle.image.specs.Image.{headSize, leaseSize};
 ghost use Rattle.option.specs.Values.{longestOption};
 ghost use Rattle.option.specs.Answers.{placeOf};
 ghost use Rattle.image_records.specs.Records.{Records, ExpiredIn};
+ghost use Rattle.figures.specs.declared.FigureRow.{FigureRow};
+ghost use Rattle.image_figures.specs.Sheets.{rowSize, sheetOf};
 ghost use Rattle.ledger.specs.Ledger.{firstOf};
 ghost use Rattle.ledger.specs.Answers.{checkedAnswer};
 ghost use Rattle.call_spec.specs.ImageCalls.{lent};
 ghost use Rattle.call_rows.specs.Admission.{numberOf, Admits, Finished};
-ghost use Rattle.call_rows.specs.InnerSummary.{SummaryIn};
+ghost use Rattle.call_rows.specs.StruckRows.{struckIf};
+ghost use Rattle.call_rows.specs.InnerSummary.{SummaryIn, Measured, SheetPasses};
 
 // Row 1: no reply buffer is below this size.
 pub const SHORTEST_REPLY: usize = option::LONGEST_OPTION;
@@ -36,7 +41,7 @@ pub struct Admission {
 
 // What the check says of the first `bytes` of the buffer; of none of them, if it has fewer or cannot hold a full table.
 fn summary_in(image: &[u8], bytes: usize, time: u32) -> ImageSummary
-    ensures { λ r. ⌜ SummaryIn (lent (now (image .entry)) bytes) time r ⌝ }
+    ensures { λ r. ⌜ ((figures : List ℕ) → SummaryIn (lent (now (image .entry)) bytes figures) time r) ⌝ }
 {
     if image.len() < image::FULL_IMAGE {
         return image_check::check(&image[..0], time);
@@ -47,12 +52,31 @@ fn summary_in(image: &[u8], bytes: usize, time: u32) -> ImageSummary
     image_check::check(&image[..bytes], time)
 }
 
-// The number of the first of rows 5, 2, 3 and 4 that applies, or 0.
-fn first_row(summary: ImageSummary, client: u32, time: u32) -> u32
-    ensures { λ r. ⌜ r ≡ numberOf (firstOf ((5, not (summary .sound)) ∷ (2, eqb client 0) ∷ (3, ltb time (summary .last)) ∷ (4, ltb latest time) ∷ [])) ⌝ }
+// Row 15: whether the figures sheet matches the leases, of a call that has one. Where the bytes are no image the call is
+// refused by row 5, whatever the sheet.
+fn sheet_passes(summary: ImageSummary, image: &[u8], figures: &[u8], has_sheet: bool) -> bool
+    requires { ⌜ Measured summary (now image) ⌝ }
+    ensures { λ r. ⌜ SheetPasses «has_sheet» summary (now (image .entry)) (now (figures .entry)) r ⌝ }
+{
+    if !has_sheet {
+        return true;
+    }
+    if !summary.sound {
+        return true;
+    }
+    let from = HEAD + POOL * summary.pools;
+    image_figures::matches(figures, image, from, summary.leases)
+}
+
+// The number of the first of rows 5, 15, 2, 3 and 4 that applies, or 0.
+fn first_row(summary: ImageSummary, matched: bool, client: u32, time: u32) -> u32
+    ensures { λ r. ⌜ r ≡ numberOf (firstOf ((5, not (summary .sound)) ∷ (15, not matched) ∷ (2, eqb client 0) ∷ (3, ltb time (summary .last)) ∷ (4, ltb latest time) ∷ [])) ⌝ }
 {
     if !summary.sound {
         return 5;
+    }
+    if !matched {
+        return 15;
     }
     if client == 0 {
         return 2;
@@ -66,16 +90,26 @@ fn first_row(summary: ImageSummary, client: u32, time: u32) -> u32
     0
 }
 
-// The rows up to the option, in their order. `room` is the length of the reply buffer.
-pub fn admit(image: &[u8], image_bytes: usize, room: usize, client: u32, time: u32) -> Admission
-    ensures { λ r. ⌜ Admits room (lent (now (image .entry)) «image_bytes») time client r ⌝ }
+// The rows up to the option, in their order. `room` is the length of the reply buffer. A call without the figures sheet has no
+// row 15.
+pub fn admit(
+    image: &[u8],
+    image_bytes: usize,
+    figures: &[u8],
+    has_sheet: bool,
+    room: usize,
+    client: u32,
+    time: u32,
+) -> Admission
+    ensures { λ r. ⌜ Admits «has_sheet» room (lent (now (image .entry)) «image_bytes» (now (figures .entry))) time client r ⌝ }
 {
     if room < SHORTEST_REPLY {
         let summary = image_check::check(&image[..0], time);
         return Admission { number: 1, summary };
     }
     let summary = summary_in(image, image_bytes, time);
-    let number = first_row(summary, client, time);
+    let matched = sheet_passes(summary, image, figures, has_sheet);
+    let number = first_row(summary, matched, client, time);
     Admission { number, summary }
 }
 
@@ -123,4 +157,23 @@ pub fn remove_expired(image: &mut [u8], from: usize, n: usize, expired: usize, t
         return from + LEASE * n;
     }
     remove_expired_between(image, from, n, 0, n, time)
+}
+
+// Strikes the rows of the leases that have expired, if there are any, while their ends are still in the image.
+pub fn strike_expired(
+    figures: &mut [u8],
+    image: &[u8],
+    from: usize,
+    n: usize,
+    expired: usize,
+    time: u32,
+)
+    requires { ⌜ (rowSize * n ≤ length (now figures)) × (from + leaseSize * n ≤ length (now image)) ⌝ }
+    ensures { λ _. ⌜ ((rows : List FigureRow) (xs : List Lease) → now (figures .entry) ≡ sheetOf rows → Records (now (image .entry)) from xs → n ≡ length xs
+        → now (figures .exit) ≡ sheetOf (struckIf expired time xs rows)) ⌝ }
+{
+    if expired == 0 {
+        return;
+    }
+    image_figures::strike(figures, image, from, n, 0, n, time);
 }

@@ -2,12 +2,13 @@
 use image::FULL_IMAGE;
 use ledger::Answer;
 ghost use mathlib.Core.Path.{_≡_};
+ghost use mathlib.Core.List.{[]};
 ghost use Rattle.ledger.specs.Ledger.{result};
 ghost use Rattle.call_spec.specs.ImageCalls.{lent, saveFrom};
 
 // The bytes after those written stay.
 pub fn save(image: &[u8], image_bytes: usize, buffer: &mut [u8]) -> Answer
-    ensures { λ r. ⌜ result r (lent (now (image .entry)) «image_bytes») (now (buffer .exit)) ≡ saveFrom (lent (now (image .entry)) «image_bytes») (now (buffer .entry)) ⌝ }
+    ensures { λ r. ⌜ result r (lent (now (image .entry)) «image_bytes» []) (now (buffer .exit)) ≡ saveFrom (lent (now (image .entry)) «image_bytes» []) (now (buffer .entry)) ⌝ }
 {
     if image.len() < FULL_IMAGE {
         return call_spec::refused(5, 0);

@@ -1,7 +1,7 @@
--- RESULTS ON IMAGES ARE IN RANGE. A sound table is in range exactly if its image is bytes; so what the ledger leaves in range of the code's types, the calls on
--- images leave as bytes, over every history.
+-- RESULTS ON IMAGES ARE IN RANGE. A sound table is in range exactly if its image is bytes, and rows are if their sheet is; so what the ledger leaves in range
+-- of the code's types, the calls on images leave as bytes, over every history.
 -- Assumes nothing.
-use Prim.Native.Nat.{ℕ, _-_, _/_, _<_}
+use Prim.Native.Nat.{ℕ, zero, suc, _-_, _/_, _<_}
 use mathlib.Core.Path.{_≡_, refl, sym, subst}
 use mathlib.Core.Logic.{⊎-elim}
 use mathlib.Core.Bool.{Bool, true, false, not, cond}
@@ -22,19 +22,22 @@ use Rattle.table.specs.declared.LeaseTable.{LeaseTable}
 use Rattle.table.specs.Table.{poolSlots, leaseSlots, unused?, empty?, sound}
 use Rattle.table_open.specs.Open.{given, openOk, fresh}
 use Rattle.table_open.proofs.OpenLaws.{open-sound}
+use Rattle.figures.specs.declared.FigureRow.{FigureRow}
 use Rattle.image.specs.declared.Head.{Head}
+use Rattle.image.specs.Fields.{number16, number32}
 use Rattle.image.specs.Image.{le16, le32, headSize, poolSize, leaseSize, fullImage, stateByte, flagsByte, headRecord, poolRecord, leaseRecord, usedPools, usedLeases, headOf, imageOf, loadedTable}
 use Rattle.image.specs.Reading.{loadImage}
 use Rattle.image.proofs.FieldLaws.{bytes-of}
 use Rattle.image.proofs.ImageLaws.{table-whole, image-loaded, longest-image}
-use Rattle.ledger.specs.Ledger.{State, Result, Row, openRows, ask, take, list, release, mark}
+use Rattle.image_figures.specs.Sheets.{rowSize, figuresSize, rowBytes, rowIn, rowsIn, sheetRows}
+use Rattle.ledger.specs.Ledger.{State, filled, Result, Row, openRows, ask, take, release, mark}
 use Rattle.ledger.specs.Demand3.{none?}
 use Rattle.ledger.specs.Sizes.{Byte, Bytes}
-use Rattle.ledger.specs.InRange.{Word, PoolInRange, LeaseInRange, TableInRange, StateInRange, ResultInRange, InRange, StaysInRange}
+use Rattle.ledger.specs.InRange.{Word, PoolInRange, LeaseInRange, TableInRange, RowInRange, StateInRange, ResultInRange, InRange, StaysInRange}
 use Rattle.ledger.proofs.RowLaws.{first-none}
 use Rattle.ledger.proofs.Counts.{upTo-all}
-use Rattle.ledger.proofs.SoundKept.{ask-sound, take-sound, list-sound, release-sound, mark-sound}
-use Rattle.ledger.proofs.InRange.{all-concatMap, pools-padded, leases-padded, blank-in-range, fresh-in-range, rows-in-range, accepted-in-range, in-range, stays-in-range}
+use Rattle.ledger.proofs.SoundKept.{ask-sound, take-sound, release-sound, mark-sound}
+use Rattle.ledger.proofs.InRange.{all-concatMap, pools-padded, leases-padded, blank-in-range, filled-in-range, fresh-in-range, rows-in-range, accepted-in-range, in-range, stays-in-range}
 use Rattle.call_spec.specs.ImageCalls.{Lent, holds?, imageIn, tableIn, stateIn, over, stored, storedIn, settled, imageCalls, openImage, loadInto, roomRows}
 use Rattle.call_spec.specs.InRange.{LentInRange, OpensInRange, LoadsInRange}
 use Rattle.call_spec.proofs.StoreLaws.{settled-refused, settled-accepted}
@@ -148,25 +151,67 @@ loaded-in-range s b = go (loadImage s) refl
     go none e = blank-in-range
     go (some t) e = let k = image-loaded s t b e in bytes-image t (k .0) (subst Bytes (sym (k .1)) b)
 
+-- ROWS AND SHEETS
+
+row-bytes : (r : FigureRow) → RowInRange r → Bytes (rowBytes r)
+unfolding rowBytes le16 le32
+row-bytes r f =
+    pieces (le32 (r .network) ∷ (r .length ∷ []) ∷ le16 (r .«high_water» .0) ∷ le16 (r .«in_use» .0) ∷ le16 (r .unusable .0) ∷ []) (
+      four-bytes (r .network) (f .network),
+      ((f .length, tt), (two-bytes (r .«high_water» .0) (f .high-water), (two-bytes (r .«in_use» .0) (f .in-use), (two-bytes (r .unusable .0) (f .unusable), tt)))),
+    )
+
+bytes-row : (s : List ℕ) → Bytes s → RowInRange (rowIn s)
+unfolding number16 number32
+bytes-row s a =
+    let b = bytes-of s a in
+    record {
+      network = omega (arith, b 0, b 1, b 2, b 3);
+      length = b 4;
+      high-water = omega (arith, b 5, b 6);
+      in-use = omega (arith, b 7, b 8);
+      unusable = omega (arith, b 9, b 10);
+    }
+
+bytes-rows : (n : ℕ) (s : List ℕ) → Bytes s → All RowInRange (rowsIn n s)
+unfolding rowsIn
+bytes-rows zero s a = tt
+bytes-rows (suc n) s a = (bytes-row s a, bytes-rows n (drop rowSize s) (all-drop Byte rowSize s a))
+
+bytes-sheet : (s : List ℕ) → Bytes s → All RowInRange (sheetRows s)
+unfolding sheetRows
+bytes-sheet s a = go (eqb (length s) figuresSize)
+  where
+    go : (b : Bool) → All RowInRange (cond b (rowsIn leaseSlots s) [])
+    go true = bytes-rows leaseSlots s a
+    go false = tt
+
+-- WHAT IS LENT
+
 held-in-range : (h : Lent) → LentInRange h → StateInRange (stateIn h)
 unfolding tableIn
-held-in-range h f = loaded-in-range (imageIn h) (upTo-all Byte (cond (holds? h) (h .bytes) 0) (h .image) (f .image))
+held-in-range h f = record {
+  table = loaded-in-range (imageIn h) (upTo-all Byte (cond (holds? h) (h .bytes) 0) (h .image) (f .image));
+  rows = bytes-sheet (h .figures) (f .figures);
+}
 
--- The image of a table in range, stored.
-stored-in-range : (t : LeaseTable) (old : ℕ) (h : Lent) → sound t ≡ true → TableInRange t → LentInRange h → LentInRange (storedIn t old h)
+-- The image of a table in range and the sheet of rows in range, stored.
+stored-in-range : (s : State) (old : ℕ) (h : Lent) → sound (s .table) ≡ true → StateInRange s → LentInRange h → LentInRange (storedIn s old h)
 unfolding stored
-stored-in-range t old h s f g =
+stored-in-range s old h so f g =
+    let t : LeaseTable = s .table in
     let new : List ℕ = over (imageOf t) old in
     let zeros : List ℕ = replicate (old - length (imageOf t)) 0 in
     record {
-      image = all-append Byte new (drop (length new) (h .image)) (all-append Byte (imageOf t) zeros (image-bytes t f) (all-replicate Byte (old - length (imageOf t)) 0 (omega arith)))
+      image = all-append Byte new (drop (length new) (h .image)) (all-append Byte (imageOf t) zeros (image-bytes t (f .table)) (all-replicate Byte (old - length (imageOf t)) 0 (omega arith)))
           (all-drop Byte (length new) (h .image) (g .image));
-      bytes = omega (arith, longest-image t s);
+      bytes = omega (arith, longest-image t so);
+      figures = all-concatMap rowBytes Byte (s .rows) (all-map row-bytes (s .rows) (f .rows));
     }
 
 -- THE CALLS
 
--- A call on an image, of the ledger's call on its table.
+-- A call on what is lent, of the ledger's call on what it holds.
 settled-in-range : (h : Lent) (r : Result State) → LentInRange h → ResultInRange StateInRange r → (r .answer .number ≡ 0 → sound (r .state .table) ≡ true)
     → ResultInRange LentInRange (settled r h)
 settled-in-range h r f k s =
@@ -174,7 +219,7 @@ settled-in-range h r f k s =
     (λ (e : eqb (r .answer .number) 0 ≡ true).
     let z = eqb-true (r .answer .number) 0 e in
     subst (ResultInRange LentInRange) (sym (settled-accepted r h z))
-    (record { answer = k .answer; left = stored-in-range (r .state .table) (h .bytes) h (s z) (k .left) f; reply = k .reply }))
+    (record { answer = k .answer; left = stored-in-range (r .state) (h .bytes) h (s z) (k .left) f; reply = k .reply }))
     (λ (e : eqb (r .answer .number) 0 ≡ false).
     subst (ResultInRange LentInRange) (sym (settled-refused r h (eqb-false (r .answer .number) 0 e))) (record { answer = k .answer; left = f; reply = k .reply }))
     (bool-cases (eqb (r .answer .number) 0))
@@ -183,7 +228,7 @@ pub in-range-on-images : InRange LentInRange imageCalls
 in-range-on-images = record {
   asks = λ h now c f k. settled-in-range h (ask (stateIn h) now c) f (in-range .asks (stateIn h) now c (held-in-range h f) k) (λ z. ask-sound (stateIn h) now c z .1);
   takes = λ h now c f k. settled-in-range h (take (stateIn h) now c) f (in-range .takes (stateIn h) now c (held-in-range h f) k) (λ z. take-sound (stateIn h) now c z .1);
-  lists = λ h now c f k. settled-in-range h (list (stateIn h) now c) f (in-range .lists (stateIn h) now c (held-in-range h f) k) (λ z. list-sound (stateIn h) now c z .1);
+  lists = λ h now c f k. let r = in-range .lists (stateIn h) now c (held-in-range h f) k in record { answer = r .answer; left = f; reply = r .reply };
   releases = λ h now c f k. settled-in-range h (release (stateIn h) now c) f (in-range .releases (stateIn h) now c (held-in-range h f) k) (λ z. release-sound (stateIn h) now c z .1);
   marks =
       λ h now network len d f. settled-in-range h (mark (stateIn h) now network len d) f (in-range .marks (stateIn h) now network len d (held-in-range h f)) (λ z. mark-sound (stateIn h) now network len d z .1);
@@ -202,7 +247,7 @@ opens-in-range-on-images h networks lengths term defaultLength start f o =
     rows-in-range LentInRange rows (λ n. 0) h [] _ refl (λ n. omega arith) f tt
     (λ e.
     let s : sound t ≡ true = open-sound networks lengths term defaultLength start (not-false (openOk networks lengths term defaultLength start) (first-none rows e .0)) in
-    accepted-in-range LentInRange (storedIn t fullImage h) [] 0 [] (stored-in-range t fullImage h s (fresh-in-range networks lengths term defaultLength start o) f) tt (omega arith) (omega arith) tt)
+    accepted-in-range LentInRange (storedIn (filled t) fullImage h) [] 0 [] (stored-in-range (filled t) fullImage h s (filled-in-range t (fresh-in-range networks lengths term defaultLength start o)) f) tt (omega arith) (omega arith) tt)
 
 pub loads-in-range-on-images : LoadsInRange
 unfolding loadInto
@@ -212,4 +257,4 @@ loads-in-range-on-images h saved f b =
     rows-in-range LentInRange rows (λ n. 0) h [] _ refl (λ n. omega arith) f tt
     (λ e.
     let s : sound t ≡ true = image-loaded saved t b (is-some (loadImage saved) (first-none rows e .0)) .0 in
-    accepted-in-range LentInRange (storedIn t fullImage h) [] 0 [] (stored-in-range t fullImage h s (loaded-in-range saved b) f) tt (omega arith) (omega arith) tt)
+    accepted-in-range LentInRange (storedIn (filled t) fullImage h) [] 0 [] (stored-in-range (filled t) fullImage h s (filled-in-range t (loaded-in-range saved b)) f) tt (omega arith) (omega arith) tt)

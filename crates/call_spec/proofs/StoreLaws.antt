@@ -52,7 +52,7 @@ module _ (r : Result State) (h : Lent) where
   unfolding settled
   settled-refused k = rw (ne-eqb (r .answer .number) 0 k)
 
-  pub settled-accepted : r .answer .number ≡ 0 → settled r h ≡ result (r .answer) (storedIn (r .state .table) (h .bytes) h) (r .reply)
+  pub settled-accepted : r .answer .number ≡ 0 → settled r h ≡ result (r .answer) (storedIn (r .state) (h .bytes) h) (r .reply)
   unfolding settled
   settled-accepted e = rw (eq-eqb (r .answer .number) 0 e)
 
@@ -65,3 +65,15 @@ module _ (h : Lent) (rows : List Row) (place : ℕ → ℕ) (reply : List ℕ) (
 
   pub no-row : firstOf rows ≡ none → settled accepted h ≡ settled (byRows rows place (stateIn h) reply accepted) h
   no-row e = ap (λ (o : Option ℕ). settled (orElse o (λ number. refuse number (place number) (stateIn h) reply) accepted) h) (sym e)
+
+  -- The same of a list, which leaves what is lent as it was.
+  abbrev pub listed : Result Lent
+  listed = let r = byRows rows place (stateIn h) reply accepted in result (r .answer) h (r .reply)
+
+  pub list-row-refuses : (n : ℕ) → (n ≡ 0 → ⊥) → firstOf rows ≡ some n → result (refusal n (place n)) h reply ≡ listed
+  list-row-refuses n k e =
+      ap (λ (o : Option ℕ). let r = orElse o (λ number. refuse number (place number) (stateIn h) reply) accepted in result (r .answer) h (r .reply)) (sym e)
+
+  pub list-no-row : firstOf rows ≡ none → result (accepted .answer) h (accepted .reply) ≡ listed
+  list-no-row e =
+      ap (λ (o : Option ℕ). let r = orElse o (λ number. refuse number (place number) (stateIn h) reply) accepted in result (r .answer) h (r .reply)) (sym e)

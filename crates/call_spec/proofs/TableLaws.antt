@@ -1,4 +1,5 @@
--- Laws of the table that an image is of: where it is sound, the buffer holds a full book, and the image is within it and is the table's.
+-- Laws of the table that an image is of: where it is sound, the buffer holds a full book, and the image is within it and is the table's; and where the rows of
+-- the sheet match it, the sheet is that of the rows.
 -- Assumes nothing.
 use Prim.Native.Nat.{ℕ, _+_, _-_, _≤_}
 use mathlib.Core.Path.{_≡_, refl, sym, ap, _∙_}
@@ -9,18 +10,24 @@ use mathlib.Core.Option.{Option, none, some, Option·some-ne-none}
 use native.Mathlib.Omega.{arith}
 use lib.ListN.{length, take, drop, replicate, take-append-drop}
 use lib.Seq.{length-take-le}
-use lib.Dec.{leb}
-use borrow.Author.Tests.{leb-true, le-leb}
+use lib.Dec.{leb, eqb}
+use borrow.Author.Tests.{leb-true, le-leb, eqb-true, eqb-false}
 use Rattle.lists.proofs.Tests.{bool-cases, cond-true, cond-false, and-to, and-of}
 use Rattle.table.specs.declared.LeaseTable.{LeaseTable}
 use Rattle.table.specs.Table.{headOk, sound, blank}
+use Rattle.table.proofs.TableLaws.{sound-slots}
+use Rattle.figures.proofs.RowsMatch.{matches-length}
 use Rattle.image.specs.Image.{fullImage, imageOf, loadedTable}
 use Rattle.image.specs.Reading.{headAt, loadImage}
+use Rattle.image.proofs.FieldLaws.{bytes-of}
 pub use Rattle.image.proofs.FieldLaws.{bytes-all}
 use Rattle.image.proofs.ImageLaws.{image-loaded}
+use Rattle.image_figures.specs.Sheets.{figuresSize, sheetOf, sheetRows}
+use Rattle.image_figures.proofs.SheetLaws.{sheet-none, bytes-read-back}
 use Rattle.ledger.specs.Sizes.{Byte, Bytes}
+use Rattle.ledger.specs.FiguresKept.{Matched}
 use Rattle.ledger.proofs.Counts.{upTo-all}
-use Rattle.call_spec.specs.ImageCalls.{Lent, holds?, imageIn, tableIn, over, stored}
+use Rattle.call_spec.specs.ImageCalls.{Lent, holds?, imageIn, tableIn, stateIn, over, stored}
 
 -- THE TWO WAYS OF A BUFFER
 
@@ -85,3 +92,18 @@ module _ (h : Lent) (s : sound (tableIn h) ≡ true) where
         ap (λ (l : List ℕ). l ++ drop (length l) (h .image)) same
         ∙ ap (λ (n : ℕ). take (h .bytes) (h .image) ++ drop n (h .image)) (length-take-le (h .bytes) (h .image) held-within)
         ∙ take-append-drop (h .bytes) (h .image)
+
+-- A SHEET THAT MATCHES has its size, and is the sheet of its rows.
+
+module _ (h : Lent) (s : sound (tableIn h) ≡ true) (m : Matched (stateIn h)) where
+  pub held-size : length (h .figures) ≡ figuresSize
+  held-size =
+      ⊎-elim
+      (λ (e : eqb (length (h .figures)) figuresSize ≡ true). eqb-true (length (h .figures)) figuresSize e)
+      (λ (e : eqb (length (h .figures)) figuresSize ≡ false).
+      let none-there : length (sheetRows (h .figures)) ≡ 0 = ap length (sheet-none (h .figures) (eqb-false (length (h .figures)) figuresSize e)) in
+      absurd (omega (arith, none-there, matches-length (tableIn h .leases) (sheetRows (h .figures)) m, sound-slots (tableIn h) s)))
+      (bool-cases (eqb (length (h .figures)) figuresSize))
+
+  pub held-sheet : Bytes (h .figures) → h .figures ≡ sheetOf (sheetRows (h .figures))
+  held-sheet b = bytes-read-back (h .figures) (bytes-of (h .figures) b) held-size

@@ -1,23 +1,26 @@
--- THE CALLS ON WHAT THE CODE IS LENT. A server that embeds the calls holds the table as its image, at the front of a buffer, and the image's length beside
--- it; both go from call to call. Each call is the ledger's on the table that the image is of, and leaves the image of the table that the ledger leaves.
-use Rattle.lists.specs.Basics.{ℕ, _-_, Bool, not, cond, _&&_, List, [], _∷_, _++_, length, drop, replicate, take as upTo, leb, ltb, eqb}
+-- THE CALLS ON WHAT THE CODE IS LENT. A server that embeds the calls holds the table as its image, at the front of a buffer, the image's length beside it,
+-- and the figures sheet; all three go from call to call. Each call is the ledger's on the table that the image is of and the sheet's rows, and leaves the
+-- image and the sheet of what the ledger leaves.
+use Rattle.lists.specs.Basics.{ℕ, _-_, Bool, not, cond, _&&_, _||_, List, [], _∷_, _++_, length, drop, replicate, take as upTo, leb, ltb, eqb}
 use Rattle.table.specs.declared.LeaseTable.{LeaseTable}
 use Rattle.table.specs.Table.{sound}
 use Rattle.table_open.specs.Open.{given, fresh}
 use Rattle.image.specs.Image.{fullImage, imageOf, loadedTable}
 use Rattle.image.specs.Reading.{loadImage}
-use Rattle.ledger.specs.Ledger.{State, state, Call, Result, result, accept, Row, byRows, openRows, ask, take, list, release, mark, Calls}
+use Rattle.image_figures.specs.Sheets.{figuresSize, sheetRows, sheetOf}
+use Rattle.ledger.specs.Ledger.{State, state, filled, Call, Result, result, accept, Row, byRows, openRows, ask, take, list, release, mark, Calls}
 use Rattle.ledger.specs.Demand3.{none?}
 
 -- WHAT IS LENT
 
--- The buffer with the image at its front, and the image's length.
+-- The buffer with the image at its front, the image's length, and the figures sheet. A call that has no sheet is given and leaves an empty one.
 pub record Lent : Type 0 where
   pub image : List ℕ
   pub bytes : ℕ
+  pub figures : List ℕ
 
-abbrev pub lent : List ℕ → ℕ → Lent
-lent image bytes = record { image = image; bytes = bytes }
+abbrev pub lent : List ℕ → ℕ → List ℕ → Lent
+lent image bytes figures = record { image = image; bytes = bytes; figures = figures }
 
 -- A buffer that cannot hold a full book, or not as many bytes as the image is said to have, holds no image.
 abbrev pub holds? : Lent → Bool
@@ -32,7 +35,7 @@ unfoldable pub tableIn : Lent → LeaseTable
 tableIn h = loadedTable (loadImage (imageIn h))
 
 abbrev pub stateIn : Lent → State
-stateIn h = state (tableIn h)
+stateIn h = state (tableIn h) (sheetRows (h .figures))
 
 -- WHAT A CALL LEAVES
 
@@ -44,12 +47,12 @@ over image old = image ++ replicate (old - length image) 0
 unfoldable pub stored : LeaseTable → ℕ → List ℕ → List ℕ
 stored t old buffer = over (imageOf t) old ++ drop (length (over (imageOf t) old)) buffer
 
-abbrev pub storedIn : LeaseTable → ℕ → Lent → Lent
-storedIn t old h = lent (stored t old (h .image)) (length (imageOf t))
+abbrev pub storedIn : State → ℕ → Lent → Lent
+storedIn s old h = lent (stored (s .table) old (h .image)) (length (imageOf (s .table))) (sheetOf (s .rows))
 
 -- What is lent after a call that gives r: "A refusal returns its number (7 also its place), all counts 0, and the old bytes everywhere."
 unfoldable pub settled : Result State → Lent → Result Lent
-settled r h = cond (eqb (r .answer .number) 0) (result (r .answer) (storedIn (r .state .table) (h .bytes) h) (r .reply)) (result (r .answer) h (r .reply))
+settled r h = cond (eqb (r .answer .number) 0) (result (r .answer) (storedIn (r .state) (h .bytes) h) (r .reply)) (result (r .answer) h (r .reply))
 
 -- THE CALLS
 
@@ -59,8 +62,9 @@ askImage h now c = settled (ask (stateIn h) now c) h
 abbrev pub takeImage : Lent → ℕ → Call → Result Lent
 takeImage h now c = settled (take (stateIn h) now c) h
 
+-- "List changes nothing", and it does not look at the sheet.
 abbrev pub listImage : Lent → ℕ → Call → Result Lent
-listImage h now c = settled (list (stateIn h) now c) h
+listImage h now c = let r = list (stateIn h) now c in result (r .answer) h (r .reply)
 
 abbrev pub releaseImage : Lent → ℕ → Call → Result Lent
 releaseImage h now c = settled (release (stateIn h) now c) h
@@ -73,21 +77,21 @@ imageCalls = record { stateOf = stateIn; asks = askImage; takes = takeImage; lis
 
 -- OPEN, LOAD AND SAVE
 
--- Open and load fill a buffer: row 14 last, where it cannot hold a full book.
+-- Open and load fill a buffer and a sheet: row 14 last, where the one cannot hold a full book or the other has not exactly its size.
 abbrev pub roomRows : Lent → List Row
-roomRows h = (14, ltb (length (h .image)) fullImage) ∷ []
+roomRows h = (14, ltb (length (h .image)) fullImage || not (eqb (length (h .figures)) figuresSize)) ∷ []
 
 -- They leave zeros up to the end of a full book: "A fresh book has 256 empty lines, all zero", and of an older book nothing is left behind.
 unfoldable pub openImage : Lent → List ℕ → List ℕ → ℕ → ℕ → ℕ → Result Lent
 openImage h networks lengths term defaultLength start =
     byRows (openRows networks lengths term defaultLength start ++ roomRows h) (λ number. 0) h []
-    (accept (storedIn (fresh (given networks lengths) term defaultLength start) fullImage h) [] 0 [])
+    (accept (storedIn (filled (fresh (given networks lengths) term defaultLength start)) fullImage h) [] 0 [])
 
 -- Row 5 is "for load and the sheet, the saved bytes only".
 unfoldable pub loadInto : Lent → List ℕ → Result Lent
 loadInto h saved =
     byRows ((5, none? (loadImage saved)) ∷ roomRows h) (λ number. 0) h []
-    (accept (storedIn (loadedTable (loadImage saved)) fullImage h) [] 0 [])
+    (accept (storedIn (filled (loadedTable (loadImage saved))) fullImage h) [] 0 [])
 
 -- The image into a buffer, the reply of this call; nothing that is lent changes.
 unfoldable pub saveFrom : Lent → List ℕ → Result Lent

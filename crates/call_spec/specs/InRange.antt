@@ -8,6 +8,7 @@ use Rattle.call_spec.specs.ImageCalls.{Lent, openImage, loadInto}
 pub record LentInRange (h : Lent) : Type 0 where
   pub image : Bytes (h .image)
   pub bytes : Word (h .bytes)
+  pub figures : Bytes (h .figures)
 
 -- Open and load, which fill it.
 abbrev pub OpensInRange : Type 0

@@ -1,2 +1,4 @@
+pub mod PlaceLaws
 pub mod RenewLaws
+pub mod FileLaws
 pub mod TakeLaws

@@ -1,2 +1,3 @@
+pub mod InnerPlaces
 pub mod InnerRenewed
 pub mod InnerTaking

@@ -5,40 +5,74 @@ use image::LEASE;
 use image::POOL;
 use image_check::ImageSummary;
 use ledger::Answer;
+use option::Figures;
 ghost use mathlib.Core.Path.{_≡_};
 ghost use mathlib.Core.List.{List};
 ghost use Prim.Native.Nat.{ℕ, _+_, _*_, _≤_, _<_};
-ghost use lib.ListN.{length};
+ghost use lib.ListN.{length, take as upTo};
 ghost use Rattle.option.specs.Values.{Entry};
 ghost use Rattle.table.specs.declared.Lease.{Lease};
+ghost use Rattle.table.specs.Table.{addresses, poolSlots, leaseSlots};
+ghost use Rattle.image_check.specs.declared.ImageSummary.{ImageSummary};
 ghost use Rattle.image_records.specs.Records.{Records, Ascending};
 ghost use Rattle.image.specs.Image.{leaseSize};
+ghost use Rattle.figures.specs.declared.FigureRow.{FigureRow};
+ghost use Rattle.figures.specs.Inner.{withEach, filing};
+ghost use Rattle.image_figures.specs.Sheets.{rowSize, sheetOf};
 ghost use Rattle.ledger.specs.Ledger.{call, result};
 ghost use Rattle.call_entries.specs.EntryLeases.{Hold};
 ghost use Rattle.call_spec.specs.ImageCalls.{lent, takeImage};
-ghost use Rattle.call_take.specs.InnerTaking.{TakeSized, Taking};
+ghost use Rattle.call_take.specs.InnerTaking.{renewalOf, TakeSized, Taking};
 ghost use Rattle.call_take.specs.InnerRenewed.{Renewed};
+ghost use Rattle.call_take.specs.InnerPlaces.{filedAt, ToFile};
 
-// Renews each lease that an entry names, and shows it in the reply; how many. The first one makes the call an accepted one,
-// so the image and the reply may be written at once.
-fn renew_named(
-    image: &mut [u8],
+// The n leases from `from` on, of which so many have expired, and what becomes of those that are named.
+struct Renewal {
     from: usize,
     n: usize,
+    expired: usize,
     expiry: Expiry,
+}
+
+fn renewal_of(summary: ImageSummary, client: u32, time: u32) -> Renewal
+    requires { ⌜ (summary .pools ≤ poolSlots) × (time + summary .term < addresses) ⌝ }
+    ensures { λ r. ⌜ r ≡ renewalOf client time summary ⌝ }
+{
+    Renewal {
+        from: HEAD + POOL * summary.pools,
+        n: summary.leases,
+        expired: summary.expired,
+        expiry: Expiry {
+            client,
+            time,
+            expires: time + summary.term,
+        },
+    }
+}
+
+// Renews each lease that an entry names, and shows it in the reply; how many. The first one makes the call an accepted one,
+// so the image and the reply may be written at once. For each entry the place of its lease is kept, or n.
+fn renew_named(
+    image: &mut [u8],
+    renewal: Renewal,
     networks: &[u32],
     lengths: &[u8],
+    places: &mut [u16],
     reply: &mut [u8],
 ) -> usize
-    requires { ⌜ (from + leaseSize * n ≤ length (now image)) × (length (now networks) ≡ length (now lengths)) × (6 + 7 * length (now networks) ≤ length (now reply)) × (expiry .time < expiry .expires) ⌝ }
+    requires { ⌜ (renewal .from + leaseSize * renewal .n ≤ length (now image)) × (renewal .n ≤ leaseSlots) × (length (now networks) ≡ length (now lengths)) × (length (now networks) ≤ length (now places)) × (6 + 7 * length (now networks) ≤ length (now reply)) × (renewal .expiry .time < renewal .expiry .expires) ⌝ }
     ensures { λ r. ⌜ r ≤ length (now (networks .entry)) ⌝ }
-    ensures { λ r. ⌜ ((xs : List Lease) → Records (now (image .entry)) from xs → n ≡ length xs → Ascending xs → (es : List Entry) → Hold (now (networks .entry)) (now (lengths .entry)) es
-        → Renewed (now (image .entry)) from xs (expiry .time) (expiry .client) (expiry .expires) es (now (reply .entry)) (now (image .exit)) (now (reply .exit)) r) ⌝ }
+    ensures { λ r. ⌜ ((xs : List Lease) → Records (now (image .entry)) (renewal .from) xs → renewal .n ≡ length xs → Ascending xs → (es : List Entry) → Hold (now (networks .entry)) (now (lengths .entry)) es
+        → Renewed (now (image .entry)) (renewal .from) xs (renewal .expiry .time) (renewal .expiry .client) (renewal .expiry .expires) es (now (reply .entry))
+        (now (image .exit)) (upTo (length (now (networks .entry))) (now (places .exit))) (now (reply .exit)) r) ⌝ }
 {
+    let from = renewal.from;
+    let n = renewal.n;
     let mut shown: usize = 0;
     let mut k: usize = 0;
     while k < networks.len() {
-        let i = call_entries::set_expiry(image, from, n, expiry, networks[k], lengths[k]);
+        let i = call_entries::set_expiry(image, from, n, renewal.expiry, networks[k], lengths[k]);
+        places[k] = i as u16;
         if i < n {
             let x = image_records::lease_at(image, from + LEASE * i);
             option_reply::put_lease(reply, 6 + 7 * shown, x);
@@ -49,58 +83,91 @@ fn renew_named(
     shown
 }
 
+fn wide(x: u16) -> usize
+    ensures { λ r. ⌜ r ≡ x ⌝ }
+{
+    x as usize
+}
+
+// Files figures in the row at a place below n. Where there are none the row is as it was.
+fn file_at(sheet: &mut [u8], n: usize, place: usize, f: Figures)
+    requires { ⌜ rowSize * n ≤ length (now sheet) ⌝ }
+    ensures { λ _. ⌜ ((rows : List FigureRow) → now (sheet .entry) ≡ sheetOf rows → now (sheet .exit) ≡ sheetOf (filedAt n place f rows)) ⌝ }
+{
+    if f.count == 0 {
+        return;
+    }
+    if n <= place {
+        return;
+    }
+    image_figures::file(sheet, place, f);
+}
+
+// Files the figures of each entry in the row of the lease that it names: the places are those of the leases, or n. The option is
+// read once more, as only an accepted take has a use for figures.
+fn file_named(figures: &mut [u8], option: &[u8], places: &[u16], n: usize)
+    requires { ⌜ rowSize * n ≤ length (now figures) ⌝ }
+    ensures { λ _. ⌜ ((time client : ℕ) (xs : List Lease) (es : List Entry) (rs : List FigureRow) → ToFile (now (option .entry)) (now (places .entry)) (now (figures .entry)) n time client xs es rs
+        → now (figures .exit) ≡ sheetOf (withEach (filing time client es) xs rs)) ⌝ }
+{
+    let mut entries = call_entries::first_entries();
+    let mut k: usize = 0;
+    while k < places.len() {
+        let read = call_entries::read_figures(option, entries);
+        let place = wide(places[k]);
+        file_at(figures, n, place, read.figures);
+        entries = read.next;
+        k = k + 1;
+    }
+}
+
 // Row 11, and what is found, once every row before it has passed. The columns have the networks and lengths of the entries.
 fn renew_found(
     image: &mut [u8],
     image_bytes: &mut usize,
-    client: u32,
-    time: u32,
-    reply: &mut [u8],
-    summary: ImageSummary,
+    figures: &mut [u8],
+    renewal: Renewal,
+    option: &[u8],
     networks: &[u32],
     lengths: &[u8],
+    reply: &mut [u8],
 ) -> Answer
-    requires { ⌜ TakeSized (lent (now image) (now «image_bytes»)) time summary (now reply) (now networks) (now lengths) ⌝ }
-    ensures { λ r. ⌜ ((option : List ℕ) → Taking (lent (now (image .entry)) (now («image_bytes» .entry))) time (call client option (now (reply .entry))) summary (now (networks .entry)) (now (lengths .entry))
-        → result r (lent (now (image .exit)) (now («image_bytes» .exit))) (now (reply .exit))
-        ≡ takeImage (lent (now (image .entry)) (now («image_bytes» .entry))) time (call client option (now (reply .entry)))) ⌝ }
+    requires { ⌜ TakeSized (lent (now image) (now «image_bytes») (now figures)) renewal (now reply) (now networks) (now lengths) ⌝ }
+    ensures { λ r. ⌜ ((client time : ℕ) (summary : ImageSummary) → renewal ≡ renewalOf client time summary
+        → Taking (lent (now (image .entry)) (now («image_bytes» .entry)) (now (figures .entry))) time (call client (now (option .entry)) (now (reply .entry))) summary (now (networks .entry)) (now (lengths .entry))
+        → result r (lent (now (image .exit)) (now («image_bytes» .exit)) (now (figures .exit))) (now (reply .exit))
+        ≡ takeImage (lent (now (image .entry)) (now («image_bytes» .entry)) (now (figures .entry))) time (call client (now (option .entry)) (now (reply .entry)))) ⌝ }
 {
-    let from = HEAD + POOL * summary.pools;
-    let expiry = Expiry {
-        client,
-        time,
-        expires: time + summary.term,
-    };
-    let shown = renew_named(
-        image,
-        from,
-        summary.leases,
-        expiry,
-        networks,
-        lengths,
-        reply,
-    );
+    let mut places = [0u16; option_scan::MOST_ENTRIES];
+    let shown = renew_named(image, renewal, networks, lengths, &mut places, reply);
     if shown == 0 {
         return call_spec::refused(11, 0);
     }
     let reply_bytes = option_reply::put_heads(reply, shown, false, false);
-    *image_bytes = call_rows::remove_expired(image, from, summary.leases, summary.expired, time);
+    let from = renewal.from;
+    let n = renewal.n;
+    file_named(figures, option, &places[..networks.len()], n);
+    let expired = renewal.expired;
+    let time = renewal.expiry.time;
+    call_rows::strike_expired(figures, image, from, n, expired, time);
+    *image_bytes = call_rows::remove_expired(image, from, n, expired, time);
     call_spec::accepted(reply_bytes as u32, shown as u32)
 }
 
 pub fn take(
     image: &mut [u8],
     image_bytes: &mut usize,
+    figures: &mut [u8],
     client: u32,
     time: u32,
     option: &[u8],
     reply: &mut [u8],
 ) -> Answer
-    ensures { λ r. ⌜ result r (lent (now (image .exit)) (now («image_bytes» .exit))) (now (reply .exit))
-        ≡ takeImage (lent (now (image .entry)) (now («image_bytes» .entry))) time (call client (now (option .entry)) (now (reply .entry))) ⌝ }
+    ensures { λ r. ⌜ result r (lent (now (image .exit)) (now («image_bytes» .exit)) (now (figures .exit))) (now (reply .exit))
+        ≡ takeImage (lent (now (image .entry)) (now («image_bytes» .entry)) (now (figures .entry))) time (call client (now (option .entry)) (now (reply .entry))) ⌝ }
 {
     let bytes = *image_bytes;
-    let admission = call_rows::admit(image, bytes, reply.len(), client, time);
+    let admission = call_rows::admit(image, bytes, figures, true, reply.len(), client, time);
     if admission.number != 0 {
         return call_spec::refused(admission.number, 0);
     }
@@ -112,15 +179,15 @@ pub fn take(
         return answer;
     }
     let n = read.count;
-    let summary = admission.summary;
+    let renewal = renewal_of(admission.summary, client, time);
     renew_found(
         image,
         image_bytes,
-        client,
-        time,
-        reply,
-        summary,
+        figures,
+        renewal,
+        option,
         &networks[..n],
         &lengths[..n],
+        reply,
     )
 }

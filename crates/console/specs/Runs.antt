@@ -6,7 +6,7 @@ use mathlib.Core.List.{List, [], _++_}
 use lib.ListN.{length, drop}
 use Rattle.text.specs.Ascii.{ascii}
 use Rattle.call_spec.specs.ImageCalls.{Lent}
-use Rattle.console_script.specs.Commands.{CommandValue, call, mark, «open», load, save, sheet, read, write, buffer, nothing, bad}
+use Rattle.console_script.specs.Commands.{CommandValue, call, mark, «open», load, save, sheet, read, write, figures, setFigures, buffer, nothing, bad}
 use Rattle.console_script.specs.Parsing.{parseLine}
 use Rattle.console_session.specs.declared.State.{State}
 use Rattle.console_session.specs.States.{nextLine}
@@ -22,6 +22,8 @@ replyAfter save old = old
 replyAfter sheet old = old
 replyAfter (read octets) old = old
 replyAfter (write words) old = old
+replyAfter figures old = old
+replyAfter (setFigures octets) old = old
 replyAfter (buffer n) old = n
 replyAfter nothing old = old
 replyAfter bad old = old
@@ -36,6 +38,8 @@ passedOver? save = false
 passedOver? sheet = false
 passedOver? (read octets) = false
 passedOver? (write words) = false
+passedOver? figures = false
+passedOver? (setFigures octets) = false
 passedOver? (buffer n) = false
 passedOver? nothing = true
 passedOver? bad = false

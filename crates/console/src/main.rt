@@ -1,5 +1,5 @@
 // Runs a script of calls, and writes what each call answers to standard output. Everything that matters is in the proved libraries.
-// Memory is constant: a chunk of the input, one line and a copy of it, the book, the reply buffer and the output, each of a fixed size.
+// Memory is constant: a chunk of the input, one line and a copy of it, the book, the figures sheet, the reply buffer and the output, each of a fixed size.
 use console_input::NAME;
 use console_input::Reader;
 use console_reason::REASON;
@@ -11,6 +11,7 @@ use program::Request;
 ghost use mathlib.Core.Path.{_≡_};
 ghost use Prim.Native.Nat.{_≤_, _<_};
 ghost use lib.ListN.{length, drop};
+ghost use Rattle.image_figures.specs.Sheets.{figuresSize};
 ghost use Rattle.call_spec.specs.ImageCalls.{lent};
 ghost use Rattle.console_input.specs.Lines.{lineSpace};
 ghost use Rattle.console_session.specs.States.{AnswerFits, LineFits, OutputHolds, Unchanged};
@@ -19,7 +20,7 @@ ghost use Rattle.console_commands.specs.Commands.{given, Ran};
 ghost use Rattle.console.specs.Runs.{RanLine};
 ghost use Rattle.console.specs.InnerRuns.{Echoed, Buffered};
 
-const HELP: [u8; 748] = *b"usage: console [--echo] [FILE]
+const HELP: [u8; 765] = *b"usage: console [--echo] [FILE]
 
 Runs the commands in FILE, one to a line, and prints what each call answers. Without FILE,
 or where it is -, the commands are read from standard input.
@@ -32,7 +33,7 @@ or where it is -, the commands are read from standard input.
 Commands:
   open TERM DEFAULT START PREFIX..    ask, take, list, return STATION NOW OPTION
   mark NOW PREFIX D                   save, load IMAGE, sheet
-  read OPTION, write ITEM..           buffer N
+  read OPTION, write ITEM..           figures [SHEET], buffer N
 
 A line that is no command answers 'error line N', and standard error has the reason. What
 cannot be read or written is told there too. The exit status is always 0.
@@ -48,30 +49,41 @@ fn run(
     line: &mut [u8],
     image: &mut [u8],
     image_bytes: &mut usize,
+    figures: &mut [u8],
     reply: &mut [u8],
     out: &mut [u8],
 ) -> usize
     requires { ⌜ AnswerFits (s .at) (now out) × (length (now reply) ≡ s .«reply_length») × (length (now reply) ≤ longestReply) × Within (length (now line)) command ⌝ }
+    requires { ⌜ length (now figures) ≡ figuresSize ⌝ }
     ensures { λ r. ⌜ r ≤ length (now (out .entry)) ⌝ }
     ensures { λ r. ⌜ Ran (valueIn (now (line .entry)) command)
-        (given (lent (now (image .entry)) (now («image_bytes» .entry))) (s .«reply_length») (s .lines) (drop (s .at) (now (out .entry))))
-        (lent (now (image .exit)) (now («image_bytes» .exit))) (now (out .entry)) (s .at) (now (out .exit)) r ⌝ }
+        (given (lent (now (image .entry)) (now («image_bytes» .entry)) (now (figures .entry))) (s .«reply_length») (s .lines) (drop (s .at) (now (out .entry))))
+        (lent (now (image .exit)) (now («image_bytes» .exit)) (now (figures .exit))) (now (out .entry)) (s .at) (now (out .exit)) r ⌝ }
 {
     match command {
         Command::Call(c) => {
             let from = c.from;
             let to = c.to;
-            console_commands::call(s, c, &line[from..to], image, image_bytes, reply, out)
+            console_commands::call(
+                s,
+                c,
+                &line[from..to],
+                image,
+                image_bytes,
+                figures,
+                reply,
+                out,
+            )
         }
-        Command::Mark(c) => console_commands::mark(s, c, image, image_bytes, out),
+        Command::Mark(c) => console_commands::mark(s, c, image, image_bytes, figures, out),
         Command::Open(c) => {
             let from = c.from;
-            console_commands::open(s, c, &line[from..], image, image_bytes, out)
+            console_commands::open(s, c, &line[from..], image, image_bytes, figures, out)
         }
         Command::Load(c) => {
             let from = c.from;
             let to = c.to;
-            console_commands::load(s, &line[from..to], image, image_bytes, out)
+            console_commands::load(s, &line[from..to], image, image_bytes, figures, out)
         }
         Command::Save => console_commands::save(s, image, *image_bytes, out),
         Command::Sheet => console_commands::sheet(s, image, *image_bytes, out),
@@ -83,6 +95,12 @@ fn run(
         Command::Write(c) => {
             let from = c.from;
             console_commands::write(s, &mut line[from..], reply, out)
+        }
+        Command::Figures => console_commands::figures(s, figures, out),
+        Command::SetFigures(c) => {
+            let from = c.from;
+            let to = c.to;
+            console_commands::set_figures(s, &line[from..to], figures, out)
         }
         Command::Buffer(_) => console_lines::ok(out, s.at),
         Command::Nothing => s.at,
@@ -138,18 +156,19 @@ fn run_line(
     kept: &[u8],
     image: &mut [u8],
     image_bytes: &mut usize,
-    reply: &mut [u8],
+    figures: &mut [u8],
     out: &mut [u8],
 ) -> State
     requires { ⌜ LineFits (s .at) (now out) ⌝ }
     requires { ⌜ (now kept ≡ now line) × (length (now kept) ≤ lineSpace) ⌝ }
-    requires { ⌜ (s .«reply_length» ≤ longestReply) × (longestReply ≡ length (now reply)) ⌝ }
+    requires { ⌜ (s .«reply_length» ≤ longestReply) × (length (now figures) ≡ figuresSize) ⌝ }
     ensures { λ r. ⌜ (r .at ≤ length (now (out .entry))) × (r .«reply_length» ≤ longestReply) ⌝ }
-    ensures { λ r. ⌜ RanLine s (now (line .entry)) (lent (now (image .entry)) (now («image_bytes» .entry))) (now (out .entry))
-        r (lent (now (image .exit)) (now («image_bytes» .exit))) (now (out .exit)) ⌝ }
+    ensures { λ r. ⌜ RanLine s (now (line .entry)) (lent (now (image .entry)) (now («image_bytes» .entry)) (now (figures .entry))) (now (out .entry))
+        r (lent (now (image .exit)) (now («image_bytes» .exit)) (now (figures .exit))) (now (out .exit)) ⌝ }
 {
     let command = console_script::read_command(line);
     let begun = echo(console_session::next_line(s), command, kept, out);
+    let mut reply = [0u8; REPLY];
     let n = begun.reply_length;
     let end = run(
         begun,
@@ -157,6 +176,7 @@ fn run_line(
         line,
         image,
         image_bytes,
+        figures,
         &mut reply[0..n],
         out,
     );
@@ -172,13 +192,13 @@ fn end_line(
     kept: &mut [u8],
     image: &mut [u8],
     image_bytes: &mut usize,
-    reply: &mut [u8],
+    figures: &mut [u8],
     out: &mut [u8],
 ) -> State
     requires { ⌜ r .pending ≤ length (now line) ⌝ }
     requires { ⌜ LineFits (s .at) (now out) ⌝ }
     requires { ⌜ (lineSpace ≡ length (now line)) × (lineSpace ≡ length (now kept)) ⌝ }
-    requires { ⌜ (s .«reply_length» ≤ longestReply) × (longestReply ≡ length (now reply)) ⌝ }
+    requires { ⌜ (s .«reply_length» ≤ longestReply) × (length (now figures) ≡ figuresSize) ⌝ }
     ensures { λ r. ⌜ (r .at ≤ length (now (out .entry))) × (r .«reply_length» ≤ longestReply) ⌝ }
 {
     if s.failed {
@@ -194,7 +214,7 @@ fn end_line(
             &kept[0..n],
             image,
             image_bytes,
-            reply,
+            figures,
             out,
         );
     }
@@ -223,11 +243,11 @@ fn run_script(
     line: &mut [u8],
     kept: &mut [u8],
     image: &mut [u8],
-    reply: &mut [u8],
+    figures: &mut [u8],
     out: &mut [u8],
 )
     requires { ⌜ (lineSpace ≡ length (now line)) × (lineSpace ≡ length (now kept)) ⌝ }
-    requires { ⌜ longestReply ≡ length (now reply) ⌝ }
+    requires { ⌜ length (now figures) ≡ figuresSize ⌝ }
     requires { ⌜ OutputHolds (now out) ⌝ }
 {
     let mut s = console_session::first_state(echo);
@@ -238,7 +258,7 @@ fn run_script(
     while 0 < turns {
         s = console_session::make_room(s, r.from == r.to, out);
         r = console_input::go_on(fd, r, input, line);
-        s = end_line(s, r, line, kept, image, &mut image_bytes, reply, out);
+        s = end_line(s, r, line, kept, image, &mut image_bytes, figures, out);
         turns = turns_left(turns, s, r);
     }
     console_session::flush(s, out);
@@ -250,7 +270,7 @@ fn run_input(fd: i32, echo: bool) {
     let mut line = console_input::line();
     let mut kept = console_input::line();
     let mut image = [0u8; FULL_IMAGE];
-    let mut reply = [0u8; REPLY];
+    let mut figures = console_session::first_figures();
     let mut out = console_session::output();
     run_script(
         fd,
@@ -259,7 +279,7 @@ fn run_input(fd: i32, echo: bool) {
         &mut line,
         &mut kept,
         &mut image,
-        &mut reply,
+        &mut figures,
         &mut out,
     );
 }

@@ -6,26 +6,29 @@ use mathlib.Core.Path.{_≡_, refl, sym, ap, ap₂, subst, _∙_}
 use mathlib.Core.Bool.{Bool, true, false, cond}
 use mathlib.Core.Option.{Option, none, some}
 use mathlib.Core.Logic.{inl, inr}
-use mathlib.Core.List.{List, [], _++_}
+use mathlib.Core.List.{List, [], _++_, append-nil}
 use lib.ListN.{length, take, drop, length-append, length-drop}
 use lib.Seq.{take-at, length-take-le, take-append-le, take-append-add, take-all}
 use borrow.Author.Tests.{eq-eqb, ne-eqb}
 use Rattle.lists.proofs.PutLaws.{put-fits}
+use Rattle.lists.proofs.DropLaws.{drop-end}
 use Rattle.text.specs.Wrote.{Wrote}
 use Rattle.ledger.specs.declared.Answer.{Answer}
 use Rattle.ledger.specs.Ledger.{Result, result}
-use Rattle.call_spec.specs.ImageCalls.{Lent, openImage}
+use Rattle.image.specs.Image.{fullImage}
+use Rattle.call_spec.specs.ImageCalls.{Lent, lent, openImage, saveFrom}
+use Rattle.call_spec.specs.OnImages.{GivenAlike}
 use Rattle.call_sheet.specs.SheetImage.{sheetImage}
 use Rattle.console_words.specs.Prefixes.{Columns, prefixesIn}
 use Rattle.console_words.specs.declared.Prefixes.{Prefixes}
 use Rattle.console_script.specs.declared.OptionCall.{OptionCall}
-use Rattle.console_script.specs.Commands.{CommandValue, call, «open», sheet, withPrefixes}
+use Rattle.console_script.specs.Commands.{CommandValue, call, «open», save, sheet, withPrefixes}
 use Rattle.console_lines.proofs.TextLaws.{first-bytes}
 use Rattle.console_lines.specs.Lines.{errorLine, refusedLine, doneLine, writtenLine}
 use Rattle.console_write.specs.declared.Outcome.{Outcome}
 use Rattle.console_write.specs.declared.Outcome.the-variants as outcome
 use Rattle.console_write.specs.Writes.{Writes, WroteOne}
-use Rattle.console_commands.specs.Commands.{Given, callOn, callLine, With, Done, Appended, Ran, WroteOption, sheetText}
+use Rattle.console_commands.specs.Commands.{Given, callOn, callLine, savedLine, With, Done, Appended, Ran, WroteOption, sheetText}
 
 -- OUTPUT
 
@@ -54,6 +57,11 @@ front-appended old at part post text new next le inside w =
 
 -- CALLS
 
+-- What a call that has no figures sheet gives, with the sheet beside it.
+pub beside : (image : List ℕ) (bytes : ℕ) (figures : List ℕ) (f : Lent → Result Lent) → GivenAlike image bytes figures f → (a : Answer) (after : List ℕ) → result a (lent image bytes []) after ≡ f (lent image bytes [])
+    → result a (lent image bytes figures) after ≡ f (lent image bytes figures)
+beside image bytes figures f alike a after same = ap (λ (q : Result Lent). result (q .answer) (lent image bytes figures) (q .reply)) same ∙ sym alike
+
 pub done-does : (a : Answer) (h : Lent) (q : Result Lent) → result a h [] ≡ q → Done q h (doneLine a)
 done-does a h q same = record { leaves = ap (λ (r : Result Lent). r .state) same; says = ap (λ (r : Result Lent). doneLine (r .answer)) same }
 
@@ -65,6 +73,14 @@ module _ (g : Given) (a : Answer) (h : Lent) (old : List ℕ) (at : ℕ) (new : 
         text = callLine y (result a h after);
         does = subst (λ (z : OptionCall). With (g .replyLength) (callOn z (g .book) client time option) (callLine z) h (callLine y (result a h after))) (sym e)
             (record { buffer = reply; size = size; leaves = ap (λ (q : Result Lent). q .state) same; says = ap (callLine y) same });
+        wrote = appended old at _ new next inside w;
+      }
+
+  pub save-ran : (buffer after : List ℕ) → length buffer ≡ fullImage → result a h after ≡ saveFrom (g .book) buffer → Wrote old at (savedLine (result a h after)) new next → Ran save g h old at new next
+  save-ran buffer after size same w =
+      record {
+        text = savedLine (result a h after);
+        does = record { buffer = buffer; size = size; leaves = ap (λ (q : Result Lent). q .state) same; says = ap savedLine same };
         wrote = appended old at _ new next inside w;
       }
 
@@ -130,3 +146,10 @@ module _ (g : Given) (a : Answer) (part : List ℕ) (x y : List ℕ) (first : x 
   pub sheet-shows : (n : ℕ) → a .number ≡ 0 → n ≤ length part → (length part < a .bytes → n ≡ length part) → (a .bytes ≤ length part → n ≡ a .bytes) → Ran sheet g (g .book) old at (take at old ++ (part ++ post)) (at + n)
   sheet-shows n e few over under =
       record { text = take n part; does = (refl, sym (column n part) ∙ first-bytes (a .bytes) n part over under ∙ sheet-shown (a, part) e ∙ ap sheetText here); wrote = part-appended old at n part post le few }
+
+-- FIGURES
+
+-- All of a sheet copied over another is that sheet.
+pub copied-whole : (octets old new : List ℕ) → length octets ≡ length old → new ≡ take (length octets) octets ++ drop (length octets) old → new ≡ octets
+copied-whole octets old new size e =
+    e ∙ ap₂ (λ (l m : List ℕ). l ++ m) (take-all (length octets) octets (omega arith)) (drop-end old (length octets) (omega arith)) ∙ append-nil octets

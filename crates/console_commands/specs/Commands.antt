@@ -1,5 +1,5 @@
 -- WHAT EACH COMMAND OF A SCRIPT DOES: the call that it is, with the line's own arguments; the book that the call leaves; and the line of its answer.
--- The book is the image in its buffer, with its length.
+-- The book is the image in its buffer, with its length, and the figures sheet beside it.
 use Prim.Native.Nat.{ℕ, _+_}
 use mathlib.Core.Path.{_≡_}
 use mathlib.Core.Bool.{not, cond}
@@ -10,13 +10,15 @@ use lib.Dec.{eqb}
 use Rattle.ledger.specs.declared.Answer.{Answer}
 use Rattle.ledger.specs.Ledger.{Result}
 use Rattle.ledger.specs.Ledger.{call as message}
-use Rattle.call_spec.specs.ImageCalls.{Lent, askImage, takeImage, listImage, releaseImage, markImage, openImage, loadInto, saveFrom}
+use Rattle.image_figures.specs.Sheets.{sheetRows}
+use Rattle.call_spec.specs.ImageCalls.{Lent, lent, askImage, takeImage, listImage, releaseImage, markImage, openImage, loadInto, saveFrom}
 use Rattle.image.specs.Image.{fullImage}
 use Rattle.call_sheet.specs.SheetImage.{sheetImage}
 use Rattle.console_script.specs.declared.OptionCall.{OptionCall}
 use Rattle.console_script.specs.declared.OptionCall.the-variants.{Ask, Take, List as ListCall, Return}
-use Rattle.console_script.specs.Commands.{CommandValue, call, mark, «open», load, save, sheet, read, write, buffer, nothing, bad}
+use Rattle.console_script.specs.Commands.{CommandValue, call, mark, «open», load, save, sheet, read, write, figures, setFigures, buffer, nothing, bad}
 use Rattle.console_lines.specs.Lines.{okLine, errorLine, refusedLine, doneLine, countedLine, repliedLine, writtenLine}
+use Rattle.console_lines.specs.FigureLines.{figuresText}
 use Rattle.console_write.specs.Writes.{writtenAs}
 use Rattle.option.specs.Writing.{Writing}
 
@@ -76,6 +78,8 @@ Does save g book text = With fullImage (saveFrom (g .book)) savedLine book text
 Does sheet g book text = (book ≡ g .book) × (text ≡ sheetText (sheetImage (take (g .book .bytes) (g .book .image)) (g .room)))
 Does (read octets) g book text = book ≡ g .book
 Does (write words) g book text = (book ≡ g .book) × ((text ≡ errorLine (g .line)) ⊎ Written (g .replyLength) text)
+Does figures g book text = (book ≡ g .book) × (text ≡ figuresText (sheetRows (g .book .figures)))
+Does (setFigures octets) g book text = (book ≡ lent (g .book .image) (g .book .bytes) octets) × (text ≡ okLine)
 Does (buffer n) g book text = (book ≡ g .book) × (text ≡ okLine)
 Does nothing g book text = (book ≡ g .book) × (text ≡ [])
 Does bad g book text = (book ≡ g .book) × (text ≡ errorLine (g .line))

@@ -7,8 +7,10 @@ use console_session::State;
 use console_write::Outcome;
 use image::FULL_IMAGE;
 ghost use mathlib.Core.Path.{_≡_};
-ghost use Prim.Native.Nat.{_≤_};
+ghost use Prim.Native.Nat.{ℕ, _≤_};
 ghost use lib.ListN.{length, drop};
+ghost use mathlib.Core.List.{List};
+ghost use Rattle.image_figures.specs.Sheets.{figuresSize};
 ghost use Rattle.call_spec.specs.ImageCalls.{lent};
 ghost use Rattle.console_script.specs.Commands.{
   call as callValue,
@@ -17,6 +19,8 @@ ghost use Rattle.console_script.specs.Commands.{
   load as loadValue,
   save as saveValue,
   sheet as sheetValue,
+  figures as figuresValue,
+  setFigures as setFiguresValue,
   longestReply,
   mostPrefixes,
   withPrefixes,
@@ -35,23 +39,24 @@ pub fn call(
     option: &[u8],
     image: &mut [u8],
     image_bytes: &mut usize,
+    figures: &mut [u8],
     reply: &mut [u8],
     out: &mut [u8],
 ) -> usize
     requires { ⌜ AnswerFits (s .at) (now out) × (length (now reply) ≡ s .«reply_length») × (length (now reply) ≤ longestReply) ⌝ }
     ensures { λ r. ⌜ r ≤ length (now (out .entry)) ⌝ }
     ensures { λ r. ⌜ Ran (callValue (c .call) (c .client) (c .time) (now (option .entry)))
-        (given (lent (now (image .entry)) (now («image_bytes» .entry))) (s .«reply_length») (s .lines) (drop (s .at) (now (out .entry))))
-        (lent (now (image .exit)) (now («image_bytes» .exit))) (now (out .entry)) (s .at) (now (out .exit)) r ⌝ }
+        (given (lent (now (image .entry)) (now («image_bytes» .entry)) (now (figures .entry))) (s .«reply_length») (s .lines) (drop (s .at) (now (out .entry))))
+        (lent (now (image .exit)) (now («image_bytes» .exit)) (now (figures .exit))) (now (out .entry)) (s .at) (now (out .exit)) r ⌝ }
 {
     let call = c.call;
     match call {
         OptionCall::Ask => {
-            let a = call_ask::ask(image, image_bytes, c.client, c.time, option, reply);
+            let a = call_ask::ask(image, image_bytes, figures, c.client, c.time, option, reply);
             console_lines::replied(out, s.at, a, reply)
         }
         OptionCall::Take => {
-            let a = call_take::take(image, image_bytes, c.client, c.time, option, reply);
+            let a = call_take::take(image, image_bytes, figures, c.client, c.time, option, reply);
             console_lines::replied(out, s.at, a, reply)
         }
         OptionCall::List => {
@@ -59,7 +64,7 @@ pub fn call(
             console_lines::replied(out, s.at, a, reply)
         }
         OptionCall::Return => {
-            let a = call_release::release(image, image_bytes, c.client, c.time, option);
+            let a = call_release::release(image, image_bytes, figures, c.client, c.time, option);
             console_lines::counted(out, s.at, a)
         }
     }
@@ -71,17 +76,19 @@ pub fn mark(
     c: MarkLine,
     image: &mut [u8],
     image_bytes: &mut usize,
+    figures: &mut [u8],
     out: &mut [u8],
 ) -> usize
     requires { ⌜ AnswerFits (s .at) (now out) ⌝ }
     ensures { λ r. ⌜ r ≤ length (now (out .entry)) ⌝ }
     ensures { λ r. ⌜ Ran (markValue (c .time) (c .network) (c .length) (c .deprecated))
-        (given (lent (now (image .entry)) (now («image_bytes» .entry))) (s .«reply_length») (s .lines) (drop (s .at) (now (out .entry))))
-        (lent (now (image .exit)) (now («image_bytes» .exit))) (now (out .entry)) (s .at) (now (out .exit)) r ⌝ }
+        (given (lent (now (image .entry)) (now («image_bytes» .entry)) (now (figures .entry))) (s .«reply_length») (s .lines) (drop (s .at) (now (out .entry))))
+        (lent (now (image .exit)) (now («image_bytes» .exit)) (now (figures .exit))) (now (out .entry)) (s .at) (now (out .exit)) r ⌝ }
 {
     let a = call_mark::mark(
         image,
         image_bytes,
+        figures,
         c.network,
         c.length as u32,
         c.deprecated,
@@ -97,13 +104,14 @@ pub fn open(
     words: &[u8],
     image: &mut [u8],
     image_bytes: &mut usize,
+    figures: &mut [u8],
     out: &mut [u8],
 ) -> usize
     requires { ⌜ AnswerFits (s .at) (now out) ⌝ }
     ensures { λ r. ⌜ r ≤ length (now (out .entry)) ⌝ }
     ensures { λ r. ⌜ Ran (withPrefixes (prefixesOf mostPrefixes (now (words .entry))) (openValue (c .term) (c .«default_length») (c .start)))
-        (given (lent (now (image .entry)) (now («image_bytes» .entry))) (s .«reply_length») (s .lines) (drop (s .at) (now (out .entry))))
-        (lent (now (image .exit)) (now («image_bytes» .exit))) (now (out .entry)) (s .at) (now (out .exit)) r ⌝ }
+        (given (lent (now (image .entry)) (now («image_bytes» .entry)) (now (figures .entry))) (s .«reply_length») (s .lines) (drop (s .at) (now (out .entry))))
+        (lent (now (image .exit)) (now («image_bytes» .exit)) (now (figures .exit))) (now (out .entry)) (s .at) (now (out .exit)) r ⌝ }
 {
     let mut networks = [0u32; PREFIXES];
     let mut lengths = [0u8; PREFIXES];
@@ -115,6 +123,7 @@ pub fn open(
     let a = call_open::open(
         image,
         image_bytes,
+        figures,
         &networks[0..n],
         &lengths[0..n],
         c.term,
@@ -130,25 +139,26 @@ pub fn load(
     saved: &[u8],
     image: &mut [u8],
     image_bytes: &mut usize,
+    figures: &mut [u8],
     out: &mut [u8],
 ) -> usize
     requires { ⌜ AnswerFits (s .at) (now out) ⌝ }
     ensures { λ r. ⌜ r ≤ length (now (out .entry)) ⌝ }
     ensures { λ r. ⌜ Ran (loadValue (now (saved .entry)))
-        (given (lent (now (image .entry)) (now («image_bytes» .entry))) (s .«reply_length») (s .lines) (drop (s .at) (now (out .entry))))
-        (lent (now (image .exit)) (now («image_bytes» .exit))) (now (out .entry)) (s .at) (now (out .exit)) r ⌝ }
+        (given (lent (now (image .entry)) (now («image_bytes» .entry)) (now (figures .entry))) (s .«reply_length») (s .lines) (drop (s .at) (now (out .entry))))
+        (lent (now (image .exit)) (now («image_bytes» .exit)) (now (figures .exit))) (now (out .entry)) (s .at) (now (out .exit)) r ⌝ }
 {
-    let a = call_load::load(image, image_bytes, saved);
+    let a = call_load::load(image, image_bytes, figures, saved);
     console_lines::done(out, s.at, a)
 }
 
-// "save into a buffer that holds a full book"
+// "save into a buffer that holds a full book". Neither this nor the book's sheet has the figures sheet.
 pub fn save(s: State, image: &[u8], image_bytes: usize, out: &mut [u8]) -> usize
     requires { ⌜ AnswerFits (s .at) (now out) ⌝ }
     ensures { λ r. ⌜ r ≤ length (now (out .entry)) ⌝ }
-    ensures { λ r. ⌜ Ran saveValue
-        (given (lent (now (image .entry)) «image_bytes») (s .«reply_length») (s .lines) (drop (s .at) (now (out .entry))))
-        (lent (now (image .entry)) «image_bytes») (now (out .entry)) (s .at) (now (out .exit)) r ⌝ }
+    ensures { λ r. ⌜ ((figures : List ℕ) → Ran saveValue
+        (given (lent (now (image .entry)) «image_bytes» figures) (s .«reply_length») (s .lines) (drop (s .at) (now (out .entry))))
+        (lent (now (image .entry)) «image_bytes» figures) (now (out .entry)) (s .at) (now (out .exit)) r) ⌝ }
 {
     let mut buffer = [0u8; FULL_IMAGE];
     let a = call_save::save(image, image_bytes, &mut buffer);
@@ -159,9 +169,9 @@ pub fn save(s: State, image: &[u8], image_bytes: usize, out: &mut [u8]) -> usize
 pub fn sheet(s: State, image: &[u8], image_bytes: usize, out: &mut [u8]) -> usize
     requires { ⌜ AnswerFits (s .at) (now out) ⌝ }
     ensures { λ r. ⌜ r ≤ length (now (out .entry)) ⌝ }
-    ensures { λ r. ⌜ Ran sheetValue
-        (given (lent (now (image .entry)) «image_bytes») (s .«reply_length») (s .lines) (drop (s .at) (now (out .entry))))
-        (lent (now (image .entry)) «image_bytes») (now (out .entry)) (s .at) (now (out .exit)) r ⌝ }
+    ensures { λ r. ⌜ ((figures : List ℕ) → Ran sheetValue
+        (given (lent (now (image .entry)) «image_bytes» figures) (s .«reply_length») (s .lines) (drop (s .at) (now (out .entry))))
+        (lent (now (image .entry)) «image_bytes» figures) (now (out .entry)) (s .at) (now (out .exit)) r) ⌝ }
 {
     let n = console_lines::least(image_bytes, image.len());
     let at = s.at;
@@ -194,4 +204,27 @@ pub fn write(s: State, words: &mut [u8], buffer: &mut [u8], out: &mut [u8]) -> u
         Outcome::Bad => console_lines::error(out, s.at, s.lines),
         Outcome::Of(a) => console_lines::written(out, s.at, a, buffer),
     }
+}
+
+// The figures sheet, which is no part of the image.
+pub fn figures(s: State, sheet: &[u8], out: &mut [u8]) -> usize
+    requires { ⌜ AnswerFits (s .at) (now out) × (length (now sheet) ≡ figuresSize) ⌝ }
+    ensures { λ r. ⌜ r ≤ length (now (out .entry)) ⌝ }
+    ensures { λ r. ⌜ ((image : List ℕ) (bytes : ℕ) → Ran figuresValue
+        (given (lent image bytes (now (sheet .entry))) (s .«reply_length») (s .lines) (drop (s .at) (now (out .entry))))
+        (lent image bytes (now (sheet .entry))) (now (out .entry)) (s .at) (now (out .exit)) r) ⌝ }
+{
+    console_lines::figures_sheet(out, s.at, sheet)
+}
+
+// SHEET: as many bytes as a figures sheet has, which become the sheet.
+pub fn set_figures(s: State, octets: &[u8], sheet: &mut [u8], out: &mut [u8]) -> usize
+    requires { ⌜ AnswerFits (s .at) (now out) × (length (now octets) ≡ figuresSize) × (length (now sheet) ≡ figuresSize) ⌝ }
+    ensures { λ r. ⌜ r ≤ length (now (out .entry)) ⌝ }
+    ensures { λ r. ⌜ ((image : List ℕ) (bytes : ℕ) → Ran (setFiguresValue (now (octets .entry)))
+        (given (lent image bytes (now (sheet .entry))) (s .«reply_length») (s .lines) (drop (s .at) (now (out .entry))))
+        (lent image bytes (now (sheet .exit))) (now (out .entry)) (s .at) (now (out .exit)) r) ⌝ }
+{
+    bytes::copy(octets, sheet);
+    console_lines::ok(out, s.at)
 }

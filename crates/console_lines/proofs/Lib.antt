@@ -1,3 +1,5 @@
 pub mod SizeLaws
 pub mod TextLaws
 pub mod AnswerLaws
+pub mod FigureLaws
+mod FigureExamples

@@ -21,6 +21,16 @@ requestMost = 52
 abbrev pub addressMost : ℕ
 addressMost = 95
 
+-- A row of the figures sheet up to its figures; the name of a figure, and a figure with its name.
+abbrev pub rowHeadMost : ℕ
+rowHeadMost = 62
+
+abbrev pub figureNameMost : ℕ
+figureNameMost = 12
+
+abbrev pub figureMost : ℕ
+figureMost = figureNameMost + 10
+
 -- 28 bytes for each byte of an option hold its text.
 abbrev pub most : Suboption → ℕ
 most (Request r) = requestMost

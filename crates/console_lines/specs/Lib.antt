@@ -1,3 +1,4 @@
 pub mod Sizes
 pub mod InnerSizes
 pub mod Lines
+pub mod FigureLines

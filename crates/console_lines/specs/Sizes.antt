@@ -1,5 +1,6 @@
 -- How long the lines of answers can be.
 use Prim.Native.Nat.{ℕ, _+_, _*_}
+use Rattle.table.specs.Table.{leaseSlots}
 use Rattle.option.specs.Values.{longestOption}
 
 -- A line that is no command: its number has at most twenty digits.
@@ -17,3 +18,10 @@ octetsMost n = 2 * n + 58
 -- What the reader finds: 28 bytes for each of an option's, and ok.
 abbrev pub readMost : ℕ
 readMost = 28 * longestOption + 3
+
+-- The line of a row of the figures sheet, and the lines of a whole sheet with ok.
+abbrev pub rowMost : ℕ
+rowMost = 129
+
+abbrev pub rowsMost : ℕ
+rowsMost = rowMost * leaseSlots + 3

@@ -1,4 +1,7 @@
-// What calls answer and what the reader finds, as lines of text in a lent buffer.
+// What calls answer, what the reader finds and the figures sheet, as lines of text in a lent buffer.
+use figures::FigureRow;
+use figures::UNTOLD;
+use image_figures::ROW;
 use ledger::Answer;
 use option::Checked;
 use option::Cursor;
@@ -12,19 +15,36 @@ use option::Suboption;
 use option_entry::EntryCursor;
 use option_entry::EntryFields;
 use option_entry::EntryStep;
+use option_entry::HighWater;
+use option_entry::InUse;
+use option_entry::Unusable;
+use table::LEASES;
 ghost use mathlib.Core.Path.{_≡_};
 ghost use Prim.Native.Nat.{_+_, _-_, _*_, _≤_, _<_};
 ghost use mathlib.Core.List.{_++_};
 ghost use lib.ListN.{length, take};
 ghost use Rattle.text.specs.Ascii.{ascii};
 ghost use Rattle.option.specs.declared.Suboption.the-variants as Suboption;
-ghost use Rattle.console_lines.specs.Sizes.{errorMost, lineMost, octetsMost, readMost};
+ghost use Rattle.table.specs.Table.{noLease};
+ghost use Rattle.figures.specs.Figures.{ofLease?};
+ghost use Rattle.image_figures.specs.Sheets.{figuresSize, sheetRows};
+ghost use Rattle.console_lines.specs.Sizes.{
+  errorMost,
+  lineMost,
+  octetsMost,
+  readMost,
+  rowMost,
+  rowsMost,
+};
 ghost use Rattle.console_lines.specs.InnerSizes.{
   headMost,
   figuresMost,
   entryMost,
   requestMost,
   addressMost,
+  rowHeadMost,
+  figureNameMost,
+  figureMost,
   most,
   Within,
 };
@@ -38,6 +58,15 @@ ghost use Rattle.console_lines.specs.Lines.{
   countedLine,
   repliedLine,
   writtenLine,
+};
+ghost use Rattle.console_lines.specs.FigureLines.{
+  figureText,
+  highWaterText,
+  inUseText,
+  unusableText,
+  prefixText,
+  rowText,
+  figuresText,
 };
 
 // ANSWERS
@@ -325,4 +354,102 @@ pub fn read(out: &mut [u8], at: usize, s: &[u8]) -> usize
         }
     }
     option(out, at, s)
+}
+
+// FIGURES
+
+// A figure behind its name; `-` where nothing was told.
+fn figure(out: &mut [u8], at: usize, name: &[u8], n: u16) -> usize
+    requires { ⌜ (length (now name) ≤ figureNameMost) × (at + figureMost ≤ length (now out)) ⌝ }
+    ensures { λ r. ⌜ r ≤ at + figureMost ⌝ }
+    ensures { λ r. ⌜ Wrote (now (out .entry)) at (now (name .entry) ++ figureText n) (now (out .exit)) r ⌝ }
+{
+    let a = console_text::text(out, at, name);
+    if n == UNTOLD {
+        return console_text::text(out, a, b"-");
+    }
+    console_text::fill(out, a, b"%", &[n as u32])
+}
+
+// Each figure as what it is.
+fn high_water(out: &mut [u8], at: usize, f: HighWater) -> usize
+    requires { ⌜ at + figureMost ≤ length (now out) ⌝ }
+    ensures { λ r. ⌜ r ≤ at + figureMost ⌝ }
+    ensures { λ r. ⌜ Wrote (now (out .entry)) at (highWaterText f) (now (out .exit)) r ⌝ }
+{
+    figure(out, at, b" high-water=", f.0)
+}
+
+fn in_use(out: &mut [u8], at: usize, f: InUse) -> usize
+    requires { ⌜ at + figureMost ≤ length (now out) ⌝ }
+    ensures { λ r. ⌜ r ≤ at + figureMost ⌝ }
+    ensures { λ r. ⌜ Wrote (now (out .entry)) at (inUseText f) (now (out .exit)) r ⌝ }
+{
+    figure(out, at, b" in-use=", f.0)
+}
+
+fn unusable(out: &mut [u8], at: usize, f: Unusable) -> usize
+    requires { ⌜ at + figureMost ≤ length (now out) ⌝ }
+    ensures { λ r. ⌜ r ≤ at + figureMost ⌝ }
+    ensures { λ r. ⌜ Wrote (now (out .entry)) at (unusableText f) (now (out .exit)) r ⌝ }
+{
+    figure(out, at, b" unusable=", f.0)
+}
+
+// A row's line up to its figures.
+fn row_head(out: &mut [u8], at: usize, r: FigureRow) -> usize
+    requires { ⌜ at + rowHeadMost ≤ length (now out) ⌝ }
+    ensures { λ end. ⌜ end ≤ at + rowHeadMost ⌝ }
+    ensures { λ end. ⌜ Wrote (now (out .entry)) at (ascii "figures " ++ prefixText (r .network) (r .length)) (now (out .exit)) end ⌝ }
+{
+    let n = r.network;
+    let numbers = [
+        n / 16777216,
+        n / 65536 % 256,
+        n / 256 % 256,
+        n % 256,
+        r.length as u32,
+    ];
+    console_text::fill(out, at, b"figures %.%.%.%/%", &numbers)
+}
+
+// Whether a row is that of an empty slot, whatever its figures are.
+fn is_empty_slot(r: FigureRow) -> bool
+    ensures { λ b. ⌜ b ≡ ofLease? noLease r ⌝ }
+{
+    if r.network != 0 {
+        return false;
+    }
+    r.length == 0
+}
+
+// The line of a row; that of an empty slot has none.
+fn row(out: &mut [u8], at: usize, r: FigureRow) -> usize
+    requires { ⌜ at + rowMost ≤ length (now out) ⌝ }
+    ensures { λ end. ⌜ end ≤ at + rowMost ⌝ }
+    ensures { λ end. ⌜ Wrote (now (out .entry)) at (rowText r) (now (out .exit)) end ⌝ }
+{
+    if is_empty_slot(r) {
+        return at;
+    }
+    let a = row_head(out, at, r);
+    let b = high_water(out, a, r.high_water);
+    let c = in_use(out, b, r.in_use);
+    let d = unusable(out, c, r.unusable);
+    console_text::text(out, d, b"\n")
+}
+
+// The rows of a figures sheet, and then ok.
+pub fn figures_sheet(out: &mut [u8], at: usize, sheet: &[u8]) -> usize
+    requires { ⌜ (length (now sheet) ≡ figuresSize) × (at + rowsMost ≤ length (now out)) ⌝ }
+    ensures { λ r. ⌜ r ≤ at + rowsMost ⌝ }
+    ensures { λ r. ⌜ Wrote (now (out .entry)) at (figuresText (sheetRows (now (sheet .entry)))) (now (out .exit)) r ⌝ }
+{
+    let mut end = at;
+    let mut i: usize = 0;
+    while i < LEASES {
+        end = row(out, end, image_figures::row_at(sheet, ROW * i));
+        i = i + 1;
+    }
+    ok(out, end)
 }

@@ -6,6 +6,7 @@ use console_words::Number;
 use console_words::PrefixWord;
 use console_write::FiguresWord;
 use console_write::ItemWord;
+use image_figures::FIGURES;
 ghost use Prim.Native.Nat.{_+_, _*_, _≤_};
 ghost use lib.ListN.{length};
 ghost use Rattle.console_reason.specs.InnerFaults.{
@@ -38,7 +39,7 @@ enum Fault {
 }
 
 // KINDS. What a word should be is told by a letter:
-// n a number, b a number below 256, r a length of the reply buffer, f 0 or 1, p a prefix, a an address, x octets;
+// n a number, b a number below 256, r a length of the reply buffer, f 0 or 1, p a prefix, a an address, x octets, t those of a figures sheet;
 // of `write` h, i, c, s and d a bit behind its key, l `prefix=` and a length, g `figures=` and figures, w a word that begins an item, e an entry in its place.
 
 fn is_number(n: Number) -> bool {
@@ -85,6 +86,14 @@ fn is_octets(word: &[u8]) -> bool {
     is_hexadecimal(word)
 }
 
+// As many octets as a figures sheet has.
+fn is_figures_sheet(word: &[u8]) -> bool {
+    if word.len() != 2 * FIGURES {
+        return false;
+    }
+    is_hexadecimal(word)
+}
+
 // A key and 0 or 1 behind it.
 fn is_bit(word: &[u8], key: u8) -> bool {
     let value = console_words::behind(word, &[key, b'=']);
@@ -124,6 +133,7 @@ fn is_of(kind: u8, word: &[u8]) -> bool {
         b'p' => is_prefix(word),
         b'a' => is_number(console_words::read_network(word)),
         b'x' => is_octets(word),
+        b't' => is_figures_sheet(word),
         b'l' => is_length(word),
         b'g' => is_figures(word),
         _ => is_bit(word, kind),
@@ -257,6 +267,7 @@ fn command_fault(name: Name, s: &[u8], from: usize) -> Fault
         Name::Lone(_) => line_fault(s, from, b"", 0),
         Name::Read => line_fault(s, from, b"x", 1),
         Name::Write => write_fault(s, from),
+        Name::Figures => line_fault(s, from, b"t", 0),
         Name::Buffer => line_fault(s, from, b"r", 1),
         Name::Other => Fault::None(from),
     }
@@ -320,11 +331,17 @@ fn put_kind(out: &mut [u8], at: usize, kind: u8) -> usize
     match kind {
         b'n' => console_text::text(out, at, b"a number below 4294967296"),
         b'b' => console_text::text(out, at, b"a number below 256"),
-        b'r' => console_text::text(out, at, b"a number up to 1024"),
+        b'r' => console_text::fill(out, at, b"a number up to %", &[LONGEST_REPLY]),
         b'f' => console_text::text(out, at, b"0 or 1"),
         b'p' => console_text::text(out, at, b"a prefix A.B.C.D/L"),
         b'a' => console_text::text(out, at, b"an address A.B.C.D"),
         b'x' => console_text::text(out, at, b"hexadecimal digits, two for each byte, or -"),
+        b't' => console_text::fill(
+            out,
+            at,
+            b"hexadecimal digits, two for each of % bytes",
+            &[FIGURES as u32],
+        ),
         b'l' => console_text::text(out, at, b"prefix= and a number below 256"),
         b'g' => console_text::text(
             out,
@@ -386,6 +403,7 @@ fn put_form(out: &mut [u8], at: usize, name: Name) -> usize
         Name::Lone(_) => console_text::text(out, at, b" alone)\n"),
         Name::Read => console_text::text(out, at, b" OPTION)\n"),
         Name::Write => console_text::text(out, at, b" ITEM.. or address A.B.C.D)\n"),
+        Name::Figures => console_text::text(out, at, b" alone, or SHEET)\n"),
         Name::Buffer => console_text::text(out, at, b" N)\n"),
         Name::Other => console_text::text(out, at, b")\n"),
     }
@@ -409,7 +427,12 @@ fn put_reason(out: &mut [u8], at: usize, s: &[u8]) -> usize
     ensures { λ r. ⌜ r ≤ at + faultMost + 2 + wordMost + formMost ⌝ }
 {
     if LONGEST < s.len() {
-        return console_text::text(out, at, b"more than 100000 bytes are no line\n");
+        return console_text::fill(
+            out,
+            at,
+            b"more than % bytes are no line\n",
+            &[LONGEST as u32],
+        );
     }
     let w = console_words::next_word(s, 0);
     let start = w.start;

@@ -9,6 +9,8 @@ use mathlib.Core.List.{List, [], _∷_}
 use lib.ListN.{length, drop, getD}
 use lib.Dec.{eqb}
 use borrow.Author.Tests.{lt-ltb, le-ltb, eq-eqb, ne-eqb}
+use Rattle.lists.proofs.Tests.{cond-true, cond-false}
+use Rattle.image_figures.specs.Sheets.{figuresSize}
 use Rattle.console_words.specs.declared.Number.{Number}
 use Rattle.console_words.specs.declared.Number.the-variants as number
 use Rattle.console_words.specs.declared.NumberAt.{NumberAt}
@@ -23,8 +25,8 @@ use Rattle.console_script.specs.declared.OptionCall.{OptionCall}
 use Rattle.console_script.specs.declared.Lone.{Lone}
 use Rattle.console_script.specs.declared.Lone.the-variants as lone
 use Rattle.console_script.specs.declared.Name.{Name}
-use Rattle.console_script.specs.Commands.{CommandValue, call, mark, «open», load, save, sheet, read, buffer, nothing, bad, mostPrefixes, withPrefixes}
-use Rattle.console_script.specs.Parsing.{withNumber, withOctets, atEnd, nameOf, parseCall, parseMark, parseOpen, parseLoad, parseRead, parseBuffer, parseLone, parseWords, parseLine, unreturned}
+use Rattle.console_script.specs.Commands.{CommandValue, call, mark, «open», load, save, sheet, read, figures, setFigures, buffer, nothing, bad, longestLine, longestReply, mostPrefixes, withPrefixes}
+use Rattle.console_script.specs.Parsing.{withNumber, withOctets, sheetOnly, atEnd, nameOf, parseCall, parseMark, parseOpen, parseLoad, parseRead, parseFigures, parseBuffer, parseLone, parseWords, parseLine, unreturned}
 
 -- What the next word spells, where xs is left of the line.
 pub spells : (spelt : List ℕ → Number) (s : List ℕ) (from : ℕ) (r : NumberAt) (xs : List ℕ) (n : Number) → NextNumber spelt s from r → drop from s ≡ xs → r .number ≡ n → spelt (firstWord xs) ≡ n
@@ -134,6 +136,30 @@ module _ (xs : List ℕ) where
   unfolding parseRead
   read-of option e = sym (ap (λ (o : Option (List ℕ)). withOctets o read) e)
 
+-- Nothing more, or SHEET
+module _ (xs : List ℕ) where
+  pub figures-alone : last? xs ≡ true → figures ≡ parseFigures xs
+  unfolding parseFigures
+  figures-alone e = sym (ap (λ (b : Bool). cond b figures (withOctets (lastOctets xs) sheetOnly)) e)
+
+  module _ (more : last? xs ≡ false) where
+    with-octets : withOctets (lastOctets xs) sheetOnly ≡ parseFigures xs
+    unfolding parseFigures
+    with-octets = sym (ap (λ (b : Bool). cond b figures (withOctets (lastOctets xs) sheetOnly)) more)
+
+    pub figures-bad : lastOctets xs ≡ none → bad ≡ parseFigures xs
+    figures-bad e = sym (ap (λ (o : Option (List ℕ)). withOctets o sheetOnly) e) ∙ with-octets
+
+    module _ (octets : List ℕ) (e₁ : lastOctets xs ≡ some octets) where
+      sized : sheetOnly octets ≡ parseFigures xs
+      sized = sym (ap (λ (o : Option (List ℕ)). withOctets o sheetOnly) e₁) ∙ with-octets
+
+      pub figures-of-another-size : (length octets ≡ figuresSize → ⊥) → bad ≡ parseFigures xs
+      figures-of-another-size k = sym (cond-false (eqb (length octets) figuresSize) (setFigures octets) bad (ne-eqb (length octets) figuresSize k)) ∙ sized
+
+      pub figures-of : length octets ≡ figuresSize → setFigures octets ≡ parseFigures xs
+      figures-of e = sym (cond-true (eqb (length octets) figuresSize) (setFigures octets) bad (eq-eqb (length octets) figuresSize e)) ∙ sized
+
 -- N
 module _ (xs : List ℕ) where
   pub buffer-no-number : numberOf (firstWord xs) ≡ number.Bad → bad ≡ parseBuffer xs
@@ -141,18 +167,18 @@ module _ (xs : List ℕ) where
   buffer-no-number e = rw e refl
 
   module _ (n : ℕ) (e₁ : numberOf (firstWord xs) ≡ number.Of n) where
-    pub buffer-long : 1024 < n → bad ≡ parseBuffer xs
+    pub buffer-long : longestReply < n → bad ≡ parseBuffer xs
     unfolding parseBuffer
-    buffer-long h = rw (e₁, lt-ltb 1024 n h) refl
+    buffer-long h = rw (e₁, lt-ltb longestReply n h) refl
 
-    module _ (short : n ≤ 1024) where
+    module _ (short : n ≤ longestReply) where
       pub buffer-more : last? (afterWord xs) ≡ false → bad ≡ parseBuffer xs
       unfolding parseBuffer
-      buffer-more e = rw (e₁, le-ltb 1024 n short) (sym (ap (λ (b : Bool). cond b (buffer n) bad) e))
+      buffer-more e = rw (e₁, le-ltb longestReply n short) (sym (ap (λ (b : Bool). cond b (buffer n) bad) e))
 
       pub buffer-of : last? (afterWord xs) ≡ true → buffer n ≡ parseBuffer xs
       unfolding parseBuffer
-      buffer-of e = rw (e₁, le-ltb 1024 n short) (sym (ap (λ (b : Bool). cond b (buffer n) bad) e))
+      buffer-of e = rw (e₁, le-ltb longestReply n short) (sym (ap (λ (b : Bool). cond b (buffer n) bad) e))
 
 -- Nothing more.
 pub lone-more : (n : Lone) (xs : List ℕ) → last? xs ≡ false → bad ≡ parseLone n xs
@@ -184,19 +210,19 @@ no-line [] h = refl
 no-line (x ∷ xs) h = absurd (omega arith)
 
 module _ (s : List ℕ) where
-  pub line-long : 100000 < length s → bad ≡ parseLine s
+  pub line-long : longestLine < length s → bad ≡ parseLine s
   unfolding parseLine
-  line-long h = rw (lt-ltb 100000 (length s) h) refl
+  line-long h = rw (lt-ltb longestLine (length s) h) refl
 
-  module _ (short : length s ≤ 100000) where
+  module _ (short : length s ≤ longestLine) where
     pub line-empty : empty? (firstWord s) ≡ true → nothing ≡ parseLine s
     unfolding parseLine
-    line-empty e = rw (le-ltb 100000 (length s) short) (sym (ap (λ (b : Bool). cond b nothing (cond (eqb (getD (firstWord s) 0 0) 35) nothing (parseWords (nameOf (firstWord s)) (afterWord s)))) e))
+    line-empty e = rw (le-ltb longestLine (length s) short) (sym (ap (λ (b : Bool). cond b nothing (cond (eqb (getD (firstWord s) 0 0) 35) nothing (parseWords (nameOf (firstWord s)) (afterWord s)))) e))
 
     module _ (some-word : empty? (firstWord s) ≡ false) where
       worded : cond (eqb (getD (firstWord s) 0 0) 35) nothing (parseWords (nameOf (firstWord s)) (afterWord s)) ≡ parseLine s
       unfolding parseLine
-      worded = rw (le-ltb 100000 (length s) short) (sym (ap (λ (b : Bool). cond b nothing (cond (eqb (getD (firstWord s) 0 0) 35) nothing (parseWords (nameOf (firstWord s)) (afterWord s)))) some-word))
+      worded = rw (le-ltb longestLine (length s) short) (sym (ap (λ (b : Bool). cond b nothing (cond (eqb (getD (firstWord s) 0 0) 35) nothing (parseWords (nameOf (firstWord s)) (afterWord s)))) some-word))
 
       pub line-comment : getD (firstWord s) 0 0 ≡ 35 → nothing ≡ parseLine s
       line-comment e = sym (ap (λ (b : Bool). cond b nothing (parseWords (nameOf (firstWord s)) (afterWord s))) (eq-eqb (getD (firstWord s) 0 0) 35 e)) ∙ worded

@@ -1,8 +1,10 @@
 -- Commands as values, and what a command of the code stands for: the octets and words at its places in the line.
-use Prim.Native.Nat.{ℕ, _≤_}
+use Prim.Native.Nat.{ℕ, _-_, _≤_}
+use mathlib.Core.Path.{_≡_}
 use mathlib.Core.Option.{Option, none, some}
 use mathlib.Core.List.{List}
 use lib.ListN.{drop}
+use Rattle.image_figures.specs.Sheets.{figuresSize}
 use Rattle.console_words.specs.Words.{between}
 use Rattle.console_words.specs.Prefixes.{Columns, prefixesOf}
 use Rattle.console_script.specs.declared.{OptionCall.OptionCall, Command.Command}
@@ -23,6 +25,9 @@ pub data CommandValue : Type 0 where
   read : List ℕ → CommandValue
   -- what stands behind the word `write`
   write : List ℕ → CommandValue
+  -- the figures sheet written out, and one set: its octets
+  figures : CommandValue
+  setFigures : List ℕ → CommandValue
   -- the reply buffer's length
   buffer : ℕ → CommandValue
   -- no word, or a comment
@@ -55,11 +60,13 @@ valueIn s command.Save = save
 valueIn s command.Sheet = sheet
 valueIn s (command.Read c) = read (between (c .from) (c .to) s)
 valueIn s (command.Write c) = write (drop (c .from) s)
+valueIn s command.Figures = figures
+valueIn s (command.SetFigures c) = setFigures (between (c .from) (c .to) s)
 valueIn s (command.Buffer c) = buffer (c .length)
 valueIn s command.Nothing = nothing
 valueIn s command.Bad = bad
 
--- The places of a command are within a line of n bytes.
+-- The places of a command are within a line of n bytes; a sheet has its size.
 abbrev pub Within : ℕ → Command → Type 0
 Within n (command.Call c) = (c .from ≤ c .to) × (c .to ≤ n)
 Within n (command.Mark c) = Unit {0}
@@ -69,6 +76,8 @@ Within n command.Save = Unit {0}
 Within n command.Sheet = Unit {0}
 Within n (command.Read c) = (c .from ≤ c .to) × (c .to ≤ n)
 Within n (command.Write c) = c .from ≤ n
+Within n command.Figures = Unit {0}
+Within n (command.SetFigures c) = (c .from ≤ c .to) × (c .to ≤ n) × (c .to - c .from ≡ figuresSize)
 Within n (command.Buffer c) = c .length ≤ longestReply
 Within n command.Nothing = Unit {0}
 Within n command.Bad = Unit {0}

@@ -9,6 +9,7 @@ use Rattle.console_words.specs.declared.{Number.Number, PrefixWord.PrefixWord}
 use Rattle.console_words.specs.declared.Number.the-variants as number
 use Rattle.console_words.specs.declared.PrefixWord.the-variants as prefix
 use Rattle.text.specs.Ascii.{ascii}
+use Rattle.image_figures.specs.Sheets.{figuresSize}
 use Rattle.console_words.specs.Words.{firstWord, afterWord, empty?, last?}
 use Rattle.console_words.specs.Numbers.{numberOf, flagOf}
 use Rattle.console_words.specs.Prefixes.{prefixOf, prefixesOf}
@@ -17,7 +18,7 @@ use Rattle.console_script.specs.declared.{OptionCall.OptionCall, Lone.Lo
 use Rattle.console_script.specs.declared.OptionCall.the-variants.{Ask, Take, List as ListCall, Return}
 use Rattle.console_script.specs.declared.Lone.the-variants as lone
 use Rattle.console_script.specs.declared.Name.the-variants as name
-use Rattle.console_script.specs.Commands.{CommandValue, call, mark, «open», load, save, sheet, read, write, buffer, nothing, bad, longestLine, longestReply, mostPrefixes, withPrefixes}
+use Rattle.console_script.specs.Commands.{CommandValue, call, mark, «open», load, save, sheet, read, write, figures, setFigures, buffer, nothing, bad, longestLine, longestReply, mostPrefixes, withPrefixes}
 
 -- NAMES
 
@@ -42,7 +43,8 @@ nameOf w =
     (cond (same? w (ascii "sheet")) (name.Lone lone.Sheet)
     (cond (same? w (ascii "read")) name.Read
     (cond (same? w (ascii "write")) name.Write
-    (cond (same? w (ascii "buffer")) name.Buffer name.Other)))))))))))
+    (cond (same? w (ascii "figures")) name.Figures
+    (cond (same? w (ascii "buffer")) name.Buffer name.Other))))))))))))
 
 -- ARGUMENTS: each of xs, what is left of a line behind the name.
 
@@ -94,6 +96,13 @@ parseLoad xs = withOctets (lastOctets xs) load
 unfoldable pub parseRead : List ℕ → CommandValue
 parseRead xs = withOctets (lastOctets xs) read
 
+-- Nothing more, or SHEET: "an error if they are not exactly as many as the sheet has"
+abbrev pub sheetOnly : List ℕ → CommandValue
+sheetOnly octets = cond (eqb (length octets) figuresSize) (setFigures octets) bad
+
+unfoldable pub parseFigures : List ℕ → CommandValue
+parseFigures xs = cond (last? xs) figures (withOctets (lastOctets xs) sheetOnly)
+
 -- N, "0 to 1,024"
 unfoldable pub parseBuffer : List ℕ → CommandValue
 parseBuffer xs = withNumber (numberOf (firstWord xs)) (λ n. cond (ltb longestReply n) bad (atEnd (afterWord xs) (buffer n)))
@@ -111,6 +120,7 @@ parseWords name.Load xs = parseLoad xs
 parseWords (name.Lone c) xs = parseLone c xs
 parseWords name.Read xs = parseRead xs
 parseWords name.Write xs = write xs
+parseWords name.Figures xs = parseFigures xs
 parseWords name.Buffer xs = parseBuffer xs
 parseWords name.Other xs = bad
 

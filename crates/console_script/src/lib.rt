@@ -1,6 +1,7 @@
 // The lines of a script: the command of each, with the numbers that its words spell and the places where its octets and other words stand.
 use console_words::Number;
 use console_words::PrefixWord;
+use image_figures::FIGURES;
 ghost use mathlib.Core.Path.{_≡_};
 ghost use Prim.Native.Nat.{_≤_};
 ghost use lib.ListN.{length, drop};
@@ -13,6 +14,7 @@ ghost use Rattle.console_script.specs.Parsing.{
   parseOpen,
   parseLoad,
   parseRead,
+  parseFigures,
   parseBuffer,
   parseLone,
   parseWords,
@@ -59,7 +61,7 @@ pub struct OpenLine {
     pub from: usize,
 }
 
-// OPTION or IMAGE: where its octets stand.
+// OPTION, IMAGE or SHEET: where its octets stand.
 pub struct OctetLine {
     pub from: usize,
     pub to: usize,
@@ -85,6 +87,8 @@ pub enum Command {
     Sheet,
     Read(OctetLine),
     Write(WriteLine),
+    Figures,
+    SetFigures(OctetLine),
     Buffer(BufferLine),
     Nothing,
     Bad,
@@ -105,6 +109,7 @@ pub enum Name {
     Lone(Lone),
     Read,
     Write,
+    Figures,
     Buffer,
     Other,
 }
@@ -153,6 +158,9 @@ pub fn read_name(word: &[u8]) -> Name
     }
     if is(word, b"write") {
         return Name::Write;
+    }
+    if is(word, b"figures") {
+        return Name::Figures;
     }
     if is(word, b"buffer") {
         return Name::Buffer;
@@ -287,6 +295,28 @@ fn read_line(s: &mut [u8], from: usize) -> Command
     })
 }
 
+// Nothing more, or SHEET: exactly as many bytes as a figures sheet has.
+fn figures_line(s: &mut [u8], from: usize) -> Command
+    requires { ⌜ from ≤ length (now s) ⌝ }
+    ensures { λ r. ⌜ Within (length (now (s .entry))) r ⌝ }
+    ensures { λ r. ⌜ valueIn (now (s .exit)) r ≡ parseFigures (drop from (now (s .entry))) ⌝ }
+{
+    if console_words::ends(s, from) {
+        return Command::Figures;
+    }
+    let octets = console_words::last_octets(s, from);
+    if !octets.good {
+        return Command::Bad;
+    }
+    if octets.end - octets.start != FIGURES {
+        return Command::Bad;
+    }
+    Command::SetFigures(OctetLine {
+        from: octets.start,
+        to: octets.end,
+    })
+}
+
 // N, at most the longest reply buffer.
 fn buffer_line(s: &[u8], from: usize) -> Command
     requires { ⌜ from ≤ length (now s) ⌝ }
@@ -336,6 +366,7 @@ fn read_words(name: Name, s: &mut [u8], from: usize) -> Command
         Name::Lone(c) => lone_line(c, s, from),
         Name::Read => read_line(s, from),
         Name::Write => Command::Write(WriteLine { from }),
+        Name::Figures => figures_line(s, from),
         Name::Buffer => buffer_line(s, from),
         Name::Other => Command::Bad,
     }

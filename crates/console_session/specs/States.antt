@@ -3,8 +3,11 @@ use Prim.Native.Nat.{ℕ, _+_, _≤_}
 use mathlib.Core.Path.{_≡_}
 use mathlib.Core.Bool.{cond}
 use mathlib.Core.List.{List}
-use lib.ListN.{length}
+use lib.ListN.{length, replicate}
 use lib.Dec.{ltb}
+use Rattle.table.specs.Table.{leaseSlots}
+use Rattle.figures.specs.Figures.{emptyRow}
+use Rattle.image_figures.specs.Sheets.{sheetOf}
 use Rattle.console_input.specs.Lines.{lineSpace}
 use Rattle.console_session.specs.declared.State.{State}
 
@@ -19,6 +22,10 @@ nextLine n = cond (ltb n 18446744073709551615) (n + 1) n
 -- The reply buffer's length: "257 at first".
 abbrev pub firstReply : ℕ
 firstReply = 257
+
+-- "Before the first accepted open or load the sheet is all empty lines' rows."
+abbrev pub firstSheet : List ℕ
+firstSheet = sheetOf (replicate leaseSlots emptyRow)
 
 -- What may wait in the output, the longest line behind "> " and with its newline, and room for any answer.
 abbrev pub waitingMost : ℕ

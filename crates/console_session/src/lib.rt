@@ -1,6 +1,7 @@
-// What goes from line to line of a script beside the book, and the output written out.
+// What goes from line to line of a script beside the book, the figures sheet at first, and the output written out.
 use console_input::LINE;
 use console_input::NAME;
+use image_figures::FIGURES;
 ghost use mathlib.Core.Path.{_≡_};
 ghost use Prim.Native.Nat.{_≤_};
 ghost use lib.ListN.{length};
@@ -8,6 +9,7 @@ ghost use Rattle.console_session.specs.States.{
   Unchanged,
   nextLine,
   firstReply,
+  firstSheet,
   outputSpace,
   LineFits,
   OutputHolds,
@@ -79,6 +81,15 @@ pub fn with_reply_length(s: State, length: u32) -> State
     let mut next = s;
     next.reply_length = length as usize;
     next
+}
+
+// The figures sheet at first: each row is that of an empty slot.
+pub fn first_figures() -> [u8; FIGURES]
+    ensures { λ r. ⌜ r ≡ firstSheet ⌝ }
+{
+    let mut sheet = [0u8; FIGURES];
+    image_figures::fill(&mut sheet, b"", 0, 0);
+    sheet
 }
 
 // OUTPUT

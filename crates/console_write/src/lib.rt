@@ -20,6 +20,7 @@ ghost use lib.ListN.{length};
 ghost use Rattle.option.specs.Selection.{writeSelection};
 ghost use Rattle.option.specs.Writer.{writeOption};
 ghost use Rattle.option_measure.specs.Lists.{suboptionsOf};
+ghost use Rattle.console_script.specs.Commands.{longestReply};
 ghost use Rattle.console_write.specs.Writes.{writtenAs, Writes};
 ghost use Rattle.console_write.specs.Inner.{Small, Within, Behind, Fits};
 
@@ -493,7 +494,7 @@ fn read_list(s: &mut [u8]) -> Listing
 
 // The option of a list.
 fn write_list(list: SuboptionList, buffer: &mut [u8]) -> Answer
-    requires { ⌜ length (now buffer) ≤ 1024 ⌝ }
+    requires { ⌜ length (now buffer) ≤ longestReply ⌝ }
     ensures { λ r. ⌜ (r, now (buffer .exit)) ≡ writtenAs (writeOption (length (now (buffer .entry))) (suboptionsOf list)) (now (buffer .entry)) ⌝ }
 {
     match option_write::write_option(list, buffer) {
@@ -505,7 +506,7 @@ fn write_list(list: SuboptionList, buffer: &mut [u8]) -> Answer
 
 // Option 118.
 fn write_address(address: u32, buffer: &mut [u8]) -> Answer
-    requires { ⌜ length (now buffer) ≤ 1024 ⌝ }
+    requires { ⌜ length (now buffer) ≤ longestReply ⌝ }
     ensures { λ r. ⌜ (r, now (buffer .exit)) ≡ writtenAs (writeSelection (length (now (buffer .entry))) address) (now (buffer .entry)) ⌝ }
 {
     match option_reply::write_selection(address, buffer) {
@@ -529,7 +530,7 @@ fn read_address(s: &[u8], from: usize) -> Number
 }
 
 fn write_words(s: &mut [u8], buffer: &mut [u8]) -> Outcome
-    requires { ⌜ length (now buffer) ≤ 1024 ⌝ }
+    requires { ⌜ length (now buffer) ≤ longestReply ⌝ }
     ensures { λ r. ⌜ Writes r (now (buffer .entry)) (now (buffer .exit)) ⌝ }
 {
     let b = read_list(s);
@@ -550,7 +551,7 @@ fn write_words(s: &mut [u8], buffer: &mut [u8]) -> Outcome
 
 // The option that words make, into a buffer.
 pub fn write(s: &mut [u8], buffer: &mut [u8]) -> Outcome
-    requires { ⌜ length (now buffer) ≤ 1024 ⌝ }
+    requires { ⌜ length (now buffer) ≤ longestReply ⌝ }
     ensures { λ r. ⌜ Writes r (now (buffer .entry)) (now (buffer .exit)) ⌝ }
 {
     let w = console_words::next_word(s, 0);

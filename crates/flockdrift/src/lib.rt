@@ -1,5 +1,6 @@
 // The calls as functions for C and Rust: include/flockdrift.h documents them. Each is one equation with the ledger on the
-// image that it is lent. A slice is a pointer and a length; nothing is allocated and nothing is kept between two calls.
+// image and the figures sheet that it is lent. A slice is a pointer and a length; nothing is allocated and nothing is kept
+// between two calls.
 use call_option::SelectionAnswer;
 use call_query::HeadAnswer;
 use call_query::LeaseAnswer;
@@ -31,18 +32,20 @@ ghost use Rattle.call_sheet.specs.SheetImage.{sheetImage};
 pub extern "C" fn flockdrift_open(
     image: &mut [u8],
     image_bytes: &mut usize,
+    figures: &mut [u8],
     networks: &[u32],
     lengths: &[u8],
     term: u32,
     default_length: u32,
     start: u32,
 ) -> Answer
-    ensures { λ r. ⌜ result r (lent (now (image .exit)) (now («image_bytes» .exit))) []
-        ≡ openImage (lent (now (image .entry)) (now («image_bytes» .entry))) (now (networks .entry)) (now (lengths .entry)) term «default_length» start ⌝ }
+    ensures { λ r. ⌜ result r (lent (now (image .exit)) (now («image_bytes» .exit)) (now (figures .exit))) []
+        ≡ openImage (lent (now (image .entry)) (now («image_bytes» .entry)) (now (figures .entry))) (now (networks .entry)) (now (lengths .entry)) term «default_length» start ⌝ }
 {
     call_open::open(
         image,
         image_bytes,
+        figures,
         networks,
         lengths,
         term,
@@ -52,18 +55,23 @@ pub extern "C" fn flockdrift_open(
 }
 
 #[no_mangle]
-pub extern "C" fn flockdrift_load(image: &mut [u8], image_bytes: &mut usize, saved: &[u8]) -> Answer
-    ensures { λ r. ⌜ result r (lent (now (image .exit)) (now («image_bytes» .exit))) []
-        ≡ loadInto (lent (now (image .entry)) (now («image_bytes» .entry))) (now (saved .entry)) ⌝ }
+pub extern "C" fn flockdrift_load(
+    image: &mut [u8],
+    image_bytes: &mut usize,
+    figures: &mut [u8],
+    saved: &[u8],
+) -> Answer
+    ensures { λ r. ⌜ result r (lent (now (image .exit)) (now («image_bytes» .exit)) (now (figures .exit))) []
+        ≡ loadInto (lent (now (image .entry)) (now («image_bytes» .entry)) (now (figures .entry))) (now (saved .entry)) ⌝ }
 {
-    call_load::load(image, image_bytes, saved)
+    call_load::load(image, image_bytes, figures, saved)
 }
 
-// Save changes nothing, so the image is only read; and so with list.
+// Save changes nothing, so the image is only read; and so with list. Neither has the figures sheet.
 #[no_mangle]
 pub extern "C" fn flockdrift_save(image: &[u8], image_bytes: usize, buffer: &mut [u8]) -> Answer
-    ensures { λ r. ⌜ result r (lent (now (image .entry)) «image_bytes») (now (buffer .exit))
-        ≡ saveFrom (lent (now (image .entry)) «image_bytes») (now (buffer .entry)) ⌝ }
+    ensures { λ r. ⌜ result r (lent (now (image .entry)) «image_bytes» []) (now (buffer .exit))
+        ≡ saveFrom (lent (now (image .entry)) «image_bytes» []) (now (buffer .entry)) ⌝ }
 {
     call_save::save(image, image_bytes, buffer)
 }
@@ -72,30 +80,32 @@ pub extern "C" fn flockdrift_save(image: &[u8], image_bytes: usize, buffer: &mut
 pub extern "C" fn flockdrift_ask(
     image: &mut [u8],
     image_bytes: &mut usize,
+    figures: &mut [u8],
     client: u32,
     time: u32,
     option: &[u8],
     reply: &mut [u8],
 ) -> Answer
-    ensures { λ r. ⌜ result r (lent (now (image .exit)) (now («image_bytes» .exit))) (now (reply .exit))
-        ≡ askImage (lent (now (image .entry)) (now («image_bytes» .entry))) time (call client (now (option .entry)) (now (reply .entry))) ⌝ }
+    ensures { λ r. ⌜ result r (lent (now (image .exit)) (now («image_bytes» .exit)) (now (figures .exit))) (now (reply .exit))
+        ≡ askImage (lent (now (image .entry)) (now («image_bytes» .entry)) (now (figures .entry))) time (call client (now (option .entry)) (now (reply .entry))) ⌝ }
 {
-    call_ask::ask(image, image_bytes, client, time, option, reply)
+    call_ask::ask(image, image_bytes, figures, client, time, option, reply)
 }
 
 #[no_mangle]
 pub extern "C" fn flockdrift_take(
     image: &mut [u8],
     image_bytes: &mut usize,
+    figures: &mut [u8],
     client: u32,
     time: u32,
     option: &[u8],
     reply: &mut [u8],
 ) -> Answer
-    ensures { λ r. ⌜ result r (lent (now (image .exit)) (now («image_bytes» .exit))) (now (reply .exit))
-        ≡ takeImage (lent (now (image .entry)) (now («image_bytes» .entry))) time (call client (now (option .entry)) (now (reply .entry))) ⌝ }
+    ensures { λ r. ⌜ result r (lent (now (image .exit)) (now («image_bytes» .exit)) (now (figures .exit))) (now (reply .exit))
+        ≡ takeImage (lent (now (image .entry)) (now («image_bytes» .entry)) (now (figures .entry))) time (call client (now (option .entry)) (now (reply .entry))) ⌝ }
 {
-    call_take::take(image, image_bytes, client, time, option, reply)
+    call_take::take(image, image_bytes, figures, client, time, option, reply)
 }
 
 #[no_mangle]
@@ -107,8 +117,8 @@ pub extern "C" fn flockdrift_list(
     option: &[u8],
     reply: &mut [u8],
 ) -> Answer
-    ensures { λ r. ⌜ result r (lent (now (image .entry)) «image_bytes») (now (reply .exit))
-        ≡ listImage (lent (now (image .entry)) «image_bytes») time (call client (now (option .entry)) (now (reply .entry))) ⌝ }
+    ensures { λ r. ⌜ result r (lent (now (image .entry)) «image_bytes» []) (now (reply .exit))
+        ≡ listImage (lent (now (image .entry)) «image_bytes» []) time (call client (now (option .entry)) (now (reply .entry))) ⌝ }
 {
     call_list::list(image, image_bytes, client, time, option, reply)
 }
@@ -117,29 +127,39 @@ pub extern "C" fn flockdrift_list(
 pub extern "C" fn flockdrift_release(
     image: &mut [u8],
     image_bytes: &mut usize,
+    figures: &mut [u8],
     client: u32,
     time: u32,
     option: &[u8],
 ) -> Answer
-    ensures { λ r. ⌜ result r (lent (now (image .exit)) (now («image_bytes» .exit))) []
-        ≡ releaseImage (lent (now (image .entry)) (now («image_bytes» .entry))) time (call client (now (option .entry)) []) ⌝ }
+    ensures { λ r. ⌜ result r (lent (now (image .exit)) (now («image_bytes» .exit)) (now (figures .exit))) []
+        ≡ releaseImage (lent (now (image .entry)) (now («image_bytes» .entry)) (now (figures .entry))) time (call client (now (option .entry)) []) ⌝ }
 {
-    call_release::release(image, image_bytes, client, time, option)
+    call_release::release(image, image_bytes, figures, client, time, option)
 }
 
 #[no_mangle]
 pub extern "C" fn flockdrift_mark(
     image: &mut [u8],
     image_bytes: &mut usize,
+    figures: &mut [u8],
     network: u32,
     length: u32,
     deprecated: u32,
     time: u32,
 ) -> Answer
-    ensures { λ r. ⌜ result r (lent (now (image .exit)) (now («image_bytes» .exit))) []
-        ≡ markImage (lent (now (image .entry)) (now («image_bytes» .entry))) time network length (not (eqb deprecated 0)) ⌝ }
+    ensures { λ r. ⌜ result r (lent (now (image .exit)) (now («image_bytes» .exit)) (now (figures .exit))) []
+        ≡ markImage (lent (now (image .entry)) (now («image_bytes» .entry)) (now (figures .entry))) time network length (not (eqb deprecated 0)) ⌝ }
 {
-    call_mark::mark(image, image_bytes, network, length, deprecated, time)
+    call_mark::mark(
+        image,
+        image_bytes,
+        figures,
+        network,
+        length,
+        deprecated,
+        time,
+    )
 }
 
 #[no_mangle]
@@ -153,28 +173,28 @@ pub extern "C" fn flockdrift_sheet(image: &[u8], text: &mut [u8]) -> Answer
 
 #[no_mangle]
 pub extern "C" fn flockdrift_check(image: &[u8], image_bytes: usize) -> Answer
-    ensures { λ r. ⌜ r ≡ checkImage (lent (now (image .entry)) «image_bytes») ⌝ }
+    ensures { λ r. ⌜ r ≡ checkImage (lent (now (image .entry)) «image_bytes» []) ⌝ }
 {
     call_query::check(image, image_bytes)
 }
 
 #[no_mangle]
 pub extern "C" fn flockdrift_head(image: &[u8], image_bytes: usize) -> HeadAnswer
-    ensures { λ r. ⌜ r ≡ headImage (lent (now (image .entry)) «image_bytes») ⌝ }
+    ensures { λ r. ⌜ r ≡ headImage (lent (now (image .entry)) «image_bytes» []) ⌝ }
 {
     call_query::head(image, image_bytes)
 }
 
 #[no_mangle]
 pub extern "C" fn flockdrift_pool(image: &[u8], image_bytes: usize, index: usize) -> PoolAnswer
-    ensures { λ r. ⌜ r ≡ poolImage (lent (now (image .entry)) «image_bytes») index ⌝ }
+    ensures { λ r. ⌜ r ≡ poolImage (lent (now (image .entry)) «image_bytes» []) index ⌝ }
 {
     call_query::pool(image, image_bytes, index)
 }
 
 #[no_mangle]
 pub extern "C" fn flockdrift_lease(image: &[u8], image_bytes: usize, index: usize) -> LeaseAnswer
-    ensures { λ r. ⌜ r ≡ leaseImage (lent (now (image .entry)) «image_bytes») index ⌝ }
+    ensures { λ r. ⌜ r ≡ leaseImage (lent (now (image .entry)) «image_bytes» []) index ⌝ }
 {
     call_query::lease(image, image_bytes, index)
 }

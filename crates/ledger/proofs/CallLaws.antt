@@ -20,9 +20,11 @@ use Rattle.table.specs.Table.{leaseSlots, latest, prefixOf, poolsOf, present, s
 use Rattle.table.proofs.TableLaws.{Good, sound-fine, sound-fewer, store-sound, present-stored}
 use Rattle.option.specs.Contents.{Request, refuses?}
 use Rattle.option_reply.specs.Reply.{entryOf}
-use Rattle.ledger.specs.Ledger.{State, state, Call, leastReply, full, Result, Row, firstOf, before, refuse, refusalPlace, forAsk, askRows, offers, addAll, askOffers, informationFor, ask}
+use Rattle.figures.specs.Figures.{matches?}
+use Rattle.ledger.specs.Ledger.{State, left, Call, leastReply, full, Result, Row, firstOf, before, refuse, refusalPlace, forAsk, askRows, offers, addAll, askOffers, informationFor, ask}
 use Rattle.ledger.specs.Demand3.{none?, wellFormed, Accepts, asksOf, replyEntries, pairOff, confirmed, granted, inUse, Fate, isGranted, wantsSlot, wantsSpace, fate}
 use Rattle.ledger.proofs.RowLaws.{first-none, none-to, none-not, answerAsk, ask-served, ask-refused}
+use Rattle.ledger.proofs.LeftLaws.{left-matches}
 use Rattle.ledger.proofs.ReadLaws.{requests-short}
 use Rattle.ledger.proofs.OfferLaws.{pools-good, Inv, offers-inv, offers-good}
 use Rattle.ledger.proofs.ReplyLaws.{reads-none, reads-back}
@@ -35,6 +37,7 @@ rowsFor now t c = before 9 (askRows t now c)
 pub record WellFormed (now : ℕ) (t : State) (c : Call) : Type 0 where
   pub buffer : leastReply ≤ length (c .reply)
   pub sound : sound (t .table) ≡ true
+  pub matched : matches? (t .table .leases) (t .rows) ≡ true
   pub named : c .client ≡ 0 → ⊥
   pub accepted : Accepts (t .table) now
   pub asks : forAsk (asksOf c) ≡ true
@@ -46,9 +49,10 @@ well now t c e =
     record {
       buffer = ltb-false (length (c .reply)) leastReply (r .0);
       sound = not-false (sound (t .table)) (r .1 .0);
-      named = eqb-false (c .client) 0 (r .1 .1 .0);
-      accepted = (ltb-false now (t .table .last) (r .1 .1 .1 .0), ltb-false latest now (r .1 .1 .1 .1 .0));
-      asks = not-false (forAsk (asksOf c)) (r .1 .1 .1 .1 .1 .1 .1 .0);
+      matched = not-false (matches? (t .table .leases) (t .rows)) (r .1 .1 .0);
+      named = eqb-false (c .client) 0 (r .1 .1 .1 .0);
+      accepted = (ltb-false now (t .table .last) (r .1 .1 .1 .1 .0), ltb-false latest now (r .1 .1 .1 .1 .1 .0));
+      asks = not-false (forAsk (asksOf c)) (r .1 .1 .1 .1 .1 .1 .1 .1 .0);
     }
 
 run-well : (now : ℕ) (t : State) (c : Call) → wellFormed now t c ≡ true
@@ -64,21 +68,27 @@ run-refused now t c e = let n = none-not (firstOf (rowsFor now t c)) e in (n .0,
 pub run-not : (now : ℕ) (t : State) (c : Call) → wellFormed now t c ≡ false → (ask t now c .state ≡ t) × (ask t now c .reply ≡ c .reply)
 run-not now t c e = let f = run-refused now t c e .2 in (ap (λ (r : Result State). r .state) f, ap (λ (r : Result State). r .reply) f)
 
--- On two sound tables that accept the time a call is well-formed alike.
-pub well-same : (now : ℕ) (t u : State) (c : Call) → sound (t .table) ≡ true → sound (u .table) ≡ true → Accepts (t .table) now → Accepts (u .table) now → wellFormed now u c ≡ wellFormed now t c
+-- On two sound tables that accept the time, with sheets that match alike, a call is well-formed alike.
+pub well-same : (now : ℕ) (t u : State) (c : Call) → sound (t .table) ≡ true → sound (u .table) ≡ true → Accepts (t .table) now → Accepts (u .table) now
+    → matches? (u .table .leases) (u .rows) ≡ matches? (t .table .leases) (t .rows) → wellFormed now u c ≡ wellFormed now t c
 unfolding wellFormed askRows
-well-same now t u c st su at au =
-    ap₂ (λ (a b : Bool). none? (firstOf (
-    (1, ltb (length (c .reply)) leastReply)
-    ∷ (5, not a)
-    ∷ (2, eqb (c .client) 0)
-    ∷ (3, b)
-    ∷ (4, ltb latest now)
-    ∷ (6, refuses? 6 (readOption (c .option)))
-    ∷ (7, refuses? 7 (readOption (c .option)))
-    ∷ (8, not (forAsk (asksOf c)))
-    ∷ [])))
-    (su ∙ sym st) (le-ltb now (u .table .last) (au .0) ∙ sym (le-ltb now (t .table .last) (at .0)))
+well-same now t u c st su at au m =
+    ap₂ (λ (a b : Bool). formed a b (ltb now (u .table .last))) (su ∙ sym st) m
+    ∙ ap (formed (sound (t .table)) (matches? (t .table .leases) (t .rows))) (le-ltb now (u .table .last) (au .0) ∙ sym (le-ltb now (t .table .last) (at .0)))
+  where
+    formed : Bool → Bool → Bool → Bool
+    formed sound? matched? early =
+        none? (firstOf (
+        (1, ltb (length (c .reply)) leastReply)
+        ∷ (5, not sound?)
+        ∷ (15, not matched?)
+        ∷ (2, eqb (c .client) 0)
+        ∷ (3, early)
+        ∷ (4, ltb latest now)
+        ∷ (6, refuses? 6 (readOption (c .option)))
+        ∷ (7, refuses? 7 (readOption (c .option)))
+        ∷ (8, not (forAsk (asksOf c)))
+        ∷ []))
 
 -- ONE CALL
 
@@ -90,7 +100,7 @@ numberFor xs (g ∷ gs) = 0
 -- The table after a call: what it was if nothing is granted.
 abbrev pub stateFor : State → ℕ → List (Option Lease) → List Lease → List Lease → State
 stateFor t now os xs [] = t
-stateFor t now os xs (g ∷ gs) = state (store (t .table) now (addAll os xs))
+stateFor t now os xs (g ∷ gs) = left t now (addAll os xs)
 
 -- What is so of the result of a call whose requests were offered `os` on the leases `xs`.
 pub record Served (t : State) (now client : ℕ) (rs : List Request) (xs : List Lease) (os : List (Option Lease)) (r : Result State) : Type 0 where
@@ -102,6 +112,7 @@ pub record Served (t : State) (now client : ℕ) (rs : List Request) (xs : List 
   pub good : All (Good (poolsOf (t .table)) now) (addAll os xs)
   pub left : present now (r .state .table .leases) ≡ addAll os xs
   pub sound : sound (r .state .table) ≡ true
+  pub matched : matches? (r .state .table .leases) (r .state .rows) ≡ true
   pub since : r .state .table .last ≤ now
   pub pools : r .state .table .pools ≡ t .table .pools
   pub default : r .state .table .«default_length» ≡ t .table .«default_length»
@@ -117,7 +128,7 @@ module _ (now : ℕ) (t : State) (c : Call) (w : WellFormed now t c) where
   os = offers (t .table) now (c .client) xs (asksOf c)
 
   served : (gs : List Lease) → catMaybes os ≡ gs → Served t now (c .client) (asksOf c) xs os (answerAsk t now (c .reply) xs os gs)
-  unfolding os xs store
+  unfolding os xs store left
   served [] e = record {
     given =
         ap (λ (es : List Entry). map (confirmed now (c .client) (t .table)) (pairOff (t .table) (asksOf c) es)) (reads-none (cond (full xs) 9 10) 0 t (c .reply) ∙ ap (map entryOf) (sym e))
@@ -130,6 +141,7 @@ module _ (now : ℕ) (t : State) (c : Call) (w : WellFormed now t c) where
     good = subst (All (Good (poolsOf (t .table)) now)) (sym (addAll-none os xs e)) (sound-fine (t .table) (w .sound) now .0);
     left = sym (addAll-none os xs e);
     sound = w .sound;
+    matched = w .matched;
     since = w .accepted .0;
     pools = refl;
     default = refl;
@@ -153,6 +165,7 @@ module _ (now : ℕ) (t : State) (c : Call) (w : WellFormed now t c) where
         good = i .fine .0;
         left = present-stored (poolsOf (t .table)) now (addAll os xs) (i .fine .0);
         sound = store-sound (t .table) now (addAll os xs) (w .sound) (w .accepted .1) (i .fit) (i .fine);
+        matched = left-matches t now (w .sound) (w .matched) (addAll os xs);
         since = omega arith;
         pools = refl;
         default = refl;

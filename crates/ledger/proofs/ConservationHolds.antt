@@ -21,9 +21,10 @@ use Rattle.table.specs.declared.LeaseTable.{LeaseTable}
 use Rattle.table.specs.Table.{leaseSlots, prefixOf, poolsOf, present, sound, store}
 use Rattle.table.proofs.TableLaws.{Good, sound-fine, fine-filter, fine-map, present-padded, present-stored}
 use Rattle.table_open.proofs.OpenLaws.{open-sound}
+use Rattle.figures.specs.declared.FigureRow.{FigureRow}
 use Rattle.option.specs.Contents.{entriesIn}
 use Rattle.option_reply.specs.Reply.{entryOf}
-use Rattle.ledger.specs.Ledger.{State, state, Call, ledger, Result, before, refusalPlace, full, openTable, add, offers, addAll, askRows, ask, namedBy?, renew, takeRows, take, releaseRows, release, at?, withD, markRows, mark}
+use Rattle.ledger.specs.Ledger.{State, state, left, Call, ledger, Result, before, refusalPlace, full, openTable, add, offers, addAll, askRows, ask, namedBy?, renew, renewed, takeRows, take, releaseRows, release, at?, withD, markRows, mark}
 use Rattle.ledger.specs.Demand3.{wellFormed, asksOf, replyEntries}
 use Rattle.ledger.specs.Histories.{Event, asked, taken, wasListed, returned, marked, saved, next, afterwards, leasesOf}
 use Rattle.ledger.specs.Conservation.{addressesOf, addressesIn, grantedBy, returnedBy, endedAt, endedBy, summed, FromLoad, FromOpen}
@@ -109,14 +110,15 @@ module _ (t : LeaseTable) (now : ℕ) (s : sound t ≡ true) (since : t .last �
       store-balance 0 (addressesOf (filter q xs)) (filter p xs) (fine-filter (poolsOf t) now 0 p xs (sound-fine t s now) .0) (omega (arith, total-parts p q o xs))
 
   -- Leases added by an ask.
-  offers-balance : (os : List (Option Lease)) (gs : List Lease) → catMaybes os ≡ gs → All (Good (poolsOf t) now) (addAll os (present now (t .leases)))
-      → Balance t now (addressesOf gs) 0 (numberFor (present now (t .leases)) gs) (stateFor (state t) now os (present now (t .leases)) gs .table)
-  offers-balance os [] e g = refused-balance t now 0 (cond (full (present now (t .leases))) 9 10) (full-number (full (present now (t .leases))))
+  offers-balance : (rows : List FigureRow) (os : List (Option Lease)) (gs : List Lease) → catMaybes os ≡ gs → All (Good (poolsOf t) now) (addAll os (present now (t .leases)))
+      → Balance t now (addressesOf gs) 0 (numberFor (present now (t .leases)) gs) (stateFor (state t rows) now os (present now (t .leases)) gs .table)
+  unfolding left
+  offers-balance rows os [] e g = refused-balance t now 0 (cond (full (present now (t .leases))) 9 10) (full-number (full (present now (t .leases))))
     where
       full-number : (b : Bool) → eqb (cond b 9 10) 0 ≡ false
       full-number true = refl
       full-number false = refl
-  offers-balance os (h ∷ hs) e g =
+  offers-balance rows os (h ∷ hs) e g =
       store-balance (addressesOf (h ∷ hs)) 0 (addAll os (present now (t .leases))) g (omega (arith, total-addAll os (present now (t .leases)), ap addressesOf e))
 
 -- An ask's balance is with the entries of its reply.
@@ -125,7 +127,7 @@ AskBalance t now r = Balance t now (addressesIn (replyEntries r)) 0 (r .answer .
 
 pub numbered-before : (s : State) (now : ℕ) (c : Call) → Numbered (before 9 (askRows s now c))
 unfolding askRows
-numbered-before s now c = (refl, (refl, (refl, (refl, (refl, (refl, (refl, (refl, tt))))))))
+numbered-before s now c = (refl, (refl, (refl, (refl, (refl, (refl, (refl, (refl, (refl, tt)))))))))
 
 ask-balance : (t : State) (now : ℕ) (c : Call) → AskBalance (t .table) now (ask t now c)
 unfolding wellFormed
@@ -137,7 +139,7 @@ ask-balance t now c = ⊎-elim good bad (bool-cases (wellFormed now t c))
         let w = well now t c e in
         let xs : List Lease = present now (t .table .leases) in
         let os : List (Option Lease) = offers (t .table) now (c .client) xs (asksOf c) in
-        let b : Balance (t .table) now (addressesOf (catMaybes os)) 0 (numberFor xs (catMaybes os)) (stateFor t now os xs (catMaybes os) .table) = offers-balance (t .table) now (w .sound) (w .accepted .0) os (catMaybes os) refl (k .good) in
+        let b : Balance (t .table) now (addressesOf (catMaybes os)) 0 (numberFor xs (catMaybes os)) (stateFor t now os xs (catMaybes os) .table) = offers-balance (t .table) now (w .sound) (w .accepted .0) (t .rows) os (catMaybes os) refl (k .good) in
         let m : addressesIn (replyEntries (ask t now c)) ≡ addressesOf (catMaybes os) = ap addressesIn (k .told) ∙ total-entries (catMaybes os) in
         subst (λ (n : ℕ). Balance (t .table) now n 0 (ask t now c .answer .number) (ask t now c .state .table)) (sym m)
         (subst (λ (n : ℕ). Balance (t .table) now (addressesOf (catMaybes os)) 0 n (ask t now c .state .table)) (sym (k .number))
@@ -160,17 +162,17 @@ plain t now granted n u b = omega (arith, b, zero-either (eqb n 0))
     zero-either false = refl
 
 take-balance : (s : State) (now : ℕ) (c : Call) → sound (s .table) ≡ true → Balance (s .table) now 0 0 (take s now c .answer .number) (take s now c .state .table)
-unfolding take takeRows
+unfolding take takeRows renewed
 take-balance s now c so =
     by-rows (λ (r : Result State). Balance (s .table) now 0 0 (r .answer .number) (r .state .table)) (takeRows s now c) _ _ (numbered-take s now c)
     (λ n e. refused-balance (s .table) now 0 n e)
     (λ e.
     let r = first-none (takeRows s now c) e in
-    map-balance (s .table) now so (ltb-false now (s .table .last) (r .1 .1 .1 .0)) (namedBy? (c .client) (entriesIn (c .option))) (renew now (s .table .term)) (renew-mild (s .table) now so))
+    map-balance (s .table) now so (ltb-false now (s .table .last) (r .1 .1 .1 .1 .0)) (namedBy? (c .client) (entriesIn (c .option))) (renew now (s .table .term)) (renew-mild (s .table) now so))
 
 release-balance : (s : State) (now : ℕ) (c : Call) → sound (s .table) ≡ true
     → Balance (s .table) now 0 (addressesOf (filter (namedBy? (c .client) (entriesIn (c .option))) (present now (s .table .leases)))) (release s now c .answer .number) (release s now c .state .table)
-unfolding release releaseRows
+unfolding release releaseRows left
 release-balance s now c so =
     let named : Lease → Bool = namedBy? (c .client) (entriesIn (c .option)) in
     let back : ℕ = addressesOf (filter named (present now (s .table .leases))) in
@@ -178,17 +180,17 @@ release-balance s now c so =
     (λ n e. refused-balance (s .table) now back n e)
     (λ e.
     let r = first-none (releaseRows s now c) e in
-    filter-balance (s .table) now so (ltb-false now (s .table .last) (r .1 .1 .0)) (λ x. not (namedBy? (c .client) (entriesIn (c .option)) x)) (namedBy? (c .client) (entriesIn (c .option))) (opposite-not (namedBy? (c .client) (entriesIn (c .option)))))
+    filter-balance (s .table) now so (ltb-false now (s .table .last) (r .1 .1 .1 .0)) (λ x. not (namedBy? (c .client) (entriesIn (c .option)) x)) (namedBy? (c .client) (entriesIn (c .option))) (opposite-not (namedBy? (c .client) (entriesIn (c .option)))))
 
 mark-balance : (s : State) (now network len : ℕ) (d : Bool) → sound (s .table) ≡ true
     → Balance (s .table) now 0 0 (mark s now network len d .answer .number) (mark s now network len d .state .table)
-unfolding mark markRows
+unfolding mark markRows left
 mark-balance s now network len d so =
     by-rows (λ (r : Result State). Balance (s .table) now 0 0 (r .answer .number) (r .state .table)) (markRows s now network len) _ _ (numbered-mark s now network len)
     (λ n e. refused-balance (s .table) now 0 n e)
     (λ e.
     let r = first-none (markRows s now network len) e in
-    map-balance (s .table) now so (ltb-false now (s .table .last) (r .1 .0)) (at? network len) (withD d) (withD-mild (s .table) now so d))
+    map-balance (s .table) now so (ltb-false now (s .table .last) (r .1 .1 .0)) (at? network len) (withD d) (withD-mild (s .table) now so d))
 
 one : (s : State) (e : Event) → sound (s .table) ≡ true
     → addressesOf (leasesOf (next ledger s e .table)) + returnedBy ledger s e + endedBy ledger s e ≡ addressesOf (leasesOf (s .table)) + grantedBy ledger s e

@@ -24,6 +24,7 @@ use Rattle.option.specs.Values.{Entry}
 use Rattle.table.specs.declared.Lease.{Lease}
 use Rattle.table.specs.declared.LeaseTable.{LeaseTable}
 use Rattle.table.specs.Table.{leaseSlots, latest, prefixOf, prefixesOf, poolsOf, present, sound}
+use Rattle.figures.specs.Figures.{matches?}
 use Rattle.option.specs.Contents.{Request}
 use Rattle.option_reply.specs.Reply.{entryOf}
 use Rattle.ledger.specs.Ledger.{State, Call, holdTime, askLength, offer, add, offers, addAll, ask}
@@ -120,24 +121,25 @@ module _ (t : LeaseTable) (good : Pools (poolsOf t)) (now client : ℕ) where
       length-step xs r rs (offer t now client xs r) (offers t now client (add (offer t now client xs r) xs) rs) y ys (offer-is t now client good xs r) e
       (lengths-told rs (add (offer t now client xs r) xs) ys)
 
--- the tables that a list goes through
+-- the states that a list goes through: the sheet of each matches if the first one does
 
 pub record Reached (t : State) (now : ℕ) (u : State) : Type 0 where
   pub sound : sound (u .table) ≡ true
+  pub matched : matches? (u .table .leases) (u .rows) ≡ matches? (t .table .leases) (t .rows)
   pub since : u .table .last ≤ now
   pub pools : u .table .pools ≡ t .table .pools
   pub default : u .table .«default_length» ≡ t .table .«default_length»
 
 module _ (t : State) (now : ℕ) (st : sound (t .table) ≡ true) (ac : Accepts (t .table) now) where
   pub same : (u : State) (c : Call) → Reached t now u → wellFormed now u c ≡ wellFormed now t c
-  same u c s = well-same now t u c st (s .sound) ac (s .since, ac .1)
+  same u c s = well-same now t u c st (s .sound) ac (s .since, ac .1) (s .matched)
 
   pub next : (u : State) (c : Call) → Reached t now u → Reached t now (ask u now c .state)
   next u c s =
       ⊎-elim
       (λ (e : wellFormed now u c ≡ true).
       let k = called now u c e in
-      record { sound = k .sound; since = k .since; pools = k .pools ∙ s .pools; default = k .default ∙ s .default })
+      record { sound = k .sound; matched = k .matched ∙ sym (well now u c e .matched) ∙ s .matched; since = k .since; pools = k .pools ∙ s .pools; default = k .default ∙ s .default })
       (λ (e : wellFormed now u c ≡ false). subst (Reached t now) (sym (run-not now u c e .0)) s)
       (bool-cases (wellFormed now u c))
 
@@ -273,7 +275,7 @@ module _ (t : State) (now : ℕ) (st : sound (t .table) ≡ true) (ac : Accepts 
       ⊎-elim (λ (b : wellFormed now t c ≡ true). step-well c cs b (goes cs)) (λ (b : wellFormed now t c ≡ false). step-not c cs b (goes cs)) (bool-cases (wellFormed now t c))
 
   pub start : Reached t now t
-  start = record { sound = st; since = ac .0; pools = refl; default = refl }
+  start = record { sound = st; matched = refl; since = ac .0; pools = refl; default = refl }
 
   pub all-granted : (cs : List Call) → CanBeChosen now t cs → AllGranted (λ s. s) ask now t cs
   all-granted cs p =

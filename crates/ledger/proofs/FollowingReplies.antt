@@ -1,23 +1,31 @@
--- WHATEVER FOLLOWS THE LEDGER KEEPS ITS THEOREMS (`Following`), of what each call answers: what take and list write reads back, a struck lease leaves nothing
--- behind, and resuming a list skips and repeats nothing.
+-- WHATEVER FOLLOWS THE LEDGER KEEPS ITS THEOREMS (`Following`), of what each call answers: what take and list write reads back, a refusal leaves all as it
+-- was, a struck lease leaves nothing behind, usage figures are kept, and resuming a list skips and repeats nothing.
 -- Assumes nothing.
 use Prim.Native.Nat.{ℕ}
 use mathlib.Core.Path.{_≡_, sym, ap, subst, _∙_}
+use mathlib.Core.List.{List}
 use lib.ListN.{drop}
 use Rattle.lists.specs.Lists.{filter}
 use Rattle.option.specs.Values.{mostEntries}
 use Rattle.option.specs.Contents.{entriesIn}
+use Rattle.table.specs.declared.Lease.{Lease}
 use Rattle.table.specs.Table.{present}
+use Rattle.figures.specs.declared.FigureRow.{FigureRow}
 use Rattle.ledger.specs.declared.Answer.{Answer}
 use Rattle.ledger.specs.Ledger.{State, call, Result, result, Calls, found, listedIn, ledger}
-use Rattle.ledger.specs.Histories.{afterwards}
+use Rattle.ledger.specs.Histories.{afterwards, begun, called}
 use Rattle.ledger.specs.ReadBack.{readIn, confirmation, page, TakesReadBack, ListsReadBack}
+use Rattle.ledger.specs.Refusals.{UnchangedIfRefused, RefusalsLeave}
 use Rattle.ledger.specs.NothingBehind.{Same, Cleared, EndedForgotten, Clears}
+use Rattle.ledger.specs.FiguresKept.{Matched, FiguresAfter, FiguresKept, AlwaysMatched}
 use Rattle.ledger.specs.Resuming.{Resumes}
 use Rattle.ledger.proofs.ReadBack.{take-reads-back, list-reads-back}
+use Rattle.ledger.proofs.SoundKept.{refusals-leave}
 use Rattle.ledger.proofs.NothingBehind.{ended-forgotten, clears}
+use Rattle.ledger.proofs.MatchedKept.{next-matched}
+use Rattle.ledger.proofs.FiguresHold.{figures-kept}
 use Rattle.ledger.proofs.Resuming.{resumed-after-returns}
-use Rattle.ledger.proofs.Following.{Follows, FollowsAll, afterwards-same}
+use Rattle.ledger.proofs.Following.{Follows, FollowsAll, next-same, afterwards-same}
 
 -- ONE CALL
 
@@ -29,8 +37,23 @@ module _ {S : Type 0} (stateOf : S → State) (s : S) (r : Result State) (q : Re
   accepted-too : q .answer .number ≡ 0 → r .answer .number ≡ 0
   accepted-too z = sym (ap (λ (a : Answer). a .number) (f .answer)) ∙ z
 
+  unchanged-followed : (reply : List ℕ) → UnchangedIfRefused (stateOf s) reply r → UnchangedIfRefused s reply q
+  unchanged-followed reply k z =
+      let no : r .answer .number ≡ 0 → ⊥ = λ e. z (ap (λ (a : Answer). a .number) (f .answer) ∙ e) in
+      let same = k no in
+      record {
+        stays = f .refused no;
+        reply-stays = f .reply ∙ same .reply-stays;
+        bytes = ap (λ (a : Answer). a .bytes) (f .answer) ∙ same .bytes;
+        count = ap (λ (a : Answer). a .count) (f .answer) ∙ same .count;
+      }
+
   cleared-followed : (now : ℕ) → (r .answer .number ≡ 0 → Cleared now (r .state)) → q .answer .number ≡ 0 → Cleared now (stateOf (q .state))
   cleared-followed now k z = subst (Cleared now) (sym (f .holds)) (k (accepted-too z))
+
+  figures-followed : (Change : Lease → FigureRow → FigureRow → Type 0) (now : ℕ) → (r .answer .number ≡ 0 → FiguresAfter Change now (stateOf s) (r .state))
+      → q .answer .number ≡ 0 → FiguresAfter Change now (stateOf s) (stateOf (q .state))
+  figures-followed Change now k z = subst (FiguresAfter Change now (stateOf s)) (sym (f .holds)) (k (accepted-too z))
 
   same-followed : (s′ : S) (r′ : Result State) (q′ : Result S) → Follows stateOf s′ r′ q′ → Same (λ u. u) r r′ → Same stateOf q q′
   same-followed s′ r′ q′ g a = record {
@@ -54,6 +77,17 @@ module _ {S : Type 0} (calls : Calls S) (follows : FollowsAll calls) where
   lists-read-back-followed s now c =
       subst (λ (r : Result State). r .answer .number ≡ 0 → readIn r ≡ page (listedIn (stateOf s .table) now (c .client) (c .option)))
       (sym (seen-same stateOf s _ _ (follows .lists s now c))) (list-reads-back (stateOf s) now c)
+
+  -- A REFUSAL LEAVES ALL AS IT WAS
+
+  pub refusals-leave-followed : RefusalsLeave calls
+  refusals-leave-followed = record {
+    asks = λ s now c. unchanged-followed stateOf s _ _ (follows .asks s now c) (c .reply) (refusals-leave .asks (stateOf s) now c);
+    takes = λ s now c. unchanged-followed stateOf s _ _ (follows .takes s now c) (c .reply) (refusals-leave .takes (stateOf s) now c);
+    lists = λ s now c. unchanged-followed stateOf s _ _ (follows .lists s now c) (c .reply) (refusals-leave .lists (stateOf s) now c);
+    releases = λ s now c. unchanged-followed stateOf s _ _ (follows .releases s now c) (c .reply) (refusals-leave .releases (stateOf s) now c);
+    marks = λ s now network len d. unchanged-followed stateOf s _ _ (follows .marks s now network len d) _ (refusals-leave .marks (stateOf s) now network len d);
+  }
 
   -- A STRUCK LEASE LEAVES NOTHING BEHIND
 
@@ -79,6 +113,21 @@ module _ {S : Type 0} (calls : Calls S) (follows : FollowsAll calls) where
         releases = λ c. cleared-followed stateOf s _ _ (follows .releases s now c) now (k .releases c);
         marks = λ network len d. cleared-followed stateOf s _ _ (follows .marks s now network len d) now (k .marks network len d);
       }
+
+  -- USAGE FIGURES
+
+  pub figures-kept-followed : FiguresKept calls
+  figures-kept-followed = record {
+    asks = λ s now c. figures-followed stateOf s _ _ (follows .asks s now c) _ now (figures-kept .asks (stateOf s) now c);
+    takes = λ s now c. figures-followed stateOf s _ _ (follows .takes s now c) _ now (figures-kept .takes (stateOf s) now c);
+    releases = λ s now c. figures-followed stateOf s _ _ (follows .releases s now c) _ now (figures-kept .releases (stateOf s) now c);
+    marks = λ s now network len d. figures-followed stateOf s _ _ (follows .marks s now network len d) _ now (figures-kept .marks (stateOf s) now network len d);
+  }
+
+  -- If the histories begin with sheets that match.
+  pub always-matched-followed : (Begins : S → Type 0) → ((s : S) → Begins s → Matched (stateOf s)) → AlwaysMatched calls Begins
+  always-matched-followed Begins begins s (begun u b) = begins u b
+  always-matched-followed Begins begins s (called u e r) = subst Matched (sym (next-same calls follows u e)) (next-matched (stateOf u) e (always-matched-followed Begins begins u r))
 
   -- RESUMING A LIST
 

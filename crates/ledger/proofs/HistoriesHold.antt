@@ -11,22 +11,22 @@ use Rattle.prefix.specs.Prefixes.{Apart}
 use Rattle.table.specs.Table.{blank, prefixOf, sound}
 use Rattle.table_open.specs.Open.{given, openOk, fresh}
 use Rattle.table_open.proofs.OpenLaws.{open-sound}
-use Rattle.ledger.specs.Ledger.{State, state, orElse, refuse, accept, openTable, ledger}
+use Rattle.ledger.specs.Ledger.{State, state, filled, orElse, refuse, accept, openTable, ledger}
 use Rattle.ledger.specs.Histories.{Event, asked, taken, wasListed, returned, marked, saved, next, Reachable, begun, called, Begins, opened, loaded, NeverShared, leasesOf}
 use Rattle.ledger.proofs.SoundKept.{ask-keeps, take-keeps, list-keeps, release-keeps, mark-keeps, no-overlap}
 
 -- OPEN
 
 pub opened-is : (networks lengths : List ℕ) (term defaultLength start : ℕ) → openTable networks lengths term defaultLength start .answer .number ≡ 0
-    → (openOk networks lengths term defaultLength start ≡ true) × (openTable networks lengths term defaultLength start .state ≡ state (fresh (given networks lengths) term defaultLength start))
+    → (openOk networks lengths term defaultLength start ≡ true) × (openTable networks lengths term defaultLength start .state ≡ filled (fresh (given networks lengths) term defaultLength start))
 unfolding openTable
 opened-is networks lengths term defaultLength start = go (openOk networks lengths term defaultLength start)
   where
     go : (b : Bool)
-        → orElse (cond (not b) (some 12) none) (λ number. refuse number 0 (state blank) []) (accept (state (fresh (given networks lengths) term defaultLength start)) [] 0 []) .answer .number ≡ 0
+        → orElse (cond (not b) (some 12) none) (λ number. refuse number 0 (state blank []) []) (accept (filled (fresh (given networks lengths) term defaultLength start)) [] 0 []) .answer .number ≡ 0
         → (b ≡ true)
-        × (orElse (cond (not b) (some 12) none) (λ number. refuse number 0 (state blank) []) (accept (state (fresh (given networks lengths) term defaultLength start)) [] 0 []) .state
-        ≡ state (fresh (given networks lengths) term defaultLength start))
+        × (orElse (cond (not b) (some 12) none) (λ number. refuse number 0 (state blank []) []) (accept (filled (fresh (given networks lengths) term defaultLength start)) [] 0 []) .state
+        ≡ filled (fresh (given networks lengths) term defaultLength start))
     go true e = (refl, refl)
     go false e = absurd (omega (arith, e))
 
@@ -44,7 +44,7 @@ pub begins-sound : (s : State) → Begins s → sound (s .table) ≡ true
 begins-sound s (opened networks lengths term defaultLength start e) =
     let o = opened-is networks lengths term defaultLength start e in
     subst (λ (u : State). sound (u .table) ≡ true) (sym (o .1)) (open-sound networks lengths term defaultLength start (o .0))
-begins-sound s (loaded u so) = so
+begins-sound s (loaded t so) = so
 
 pub reachable-sound : (s : State) → Reachable ledger Begins s → sound (s .table) ≡ true
 reachable-sound s (begun u b) = begins-sound u b

@@ -1,15 +1,15 @@
--- RESULTS ARE IN RANGE: of arguments within the sizes of the code's types every call, and so every history, gives tables, reply buffers and answers within
--- them.
+-- RESULTS ARE IN RANGE: of arguments within the sizes of the code's types every call, and so every history, gives tables, rows of figures, reply buffers and
+-- answers within them.
 -- Assumes nothing.
-use Prim.Native.Nat.{ℕ, _+_, _-_, _≤_}
-use mathlib.Core.Path.{_≡_, refl}
+use Prim.Native.Nat.{ℕ, zero, suc, _+_, _-_, _≤_}
+use mathlib.Core.Path.{_≡_, refl, sym, subst}
 use mathlib.Core.Bool.{Bool, true, false, not, cond}
 use mathlib.Core.List.{List, [], _∷_, _++_, map}
 use mathlib.Core.Option.{Option, none, some}
 use native.Mathlib.Omega.{arith}
-use lib.ListN.{length, drop, replicate}
+use lib.ListN.{length, drop, getD, replicate}
 use lib.ListN.{take as upTo}
-use lib.Dec.{leb, ltb}
+use lib.Dec.{leb, ltb, eqb}
 use borrow.Author.Tests.{leb-true, ltb-false, eqb-false, not-false}
 use Rattle.lists.specs.Lists.{All, all?, filter, concatMap, catMaybes}
 use Rattle.lists.proofs.Tests.{all?-to}
@@ -31,13 +31,18 @@ use Rattle.table.specs.declared.Lease.{Lease}
 use Rattle.table.specs.declared.LeaseTable.{LeaseTable}
 use Rattle.table.specs.Table.{poolSlots, leaseSlots, latest, noPool, noLease, blank, networkOf, poolsOf, present, sound, store}
 use Rattle.table.proofs.TableLaws.{Good, sound-term, sound-fine, sound-fewer}
+use Rattle.figures.specs.declared.FigureRow.{FigureRow}
+use Rattle.figures.specs.Figures.{untold, untoldRow, keptRows, rowFor, filed, filedBy, followed, taken as takenRows}
+use Rattle.figures.proofs.RowsFollow.{kept-all, row-all}
+use Rattle.figures.proofs.RowsFile.{figureAt, newest, filed-high-water, filed-in-use, filed-unusable, filed-by}
+use Rattle.option.specs.Answers.{figuresOf}
 use Rattle.table_open.specs.Open.{poolNetwork, given, sortPools, fresh}
-use Rattle.ledger.specs.Ledger.{State, state, Call, Result, Row, firstOf, byRows, accept, refusalPlace, openRows, openTable, informationFor, askOffers, add, offer, offers, addAll, forAsk, askRows, ask, namedBy?, names?, found, renew, renewNamed, takeRows, take, listedIn, listRows, list, releaseRows, release, at?, withD, markRows, mark, Calls, ledger}
+use Rattle.ledger.specs.Ledger.{State, state, filled, left, Call, Result, Row, firstOf, byRows, accept, refusalPlace, openRows, openTable, informationFor, askOffers, add, offer, offers, addAll, forAsk, askRows, ask, namedBy?, names?, found, renew, renewNamed, renewed, takeRows, take, listedIn, listRows, list, releaseRows, release, at?, withD, markRows, mark, Calls, ledger}
 use Rattle.ledger.specs.Histories.{Event, asked, taken, wasListed, returned, marked, saved, next, afterwards}
 use Rattle.ledger.specs.Sizes.{Byte, Bytes}
-use Rattle.ledger.specs.InRange.{Word, highestNumber, PoolInRange, LeaseInRange, TableInRange, StateInRange, CallInRange, ResultInRange, InRange, EventInRange, StaysInRange, OpenInRange, OpensInRange}
+use Rattle.ledger.specs.InRange.{Word, Figure, highestNumber, PoolInRange, LeaseInRange, TableInRange, RowInRange, StateInRange, CallInRange, ResultInRange, InRange, EventInRange, StaysInRange, OpenInRange, OpensInRange}
 use Rattle.ledger.proofs.RowLaws.{first-none, by-numbers}
-use Rattle.ledger.proofs.ReadLaws.{requests-short, entries-few, option-short, place-short}
+use Rattle.ledger.proofs.ReadLaws.{requests-short, figures-short, entries-few, option-short, place-short}
 use Rattle.ledger.proofs.Counts.{upTo-all, granted-few, ask-fits, found-few, information-fits}
 use Rattle.ledger.proofs.OfferLaws.{pools-good, pools-within, Offered, Offer, offer-is, offers-good, length-bounds}
 
@@ -142,6 +147,58 @@ changed-in-range f p k xs a = all-image (λ x. cond (p x) (f x) x) LeaseInRange 
     pick x true a c = a
     pick x false a c = c
 
+-- ROWS OF FIGURES
+
+untold-in-range : (x : Lease) → LeaseInRange x → RowInRange (untoldRow x)
+untold-in-range x v = record { network = v .network; length = v .length; high-water = omega arith; in-use = omega arith; unusable = omega arith }
+
+pub filled-in-range : (t : LeaseTable) → TableInRange t → StateInRange (filled t)
+filled-in-range t f = record { table = f; rows = all-image untoldRow RowInRange (t .leases) (all-map untold-in-range (t .leases) (f .leases)) }
+
+row-in-range : (now : ℕ) (s : State) (x : Lease) → StateInRange s → LeaseInRange x → RowInRange (rowFor (keptRows now (s .table .leases) (s .rows)) x)
+row-in-range now s x f v = row-all RowInRange _ x (kept-all RowInRange now (s .table .leases) (s .rows) (f .rows)) (untold-in-range x v)
+
+left-in-range : (s : State) (now : ℕ) (xs : List Lease) → StateInRange s → TableInRange (store (s .table) now xs) → StateInRange (left s now xs)
+unfolding left followed
+left-in-range s now xs f k =
+    let u : LeaseTable = store (s .table) now xs in
+    record { table = k; rows = all-image _ RowInRange (u .leases) (all-map (λ x (v : LeaseInRange x). row-in-range now s x f v) (u .leases) (k .leases)) }
+
+-- A figure of an entry has 16 bits, and so has what is filed.
+figure-in-range : (l : List ℕ) → All Figure l → (i : ℕ) → Figure (getD l i untold)
+figure-in-range [] a i = omega arith
+figure-in-range (n ∷ l) a zero = a .0
+figure-in-range (n ∷ l) a (suc i) = figure-in-range l (a .1) i
+
+newest-in-range : (old new : ℕ) → Figure old → Figure new → Figure (newest old new)
+newest-in-range old new a b = go (eqb new untold)
+  where
+    go : (c : Bool) → Figure (cond c old new)
+    go true = a
+    go false = b
+
+filed-in-range : (e : Entry) → All Figure (e .figures) → (r : FigureRow) → RowInRange r → RowInRange (filed (figuresOf (e .figures)) r)
+unfolding filed
+filed-in-range e a r v = record {
+  network = v .network;
+  length = v .length;
+  high-water = subst Figure (sym (filed-high-water e r)) (newest-in-range (r .«high_water» .0) (figureAt 0 e) (v .high-water) (figure-in-range (e .figures) a 0));
+  in-use = subst Figure (sym (filed-in-use e r)) (newest-in-range (r .«in_use» .0) (figureAt 1 e) (v .in-use) (figure-in-range (e .figures) a 1));
+  unusable = subst Figure (sym (filed-unusable e r)) (newest-in-range (r .unusable .0) (figureAt 2 e) (v .unusable) (figure-in-range (e .figures) a 2));
+}
+
+renewed-in-range : (s : State) (now : ℕ) (c : Call) → StateInRange s → CallInRange c
+    → TableInRange (store (s .table) now (renewNamed now (s .table .term) (c .client) (entriesIn (c .option)) (present now (s .table .leases)))) → StateInRange (renewed s now c)
+unfolding renewed takenRows
+renewed-in-range s now c f w k =
+    let u : LeaseTable = store (s .table) now (renewNamed now (s .table .term) (c .client) (entriesIn (c .option)) (present now (s .table .leases))) in
+    record { table = k; rows = all-image _ RowInRange (u .leases) (all-map (λ x (v : LeaseInRange x). one x (eqb (x .client) (c .client)) (row-in-range now s x f v)) (u .leases) (k .leases)) }
+  where
+    one : (x : Lease) (b : Bool) → RowInRange (rowFor (keptRows now (s .table .leases) (s .rows)) x)
+        → RowInRange (cond b (filedBy (entriesIn (c .option)) (rowFor (keptRows now (s .table .leases) (s .rows)) x)) (rowFor (keptRows now (s .table .leases) (s .rows)) x))
+    one x true v = filed-by RowInRange (entriesIn (c .option)) (all-map filed-in-range (entriesIn (c .option)) (figures-short (c .option) (w .option))) _ v
+    one x false v = v
+
 -- The leases of a sound table lie in its pools.
 good-told : (t : LeaseTable) (now : ℕ) → sound t ≡ true → (xs : List Lease) → All (Good (poolsOf t) now) xs → All Told xs
 good-told t now s xs a = all-map (λ x (g : Good (poolsOf t) now x). told x g) xs a
@@ -197,14 +254,15 @@ module _ (s : State) (now : ℕ) (c : Call) (f : StateInRange s) (k : CallInRang
       served-in-range (askRows s now c) _ refl
       (λ r.
       let so : sound t ≡ true = not-false (sound t) (r .1 .0) in
-      let named : c .client ≡ 0 → ⊥ = eqb-false (c .client) 0 (r .1 .1 .0) in
-      let l : now ≤ latest = ltb-false latest now (r .1 .1 .1 .1 .0) in
+      let named : c .client ≡ 0 → ⊥ = eqb-false (c .client) 0 (r .1 .1 .1 .0) in
+      let l : now ≤ latest = ltb-false latest now (r .1 .1 .1 .1 .1 .0) in
       let os : List (Option Lease) = askOffers t now (c .client) (c .option) in
       let gs : List Lease = catMaybes os in
-      let few : length gs ≤ mostRequests = granted-few t now (c .client) xs (requestsIn (c .option)) (not-false (forAsk (requestsIn (c .option))) (r .1 .1 .1 .1 .1 .1 .1 .0)) in
+      let few : length gs ≤ mostRequests = granted-few t now (c .client) xs (requestsIn (c .option)) (not-false (forAsk (requestsIn (c .option))) (r .1 .1 .1 .1 .1 .1 .1 .1 .0)) in
       let told : All Told gs = good-told t now so gs (offers-good t now (c .client) (pools-good t so) so named (requestsIn (c .option)) xs (requests-short (c .option))) in
-      accepted-in-range StateInRange (state (store t now (addAll os xs))) (optionBytes (map informationFor gs)) (length gs) (c .reply)
-      (store-in-range t now (addAll os xs) f l (offers-in-range t now (c .client) so l (k .client) (requestsIn (c .option)) xs (requests-short (c .option)) (present-in-range t now f)))
+      accepted-in-range StateInRange (left s now (addAll os xs)) (optionBytes (map informationFor gs)) (length gs) (c .reply)
+      (left-in-range s now (addAll os xs) f
+      (store-in-range t now (addAll os xs) (f .table) l (offers-in-range t now (c .client) so l (k .client) (requestsIn (c .option)) xs (requests-short (c .option)) (present-in-range t now (f .table)))))
       (ask-bytes gs few told) (omega (arith, ask-fits gs few)) (omega arith) (k .reply))
 
   found-told : sound t ≡ true → All Told (found (c .client) xs es)
@@ -218,14 +276,15 @@ module _ (s : State) (now : ℕ) (c : Call) (f : StateInRange s) (k : CallInRang
       served-in-range (takeRows s now c) _ refl
       (λ r.
       let so : sound t ≡ true = not-false (sound t) (r .1 .0) in
-      let l : now ≤ latest = ltb-false latest now (r .1 .1 .1 .1 .0) in
+      let l : now ≤ latest = ltb-false latest now (r .1 .1 .1 .1 .1 .0) in
       let gs : List Lease = found (c .client) xs es in
       let few : length gs ≤ mostEntries =
-      omega (arith, found-few t now (c .client) es so, entries-few (c .option) (option-short (c .option) (k .option) (r .1 .1 .1 .1 .1 .0))) in
-      accepted-in-range StateInRange (state (store t now (renewNamed now (t .term) (c .client) es xs))) (optionBytes (information false false (map entryOf gs) ∷ [])) (length gs) (c .reply)
-      (store-in-range t now (renewNamed now (t .term) (c .client) es xs) f l
+      omega (arith, found-few t now (c .client) es so, entries-few (c .option) (option-short (c .option) (k .option) (r .1 .1 .1 .1 .1 .1 .0))) in
+      accepted-in-range StateInRange (renewed s now c) (optionBytes (information false false (map entryOf gs) ∷ [])) (length gs) (c .reply)
+      (renewed-in-range s now c f k
+      (store-in-range t now (renewNamed now (t .term) (c .client) es xs) (f .table) l
       (changed-in-range (renew now (t .term)) (namedBy? (c .client) es)
-      (λ x (v : LeaseInRange x). record { network = v .network; length = v .length; client = v .client; expires = omega (arith, sound-term t so .1) }) xs (present-in-range t now f)))
+      (λ x (v : LeaseInRange x). record { network = v .network; length = v .length; client = v .client; expires = omega (arith, sound-term t so .1) }) xs (present-in-range t now (f .table)))))
       (page-bytes false false gs few (found-told so)) (omega (arith, information-fits false false gs few)) (omega arith) (k .reply))
 
   list-in-range : ResultInRange StateInRange (list s now c)
@@ -247,10 +306,10 @@ module _ (s : State) (now : ℕ) (c : Call) (f : StateInRange s) (k : CallInRang
       served-in-range (releaseRows s now c) _ refl
       (λ r.
       let so : sound t ≡ true = not-false (sound t) (r .0) in
-      let l : now ≤ latest = ltb-false latest now (r .1 .1 .1 .0) in
+      let l : now ≤ latest = ltb-false latest now (r .1 .1 .1 .1 .0) in
       let kept : List Lease = filter (λ x. not (namedBy? (c .client) es x)) xs in
-      accepted-in-range StateInRange (state (store t now kept)) [] (length (filter (namedBy? (c .client) es) xs)) (c .reply)
-      (store-in-range t now kept f l (filter-all (λ x. not (namedBy? (c .client) es x)) LeaseInRange xs (present-in-range t now f)))
+      accepted-in-range StateInRange (left s now kept) [] (length (filter (namedBy? (c .client) es) xs)) (c .reply)
+      (left-in-range s now kept f (store-in-range t now kept (f .table) l (filter-all (λ x. not (namedBy? (c .client) es x)) LeaseInRange xs (present-in-range t now (f .table)))))
       tt (omega arith) (omega (arith, filter-fewer (namedBy? (c .client) es) xs, sound-fewer t so now)) (k .reply))
 
 mark-in-range : (s : State) (now network len : ℕ) (d : Bool) → StateInRange s → ResultInRange StateInRange (mark s now network len d)
@@ -261,9 +320,10 @@ mark-in-range s now network len d f =
     let r = first-none (markRows s now network len) e in
     let xs : List Lease = present now (s .table .leases) in
     let marks : List Lease = map (λ x. cond (at? network len x) (withD d x) x) xs in
-    accepted-in-range StateInRange (state (store (s .table) now marks)) [] 0 []
-    (store-in-range (s .table) now marks f (ltb-false latest now (r .1 .1 .0))
-    (changed-in-range (withD d) (at? network len) (λ x (v : LeaseInRange x). record { network = v .network; length = v .length; client = v .client; expires = v .expires }) xs (present-in-range (s .table) now f)))
+    accepted-in-range StateInRange (left s now marks) [] 0 []
+    (left-in-range s now marks f
+    (store-in-range (s .table) now marks (f .table) (ltb-false latest now (r .1 .1 .1 .0))
+    (changed-in-range (withD d) (at? network len) (λ x (v : LeaseInRange x). record { network = v .network; length = v .length; client = v .client; expires = v .expires }) xs (present-in-range (s .table) now (f .table)))))
     tt (omega arith) (omega arith) tt)
 
 pub in-range : InRange StateInRange ledger
@@ -308,5 +368,5 @@ fresh-in-range networks lengths term defaultLength start o =
 pub opens-in-range : OpensInRange
 unfolding openTable
 opens-in-range networks lengths term defaultLength start o =
-    rows-in-range StateInRange (openRows networks lengths term defaultLength start) (λ n. 0) (state blank) [] _ refl (λ n. omega arith) blank-in-range tt
-    (λ e. accepted-in-range StateInRange (state (fresh (given networks lengths) term defaultLength start)) [] 0 [] (fresh-in-range networks lengths term defaultLength start o) tt (omega arith) (omega arith) tt)
+    rows-in-range StateInRange (openRows networks lengths term defaultLength start) (λ n. 0) (state blank []) [] _ refl (λ n. omega arith) (record { table = blank-in-range; rows = tt }) tt
+    (λ e. accepted-in-range StateInRange (filled (fresh (given networks lengths) term defaultLength start)) [] 0 [] (filled-in-range _ (fresh-in-range networks lengths term defaultLength start o)) tt (omega arith) (omega arith) tt)

@@ -1,5 +1,6 @@
 -- Laws of the definitions, and the theorems.
 pub mod RowLaws
+pub mod LeftLaws
 pub mod CommonRows
 pub mod ReadLaws
 pub mod OfferLaws
@@ -13,6 +14,8 @@ pub mod Demand3Holds
 pub mod Converse
 pub mod SoundKept
 pub mod HistoriesHold
+pub mod MatchedKept
+pub mod FiguresHold
 pub mod ConservationHolds
 pub mod ListDependsHolds
 pub mod Following

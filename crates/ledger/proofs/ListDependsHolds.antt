@@ -19,12 +19,13 @@ use mathlib.Core.Logic.{⊎-elim}
 use Rattle.option.specs.Values.{information}
 use Rattle.option.specs.Reading.{readOption}
 use Rattle.option.specs.Writing.{optionBytes}
-use Rattle.table.specs.declared.Lease.{Lease}
+use Rattle.table.specs.declared.{Lease.Lease, LeaseTable.LeaseTable}
 use Rattle.table.specs.Table.{latest, empty?, present, sound}
 use Rattle.table.proofs.TableLaws.{empty-to}
+use Rattle.figures.specs.declared.FigureRow.{FigureRow}
 use Rattle.option.specs.Contents.{refuses?, suboptions, requestsIn, position}
 use Rattle.option_reply.specs.Reply.{mostEntries, entryOf}
-use Rattle.ledger.specs.Ledger.{State, call, leastReply, ledger, Result, refuse, acceptance, accept, Row, firstOf, orElse, nothing?, refusalPlace, forList, above?, listed, listedIn, listRows, list}
+use Rattle.ledger.specs.Ledger.{State, state, Call, call, leastReply, ledger, Result, refuse, acceptance, accept, Row, firstOf, orElse, nothing?, refusalPlace, forList, above?, listed, listedIn, listRows, list}
 use Rattle.ledger.specs.ListDepends.{answered, DependsOnly}
 
 -- What is listed is a part of this client's leases: a slot that expires after a time is not empty.
@@ -106,3 +107,17 @@ list-depends s u now client option reply reply′ st su e l m =
     ap (λ (rows : List Row). answered (orElse (firstOf rows) (λ number. refuse number (refusalPlace option number) s reply) (page s reply gs))) (rows-same s u now client option reply reply′ st su e l same)
     ∙ ap (λ (xs : List Lease). answered (orElse (firstOf (listRows u now (call client option reply′))) (λ number. refuse number (refusalPlace option number) s reply) (page s reply xs))) same
     ∙ outcome-same s u option reply reply′ (firstOf (listRows u now (call client option reply′))) (page s reply hs) (page u reply′ hs) (answer-same s u reply reply′ hs)
+
+-- Nor on the rows of the figures sheet, whatever the table is: a list has no sheet.
+same-but-left : (s u : State) (option reply : List ℕ) (gs : List Lease) (o : Option ℕ)
+    → let r = orElse o (λ number. refuse number (refusalPlace option number) s reply) (page s reply gs) in
+    let q = orElse o (λ number. refuse number (refusalPlace option number) u reply) (page u reply gs) in
+    (r .answer ≡ q .answer) × (r .reply ≡ q .reply)
+same-but-left s u option reply gs none = (refl, refl)
+same-but-left s u option reply gs (some n) = (refl, refl)
+
+pub list-without-rows : (t : LeaseTable) (rows rows′ : List FigureRow) (now : ℕ) (c : Call)
+    → (list (state t rows) now c .answer ≡ list (state t rows′) now c .answer) × (list (state t rows) now c .reply ≡ list (state t rows′) now c .reply)
+unfolding list listRows
+list-without-rows t rows rows′ now c =
+    same-but-left (state t rows) (state t rows′) (c .option) (c .reply) (listedIn t now (c .client) (c .option)) (firstOf (listRows (state t rows) now c))

@@ -1,5 +1,6 @@
--- A STRUCK LEASE LEAVES NOTHING BEHIND: two sound tables with the same pools, term, default length and present leases at a time that both accept get the
--- same answer, the same buffer and, where the call is accepted, the same table from every call (list leaves each its own); and freed slots are zero.
+-- A STRUCK LEASE LEAVES NOTHING BEHIND: two sound tables with the same pools, term, default length and present leases at a time that both accept, and with
+-- the same rows of these leases, get the same answer, the same buffer and, where the call is accepted, the same state from every call (list leaves each its
+-- own); and freed slots are zero, their rows untold.
 -- Assumes nothing.
 use Prim.Native.Nat.{ℕ, _-_}
 use mathlib.Core.Path.{_≡_, refl, sym, ap, ap₂, subst, _∙_}
@@ -20,13 +21,16 @@ use Rattle.table.specs.declared.Lease.{Lease}
 use Rattle.table.specs.declared.LeaseTable.{LeaseTable}
 use Rattle.table.specs.Table.{latest, prefixOf, poolsOf, prefixesOf, padded, present, sound, store}
 use Rattle.table.proofs.TableLaws.{sound-whole, store-last}
+use Rattle.figures.specs.declared.FigureRow.{FigureRow}
+use Rattle.figures.specs.Figures.{matches?, rowFor, filedBy, followed, taken}
 use Rattle.option.specs.Contents.{position, requestsIn, entriesIn, suboptions, Request}
 use Rattle.option_reply.specs.Reply.{mostEntries, entryOf}
-use Rattle.ledger.specs.Ledger.{State, state, Call, Result, result, acceptance, accept, Row, firstOf, orElse, byRows, refusalPlace, leastReply, optionRows, clientRows, nothing?, full, offered, offer, offers, add, addAll, askOffers, informationFor, forAsk, askRows, ask, namedBy?, found, renewNamed, forTake, takeRows, take, forList, listed, listedIn, listRows, list, releaseRows, release, at?, withD, markRows, mark, ledger}
+use Rattle.ledger.specs.Ledger.{State, state, left, Call, Result, result, acceptance, accept, Row, firstOf, orElse, byRows, refusalPlace, leastReply, tableRows, stateRows, optionRows, clientRows, nothing?, full, offered, offer, offers, add, addAll, askOffers, informationFor, forAsk, askRows, ask, namedBy?, found, renewNamed, renewed, forTake, takeRows, take, forList, listed, listedIn, listRows, list, releaseRows, release, at?, withD, markRows, mark, ledger}
 use Rattle.ledger.specs.Histories.{leasesOf}
 use Rattle.ledger.specs.NothingBehind.{Alike, Same, Cleared, EndedForgotten, Clears}
 use Rattle.ledger.proofs.RowLaws.{Numbered, first-number, by-rows, numbered-ask, numbered-take, numbered-release, numbered-mark}
 use Rattle.ledger.proofs.SoundKept.{ask-sound, take-sound, release-sound, mark-sound}
+use Rattle.ledger.proofs.MatchedKept.{ask-matched, take-matched, release-matched, mark-matched}
 
 abbrev SameState : Result State → Result State → Type 0
 SameState r q = Same (λ s. s) r q
@@ -34,11 +38,11 @@ SameState r q = Same (λ s. s) r q
 not-zero : (n : ℕ) → eqb n 0 ≡ false → n ≡ 0 → ⊥
 not-zero n e z = true≢false (sym (eq-eqb n 0 z) ∙ e)
 
-accept-same : (reply : List ℕ) {v w : LeaseTable} {b c : List ℕ} {m n : ℕ} → v ≡ w → b ≡ c → m ≡ n → SameState (accept (state v) b m reply) (accept (state w) c n reply)
+accept-same : (reply : List ℕ) {v w : State} {b c : List ℕ} {m n : ℕ} → v ≡ w → b ≡ c → m ≡ n → SameState (accept v b m reply) (accept w c n reply)
 accept-same reply e f g = record {
   answer = ap₂ (λ (l : List ℕ) (k : ℕ). acceptance (length l) k) f g;
   reply = ap (λ (l : List ℕ). l ++ drop (length l) reply) f;
-  left = λ z. ap state e;
+  left = λ z. e;
 }
 
 module _ (now : ℕ) (s u : State) (a : Alike now s u) where
@@ -59,6 +63,16 @@ module _ (now : ℕ) (s u : State) (a : Alike now s u) where
   unfolding store
   store-same xs ys e = λ i. record { pools = a .pools i; leases = padded (e i); term = a .term i; «default_length» = a .default i; last = now }
 
+  left-same : (xs ys : List Lease) → xs ≡ ys → left s now xs ≡ left u now ys
+  unfolding left followed
+  left-same xs ys e = ap₂ (λ (v : LeaseTable) (rs : List FigureRow). state v (map (rowFor rs) (v .leases))) (store-same xs ys e) (a .rows)
+
+  renewed-same : (c : Call) → renewed s now c ≡ renewed u now c
+  unfolding renewed taken
+  renewed-same c =
+      ap₂ (λ (v : LeaseTable) (rs : List FigureRow). state v (map (λ x. cond (eqb (x .client) (c .client)) (filedBy (entriesIn (c .option)) (rowFor rs x)) (rowFor rs x)) (v .leases)))
+      (store-same _ _ (ap₂ (λ (n : ℕ) (xs : List Lease). renewNamed now n (c .client) (entriesIn (c .option)) xs) (a .term) (a .leases))) (a .rows)
+
   offer-same : (client : ℕ) (xs : List Lease) (r : Request) → offer (s .table) now client xs r ≡ offer (u .table) now client xs r
   unfolding offer
   offer-same client xs r =
@@ -78,15 +92,18 @@ module _ (now : ℕ) (s u : State) (a : Alike now s u) where
   ask-offers-same client option =
       offers-same client (present now (s .table .leases)) (requestsIn option) ∙ ap (λ (xs : List Lease). offers (u .table) now client xs (requestsIn option)) (a .leases)
 
-  sound-same : sound (s .table) ≡ sound (u .table)
-  sound-same = a .sound₁ ∙ sym (a .sound₂)
+  table-rows-same : tableRows s ≡ tableRows u
+  table-rows-same = ap (λ (b : Bool). (5, not b) ∷ []) (a .sound₁ ∙ sym (a .sound₂))
+
+  state-rows-same : stateRows s ≡ stateRows u
+  state-rows-same = ap₂ (λ (b m : Bool). (5, not b) ∷ (15, not m) ∷ []) (a .sound₁ ∙ sym (a .sound₂)) (a .matched₁ ∙ sym (a .matched₂))
 
   time-same : ltb now (s .table .last) ≡ ltb now (u .table .last)
   time-same = le-ltb now (s .table .last) (a .accepts₁ .0) ∙ sym (le-ltb now (u .table .last) (a .accepts₂ .0))
 
-  -- The rows as functions of what they take from the table.
-  abbrev rowsWith : List Row → Call → Bool → Bool → List Row → List Row
-  rowsWith first c sound? early own = first ++ ((5, not sound?) ∷ (clientRows c ++ ((3, early) ∷ (4, ltb latest now) ∷ (optionRows c ++ own))))
+  -- The rows as functions of what they take from the state.
+  abbrev rowsWith : List Row → Call → List Row → Bool → List Row → List Row
+  rowsWith first c ofState early own = first ++ ((ofState ++ (clientRows c ++ ((3, early) ∷ (4, ltb latest now) ∷ optionRows c))) ++ own)
 
   module _ (c : Call) where
     abbrev first : List Row
@@ -95,8 +112,8 @@ module _ (now : ℕ) (s u : State) (a : Alike now s u) where
     ask-rows-same : askRows s now c ≡ askRows u now c
     unfolding askRows
     ask-rows-same =
-        ap₂ (λ (x e : Bool). rowsWith first c x e (own (askOffers (s .table) now (c .client) (c .option)) (present now (s .table .leases)))) sound-same time-same
-        ∙ ap₂ (λ (os : List (Option Lease)) (xs : List Lease). rowsWith first c (sound (u .table)) (ltb now (u .table .last)) (own os xs)) (ask-offers-same (c .client) (c .option)) (a .leases)
+        ap₂ (λ (x : List Row) (e : Bool). rowsWith first c x e (own (askOffers (s .table) now (c .client) (c .option)) (present now (s .table .leases)))) state-rows-same time-same
+        ∙ ap₂ (λ (os : List (Option Lease)) (xs : List Lease). rowsWith first c (stateRows u) (ltb now (u .table .last)) (own os xs)) (ask-offers-same (c .client) (c .option)) (a .leases)
       where
         own : List (Option Lease) → List Lease → List Row
         own os xs = (8, not (forAsk (requestsIn (c .option)))) ∷ (9, nothing? (catMaybes os) && full xs) ∷ (10, nothing? (catMaybes os)) ∷ []
@@ -107,15 +124,15 @@ module _ (now : ℕ) (s u : State) (a : Alike now s u) where
         let os = ask-offers-same (c .client) (c .option) in
         same-rows (askRows s now c) (askRows u now c) (refusalPlace (c .option)) (c .reply) _ _ ask-rows-same (numbered-ask s now c)
         (accept-same (c .reply)
-        (store-same _ _ (ap₂ addAll os (a .leases)))
+        (left-same _ _ (ap₂ addAll os (a .leases)))
         (ap (λ (l : List (Option Lease)). optionBytes (map informationFor (catMaybes l))) os)
         (ap (λ (l : List (Option Lease)). length (catMaybes l)) os))
 
     take-rows-same : takeRows s now c ≡ takeRows u now c
     unfolding takeRows
     take-rows-same =
-        ap₂ (λ (x e : Bool). rowsWith first c x e (own (present now (s .table .leases)))) sound-same time-same
-        ∙ ap (λ (xs : List Lease). rowsWith first c (sound (u .table)) (ltb now (u .table .last)) (own xs)) (a .leases)
+        ap₂ (λ (x : List Row) (e : Bool). rowsWith first c x e (own (present now (s .table .leases)))) state-rows-same time-same
+        ∙ ap (λ (xs : List Lease). rowsWith first c (stateRows u) (ltb now (u .table .last)) (own xs)) (a .leases)
       where
         own : List Lease → List Row
         own xs = (8, not (forTake (suboptions (readOption (c .option))))) ∷ (11, nothing? (found (c .client) xs (entriesIn (c .option)))) ∷ []
@@ -125,15 +142,15 @@ module _ (now : ℕ) (s u : State) (a : Alike now s u) where
     take-same =
         same-rows (takeRows s now c) (takeRows u now c) (refusalPlace (c .option)) (c .reply) _ _ take-rows-same (numbered-take s now c)
         (accept-same (c .reply)
-        (store-same _ _ (ap₂ (λ (n : ℕ) (xs : List Lease). renewNamed now n (c .client) (entriesIn (c .option)) xs) (a .term) (a .leases)))
+        (renewed-same c)
         (ap (λ (xs : List Lease). optionBytes (information false false (map entryOf (found (c .client) xs (entriesIn (c .option)))) ∷ [])) (a .leases))
         (ap (λ (xs : List Lease). length (found (c .client) xs (entriesIn (c .option)))) (a .leases)))
 
     list-rows-same : listRows s now c ≡ listRows u now c
     unfolding listRows
     list-rows-same =
-        ap₂ (λ (x e : Bool). rowsWith first c x e (own (present now (s .table .leases)))) sound-same time-same
-        ∙ ap (λ (xs : List Lease). rowsWith first c (sound (u .table)) (ltb now (u .table .last)) (own xs)) (a .leases)
+        ap₂ (λ (x : List Row) (e : Bool). rowsWith first c x e (own (present now (s .table .leases)))) table-rows-same time-same
+        ∙ ap (λ (xs : List Lease). rowsWith first c (tableRows u) (ltb now (u .table .last)) (own xs)) (a .leases)
       where
         own : List Lease → List Row
         own xs = (8, not (forList (requestsIn (c .option)))) ∷ (11, nothing? (listed (c .client) (position none (suboptions (readOption (c .option)))) xs)) ∷ []
@@ -164,8 +181,8 @@ module _ (now : ℕ) (s u : State) (a : Alike now s u) where
     release-rows-same : releaseRows s now c ≡ releaseRows u now c
     unfolding releaseRows
     release-rows-same =
-        ap₂ (λ (x e : Bool). rowsWith [] c x e (own (present now (s .table .leases)))) sound-same time-same
-        ∙ ap (λ (xs : List Lease). rowsWith [] c (sound (u .table)) (ltb now (u .table .last)) (own xs)) (a .leases)
+        ap₂ (λ (x : List Row) (e : Bool). rowsWith [] c x e (own (present now (s .table .leases)))) state-rows-same time-same
+        ∙ ap (λ (xs : List Lease). rowsWith [] c (stateRows u) (ltb now (u .table .last)) (own xs)) (a .leases)
       where
         own : List Lease → List Row
         own xs = (8, not (forTake (suboptions (readOption (c .option))))) ∷ (11, nothing? (filter (namedBy? (c .client) (entriesIn (c .option))) xs)) ∷ []
@@ -174,22 +191,22 @@ module _ (now : ℕ) (s u : State) (a : Alike now s u) where
     unfolding release
     release-same =
         same-rows (releaseRows s now c) (releaseRows u now c) (refusalPlace (c .option)) (c .reply) _ _ release-rows-same (numbered-release s now c)
-        (accept-same (c .reply) {b = []} {c = []} (store-same _ _ (ap (filter (λ x. not (namedBy? (c .client) (entriesIn (c .option)) x))) (a .leases))) refl
+        (accept-same (c .reply) {b = []} {c = []} (left-same _ _ (ap (filter (λ x. not (namedBy? (c .client) (entriesIn (c .option)) x))) (a .leases))) refl
         (ap (λ (xs : List Lease). length (filter (namedBy? (c .client) (entriesIn (c .option))) xs)) (a .leases)))
 
   mark-rows-same : (network len : ℕ) → markRows s now network len ≡ markRows u now network len
   unfolding markRows
   mark-rows-same network len =
-      ap₂ (λ (x e : Bool). rows x e (present now (s .table .leases))) sound-same time-same ∙ ap (rows (sound (u .table)) (ltb now (u .table .last))) (a .leases)
+      ap₂ (λ (x : List Row) (e : Bool). rows x e (present now (s .table .leases))) state-rows-same time-same ∙ ap (rows (stateRows u) (ltb now (u .table .last))) (a .leases)
     where
-      rows : Bool → Bool → List Lease → List Row
-      rows x e xs = (5, not x) ∷ (3, e) ∷ (4, ltb latest now) ∷ (11, not (any? (at? network len) xs)) ∷ []
+      rows : List Row → Bool → List Lease → List Row
+      rows x e xs = x ++ ((3, e) ∷ (4, ltb latest now) ∷ (11, not (any? (at? network len) xs)) ∷ [])
 
   mark-same : (network len : ℕ) (d : Bool) → SameState (mark s now network len d) (mark u now network len d)
   unfolding mark
   mark-same network len d =
       same-rows (markRows s now network len) (markRows u now network len) (λ n. 0) [] _ _ (mark-rows-same network len) (numbered-mark s now network len)
-      (accept-same [] {b = []} {c = []} {m = 0} {n = 0} (store-same _ _ (ap (map (λ x. cond (at? network len x) (withD d x) x)) (a .leases))) refl refl)
+      (accept-same [] {b = []} {c = []} {m = 0} {n = 0} (left-same _ _ (ap (map (λ x. cond (at? network len x) (withD d x) x)) (a .leases))) refl refl)
 
 -- ENDED LEASES ARE FORGOTTEN, by every call.
 pub ended-forgotten : EndedForgotten ledger
@@ -201,42 +218,43 @@ ended-forgotten now s u a = record { asks = ask-same now s u a; takes = take-sam
 pub slots-zero : (t : LeaseTable) → sound t ≡ true → t .leases ≡ padded (leasesOf t)
 slots-zero t s = sound-whole t s
 
-stored-cleared : (t : LeaseTable) (now : ℕ) (xs : List Lease) → sound (store t now xs) ≡ true → Cleared now (state (store t now xs))
-stored-cleared t now xs s =
-    (store-last t now xs, sound-whole (store t now xs) s ∙ ap (λ (m : ℕ). padded (present m (store t now xs .leases))) (store-last t now xs))
+stored-cleared : (t : LeaseTable) (now : ℕ) (xs : List Lease) (rows : List FigureRow) → sound (store t now xs) ≡ true → matches? (store t now xs .leases) rows ≡ true
+    → Cleared now (state (store t now xs) rows)
+stored-cleared t now xs rows s m =
+    (store-last t now xs, sound-whole (store t now xs) s ∙ ap (λ (last : ℕ). padded (present last (store t now xs .leases))) (store-last t now xs), m)
 
--- Of a call that leaves a sound table, if it is accepted.
+-- Of a call that leaves a sound table and a sheet that matches it, if it is accepted.
 abbrev LeavesCleared : ℕ → Result State → Type 0
-LeavesCleared now r = sound (r .state .table) ≡ true → r .answer .number ≡ 0 → Cleared now (r .state)
+LeavesCleared now r = sound (r .state .table) ≡ true → matches? (r .state .table .leases) (r .state .rows) ≡ true → r .answer .number ≡ 0 → Cleared now (r .state)
 
 cleared-by : (now : ℕ) (rows : List Row) (place : ℕ → ℕ) (s : State) (reply : List ℕ) (accepted : Result State) → Numbered rows → LeavesCleared now accepted
     → LeavesCleared now (byRows rows place s reply accepted)
-cleared-by now rows place s reply accepted k left = by-rows (LeavesCleared now) rows _ _ k (λ n m _ z. absurd (not-zero n m z)) (λ _. left)
+cleared-by now rows place s reply accepted k left = by-rows (LeavesCleared now) rows _ _ k (λ n m _ _ z. absurd (not-zero n m z)) (λ _. left)
 
 module _ (s : State) (now : ℕ) where
   ask-clears : (c : Call) → ask s now c .answer .number ≡ 0 → Cleared now (ask s now c .state)
-  unfolding ask
+  unfolding ask left
   ask-clears c z =
-      cleared-by now (askRows s now c) (refusalPlace (c .option)) s (c .reply) _ (numbered-ask s now c) (λ q _. stored-cleared (s .table) now _ q)
-      (ask-sound s now c z .1) z
+      cleared-by now (askRows s now c) (refusalPlace (c .option)) s (c .reply) _ (numbered-ask s now c) (λ q m _. stored-cleared (s .table) now _ _ q m)
+      (ask-sound s now c z .1) (ask-matched s now c z .1) z
 
   take-clears : (c : Call) → take s now c .answer .number ≡ 0 → Cleared now (take s now c .state)
-  unfolding take
+  unfolding take renewed
   take-clears c z =
-      cleared-by now (takeRows s now c) (refusalPlace (c .option)) s (c .reply) _ (numbered-take s now c) (λ q _. stored-cleared (s .table) now _ q)
-      (take-sound s now c z .1) z
+      cleared-by now (takeRows s now c) (refusalPlace (c .option)) s (c .reply) _ (numbered-take s now c) (λ q m _. stored-cleared (s .table) now _ _ q m)
+      (take-sound s now c z .1) (take-matched s now c z .1) z
 
   release-clears : (c : Call) → release s now c .answer .number ≡ 0 → Cleared now (release s now c .state)
-  unfolding release
+  unfolding release left
   release-clears c z =
-      cleared-by now (releaseRows s now c) (refusalPlace (c .option)) s (c .reply) _ (numbered-release s now c) (λ q _. stored-cleared (s .table) now _ q)
-      (release-sound s now c z .1) z
+      cleared-by now (releaseRows s now c) (refusalPlace (c .option)) s (c .reply) _ (numbered-release s now c) (λ q m _. stored-cleared (s .table) now _ _ q m)
+      (release-sound s now c z .1) (release-matched s now c z .1) z
 
   mark-clears : (network len : ℕ) (d : Bool) → mark s now network len d .answer .number ≡ 0 → Cleared now (mark s now network len d .state)
-  unfolding mark
+  unfolding mark left
   mark-clears network len d z =
-      cleared-by now (markRows s now network len) (λ n. 0) s [] _ (numbered-mark s now network len) (λ q _. stored-cleared (s .table) now _ q)
-      (mark-sound s now network len d z .1) z
+      cleared-by now (markRows s now network len) (λ n. 0) s [] _ (numbered-mark s now network len) (λ q m _. stored-cleared (s .table) now _ _ q m)
+      (mark-sound s now network len d z .1) (mark-matched s now network len d z .1) z
 
   pub clears : Clears ledger s now
   clears = record { asks = ask-clears; takes = take-clears; releases = release-clears; marks = mark-clears }

@@ -1,6 +1,7 @@
--- What the reader gives: the length of a request is at most 30, an option has at most 35 entries, and the place of a bad suboption lies in it.
+-- What the reader gives: the length of a request is at most 30, a figure has 16 bits, an option has at most 35 entries, and the place of a bad suboption
+-- lies in it.
 -- Assumes nothing.
-use Prim.Native.Nat.{ℕ, zero, suc, _+_, _*_, _≤_, _<_}
+use Prim.Native.Nat.{ℕ, zero, suc, _+_, _*_, _/_, _≤_, _<_}
 use mathlib.Core.Path.{_≡_, refl, sym, ap, subst}
 use mathlib.Core.Bool.{Bool, true, false, cond, true≢false}
 use mathlib.Core.Logic.{by-cases}
@@ -14,14 +15,16 @@ use Rattle.lists.specs.Lists.{All}
 use Rattle.lists.specs.Walk.{Turn, more, stop, onTurn, walk}
 use Rattle.lists.proofs.Tests.{and-to}
 use Rattle.lists.proofs.IndexLaws.{all-at}
+use Rattle.lists.proofs.ListLaws.{all-append, all-left}
 use Rattle.prefix.specs.Prefixes.{longest}
 use Rattle.option.specs.Values.{Entry, SuboptionValue, request, information, name, unknown, refused}
 use Rattle.option.specs.Rules.{fields?}
-use Rattle.option.specs.Reading.{End, whole, badAt, subEnd, subInside?, whenGood, readRequest, readInformation, readName, readBody, readSuboption, readSuboptions, ended, option?, readOption}
-use Rattle.option.proofs.EntryLaws.{weigh, walk-weight, entries-weight}
+use Rattle.option.specs.Reading.{two, figuresAt, entryAt, readEntry, readEntries, End, whole, badAt, subEnd, subInside?, whenGood, readRequest, readInformation, readName, readBody, readSuboption, readSuboptions, ended, option?, readOption}
+use Rattle.option.proofs.EntryLaws.{entry-read, weigh, walk-weight, entries-weight}
 use Rattle.option.proofs.SuboptionLaws.{good-read, suboption-read, suboption-moves, information-entries, option-long, body-stops}
 use Rattle.option.specs.Contents.{refuses?, placeIn, suboptions, requests, entries, requestsIn, entriesIn}
 use Rattle.ledger.specs.Ledger.{refusalPlace}
+use Rattle.ledger.proofs.Counts.{upTo-all}
 
 -- WHAT HOLDS OF EACH PIECE OF A WALK
 
@@ -81,6 +84,52 @@ requests-fields (unknown ∷ subs) a = requests-fields subs (a .1)
 -- "prefix length 0 to 30"
 pub requests-short : (s : List ℕ) → All (λ r. r .length ≤ longest) (requestsIn s)
 requests-short s = requests-fields (suboptions (readOption s)) (fields-read s)
+
+-- "Figures are 16-bit"
+
+byte-at : (s : List ℕ) → All (λ b. b < 256) s → (i : ℕ) → getD s i 0 < 256
+byte-at [] a i = omega arith
+byte-at (x ∷ s) a zero = a .0
+byte-at (x ∷ s) a (suc i) = byte-at s (a .1) i
+
+abbrev Figures16 : Entry → Type 0
+Figures16 e = All (λ n. n < 65536) (e .figures)
+
+figures-read : (s : List ℕ) → All (λ b. b < 256) s → (at : ℕ) → Figures16 (entryAt s at)
+unfolding entryAt figuresAt
+figures-read s a at = upTo-all (λ n. n < 65536) (getD s (at + 6) 0 / 2) _ (two-at (at + 7), (two-at (at + 7 + 2), (two-at (at + 7 + 4), tt)))
+  where
+    two-at : (i : ℕ) → two s i < 65536
+    two-at i = omega (arith, byte-at s a i, byte-at s a (i + 1))
+
+entries-read : (s : List ℕ) → All (λ b. b < 256) s → (end at : ℕ) → All Figures16 (readEntries s end at .0)
+unfolding readEntries
+entries-read s a end at = walk-all Figures16 (readEntry s end) false (λ i e next h. subst Figures16 (entry-read s end i e next h .1) (figures-read s a i)) (suc end) at
+
+sub-figures : (s : List ℕ) → All (λ b. b < 256) s → (at : ℕ) (x : SuboptionValue) (next : ℕ) → readSuboption s at ≡ more x next → All Figures16 (entries (x ∷ []))
+sub-figures s a at (request h i len) next e = tt
+sub-figures s a at (information c t es) next e =
+    all-append Figures16 es [] (subst (λ (p : List Entry × Bool). All Figures16 (p .0)) (information-entries s at c t es next e .1) (entries-read s a next (at + 3))) tt
+sub-figures s a at (name octets) next e = tt
+sub-figures s a at unknown next e = tt
+
+entries-figures : (subs : List SuboptionValue) → All (λ x. All Figures16 (entries (x ∷ []))) subs → All Figures16 (entries subs)
+entries-figures [] a = tt
+entries-figures (request h i len ∷ subs) a = entries-figures subs (a .1)
+entries-figures (information c t es ∷ subs) a = all-append Figures16 es (entries subs) (all-left Figures16 es [] (a .0)) (entries-figures subs (a .1))
+entries-figures (name octets ∷ subs) a = entries-figures subs (a .1)
+entries-figures (unknown ∷ subs) a = entries-figures subs (a .1)
+
+pub figures-short : (s : List ℕ) → All (λ b. b < 256) s → All (λ e. All (λ n. n < 65536) (e .figures)) (entriesIn s)
+unfolding readOption readSuboptions
+figures-short s a = go (option? s)
+  where
+    go : (b : Bool) → All Figures16 (entries (suboptions (cond b (ended (readSuboptions s 3 .0) (readSuboptions s 3 .1)) (refused 6 0))))
+    go true =
+        entries-figures (suboptions (ended (readSuboptions s 3 .0) (readSuboptions s 3 .1)))
+        (ended-all (λ x. All Figures16 (entries (x ∷ []))) (readSuboptions s 3 .0) (readSuboptions s 3 .1)
+        (walk-all (λ x. All Figures16 (entries (x ∷ []))) (readSuboption s) whole (sub-figures s a) (suc (length s)) 3))
+    go false = tt
 
 -- HOW MANY
 

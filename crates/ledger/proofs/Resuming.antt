@@ -28,7 +28,7 @@ use Rattle.table.proofs.Ascending.{Ascending, ascending-low}
 use Rattle.table.proofs.TableLaws.{sound-fine, present-padded}
 use Rattle.option.specs.Contents.{suboptions, entriesIn, lastNetwork, position}
 use Rattle.option_reply.specs.Reply.{mostEntries, entryOf}
-use Rattle.ledger.specs.Ledger.{State, Call, call, Result, ledger, namedBy?, above?, listed, listedIn, releaseRows, release}
+use Rattle.ledger.specs.Ledger.{State, left, Call, call, Result, ledger, namedBy?, above?, listed, listedIn, releaseRows, release}
 use Rattle.ledger.specs.Histories.{Event, next, afterwards}
 use Rattle.ledger.specs.ReadBack.{page}
 use Rattle.ledger.specs.Resuming.{AllReturns, Continues, Resumes}
@@ -137,7 +137,7 @@ abbrev StillThere : LeaseTable → ℕ → LeaseTable → ℕ → Type 0
 StillThere t now u later = (keep : Lease → Bool) × (present later (u .leases) ≡ filter keep (present now (t .leases)))
 
 return-keeps : (s : State) (now : ℕ) (c : Call) (later : ℕ) → StillThere (s .table) later (release s now c .state .table) later
-unfolding release store
+unfolding release store left
 return-keeps s now c later =
     served-or-not (λ (r : Result State). StillThere (s .table) later (r .state .table) later) (releaseRows s now c) _ _
     (λ n. ((λ x. true), all-kept (present later (s .table .leases))))

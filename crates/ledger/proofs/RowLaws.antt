@@ -15,8 +15,8 @@ use Rattle.lists.proofs.Tests.{bool-cases, cond-true, cond-false}
 use Rattle.option.specs.Reading.{four}
 use Rattle.option.specs.Writing.{optionBytes}
 use Rattle.table.specs.declared.Lease.{Lease}
-use Rattle.table.specs.Table.{present, store}
-use Rattle.ledger.specs.Ledger.{State, state, Call, byRows, Result, refuse, accept, Row, firstOf, orElse, before, nothing?, refusalPlace, full, informationFor, addAll, askOffers, askRows, ask, takeRows, listRows, releaseRows, markRows}
+use Rattle.table.specs.Table.{present}
+use Rattle.ledger.specs.Ledger.{State, left, Call, byRows, Result, refuse, accept, Row, firstOf, orElse, before, nothing?, refusalPlace, full, informationFor, addAll, askOffers, askRows, ask, takeRows, listRows, releaseRows, markRows}
 use Rattle.ledger.specs.Demand3.{none?}
 
 pub first-none : (rows : List Row) → firstOf rows ≡ none → All (λ (r : Row). r .1 ≡ false) rows
@@ -109,11 +109,11 @@ accepted-none rows place s reply accepted k z = go (firstOf rows) refl z
 
 pub numbered-ask : (s : State) (now : ℕ) (c : Call) → Numbered (askRows s now c)
 unfolding askRows
-numbered-ask s now c = (refl, (refl, (refl, (refl, (refl, (refl, (refl, (refl, (refl, (refl, tt))))))))))
+numbered-ask s now c = (refl, (refl, (refl, (refl, (refl, (refl, (refl, (refl, (refl, (refl, (refl, tt)))))))))))
 
 pub numbered-take : (s : State) (now : ℕ) (c : Call) → Numbered (takeRows s now c)
 unfolding takeRows
-numbered-take s now c = (refl, (refl, (refl, (refl, (refl, (refl, (refl, (refl, (refl, tt)))))))))
+numbered-take s now c = (refl, (refl, (refl, (refl, (refl, (refl, (refl, (refl, (refl, (refl, tt))))))))))
 
 pub numbered-list : (s : State) (now : ℕ) (c : Call) → Numbered (listRows s now c)
 unfolding listRows
@@ -121,18 +121,18 @@ numbered-list s now c = (refl, (refl, (refl, (refl, (refl, (refl, (refl, (refl, 
 
 pub numbered-release : (s : State) (now : ℕ) (c : Call) → Numbered (releaseRows s now c)
 unfolding releaseRows
-numbered-release s now c = (refl, (refl, (refl, (refl, (refl, (refl, (refl, (refl, tt))))))))
+numbered-release s now c = (refl, (refl, (refl, (refl, (refl, (refl, (refl, (refl, (refl, tt)))))))))
 
 pub numbered-mark : (s : State) (now network len : ℕ) → Numbered (markRows s now network len)
 unfolding markRows
-numbered-mark s now network len = (refl, (refl, (refl, (refl, tt))))
+numbered-mark s now network len = (refl, (refl, (refl, (refl, (refl, tt)))))
 
 -- ASK: rows 1 to 8, and rows 9 and 10.
 
 -- What an ask answers whose rows before 9 do not apply: `gs` are the leases granted.
 abbrev pub answerAsk : State → ℕ → List ℕ → List Lease → List (Option Lease) → List Lease → Result State
 answerAsk s now reply xs os [] = refuse (cond (full xs) 9 10) 0 s reply
-answerAsk s now reply xs os (g ∷ gs) = accept (state (store (s .table) now (addAll os xs))) (optionBytes (map informationFor (g ∷ gs))) (length (g ∷ gs)) reply
+answerAsk s now reply xs os (g ∷ gs) = accept (left s now (addAll os xs)) (optionBytes (map informationFor (g ∷ gs))) (length (g ∷ gs)) reply
 
 module _ (s : State) (now : ℕ) (c : Call) where
   xs : List Lease
@@ -151,14 +151,14 @@ module _ (s : State) (now : ℕ) (c : Call) where
 
   own : (gs : List Lease)
       → orElse (firstOf (ownRows gs)) (λ number. refuse number (refusalPlace (c .option) number) s (c .reply))
-      (accept (state (store (s .table) now (addAll os xs))) (optionBytes (map informationFor gs)) (length gs) (c .reply))
+      (accept (left s now (addAll os xs)) (optionBytes (map informationFor gs)) (length gs) (c .reply))
       ≡ answerAsk s now (c .reply) xs os gs
   own (g ∷ gs) = refl
   own [] = go (full xs)
     where
       go : (b : Bool)
           → orElse (cond b (some 9) (some 10)) (λ number. refuse number (refusalPlace (c .option) number) s (c .reply))
-          (accept (state (store (s .table) now (addAll os xs))) (optionBytes (map informationFor [])) (length (map informationFor [])) (c .reply))
+          (accept (left s now (addAll os xs)) (optionBytes (map informationFor [])) (length (map informationFor [])) (c .reply))
           ≡ refuse (cond b 9 10) 0 s (c .reply)
       go true = refl
       go false = refl
@@ -167,12 +167,12 @@ module _ (s : State) (now : ℕ) (c : Call) where
       → ask s now c ≡ answerAsk s now (c .reply) (present now (s .table .leases)) (askOffers (s .table) now (c .client) (c .option)) (catMaybes (askOffers (s .table) now (c .client) (c .option)))
   unfolding ask xs os
   ask-served e =
-      ap (λ (o : Option ℕ). orElse o (λ number. refuse number (refusalPlace (c .option) number) s (c .reply)) (accept (state (store (s .table) now (addAll os xs))) (optionBytes (map informationFor (catMaybes os))) (length (catMaybes os)) (c .reply)))
+      ap (λ (o : Option ℕ). orElse o (λ number. refuse number (refusalPlace (c .option) number) s (c .reply)) (accept (left s now (addAll os xs)) (optionBytes (map informationFor (catMaybes os))) (length (catMaybes os)) (c .reply)))
       (ap firstOf rows-split ∙ first-after (before 9 (askRows s now c)) (ownRows (catMaybes os)) e)
       ∙ own (catMaybes os)
 
   pub ask-refused : (n : ℕ) → firstOf (before 9 (askRows s now c)) ≡ some n → ask s now c ≡ refuse n (refusalPlace (c .option) n) s (c .reply)
   unfolding ask xs os
   ask-refused n e =
-      ap (λ (o : Option ℕ). orElse o (λ number. refuse number (refusalPlace (c .option) number) s (c .reply)) (accept (state (store (s .table) now (addAll os xs))) (optionBytes (map informationFor (catMaybes os))) (length (catMaybes os)) (c .reply)))
+      ap (λ (o : Option ℕ). orElse o (λ number. refuse number (refusalPlace (c .option) number) s (c .reply)) (accept (left s now (addAll os xs)) (optionBytes (map informationFor (catMaybes os))) (length (catMaybes os)) (c .reply)))
       (ap firstOf rows-split ∙ first-before (before 9 (askRows s now c)) (ownRows (catMaybes os)) n e)

@@ -17,8 +17,9 @@ use Rattle.table.specs.declared.LeaseTable.{LeaseTable}
 use Rattle.table.specs.Table.{latest, prefixOf, poolsOf, present, sound, store}
 use Rattle.table.proofs.TableLaws.{Good, sound-term, sound-fine, fine-apart, map-sound, filter-sound}
 use Rattle.option.specs.Contents.{entriesIn}
-use Rattle.ledger.specs.Ledger.{State, Call, Result, Row, byRows, refusalPlace, askRows, ask, namedBy?, renew, takeRows, take, listRows, list, releaseRows, release, at?, withD, markRows, mark}
+use Rattle.ledger.specs.Ledger.{State, left, Call, Result, Row, byRows, refusalPlace, askRows, ask, namedBy?, renew, renewed, takeRows, take, listRows, list, releaseRows, release, at?, withD, markRows, mark, ledger}
 use Rattle.ledger.specs.Demand3.{wellFormed}
+use Rattle.ledger.specs.Refusals.{UnchangedIfRefused, RefusalsLeave}
 use Rattle.ledger.proofs.RowLaws.{first-none, served-or-not, accepted-none, numbered-ask, numbered-take, numbered-list, numbered-release, numbered-mark}
 use Rattle.ledger.proofs.CallLaws.{run-not, called}
 
@@ -62,12 +63,12 @@ ask-keeps s now c so =
     (bool-cases (wellFormed now s c))
 
 pub take-keeps : (s : State) (now : ℕ) (c : Call) → sound (s .table) ≡ true → sound (take s now c .state .table) ≡ true
-unfolding take takeRows
+unfolding take takeRows renewed
 take-keeps s now c so =
     served-or-not (λ (r : Result State). sound (r .state .table) ≡ true) (takeRows s now c) _ _ (λ n. so)
     (λ e.
     let r = first-none (takeRows s now c) e in
-    map-keeps (s .table) now so (ltb-false latest now (r .1 .1 .1 .1 .0)) (namedBy? (c .client) (entriesIn (c .option))) (renew now (s .table .term)) (renew-mild (s .table) now so))
+    map-keeps (s .table) now so (ltb-false latest now (r .1 .1 .1 .1 .1 .0)) (namedBy? (c .client) (entriesIn (c .option))) (renew now (s .table .term)) (renew-mild (s .table) now so))
 
 -- "List changes nothing": all is what it was, sound or not.
 pub list-keeps : (s : State) (now : ℕ) (c : Call) → list s now c .state ≡ s
@@ -75,53 +76,50 @@ unfolding list
 list-keeps s now c = served-or-not (λ (r : Result State). r .state ≡ s) (listRows s now c) _ _ (λ n. refl) (λ e. refl)
 
 pub release-keeps : (s : State) (now : ℕ) (c : Call) → sound (s .table) ≡ true → sound (release s now c .state .table) ≡ true
-unfolding release releaseRows
+unfolding release releaseRows left
 release-keeps s now c so =
     served-or-not (λ (r : Result State). sound (r .state .table) ≡ true) (releaseRows s now c) _ _ (λ n. so)
     (λ e.
     let r = first-none (releaseRows s now c) e in
-    filter-sound (s .table) now (λ x. not (namedBy? (c .client) (entriesIn (c .option)) x)) so (ltb-false latest now (r .1 .1 .1 .0)))
+    filter-sound (s .table) now (λ x. not (namedBy? (c .client) (entriesIn (c .option)) x)) so (ltb-false latest now (r .1 .1 .1 .1 .0)))
 
 pub mark-keeps : (s : State) (now network len : ℕ) (d : Bool) → sound (s .table) ≡ true → sound (mark s now network len d .state .table) ≡ true
-unfolding mark markRows
+unfolding mark markRows left
 mark-keeps s now network len d so =
     served-or-not (λ (r : Result State). sound (r .state .table) ≡ true) (markRows s now network len) _ _ (λ n. so)
-    (λ e. let r = first-none (markRows s now network len) e in map-keeps (s .table) now so (ltb-false latest now (r .1 .1 .0)) (at? network len) (withD d) (withD-mild (s .table) now so d))
+    (λ e. let r = first-none (markRows s now network len) e in map-keeps (s .table) now so (ltb-false latest now (r .1 .1 .1 .0)) (at? network len) (withD d) (withD-mild (s .table) now so d))
 
 -- AFTER A REFUSAL: "all counts 0, and the old bytes everywhere"
 
-pub record Unchanged {S : Type 0} (s : S) (reply : List ℕ) (r : Result S) : Type 0 where
-  pub stays : r .state ≡ s
-  pub reply-stays : r .reply ≡ reply
-  pub bytes : r .answer .bytes ≡ 0
-  pub count : r .answer .count ≡ 0
-
-refused-by : {S : Type 0} (rows : List Row) (place : ℕ → ℕ) (s : S) (reply : List ℕ) (accepted : Result S) → accepted .answer .number ≡ 0
-    → (byRows rows place s reply accepted .answer .number ≡ 0 → ⊥) → Unchanged s reply (byRows rows place s reply accepted)
+pub refused-by : {S : Type 0} (rows : List Row) (place : ℕ → ℕ) (s : S) (reply : List ℕ) (accepted : Result S) → accepted .answer .number ≡ 0
+    → UnchangedIfRefused s reply (byRows rows place s reply accepted)
 refused-by {S} rows place s reply accepted z =
-    served-or-not (λ (r : Result S). (r .answer .number ≡ 0 → ⊥) → Unchanged s reply r) rows _ _
+    served-or-not (UnchangedIfRefused s reply) rows _ _
     (λ n k. record { stays = refl; reply-stays = refl; bytes = refl; count = refl }) (λ e k. absurd (k z))
 
 module _ (s : State) (now : ℕ) (c : Call) where
-  pub ask-refused-unchanged : (ask s now c .answer .number ≡ 0 → ⊥) → Unchanged s (c .reply) (ask s now c)
+  pub ask-refused-unchanged : UnchangedIfRefused s (c .reply) (ask s now c)
   unfolding ask
   ask-refused-unchanged = refused-by (askRows s now c) (refusalPlace (c .option)) s (c .reply) _ refl
 
-  pub take-refused-unchanged : (take s now c .answer .number ≡ 0 → ⊥) → Unchanged s (c .reply) (take s now c)
+  pub take-refused-unchanged : UnchangedIfRefused s (c .reply) (take s now c)
   unfolding take
   take-refused-unchanged = refused-by (takeRows s now c) (refusalPlace (c .option)) s (c .reply) _ refl
 
-  pub list-refused-unchanged : (list s now c .answer .number ≡ 0 → ⊥) → Unchanged s (c .reply) (list s now c)
+  pub list-refused-unchanged : UnchangedIfRefused s (c .reply) (list s now c)
   unfolding list
   list-refused-unchanged = refused-by (listRows s now c) (refusalPlace (c .option)) s (c .reply) _ refl
 
-  pub release-refused-unchanged : (release s now c .answer .number ≡ 0 → ⊥) → Unchanged s (c .reply) (release s now c)
+  pub release-refused-unchanged : UnchangedIfRefused s (c .reply) (release s now c)
   unfolding release
   release-refused-unchanged = refused-by (releaseRows s now c) (refusalPlace (c .option)) s (c .reply) _ refl
 
-pub mark-refused-unchanged : (s : State) (now network len : ℕ) (d : Bool) → (mark s now network len d .answer .number ≡ 0 → ⊥) → Unchanged s [] (mark s now network len d)
+pub mark-refused-unchanged : (s : State) (now network len : ℕ) (d : Bool) → UnchangedIfRefused s [] (mark s now network len d)
 unfolding mark
 mark-refused-unchanged s now network len d = refused-by (markRows s now network len) (λ n. 0) s [] _ refl
+
+pub refusals-leave : RefusalsLeave ledger
+refusals-leave = record { asks = ask-refused-unchanged; takes = take-refused-unchanged; lists = list-refused-unchanged; releases = release-refused-unchanged; marks = mark-refused-unchanged }
 
 -- AN ACCEPTED CALL HAD A SOUND TABLE: row 5 did not apply.
 

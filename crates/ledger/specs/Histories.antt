@@ -4,7 +4,7 @@ use Rattle.lists.specs.Lists.{Pairwise}
 use Rattle.prefix.specs.Prefixes.{Apart}
 use Rattle.table.specs.declared.{Lease.Lease, LeaseTable.LeaseTable}
 use Rattle.table.specs.Table.{prefixOf, present, sound}
-use Rattle.ledger.specs.Ledger.{State, Call, Calls, openTable}
+use Rattle.ledger.specs.Ledger.{State, filled, Call, Calls, openTable}
 
 -- A call with its arguments: the time, and what comes with it. Save reads the table and leaves it.
 pub data Event : Type 0 where
@@ -43,8 +43,8 @@ module _ {S : Type 0} (calls : Calls S) where
   abbrev pub NeverShared : (S → Type 0) → Type 0
   NeverShared Begins = (s : S) (now : ℕ) → Reachable Begins s → Pairwise Apart (map prefixOf (present now (calls .stateOf s .table .leases)))
 
--- Where a history begins: an accepted open makes a table, a load gives any sound one.
+-- Where a history begins: an accepted open makes a table, a load gives any sound one; both fill the figures sheet.
 pub data Begins : State → Type 0 where
   opened : (networks lengths : List ℕ) (term defaultLength start : ℕ) → openTable networks lengths term defaultLength start .answer .number ≡ 0
       → Begins (openTable networks lengths term defaultLength start .state)
-  loaded : (s : State) → sound (s .table) ≡ true → Begins s
+  loaded : (t : LeaseTable) → sound t ≡ true → Begins (filled t)

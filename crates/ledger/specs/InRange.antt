@@ -1,5 +1,5 @@
 -- IN RANGE: of arguments within the sizes of the code's types, results within them. The ledger speaks of all numbers; the code has 32 bits for a network, a
--- client and a time, and 8 for a length and a byte.
+-- client and a time, 16 for a figure, and 8 for a length and a byte.
 use Prim.Native.Nat.{ℕ, _≤_, _<_}
 use mathlib.Core.Bool.{Bool}
 use mathlib.Core.List.{List}
@@ -7,14 +7,18 @@ use Rattle.lists.specs.Lists.{All}
 use Rattle.option.specs.Values.{longestOption}
 use Rattle.table.specs.declared.{Pool.Pool, Lease.Lease, LeaseTable.LeaseTable}
 use Rattle.table.specs.Table.{leaseSlots}
+use Rattle.figures.specs.declared.FigureRow.{FigureRow}
 use Rattle.ledger.specs.declared.Answer.{Answer}
 use Rattle.ledger.specs.Ledger.{State, Call, Result, Calls, openTable}
 use Rattle.ledger.specs.Histories.{Event, asked, taken, wasListed, returned, marked, saved, afterwards}
 use Rattle.ledger.specs.Sizes.{Byte, Bytes}
 
--- A number of 32 bits.
+-- A number of 32 bits, and one of 16.
 abbrev pub Word : ℕ → Type 0
 Word n = n < 4294967296
+
+abbrev pub Figure : ℕ → Type 0
+Figure n = n < 65536
 
 -- The highest number of a refusal: document 01 has numbers up to 14, the change requests (document 02) up to 25.
 abbrev pub highestNumber : ℕ
@@ -39,8 +43,16 @@ pub record TableInRange (t : LeaseTable) : Type 0 where
   pub default : Byte (t .«default_length»)
   pub last : Word (t .last)
 
-abbrev pub StateInRange : State → Type 0
-StateInRange s = TableInRange (s .table)
+pub record RowInRange (r : FigureRow) : Type 0 where
+  pub network : Word (r .network)
+  pub length : Byte (r .length)
+  pub high-water : Figure (r .«high_water» .0)
+  pub in-use : Figure (r .«in_use» .0)
+  pub unusable : Figure (r .unusable .0)
+
+pub record StateInRange (s : State) : Type 0 where
+  pub table : TableInRange (s .table)
+  pub rows : All RowInRange (s .rows)
 
 pub record CallInRange (c : Call) : Type 0 where
   pub client : Word (c .client)

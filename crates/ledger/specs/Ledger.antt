@@ -12,17 +12,28 @@ use Rattle.option.specs.Writing.{optionBytes}
 use Rattle.option_reply.specs.Reply.{entryOf}
 use Rattle.table.specs.declared.{Lease.Lease, LeaseTable.LeaseTable}
 use Rattle.table.specs.Table.{leaseSlots, latest, blank, prefixOf, poolsOf, empty?, present, sound, store, insert}
+use Rattle.figures.specs.declared.FigureRow.{FigureRow}
+use Rattle.figures.specs.Figures.{untoldRow, matches?, followed, taken}
 use Rattle.table_open.specs.Open.{given, openOk, fresh}
 use Rattle.ledger.specs.declared.Answer.{Answer}
 
 -- WHAT A CALL IS GIVEN, AND WHAT IT LEAVES
 
--- What goes from call to call (document 01: the book).
+-- What goes from call to call: the table (document 01: the book), and the rows of "a figures sheet beside the book".
 pub record State : Type 0 where
   pub table : LeaseTable
+  pub rows : List FigureRow
 
-abbrev pub state : LeaseTable → State
-state t = record { table = t }
+abbrev pub state : LeaseTable → List FigureRow → State
+state t rows = record { table = t; rows = rows }
+
+-- "open and load fill it"; "A new or loaded line starts with all three untold (0xffff)".
+abbrev pub filled : LeaseTable → State
+filled t = state t (map untoldRow (t .leases))
+
+-- What an accepted call leaves: these leases, and the rows that follow them.
+unfoldable pub left : State → ℕ → List Lease → State
+left s now xs = let u = store (s .table) now xs in state u (followed now (s .table) (s .rows) u)
 
 -- What comes with a call: the client (document 01: the station), the bytes of the option, those of the reply buffer. "A list names each call's station,
 -- option and reply buffer beforehand." A client is a number of 32 bits and a byte is below 256 in the code's types; what is claimed holds of all numbers.
@@ -100,9 +111,12 @@ leastReply = longestOption
 abbrev pub replyRows : ℕ → Call → List Row
 replyRows least c = (1, ltb (length (c .reply)) least) ∷ []
 
--- Row 5, of what the call is given.
+-- Row 5, of the table; and row 15 after it, of a call that has the figures sheet: "a sheet that doesn't match is refused".
+abbrev pub tableRows : State → List Row
+tableRows s = (5, not (sound (s .table))) ∷ []
+
 abbrev pub stateRows : State → List Row
-stateRows s = (5, not (sound (s .table))) ∷ []
+stateRows s = (5, not (sound (s .table))) ∷ (15, not (matches? (s .table .leases) (s .rows))) ∷ []
 
 abbrev pub clientRows : Call → List Row
 clientRows c = (2, eqb (c .client) 0) ∷ []
@@ -113,9 +127,9 @@ timeRows s now = (3, ltb now (s .table .last)) ∷ (4, ltb latest now) ∷ []
 abbrev pub optionRows : Call → List Row
 optionRows c = (6, refuses? 6 (readOption (c .option))) ∷ (7, refuses? 7 (readOption (c .option))) ∷ []
 
--- Those of a call with an option, after row 1 where it has that one and before its own.
-abbrev pub commonRows : State → ℕ → Call → List Row
-commonRows s now c = stateRows s ++ (clientRows c ++ (timeRows s now ++ optionRows c))
+-- Those of a call with an option, after row 1 where it has that one and before its own; `given` are those of what it is given.
+abbrev pub commonRows : List Row → State → ℕ → Call → List Row
+commonRows given s now c = given ++ (clientRows c ++ (timeRows s now ++ optionRows c))
 
 -- EMPTY SLOTS
 
@@ -139,8 +153,8 @@ openRows networks lengths term defaultLength start = (12, not (openOk networks l
 -- "roots (any order given), term, default length and a start time make a book". Refused, it makes none: all zero.
 unfoldable pub openTable : List ℕ → List ℕ → ℕ → ℕ → ℕ → Result State
 openTable networks lengths term defaultLength start =
-    byRows (openRows networks lengths term defaultLength start) (λ number. 0) (state blank) []
-    (accept (state (fresh (given networks lengths) term defaultLength start)) [] 0 [])
+    byRows (openRows networks lengths term defaultLength start) (λ number. 0) (state blank []) []
+    (accept (filled (fresh (given networks lengths) term defaultLength start)) [] 0 [])
 
 -- ASK
 
@@ -194,13 +208,13 @@ grantRows s now c =
     ∷ []
 
 unfoldable pub askRows : State → ℕ → Call → List Row
-askRows s now c = replyRows leastReply c ++ (commonRows s now c ++ ((8, not (forAsk (requestsIn (c .option)))) ∷ grantRows s now c))
+askRows s now c = replyRows leastReply c ++ (commonRows (stateRows s) s now c ++ ((8, not (forAsk (requestsIn (c .option)))) ∷ grantRows s now c))
 
 unfoldable pub ask : State → ℕ → Call → Result State
 ask s now c =
     let os = askOffers (s .table) now (c .client) (c .option) in
     byRows (askRows s now c) (refusalPlace (c .option)) s (c .reply)
-    (accept (state (store (s .table) now (addAll os (present now (s .table .leases))))) (optionBytes (map informationFor (catMaybes os))) (length (catMaybes os)) (c .reply))
+    (accept (left s now (addAll os (present now (s .table .leases)))) (optionBytes (map informationFor (catMaybes os))) (length (catMaybes os)) (c .reply))
 
 -- TAKE
 
@@ -226,9 +240,15 @@ renew now term x = record { network = x .network; length = x .length; client = x
 abbrev pub renewNamed : ℕ → ℕ → ℕ → List Entry → List Lease → List Lease
 renewNamed now term client es xs = map (λ x. cond (namedBy? client es x) (renew now term x) x) xs
 
+-- What an accepted take leaves: "a take with figures updates the rows of its lines".
+unfoldable pub renewed : State → ℕ → Call → State
+renewed s now c =
+    let u = store (s .table) now (renewNamed now (s .table .term) (c .client) (entriesIn (c .option)) (present now (s .table .leases))) in
+    state u (taken now (c .client) (entriesIn (c .option)) (s .table) (s .rows) u)
+
 unfoldable pub takeRows : State → ℕ → Call → List Row
 takeRows s now c =
-    replyRows leastReply c ++ (commonRows s now c
+    replyRows leastReply c ++ (commonRows (stateRows s) s now c
     ++ ((8, not (forTake (suboptions (readOption (c .option)))))
     ∷ (11, nothing? (found (c .client) (present now (s .table .leases)) (entriesIn (c .option)))) ∷ []))
 
@@ -238,7 +258,7 @@ take s now c =
     let xs = present now (s .table .leases) in
     let gs = found (c .client) xs (entriesIn (c .option)) in
     byRows (takeRows s now c) (refusalPlace (c .option)) s (c .reply)
-    (accept (state (store (s .table) now (renewNamed now (s .table .term) (c .client) (entriesIn (c .option)) xs))) (optionBytes (information false false (map entryOf gs) ∷ [])) (length gs) (c .reply))
+    (accept (renewed s now c) (optionBytes (information false false (map entryOf gs) ∷ [])) (length gs) (c .reply))
 
 -- LIST
 
@@ -260,7 +280,7 @@ listedIn t now client option = listed client (position none (suboptions (readOpt
 
 unfoldable pub listRows : State → ℕ → Call → List Row
 listRows s now c =
-    replyRows leastReply c ++ (commonRows s now c
+    replyRows leastReply c ++ (commonRows (tableRows s) s now c
     ++ ((8, not (forList (requestsIn (c .option))))
     ∷ (11, nothing? (listedIn (s .table) now (c .client) (c .option))) ∷ []))
 
@@ -275,7 +295,7 @@ list s now c =
 
 unfoldable pub releaseRows : State → ℕ → Call → List Row
 releaseRows s now c =
-    commonRows s now c ++ ((8, not (forTake (suboptions (readOption (c .option)))))
+    commonRows (stateRows s) s now c ++ ((8, not (forTake (suboptions (readOption (c .option)))))
     ∷ (11, nothing? (filter (namedBy? (c .client) (entriesIn (c .option))) (present now (s .table .leases)))) ∷ [])
 
 -- "Held lines may be returned." The count is "of lines it struck by its entries".
@@ -284,7 +304,7 @@ release s now c =
     let xs = present now (s .table .leases) in
     let es = entriesIn (c .option) in
     byRows (releaseRows s now c) (refusalPlace (c .option)) s (c .reply)
-    (accept (state (store (s .table) now (filter (λ x. not (namedBy? (c .client) es x)) xs))) [] (length (filter (namedBy? (c .client) es) xs)) (c .reply))
+    (accept (left s now (filter (λ x. not (namedBy? (c .client) es x)) xs)) [] (length (filter (namedBy? (c .client) es) xs)) (c .reply))
 
 -- MARK: "sets or clears d on the present line with a given network and length"; "Mark has no station"
 
@@ -305,7 +325,7 @@ markRows s now network len =
 unfoldable pub mark : State → ℕ → ℕ → ℕ → Bool → Result State
 mark s now network len d =
     byRows (markRows s now network len) (λ number. 0) s []
-    (accept (state (store (s .table) now (map (λ x. cond (at? network len x) (withD d x) x) (present now (s .table .leases))))) [] 0 [])
+    (accept (left s now (map (λ x. cond (at? network len x) (withD d x) x) (present now (s .table .leases)))) [] 0 [])
 
 -- ALL OF THEM, on what S is: what they are called on holds a state.
 pub record Calls (S : Type 0) : Type 0 where

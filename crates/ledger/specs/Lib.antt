@@ -7,6 +7,8 @@ pub mod Conservation
 pub mod ListDepends
 pub mod ReadBack
 pub mod NothingBehind
+pub mod Refusals
+pub mod FiguresKept
 pub mod Resuming
 pub mod Sizes
 pub mod InRange

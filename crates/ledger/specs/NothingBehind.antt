@@ -1,12 +1,14 @@
--- A STRUCK LEASE LEAVES NOTHING BEHIND: tables that differ only in leases that ended are served alike, and freed slots are zero.
+-- A STRUCK LEASE LEAVES NOTHING BEHIND: states that differ only in leases that ended, and in their rows, are served alike, and freed slots are zero.
 use Prim.Native.Nat.{ℕ}
 use mathlib.Core.Path.{_≡_}
 use mathlib.Core.Bool.{Bool, true}
 use Rattle.table.specs.Table.{padded, present, sound}
+use Rattle.figures.specs.Figures.{matches?, keptRows}
 use Rattle.ledger.specs.Ledger.{State, Call, Result, Calls}
 use Rattle.ledger.specs.Demand3.{Accepts}
 
--- Sound tables with the same pools, term, default length and present leases, at a time that both accept.
+-- Sound tables with the same pools, term, default length and present leases, at a time that both accept; and sheets that match, with the same rows of
+-- these leases.
 pub record Alike (now : ℕ) (s u : State) : Type 0 where
   pub sound₁ : sound (s .table) ≡ true
   pub sound₂ : sound (u .table) ≡ true
@@ -16,6 +18,9 @@ pub record Alike (now : ℕ) (s u : State) : Type 0 where
   pub term : s .table .term ≡ u .table .term
   pub default : s .table .«default_length» ≡ u .table .«default_length»
   pub leases : present now (s .table .leases) ≡ present now (u .table .leases)
+  pub matched₁ : matches? (s .table .leases) (s .rows) ≡ true
+  pub matched₂ : matches? (u .table .leases) (u .rows) ≡ true
+  pub rows : keptRows now (s .table .leases) (s .rows) ≡ keptRows now (u .table .leases) (u .rows)
 
 -- The same answer and reply, and the same state left where the call is accepted.
 pub record Same {S : Type 0} (stateOf : S → State) (r q : Result S) : Type 0 where
@@ -23,9 +28,9 @@ pub record Same {S : Type 0} (stateOf : S → State) (r q : Result S) : Type 0 w
   pub reply : r .reply ≡ q .reply
   pub left : r .answer .number ≡ 0 → stateOf (r .state) ≡ stateOf (q .state)
 
--- After an accepted call: the leases that are present now, and zeros.
+-- After an accepted call: the leases that are present now, and zeros; and their rows, "an empty line's row is network and length 0, untold".
 abbrev pub Cleared : ℕ → State → Type 0
-Cleared now s = (s .table .last ≡ now) × (s .table .leases ≡ padded (present now (s .table .leases)))
+Cleared now s = (s .table .last ≡ now) × (s .table .leases ≡ padded (present now (s .table .leases))) × (matches? (s .table .leases) (s .rows) ≡ true)
 
 -- OF ANY CALLS on what holds a state.
 module _ {S : Type 0} (calls : Calls S) where

@@ -1,4 +1,5 @@
 -- What the examples come to.
 pub mod ExamplesHold
+pub mod FigureExamplesHold
 pub mod Premises
 pub mod WrongServersRefuted

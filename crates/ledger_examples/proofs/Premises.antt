@@ -17,7 +17,8 @@ use Rattle.option.specs.Rules.{entryFields?, fields?}
 use Rattle.option.specs.Reading.{option?, subInside?, whenGood, readRequest, figuresAt, entryAt, entryFramed?, readEntry, readEntries, readInformation, readName, readBody, readSuboption, readSuboptions, readOption}
 use Rattle.option.specs.Writing.{twoBytes, fourBytes, requestBytes, entryHead, entryBytes, entriesBytes, informationHead, suboptionBytes, suboptionsBytes, optionHead, optionBytes}
 use Rattle.table.specs.Table.{latest, poolsOf, unused?, empty?, prefixesOf, present, headOk, poolOk, leaseOk, ascends?, sound, store}
-use Rattle.ledger.specs.Ledger.{emptySlots, offer, offers, addAll, askRows, ask}
+use Rattle.figures.specs.Figures.{ofLease?, untold?, fits?, rowFor, followed}
+use Rattle.ledger.specs.Ledger.{left, emptySlots, offer, offers, addAll, askRows, ask}
 use Rattle.ledger.specs.Demand3.{Accepts, wellFormed, inUse, isGranted, wantsSlot, wantsSpace, wellFormedAsks, lengthsAsked, prefixesAt, CanBeChosen, granted, AllGranted}
 use Rattle.ledger_examples.specs.Examples.{buffer, requesting}
 use Rattle.ledger_examples.specs.SampleLists.{tableWith, lease, leasesFrom, callBy, three, Sample, malformedBetween, endedGround, prefixZero, lastSlots, filledExactly, samples, fates, narrow, crowded}
@@ -75,7 +76,7 @@ sampled s e = let c = chosen s e in demand3 .lists (s .start) (s .now) (s .calls
 
 -- THE FIVE LISTS meet the premise, so every well-formed ask of each is granted.
 pub samples-meet : all? (λ s. and (tests s)) samples ≡ true
-unfolding samples malformedBetween endedGround prefixZero lastSlots filledExactly tableWith lease leasesFrom callBy buffer walk entryFields? fields? option? subInside? whenGood readRequest figuresAt entryAt entryFramed? readEntry readEntries readInformation readName readBody readSuboption readSuboptions readOption unused? empty? prefixesOf present headOk poolOk leaseOk ascends? sound emptySlots askRows wellFormed
+unfolding samples malformedBetween endedGround prefixZero lastSlots filledExactly tableWith lease leasesFrom callBy buffer walk entryFields? fields? option? subInside? whenGood readRequest figuresAt entryAt entryFramed? readEntry readEntries readInformation readName readBody readSuboption readSuboptions readOption unused? empty? prefixesOf present headOk poolOk leaseOk ascends? sound ofLease? untold? fits? emptySlots askRows wellFormed
 samples-meet = refl
 
 pub samples-granted : All (λ s. AllGranted (λ s. s) ask (s .now) (s .start) (s .calls)) samples
@@ -85,7 +86,7 @@ samples-granted = all?-to (λ s. and (tests s)) sampled samples samples-meet
 pub samples-count :
     map (λ s. length (wellFormedAsks (s .now) (s .start) (s .calls)) ∷ emptySlots (s .now) (s .start .table) ∷ []) samples
     ≡ (2 ∷ 256 ∷ []) ∷ (1 ∷ 256 ∷ []) ∷ (2 ∷ 256 ∷ []) ∷ (2 ∷ 2 ∷ []) ∷ (3 ∷ 256 ∷ []) ∷ []
-unfolding samples malformedBetween endedGround prefixZero lastSlots filledExactly tableWith lease leasesFrom callBy buffer walk entryFields? fields? option? subInside? whenGood readRequest figuresAt entryAt entryFramed? readEntry readEntries readInformation readName readBody readSuboption readSuboptions readOption unused? empty? prefixesOf present headOk poolOk leaseOk ascends? sound emptySlots askRows wellFormed
+unfolding samples malformedBetween endedGround prefixZero lastSlots filledExactly tableWith lease leasesFrom callBy buffer walk entryFields? fields? option? subInside? whenGood readRequest figuresAt entryAt entryFramed? readEntry readEntries readInformation readName readBody readSuboption readSuboptions readOption unused? empty? prefixesOf present headOk poolOk leaseOk ascends? sound ofLease? untold? fits? emptySlots askRows wellFormed
 samples-count = refl
 
 -- THE FIRST SENTENCE: refused for want of ground between two that are granted, and for want of lines where no slot is empty.
@@ -94,5 +95,5 @@ pub refused-for :
     ∷ fates (inUse 1000 (crowded 256 .table)) (granted (λ s. s) ask 1000 (crowded 256) (callBy 7 (requesting 30)))
     ∷ []
     ≡ (isGranted ∷ wantsSpace ∷ isGranted ∷ []) ∷ (wantsSlot ∷ []) ∷ []
-unfolding narrow crowded tableWith lease leasesFrom callBy buffer walk insertBy entryFields? fields? option? subInside? whenGood readRequest figuresAt entryAt entryFramed? readEntry readEntries readInformation readName readBody readSuboption readSuboptions readOption twoBytes fourBytes requestBytes entryHead entryBytes entriesBytes informationHead suboptionBytes suboptionsBytes optionHead optionBytes unused? empty? prefixesOf present headOk poolOk leaseOk ascends? sound store offer offers addAll askRows ask wellFormed granted
+unfolding narrow crowded tableWith lease leasesFrom callBy buffer walk insertBy entryFields? fields? option? subInside? whenGood readRequest figuresAt entryAt entryFramed? readEntry readEntries readInformation readName readBody readSuboption readSuboptions readOption twoBytes fourBytes requestBytes entryHead entryBytes entriesBytes informationHead suboptionBytes suboptionsBytes optionHead optionBytes unused? empty? prefixesOf present headOk poolOk leaseOk ascends? sound ofLease? untold? fits? store rowFor followed left offer offers addAll askRows ask wellFormed granted
 refused-for = refl

@@ -21,7 +21,8 @@ use Rattle.option.specs.Writing.{twoBytes, fourBytes, requestBytes, entryHead, 
 use Rattle.table.specs.declared.LeaseTable.{LeaseTable}
 use Rattle.table.specs.Table.{leaseSlots, poolsOf, unused?, empty?, prefixesOf, present, headOk, poolOk, leaseOk, ascends?, sound, store}
 use Rattle.option.specs.Contents.{Request}
-use Rattle.ledger.specs.Ledger.{State, askLength, emptySlots, offer, offers, addAll, askRows, ask}
+use Rattle.figures.specs.Figures.{ofLease?, untold?, fits?, rowFor, followed}
+use Rattle.ledger.specs.Ledger.{State, left, askLength, emptySlots, offer, offers, addAll, askRows, ask}
 use Rattle.ledger.specs.Demand3.{Server, wellFormed, asksOf, entryPrefix, inUse, meets, wantsSpace, fate, NoneFree, RefusedRightly, granted, received, wellFormedCalls, AllGranted, Demand3}
 use Rattle.ledger_examples.specs.Examples.{buffer}
 use Rattle.ledger_examples.specs.SampleLists.{tableWith, lease, leasesFrom, callBy, two, three, Sample, crowded}
@@ -38,7 +39,7 @@ unfoldable what : Server State → List (Option Entry)
 what server = concatMap (λ v. granted (λ s. s) server 1000 (v .got) (v .call)) (wellFormedCalls (λ s. s) server 1000 (pair .start) (pair .calls))
 
 all-given : (server : Server State) → Demand3 (λ s. s) server → AllGranted (λ s. s) server 1000 (pair .start) (pair .calls)
-unfolding pair tableWith callBy buffer walk entryFields? fields? option? subInside? whenGood readRequest readInformation readName readBody readSuboption readSuboptions readOption unused? empty? prefixesOf present headOk poolOk leaseOk ascends? sound emptySlots askRows wellFormed
+unfolding pair tableWith callBy buffer walk entryFields? fields? option? subInside? whenGood readRequest readInformation readName readBody readSuboption readSuboptions readOption unused? empty? prefixesOf present headOk poolOk leaseOk ascends? sound ofLease? untold? fits? emptySlots askRows wellFormed
 all-given server d = let c = chosen pair refl in d .lists (pair .start) 1000 (pair .calls) (c .0) (c .1) (c .2)
 
 complete : (server : Server State) → Demand3 (λ s. s) server → length (catMaybes (what server)) ≡ length (what server)
@@ -59,23 +60,23 @@ apart server d =
     subst (λ (l : List Entry). Pairwise Apart (map entryPrefix l)) (sym (ap catMaybes (a .all) ∙ catMaybes-some (a .given))) (a .apart)
 
 pub not-refusesAll : Demand3 (λ s. s) refusesAll → ⊥
-unfolding what pair refusesAll tableWith callBy buffer walk entryFields? fields? option? subInside? whenGood readRequest readInformation readName readBody readSuboption readSuboptions readOption unused? empty? prefixesOf present headOk poolOk leaseOk ascends? sound askRows wellFormed granted received
+unfolding what pair refusesAll tableWith callBy buffer walk entryFields? fields? option? subInside? whenGood readRequest readInformation readName readBody readSuboption readSuboptions readOption unused? empty? prefixesOf present headOk poolOk leaseOk ascends? sound ofLease? untold? fits? askRows wellFormed granted received
 not-refusesAll d = let z : _≡_ {A = ℕ} 0 2 = complete refusesAll d in absurd (omega arith)
 
 pub not-leavesTable : Demand3 (λ s. s) leavesTable → ⊥
-unfolding what pair leavesTable tableWith callBy buffer walk insertBy entryFields? fields? option? subInside? whenGood readRequest figuresAt entryAt entryFramed? readEntry readEntries readInformation readName readBody readSuboption readSuboptions readOption twoBytes fourBytes requestBytes entryHead entryBytes entriesBytes informationHead suboptionBytes suboptionsBytes optionHead optionBytes unused? empty? prefixesOf present headOk poolOk leaseOk ascends? sound store offer offers addAll askRows ask wellFormed granted received
+unfolding what pair leavesTable tableWith callBy buffer walk insertBy entryFields? fields? option? subInside? whenGood readRequest figuresAt entryAt entryFramed? readEntry readEntries readInformation readName readBody readSuboption readSuboptions readOption twoBytes fourBytes requestBytes entryHead entryBytes entriesBytes informationHead suboptionBytes suboptionsBytes optionHead optionBytes unused? empty? prefixesOf present headOk poolOk leaseOk ascends? sound ofLease? untold? fits? store rowFor followed left offer offers addAll askRows ask wellFormed granted received
 not-leavesTable d = let z : _≡_ {A = ℕ} 0 2 = complete leavesTable d in absurd (omega arith)
 
 pub not-firstOnly : Demand3 (λ s. s) firstOnly → ⊥
-unfolding what pair firstOnly tableWith callBy buffer walk insertBy entryFields? fields? option? subInside? whenGood readRequest figuresAt entryAt entryFramed? readEntry readEntries readInformation readName readBody readSuboption readSuboptions readOption twoBytes fourBytes requestBytes entryHead entryBytes entriesBytes informationHead suboptionBytes suboptionsBytes optionHead optionBytes unused? empty? prefixesOf present headOk poolOk leaseOk ascends? sound store offer offers addAll askRows ask wellFormed granted received
+unfolding what pair firstOnly tableWith callBy buffer walk insertBy entryFields? fields? option? subInside? whenGood readRequest figuresAt entryAt entryFramed? readEntry readEntries readInformation readName readBody readSuboption readSuboptions readOption twoBytes fourBytes requestBytes entryHead entryBytes entriesBytes informationHead suboptionBytes suboptionsBytes optionHead optionBytes unused? empty? prefixesOf present headOk poolOk leaseOk ascends? sound ofLease? untold? fits? store rowFor followed left offer offers addAll askRows ask wellFormed granted received
 not-firstOnly d = let z : _≡_ {A = ℕ} 1 2 = complete firstOnly d in absurd (omega arith)
 
 pub not-answersTen : Demand3 (λ s. s) answersTen → ⊥
-unfolding what pair answersTen tableWith callBy buffer walk insertBy entryFields? fields? option? subInside? whenGood readRequest figuresAt entryAt entryFramed? readEntry readEntries readInformation readName readBody readSuboption readSuboptions readOption twoBytes fourBytes requestBytes entryHead entryBytes entriesBytes informationHead suboptionBytes suboptionsBytes optionHead optionBytes unused? empty? prefixesOf present headOk poolOk leaseOk ascends? sound store offer offers addAll askRows ask wellFormed granted received
+unfolding what pair answersTen tableWith callBy buffer walk insertBy entryFields? fields? option? subInside? whenGood readRequest figuresAt entryAt entryFramed? readEntry readEntries readInformation readName readBody readSuboption readSuboptions readOption twoBytes fourBytes requestBytes entryHead entryBytes entriesBytes informationHead suboptionBytes suboptionsBytes optionHead optionBytes unused? empty? prefixesOf present headOk poolOk leaseOk ascends? sound ofLease? untold? fits? store rowFor followed left offer offers addAll askRows ask wellFormed granted received
 not-answersTen d = let z : _≡_ {A = ℕ} 0 2 = complete answersTen d in absurd (omega arith)
 
 pub not-samePrefix : Demand3 (λ s. s) samePrefix → ⊥
-unfolding what pair samePrefix tableWith callBy buffer walk insertBy entryFields? fields? option? subInside? whenGood readRequest figuresAt entryAt entryFramed? readEntry readEntries readInformation readName readBody readSuboption readSuboptions readOption twoBytes fourBytes requestBytes entryHead entryBytes entriesBytes informationHead suboptionBytes suboptionsBytes optionHead optionBytes unused? empty? prefixesOf present headOk poolOk leaseOk ascends? sound store offer offers addAll askRows ask wellFormed granted received
+unfolding what pair samePrefix tableWith callBy buffer walk insertBy entryFields? fields? option? subInside? whenGood readRequest figuresAt entryAt entryFramed? readEntry readEntries readInformation readName readBody readSuboption readSuboptions readOption twoBytes fourBytes requestBytes entryHead entryBytes entriesBytes informationHead suboptionBytes suboptionsBytes optionHead optionBytes unused? empty? prefixesOf present headOk poolOk leaseOk ascends? sound ofLease? untold? fits? store rowFor followed left offer offers addAll askRows ask wellFormed granted received
 not-samePrefix d =
     let p : Prefix = prefix 0x0a000100 26 in
     let z : Apart p p = apart samePrefix d .0 .0 in
@@ -84,7 +85,7 @@ not-samePrefix d =
 -- The entry written twice: with 254 leases the third of three requests would be refused for want of ground, and there is ground. (Were the entries
 -- counted and not the leases newly made, it would seem to want a slot.)
 three-well : wellFormed 1000 (crowded 254) (callBy 7 (three 30 30 30)) ≡ true
-unfolding crowded tableWith lease leasesFrom callBy buffer walk entryFields? fields? option? subInside? whenGood readRequest readInformation readName readBody readSuboption readSuboptions readOption unused? empty? prefixesOf present headOk poolOk leaseOk ascends? sound askRows wellFormed
+unfolding crowded tableWith lease leasesFrom callBy buffer walk entryFields? fields? option? subInside? whenGood readRequest readInformation readName readBody readSuboption readSuboptions readOption unused? empty? prefixesOf present headOk poolOk leaseOk ascends? sound ofLease? untold? fits? askRows wellFormed
 three-well = refl
 
 -- What it grants: the first prefix for the first and for the second request.
@@ -92,7 +93,7 @@ twice : Entry
 twice = record { network = 0x0a0003f8; length = 30; h = false; d = false; figures = [] }
 
 twice-granted : granted (λ s. s) writesTwice 1000 (crowded 254) (callBy 7 (three 30 30 30)) ≡ some twice ∷ some twice ∷ none ∷ []
-unfolding twice writesTwice crowded tableWith lease leasesFrom callBy buffer walk insertBy entryFields? fields? option? subInside? whenGood readRequest figuresAt entryAt entryFramed? readEntry readEntries readInformation readName readBody readSuboption readSuboptions readOption twoBytes fourBytes requestBytes entryHead entryBytes entriesBytes informationHead suboptionBytes suboptionsBytes optionHead optionBytes unused? empty? prefixesOf present headOk poolOk leaseOk ascends? sound store offer offers addAll askRows ask granted
+unfolding twice writesTwice crowded tableWith lease leasesFrom callBy buffer walk insertBy entryFields? fields? option? subInside? whenGood readRequest figuresAt entryAt entryFramed? readEntry readEntries readInformation readName readBody readSuboption readSuboptions readOption twoBytes fourBytes requestBytes entryHead entryBytes entriesBytes informationHead suboptionBytes suboptionsBytes optionHead optionBytes unused? empty? prefixesOf present headOk poolOk leaseOk ascends? sound ofLease? untold? fits? store rowFor followed left offer offers addAll askRows ask granted
 twice-granted = refl
 
 -- The prefixes in use that the third request meets: one more than at the start.

@@ -1,4 +1,5 @@
 pub mod Examples
 pub mod SampleLists
 pub mod FurtherExamples
+pub mod FigureExamples
 pub mod WrongServers

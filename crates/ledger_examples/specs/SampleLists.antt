@@ -8,13 +8,13 @@ use Rattle.prefix.specs.declared.Prefix.{Prefix}
 use Rattle.option.specs.Values.{Entry}
 use Rattle.table.specs.declared.Lease.{Lease}
 use Rattle.table.specs.Table.{noPool, padded}
-use Rattle.ledger.specs.Ledger.{State, state, Call}
+use Rattle.ledger.specs.Ledger.{State, filled, Call}
 use Rattle.ledger.specs.Demand3.{Fate, fate, meets}
 use Rattle.ledger_examples.specs.Examples.{buffer, requesting}
 
--- A table with one pool, last written at 1000.
+-- A table with one pool, last written at 1000; nothing was told of its leases.
 unfoldable pub tableWith : ℕ → ℕ → List Lease → State
-tableWith network len xs = state (record {
+tableWith network len xs = filled (record {
   pools = record { network = network; length = len } ∷ replicate 7 noPool;
   leases = padded xs;
   term = 3600;

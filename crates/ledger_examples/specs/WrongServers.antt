@@ -6,9 +6,9 @@ use lib.ListN.{length}
 use lib.ListN.{take as upTo}
 use Rattle.lists.specs.Lists.{catMaybes}
 use Rattle.option.specs.Writing.{optionBytes}
-use Rattle.table.specs.Table.{present, store}
+use Rattle.table.specs.Table.{present}
 use Rattle.option.specs.Contents.{requestsIn}
-use Rattle.ledger.specs.Ledger.{State, state, result, refuse, accept, offer, offers, addAll, informationFor, ask}
+use Rattle.ledger.specs.Ledger.{State, left, result, refuse, accept, offer, offers, addAll, informationFor, ask}
 use Rattle.ledger.specs.Demand3.{Server}
 
 -- "a desk that refuses everything"
@@ -19,7 +19,7 @@ refusesAll s now c = refuse 10 0 s (c .reply)
 unfoldable pub samePrefix : Server State
 samePrefix s now c =
     let os = map (λ r. offer (s .table) now (c .client) [] r) (requestsIn (c .option)) in
-    accept (state (store (s .table) now (addAll os (present now (s .table .leases))))) (optionBytes (map informationFor (catMaybes os))) (length os) (c .reply)
+    accept (left s now (addAll os (present now (s .table .leases)))) (optionBytes (map informationFor (catMaybes os))) (length os) (c .reply)
 
 -- "one that answers but leaves the book untouched"
 unfoldable pub leavesTable : Server State
@@ -30,7 +30,7 @@ unfoldable pub firstOnly : Server State
 firstOnly s now c =
     let xs = present now (s .table .leases) in
     let os = offers (s .table) now (c .client) xs (requestsIn (c .option)) in
-    accept (state (store (s .table) now (addAll (upTo 1 os) xs))) (optionBytes (map informationFor (catMaybes os))) (length (catMaybes os)) (c .reply)
+    accept (left s now (addAll (upTo 1 os) xs)) (optionBytes (map informationFor (catMaybes os))) (length (catMaybes os)) (c .reply)
 
 -- One that does what ask does, and answers 10 all the same.
 unfoldable pub answersTen : Server State
@@ -43,4 +43,4 @@ unfoldable pub writesTwice : Server State
 writesTwice s now c =
     let xs = present now (s .table .leases) in
     let gs = catMaybes (map (offer (s .table) now (c .client) xs) (upTo 1 (requestsIn (c .option)))) in
-    accept (state (store (s .table) now (addAll (map some gs) xs))) (optionBytes (map informationFor (gs ++ gs))) 2 (c .reply)
+    accept (left s now (addAll (map some gs) xs)) (optionBytes (map informationFor (gs ++ gs))) 2 (c .reply)

@@ -1,7 +1,7 @@
 -- An entry of an information of option 220 as bytes (document 01, "Option 220 as bytes", rule 4), and as the code holds it.
 use Rattle.lists.specs.Basics.{ℕ, _+_, _*_, _/_, _%_, List, _∷_, [], Bool, true, false, cond, _&&_, length, getD, take, eqb, leb}
 use Rattle.lists.specs.Walk.{Turn, more, stop}
-use Rattle.option_entry.specs.declared.EntryStep.the-variants as entry-step
+use Rattle.option_entry.specs.declared.Figures.{Figures}
 
 -- An entry of an information (RFC 6656, section 3.2.1: a Subnet Prefix Information block). Its figures are, in this order,
 -- high water, in use, unusable; the list ends where the figures that are given end.
@@ -11,6 +11,10 @@ pub record Entry : Type 0 where
   pub h : Bool
   pub d : Bool
   pub figures : List ℕ
+
+-- At most three figures as the code holds them: how many there are, and 0 for those that are not there.
+abbrev pub figuresOf : List ℕ → Figures
+figuresOf l = record { count = length l; «high_water» = record { 0 = getD l 0 0 }; «in_use» = record { 0 = getD l 1 0 }; unusable = record { 0 = getD l 2 0 } }
 
 -- "high byte first": numbers of two and of four bytes.
 abbrev pub two : List ℕ → ℕ → ℕ

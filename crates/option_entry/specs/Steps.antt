@@ -1,16 +1,11 @@
 -- An entry as the code holds it, and the reader's steps over the entries of an information.
 use Prim.Native.Nat.{ℕ}
-use mathlib.Core.List.{List}
 use mathlib.Core.Bool.{Bool, true, false}
-use lib.ListN.{length, getD}
 use Rattle.lists.specs.Walk.{Turn, more, stop}
-use Rattle.option_entry.specs.declared.{Figures.Figures, EntryFields.EntryFields, EntryCursor.EntryCursor, EntryStep.EntryStep}
+use Rattle.option_entry.specs.declared.{EntryFields.EntryFields, EntryCursor.EntryCursor, EntryStep.EntryStep}
 use Rattle.option_entry.specs.declared.EntryStep.the-variants as entry-step
 use Rattle.option_entry.specs.Entries.{Entry}
-
--- At most three figures as the code holds them: how many there are, and 0 for those that are not there.
-abbrev pub figuresOf : List ℕ → Figures
-figuresOf l = record { count = length l; «high_water» = record { 0 = getD l 0 0 }; «in_use» = record { 0 = getD l 1 0 }; unusable = record { 0 = getD l 2 0 } }
+pub use Rattle.option_entry.specs.Entries.{figuresOf}
 
 abbrev pub fieldsOf : Entry → EntryFields
 fieldsOf e = record { network = e .network; length = e .length; h = e .h; d = e .d; figures = figuresOf (e .figures) }

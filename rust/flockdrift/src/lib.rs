@@ -15,7 +15,9 @@ use std::fmt;
 #[path = "../../../include/flockdrift.rs"]
 mod raw;
 
-pub use raw::{IMAGE_CAPACITY, REPLY_CAPACITY, SELECTION_CAPACITY, TEXT_CAPACITY};
+pub use raw::{
+    FIGURES_CAPACITY, IMAGE_CAPACITY, REPLY_CAPACITY, SELECTION_CAPACITY, TEXT_CAPACITY,
+};
 
 use raw::Answer;
 
@@ -51,6 +53,7 @@ impl Refusal {
             11 => "nothing found",
             12 => "pools, term, default length or start are outside the rules",
             14 => "the buffer is too small",
+            15 => "the figures sheet does not match the table",
             _ => "no number of this library",
         }
     }
@@ -165,13 +168,52 @@ pub struct Lease {
     pub expires: u32,
 }
 
+/// What a client told of the use of a lease; `None` where it told no such figure.
+#[derive(Clone, Copy, Debug, PartialEq, Eq)]
+pub struct Figures {
+    /// The lease's first address.
+    pub network: u32,
+    /// The lease's prefix length.
+    pub length: u8,
+    /// The most addresses that were ever in use at one time.
+    pub high_water: Option<u16>,
+    /// The addresses in use.
+    pub in_use: Option<u16>,
+    /// The addresses that cannot be used.
+    pub unusable: Option<u16>,
+}
+
+/// The bytes of a row of the figures sheet: network 4, length 1, and 2 for each figure, all little-endian.
+const ROW: usize = 11;
+
+impl Figures {
+    /// Those of a row; none where it is that of a place without a lease.
+    fn of(row: &[u8; ROW]) -> Option<Figures> {
+        const UNTOLD: u16 = 0xffff;
+        let [a, b, c, d, length, figures @ ..] = *row;
+        let told = |at: usize| {
+            let figure = u16::from_le_bytes([figures[at], figures[at + 1]]);
+            (figure != UNTOLD).then_some(figure)
+        };
+        (length != 0).then(|| Figures {
+            network: u32::from_le_bytes([a, b, c, d]),
+            length,
+            high_water: told(0),
+            in_use: told(2),
+            unusable: told(4),
+        })
+    }
+}
+
 // THE BOOK
 
-/// A lease table, held as its image. A copy of it is a book to which a server can go back.
+/// A lease table, held as its image, and beside it the figures sheet, which is not saved. A copy of it is a book to
+/// which a server can go back.
 #[derive(Clone)]
 pub struct Book {
     image: [u8; IMAGE_CAPACITY],
     bytes: usize,
+    figures: [u8; FIGURES_CAPACITY],
 }
 
 // SAFETY of every call below: each pointer with a size is that of a live slice, with its length; the one without is
@@ -182,6 +224,7 @@ impl Book {
         Book {
             image: [0; IMAGE_CAPACITY],
             bytes: 0,
+            figures: [0; FIGURES_CAPACITY],
         }
     }
 
@@ -199,6 +242,8 @@ impl Book {
                 book.image.as_mut_ptr(),
                 book.image.len(),
                 &mut book.bytes,
+                book.figures.as_mut_ptr(),
+                book.figures.len(),
                 networks.as_ptr(),
                 networks.len(),
                 lengths.as_ptr(),
@@ -211,7 +256,7 @@ impl Book {
         Ok(book)
     }
 
-    /// The book that was saved; bytes that are no image are refused with 5.
+    /// The book that was saved, with no figure told; bytes that are no image are refused with 5.
     pub fn load(saved: &[u8]) -> Result<Book, Refusal> {
         let mut book = Book::none();
         accepted(unsafe {
@@ -219,6 +264,8 @@ impl Book {
                 book.image.as_mut_ptr(),
                 book.image.len(),
                 &mut book.bytes,
+                book.figures.as_mut_ptr(),
+                book.figures.len(),
                 saved.as_ptr(),
                 saved.len(),
             )
@@ -249,6 +296,8 @@ impl Book {
                 self.image.as_mut_ptr(),
                 self.image.len(),
                 &mut self.bytes,
+                self.figures.as_mut_ptr(),
+                self.figures.len(),
                 client,
                 now,
                 option.as_ptr(),
@@ -259,13 +308,15 @@ impl Book {
         })
     }
 
-    /// Confirms or renews the client's leases that the option's entries name.
+    /// Confirms or renews the client's leases that the option's entries name, and files the entries' figures.
     pub fn take(&mut self, client: u32, now: u32, option: &[u8]) -> Result<Reply, Refusal> {
         Reply::of(|reply| unsafe {
             raw::flockdrift_take(
                 self.image.as_mut_ptr(),
                 self.image.len(),
                 &mut self.bytes,
+                self.figures.as_mut_ptr(),
+                self.figures.len(),
                 client,
                 now,
                 option.as_ptr(),
@@ -300,6 +351,8 @@ impl Book {
                 self.image.as_mut_ptr(),
                 self.image.len(),
                 &mut self.bytes,
+                self.figures.as_mut_ptr(),
+                self.figures.len(),
                 client,
                 now,
                 option.as_ptr(),
@@ -322,6 +375,8 @@ impl Book {
                 self.image.as_mut_ptr(),
                 self.image.len(),
                 &mut self.bytes,
+                self.figures.as_mut_ptr(),
+                self.figures.len(),
                 network,
                 length.into(),
                 deprecated.into(),
@@ -396,6 +451,12 @@ impl Book {
         unless(a.number, 0, lease)
     }
 
+    /// The figures of the lease with this index; none where there is no such lease.
+    pub fn figures(&self, index: usize) -> Option<Figures> {
+        let row = self.figures.chunks_exact(ROW).nth(index)?;
+        Figures::of(row.try_into().ok()?)
+    }
+
     /// The pools, ascending; none where there is no book.
     pub fn pools(&self) -> impl Iterator<Item = Pool> + '_ {
         (0..).map_while(|index| self.pool(index).ok())
@@ -413,10 +474,10 @@ impl Default for Book {
     }
 }
 
-/// Books are equal where their images are: one book has one image.
+/// Books are equal where their images and the figures are: one book has one image.
 impl PartialEq for Book {
     fn eq(&self, other: &Book) -> bool {
-        self.image[..self.bytes] == other.image[..other.bytes]
+        self.image[..self.bytes] == other.image[..other.bytes] && self.figures == other.figures
     }
 }
 

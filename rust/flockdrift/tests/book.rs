@@ -5,6 +5,9 @@ use flockdrift::*;
 const POOLS: ([u32; 2], [u8; 2]) = ([0x0a000800, 0x0a000100], [26, 24]);
 const ASK_26_H: &[u8] = &[0xdc, 5, 0, 1, 2, 1, 26];
 const NAME_26: &[u8] = &[0xdc, 11, 0, 2, 8, 0, 10, 0, 8, 0, 26, 0, 0];
+const TELL_26: &[u8] = &[
+    0xdc, 17, 0, 2, 14, 0, 10, 0, 8, 0, 26, 0, 6, 1, 10, 0xff, 0xff, 0, 2,
+];
 const LIST: &[u8] = &[0xdc, 5, 0, 1, 2, 2, 0];
 
 fn opened() -> Book {
@@ -26,6 +29,7 @@ fn no_book_is_refused() {
     assert_eq!(number(book.sheet()), 5);
     assert_eq!(number(book.ask(7, 1000, ASK_26_H)), 5);
     assert_eq!(book.pools().count() + book.leases().count(), 0);
+    assert_eq!(book.figures(0), None);
     assert_eq!(number(Book::load(&[])), 5);
     assert_eq!(number(Book::open(&POOLS.0, &POOLS.1, 59, 28, 1000)), 12);
 }
@@ -98,6 +102,37 @@ fn a_refusal_and_going_back_leave_the_book() {
 }
 
 #[test]
+fn figures_are_told_and_not_saved() {
+    let mut book = opened();
+    book.ask(7, 1000, ASK_26_H).unwrap();
+    let untold = Figures {
+        network: 0x0a000800,
+        length: 26,
+        high_water: None,
+        in_use: None,
+        unusable: None,
+    };
+    assert_eq!(book.figures(0), Some(untold));
+    let before = book.clone();
+    book.take(7, 1010, TELL_26).unwrap();
+    let told = Figures {
+        high_water: Some(266),
+        unusable: Some(2),
+        ..untold
+    };
+    assert_eq!(book.figures(0), Some(told));
+    assert_eq!(before.figures(0), Some(untold));
+    for index in [1, 255, 256, usize::MAX] {
+        assert_eq!(book.figures(index), None);
+    }
+    let loaded = Book::load(&book.save().unwrap()).unwrap();
+    assert_eq!(loaded.figures(0), Some(untold));
+    assert_ne!(loaded, book);
+    book.release(7, 1020, NAME_26).unwrap();
+    assert_eq!(book.figures(0), None);
+}
+
+#[test]
 fn options_without_a_book() {
     assert_eq!(check_option(ASK_26_H), Ok(()));
     assert_eq!(number(check_option(&ASK_26_H[1..])), 6);
@@ -120,4 +155,8 @@ fn refusals_in_words() {
     assert_eq!(words(5, 0), "refused 5: not the image of a sound table");
     assert_eq!(words(7, 13), "refused 7: a bad suboption at 13");
     assert_eq!(words(13, 0), "refused 13: no number of this library");
+    assert_eq!(
+        words(15, 0),
+        "refused 15: the figures sheet does not match the table"
+    );
 }

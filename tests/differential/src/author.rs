@@ -11,6 +11,7 @@ use crate::script::Script;
 use options::REQUEST_I;
 use tables::aligned;
 
+mod figures;
 mod options;
 mod tables;
 mod writing;
@@ -93,20 +94,26 @@ impl Author {
         self.script.say(line).to_string()
     }
 
-    /// Says a call, and then `save`: every byte of the image is compared after it.
+    /// Says a call, and then `save` and `figures`: every byte of the image and the rows of
+    /// the sheet are compared after it.
     pub fn call(&mut self, line: String) -> String {
         let answer = self.say(line);
-        self.script.say("save");
+        self.see_all();
         answer
     }
 
-    /// A line that is often no command, and the image after it.
+    fn see_all(&mut self) {
+        self.script.say("save");
+        self.script.say("figures");
+    }
+
+    /// A line that is often no command, and image and figures after it.
     pub fn damaged_line(&mut self, mut line: Vec<u8>) {
         for _ in 0..self.numbers.between(1, 2) {
             damage_line(&mut self.numbers, &mut line);
         }
         self.script.say(line);
-        self.script.say("save");
+        self.see_all();
     }
 
     // What calls name.
@@ -203,6 +210,9 @@ impl Author {
     /// One call of any kind, with a reply buffer that is now and then too short.
     pub fn any_call(&mut self, profile: &Profile) {
         self.any_buffer(profile);
+        if !self.sheet_matches() && self.numbers.once_in(3) {
+            self.good_sheet();
+        }
         match self.numbers.below(100) {
             0..=31 => self.ask(profile),
             32..=52 => self.take(profile),
@@ -221,6 +231,7 @@ impl Author {
                 let line = self.open_line(&pools, profile, start);
                 self.call(line);
             }
+            98 | 99 => self.any_sheet(profile),
             _ => self.ask(profile),
         }
     }

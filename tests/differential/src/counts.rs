@@ -3,28 +3,35 @@
 use std::collections::BTreeMap;
 use std::fmt::{self, Display, Formatter};
 
+use reference::figures::UNTOLD;
+use reference::option::{read220, Entry, Suboption};
+use reference::words::hex;
+
 use crate::rounds::Rounds;
 use crate::script::{Script, Step};
 
-/// Each command with the numbers that it can be refused with, in document 01's row
-/// order. The buffer that `save` is given holds a full book, so it has no 14.
-const COMMANDS: [(&str, &[u8]); 12] = [
+/// Each command with the numbers that it can be refused with, in the papers' row order.
+/// The buffer that `save` is given holds a full book, so it has no 14.
+const COMMANDS: [(&str, &[u8]); 13] = [
     ("open", &[12]),
-    ("ask", &[1, 5, 2, 3, 4, 6, 7, 8, 9, 10]),
-    ("take", &[1, 5, 2, 3, 4, 6, 7, 8, 11]),
+    ("ask", &[1, 5, 15, 2, 3, 4, 6, 7, 8, 9, 10]),
+    ("take", &[1, 5, 15, 2, 3, 4, 6, 7, 8, 11]),
     ("list", &[1, 5, 2, 3, 4, 6, 7, 8, 11]),
-    ("return", &[5, 2, 3, 4, 6, 7, 8, 11]),
-    ("mark", &[5, 3, 4, 11]),
+    ("return", &[5, 15, 2, 3, 4, 6, 7, 8, 11]),
+    ("mark", &[5, 15, 3, 4, 11]),
     ("load", &[5]),
     ("sheet", &[5]),
     ("read", &[6, 7]),
     ("write", &[13, 14]),
     ("save", &[5]),
+    ("figures", &[]),
     ("buffer", &[]),
 ];
 
-/// `save` and `buffer` stand between the calls and are not counted as calls.
+/// `save`, `figures` and `buffer` stand between the calls and are not counted as calls.
 const CALLS: usize = 10;
+/// The figures sheet does not match.
+const NO_MATCH: u8 = 15;
 /// In place of a refusal's number.
 const ACCEPTED: u8 = 0;
 const ERROR: u8 = u8::MAX;
@@ -37,6 +44,10 @@ pub struct Counts {
     answers: BTreeMap<(usize, u8), usize>,
     /// Error lines, also those whose first word is no command.
     errors: usize,
+    /// Accepted takes that told a figure of a lease.
+    filed: usize,
+    /// Sheets that were given, `figures HEX`.
+    sheets: usize,
 }
 
 impl Counts {
@@ -52,6 +63,8 @@ impl Counts {
     fn add_step(&mut self, step: &Step) {
         let error = step.answer.starts_with("error line");
         self.errors += usize::from(error);
+        self.filed += usize::from(files_figures(step));
+        self.sheets += usize::from(gives_sheet(step));
         if let Some(command) = command(step) {
             let number = match refused_with(&step.answer) {
                 _ if error => ERROR,
@@ -72,6 +85,12 @@ impl Counts {
         of_command.map(|(_, count)| count).sum()
     }
 
+    /// How many calls reached row 15.
+    fn not_matching(&self) -> usize {
+        let calls = 0..CALLS;
+        calls.map(|command| self.count(command, NO_MATCH)).sum()
+    }
+
     pub fn calls(&self) -> usize {
         (0..CALLS).map(|command| self.answered(command)).sum()
     }
@@ -79,6 +98,9 @@ impl Counts {
     /// The answers that a command can give and that never came, such as `ask 9`.
     pub fn missing(&self) -> Vec<String> {
         let mut missing = self.rounds.missing();
+        if self.filed == 0 {
+            missing.push("take with figures".to_string());
+        }
         for (command, (name, numbers)) in COMMANDS.iter().enumerate() {
             if self.count(command, ACCEPTED) == 0 {
                 missing.push(format!("{name} ok"));
@@ -104,6 +126,42 @@ fn command(step: &Step) -> Option<usize> {
         .position(|(name, _)| name.as_bytes() == first)
 }
 
+/// An accepted `figures HEX`.
+fn gives_sheet(step: &Step) -> bool {
+    matches!(step.words()[..], [b"figures", _]) && step.answer == "ok\n"
+}
+
+/// An accepted take, and one of the entries that it found tells a figure.
+fn files_figures(step: &Step) -> bool {
+    let [b"take", _, _, option] = step.words()[..] else {
+        return false;
+    };
+    let reply = step.answer.strip_prefix("ok bytes=");
+    let reply = reply.and_then(|rest| rest.trim_end().rsplit(' ').next());
+    let (Some(option), Some(reply)) = (hex(option), reply.and_then(|word| hex(word.as_bytes())))
+    else {
+        return false;
+    };
+    let found = entries(&reply);
+    let is_found = |entry: &Entry| {
+        let same = |found: &Entry| (found.network, found.prefix) == (entry.network, entry.prefix);
+        found.iter().any(same)
+    };
+    entries(&option)
+        .iter()
+        .any(|entry| entry.figures.iter().any(|figure| *figure != UNTOLD) && is_found(entry))
+}
+
+fn entries(option: &[u8]) -> Vec<Entry> {
+    let mut entries = Vec::new();
+    for suboption in read220(option).unwrap_or_default() {
+        if let Suboption::Information(information) = suboption {
+            entries.extend(information.entries);
+        }
+    }
+    entries
+}
+
 fn refused_with(answer: &str) -> Option<u8> {
     let rest = answer.strip_prefix("refused ")?;
     rest.split_whitespace().next()?.parse().ok()
@@ -121,7 +179,15 @@ impl Display for Counts {
             }
             write!(out, ", {errors} error), ")?;
         }
-        write!(out, "error lines {}, {}", self.errors, self.rounds)
+        write!(
+            out,
+            "error lines {}, {}, {} sheets given, {} calls refused with 15, {} takes filed figures",
+            self.errors,
+            self.rounds,
+            self.sheets,
+            self.not_matching(),
+            self.filed
+        )
     }
 }
 
@@ -156,5 +222,31 @@ mod tests {
         assert!(text.contains("error lines 3,"), "{text}");
         assert!(counts.missing().contains(&"ask 9".to_string()));
         assert!(!counts.missing().contains(&"ask 10".to_string()));
+    }
+
+    #[test]
+    fn sheets_15_and_filed_figures_are_counted() {
+        let wrong = "00".repeat(reference::figures::SHEET);
+        let text = format!(
+            "open 60 28 0 10.0.0.0/29\nask 1 0 dc05000102001e\nfigures\n\
+             take 1 0 dc0b000208000a0000001e0000\n\
+             take 1 0 dc0d00020a000a0000001e0002ffff\n\
+             take 1 0 dc0f00020c000a0000001e0004ffff0007\n\
+             take 1 0 dc14000211000a0000001e00000a0000041e00020007\n\
+             take 2 0 dc0d00020a000a0000001e00020007\n\
+             take 1 0 dc14000211000a0000041e00000a0000001e00020007\n\
+             figures {wrong}\nmark 0 10.0.0.0/30 1\ntake 1 0 -\nlist 1 0 -\nfigures 00\n"
+        );
+        let mut counts = Counts::default();
+        let script = Script::of_lines(&lines_of(text.as_bytes()));
+        assert_eq!(counts.add(&script), Ok(()));
+        let text = counts.to_string();
+        let end = "1 sheets given, 2 calls refused with 15, 2 takes filed figures";
+        assert!(text.ends_with(end), "{text}");
+        assert!(text.contains("figures 3 (2 ok, 1 error)"), "{text}");
+        assert!(text.contains("mark 1 (0 ok, 0 x 5, 1 x 15,"), "{text}");
+        assert!(Counts::default()
+            .missing()
+            .contains(&"take with figures".to_string()));
     }
 }

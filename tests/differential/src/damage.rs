@@ -1,6 +1,8 @@
-//! Damage to good options, images and lines.
+//! Damage to good options, images, figures sheets and lines.
 
+use reference::figures::Row;
 use reference::numbers::Numbers;
+use reference::prefix::Prefix;
 use reference::table::{LATEST, LONGEST_TERM, SHORTEST_TERM};
 
 use crate::bytes::{fit_len, record_places, suboption_places};
@@ -206,6 +208,33 @@ fn resize_record(numbers: &mut Numbers, record: &mut Vec<u8>) {
     record[..2].copy_from_slice(&(length as u16 - 2).to_le_bytes());
 }
 
+/// Rows of a figures sheet, of which the first so many are leases': a field of one, or
+/// whole rows. Now and then they still match.
+pub fn damage_rows(numbers: &mut Numbers, rows: &mut [Row], leases: usize) {
+    // Mostly among the leases, at the first empty line or at the last.
+    let place = |numbers: &mut Numbers| match numbers.below(6) {
+        0 => leases.min(rows.len() - 1),
+        1 => rows.len() - 1,
+        2 => numbers.below(rows.len()),
+        _ => numbers.below(leases.max(1)),
+    };
+    let (one, other) = (place(numbers), place(numbers));
+    let figure = [0, 1, 0x7fff, 0xfffe, 0x00ff][numbers.below(5)];
+    match numbers.below(12) {
+        0 | 1 => rows[one].prefix.network ^= 1 << numbers.below(32),
+        2 | 3 => rows[one].prefix.length ^= 1 << numbers.below(8),
+        4 => rows[one].high_water = figure,
+        5 => rows[one].in_use = figure,
+        6 => rows[one].unusable = figure,
+        7 => rows.swap(one, other),
+        8 => rows[one] = rows[other],
+        9 => rows[one] = Row::untold(Prefix::default()),
+        // A row left out, or one too many.
+        10 => rows[one..].rotate_left(1),
+        _ => rows[one..].rotate_right(1),
+    }
+}
+
 /// A line of a script: words, spaces, or any byte, but never a newline.
 pub fn damage_line(numbers: &mut Numbers, line: &mut Vec<u8>) {
     let at = numbers.below(line.len() + 1);
@@ -338,6 +367,27 @@ mod tests {
             "write information c=0 s=0 name 61",
         ] {
             assert!(seen.contains(line), "{line}");
+        }
+    }
+
+    #[test]
+    fn rows_are_damaged_in_many_ways() {
+        let mut numbers = Numbers::new(4);
+        for leases in [0, 1, 7, 256] {
+            let mut seen = std::collections::BTreeSet::new();
+            for _ in 0..2_000 {
+                let mut rows: Vec<Row> = (0..256)
+                    .map(|place| Prefix {
+                        network: if place < leases { 1 + place } else { 0 },
+                        length: 0,
+                    })
+                    .map(Row::untold)
+                    .collect();
+                damage_rows(&mut numbers, &mut rows, leases as usize);
+                assert_eq!(rows.len(), 256);
+                seen.insert(format!("{rows:?}"));
+            }
+            assert!(seen.len() > 100, "{leases}: {}", seen.len());
         }
     }
 

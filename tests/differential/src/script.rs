@@ -62,6 +62,11 @@ impl Script {
         &self.console.table
     }
 
+    /// The bytes of the reference's figures sheet as they now are.
+    pub fn figures(&self) -> &[u8] {
+        &self.console.figures
+    }
+
     /// The length of the reply buffer as it now is.
     pub fn buffer(&self) -> usize {
         self.console.buffer.len()

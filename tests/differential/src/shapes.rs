@@ -14,7 +14,7 @@ use crate::script::Script;
 type Shape = (&'static str, fn(&mut Author));
 
 /// Taken in turn, so that every run has all of them.
-const SHAPES: [Shape; 18] = [
+const SHAPES: [Shape; 19] = [
     ("one pool", |author| walk(author, &ONE_POOL)),
     ("small pools", |author| walk(author, &SMALL_POOLS)),
     ("many pools", |author| walk(author, &MANY_POOLS)),
@@ -25,6 +25,7 @@ const SHAPES: [Shape; 18] = [
     ("ends", |author| walk(author, &ENDS)),
     ("latest time", latest_time),
     ("pages", pages),
+    ("figures", figures),
     ("faults", |author| walk(author, &FAULTS)),
     ("short", short),
     ("openings", openings),
@@ -226,6 +227,32 @@ fn whole_pages(author: &mut Author, table: &mut Table) {
     table.set_leases(leases);
 }
 
+/// Takes that tell figures, ended leases whose ground is asked for again, and sheets that
+/// match and that do not.
+fn figures(author: &mut Author) {
+    let profile = Profile {
+        pools: 2,
+        pool_lengths: (24, 27),
+        lengths: (26, 30),
+        requests: 4,
+        clients: 3,
+        ends: 4,
+        faults: author.one_of(&[8, 40]),
+        leases: 10,
+        ..ONE_POOL
+    };
+    author.start(&profile);
+    for _ in 0..author.numbers.between(20, 100) {
+        match author.numbers.below(12) {
+            0..=3 => author.take(&profile),
+            4 | 5 => author.ask(&profile),
+            6 => author.mark(&profile),
+            7 => author.any_sheet(&profile),
+            _ => author.any_call(&profile),
+        }
+    }
+}
+
 /// A few calls and no more, often without a table.
 fn short(author: &mut Author) {
     let profile = Profile {
@@ -387,10 +414,12 @@ fn late_place(author: &mut Author) -> Vec<u8> {
 
 /// Damaged lines, and lines of words in no order; a table stands behind them.
 fn lines(author: &mut Author) {
-    const WORDS: &str = "open ask take list return mark save load sheet read write buffer 0 7 \
-                         1000 3600 28 257 10.0.0.0/8 10.0.0.0/28 dc05000102001c \
+    const COMMANDS: &str =
+        "open ask take list return mark save load sheet figures read write buffer";
+    const WORDS: &str = "0 7 1000 3600 28 257 10.0.0.0/8 10.0.0.0/28 dc05000102001c \
                          dc0b000208000a0000001c0000 - # 4294967296 unknown name address";
-    let any: Vec<&str> = WORDS.split_whitespace().collect();
+    let commands: Vec<&str> = COMMANDS.split_whitespace().collect();
+    let any: Vec<&str> = WORDS.split_whitespace().chain(commands.clone()).collect();
     let mut source = Author::new(author.numbers.draw());
     source.start(&SMALL_POOLS);
     for _ in 0..author.numbers.between(10, 40) {
@@ -398,15 +427,18 @@ fn lines(author: &mut Author) {
     }
     for line in source.script.lines() {
         let line = &line[..line.len() - 1];
-        // Nothing comes between a call and its image.
-        let between = line != b"save";
+        // Nothing comes between a call, its image and its figures.
+        let between = line != b"save" && line != b"figures";
         if between && author.numbers.once_in(2) && line.len() < 2_000 {
             author.damaged_line(line.to_vec());
         }
         if between && author.numbers.once_in(6) {
-            let words: Vec<&str> = (0..author.numbers.below(6))
+            let mut words: Vec<&str> = (0..author.numbers.below(6))
                 .map(|_| author.one_of(&any))
                 .collect();
+            if author.numbers.once_in(2) {
+                words.insert(0, author.one_of(&commands));
+            }
             author.call(words.join(" "));
         }
         author.script.say(line);
@@ -459,16 +491,22 @@ mod tests {
     }
 
     #[test]
-    fn the_image_is_saved_after_every_call_that_could_change_it() {
+    fn image_and_figures_are_seen_after_every_call_that_could_change_them() {
         for number in 0..3 * SHAPES.len() {
             let (script, shape) = script(8, number);
-            for pair in script.steps.windows(2) {
-                let line = String::from_utf8_lossy(&pair[0].line);
+            for steps in script.steps.windows(3) {
+                let line = String::from_utf8_lossy(&steps[0].line);
                 let command = line.split_whitespace().next().unwrap_or("");
-                let same = ["save", "sheet", "read", "write", "buffer"].contains(&command);
-                let answered = !pair[0].answer.is_empty();
-                if answered && !same && !pair[0].answer.starts_with("error") {
-                    assert!(pair[1].line.starts_with(b"save"), "{shape}: {line}");
+                let same =
+                    ["save", "sheet", "figures", "read", "write", "buffer"].contains(&command);
+                let answered = !steps[0].answer.is_empty();
+                if answered && !same && !steps[0].answer.starts_with("error") {
+                    assert!(steps[1].line.starts_with(b"save"), "{shape}: {line}");
+                    assert_eq!(steps[2].line, b"figures\n", "{shape}: {line}");
+                }
+                // A sheet that is given is shown as well.
+                if steps[0].words().len() == 2 && command == "figures" {
+                    assert_eq!(steps[1].line, b"figures\n", "{shape}");
                 }
             }
         }

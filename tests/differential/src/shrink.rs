@@ -1,6 +1,9 @@
 //! A failing script made short: lines left out, then what is left of them shortened,
 //! as long as the two programs still differ.
 
+use reference::figures::{put_rows, rows_of, Row, SHEET, UNTOLD};
+use reference::prefix::Prefix;
+
 use crate::bytes::{entry_places, from_hex, hex, record_places, suboption_places};
 
 /// At most so many scripts are tried.
@@ -134,8 +137,44 @@ fn simpler_words(word: &[u8]) -> Vec<Vec<u8>> {
     let Some(bytes) = from_hex(word) else {
         return Vec::new();
     };
-    let shorter = shorter_bytes(&bytes).into_iter();
+    let shorter = match rows_of(&bytes) {
+        Some(rows) => emptier_sheets(&rows),
+        None => shorter_bytes(&bytes),
+    };
+    let shorter = shorter.into_iter();
     shorter.map(|bytes| hex(&bytes).into_bytes()).collect()
+}
+
+/// A figures sheet keeps its size: fewer rows are leases', and fewer figures are told.
+fn emptier_sheets(rows: &[Row]) -> Vec<Vec<u8>> {
+    let empty = Row::untold(Prefix::default());
+    let used: Vec<usize> = (0..rows.len()).filter(|at| rows[*at] != empty).collect();
+    let mut found = Vec::new();
+    let places: Vec<usize> = (0..=used.len()).collect();
+    for (start, end) in stretches(&places) {
+        let mut fewer = rows.to_vec();
+        for at in &used[start..end] {
+            fewer[*at] = empty;
+        }
+        found.push(fewer);
+    }
+    for at in used {
+        for untell in [
+            (|row| row.high_water = UNTOLD) as fn(&mut Row),
+            |row| row.in_use = UNTOLD,
+            |row| row.unusable = UNTOLD,
+        ] {
+            let mut fewer = rows.to_vec();
+            untell(&mut fewer[at]);
+            found.push(fewer);
+        }
+    }
+    let bytes = |rows: Vec<Row>| {
+        let mut sheet = vec![0; SHEET];
+        put_rows(&rows, &mut sheet);
+        sheet
+    };
+    found.into_iter().map(bytes).collect()
 }
 
 /// An option with fewer suboptions or entries, an image with fewer records, or any
@@ -293,6 +332,35 @@ mod tests {
                 assert_ne!(simpler, line.as_bytes());
             }
         }
+    }
+
+    #[test]
+    fn sheets_are_emptied() {
+        let mut rows = vec![Row::untold(Prefix::default()); 256];
+        for (place, row) in rows.iter_mut().enumerate().take(9) {
+            row.prefix = prefix(0x0a00_0000 + 4 * place as u32, 30);
+            (row.high_water, row.in_use) = (place as u16, 7);
+        }
+        let mut sheet = vec![0; SHEET];
+        put_rows(&rows, &mut sheet);
+        let line = format!("figures {}\n", hex(&sheet));
+        let short = shrink(lines_of(line.as_bytes()), &mut |lines| {
+            let bytes = lines.concat();
+            let words: Vec<&[u8]> = bytes.trim_ascii_end().split(|b| *b == b' ').collect();
+            let sheet = words.get(1).and_then(|word| from_hex(word));
+            let rows = sheet.and_then(|sheet| rows_of(&sheet)).unwrap_or_default();
+            rows.iter().any(|row| row.high_water == 3)
+        });
+        let mut one = vec![Row::untold(Prefix::default()); 256];
+        one[3] = Row {
+            high_water: 3,
+            ..Row::untold(prefix(0x0a00_000c, 30))
+        };
+        put_rows(&one, &mut sheet);
+        assert_eq!(
+            short.concat(),
+            format!("figures {}\n", hex(&sheet)).as_bytes()
+        );
     }
 
     #[test]

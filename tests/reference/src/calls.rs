@@ -1,5 +1,8 @@
-//! The calls: open, ask, take, list, return (here `release`) and mark.
+//! The calls: open, ask, take, list, return (here `release`) and mark. "Ask, take, return
+//! and mark take the sheet; open and load fill it" (M-100 in document 02): it is lent as
+//! its bytes, which is what `figures` is in each of them.
 
+use crate::figures::{fill, matches, present_rows, put_rows, rows_after, rows_of, Row};
 use crate::option::{read220, write220, Entry, Information, Request, Suboption};
 use crate::prefix::Prefix;
 use crate::refusal::{refusal, Refusal};
@@ -23,8 +26,14 @@ pub struct Answer {
 }
 
 /// "Open: roots (any order given), term, default length and a start time make a
-/// book."
-pub fn open(pools: &[Prefix], term: u32, default_length: u8, start: u32) -> Result<Table, Refusal> {
+/// book." The lent sheet is the new one's.
+pub fn open(
+    pools: &[Prefix],
+    term: u32,
+    default_length: u8,
+    start: u32,
+    figures: &mut [u8],
+) -> Result<Table, Refusal> {
     if !pools_in_rules(pools) || !head_in_rules(term, default_length, start) {
         return Err(refusal(12));
     }
@@ -35,6 +44,7 @@ pub fn open(pools: &[Prefix], term: u32, default_length: u8, start: u32) -> Resu
     table.default_length = default_length;
     table.last_time = start;
     table.pools[..sorted.len()].copy_from_slice(&sorted);
+    fill(&table, figures)?;
     Ok(table)
 }
 
@@ -54,9 +64,18 @@ fn check_sound(table: &Table) -> Result<(), Refusal> {
     Ok(())
 }
 
-/// Rows 5, 2, 3 and 4.
-fn check_call(table: &Table, client: u32, now: u32) -> Result<(), Refusal> {
+/// Rows 5 and 15: the rows of the sheet, which must match the table as it is lent, ended
+/// leases included. A sheet of another size does not match either.
+fn check_figures(table: &Table, figures: &[u8]) -> Result<Vec<Row>, Refusal> {
     check_sound(table)?;
+    match rows_of(figures) {
+        Some(rows) if matches(&rows, table) => Ok(rows),
+        _ => Err(refusal(15)),
+    }
+}
+
+/// Rows 2, 3 and 4.
+fn check_call(table: &Table, client: u32, now: u32) -> Result<(), Refusal> {
     if client == 0 {
         return Err(refusal(2));
     }
@@ -94,18 +113,21 @@ fn informations(list: &[Suboption]) -> Vec<&Information> {
     informations
 }
 
-/// The prefixes of all entries of all informations, in order.
-fn entry_prefixes(list: &[Suboption]) -> Vec<Prefix> {
-    let mut prefixes = Vec::new();
+/// The entries of all informations, in order.
+fn all_entries(list: &[Suboption]) -> Vec<Entry> {
+    let mut entries = Vec::new();
     for information in informations(list) {
-        for entry in &information.entries {
-            prefixes.push(Prefix {
-                network: entry.network,
-                length: entry.prefix,
-            });
-        }
+        entries.extend(information.entries.iter().cloned());
     }
-    prefixes
+    entries
+}
+
+/// What an entry and a lease must equal each other in: "network and length".
+fn prefix_of(entry: &Entry) -> Prefix {
+    Prefix {
+        network: entry.network,
+        length: entry.prefix,
+    }
 }
 
 /// A lease as an entry: "flags and figures from the book: h, d, no figures".
@@ -132,12 +154,14 @@ fn struck_at(table: &Table, now: u32) -> Table {
 /// the refusal of the first."
 pub fn ask(
     table: &mut Table,
+    figures: &mut [u8],
     client: u32,
     now: u32,
     option: &[u8],
     buffer: &mut [u8],
 ) -> Result<Answer, Refusal> {
     check_buffer(buffer)?;
+    let rows = check_figures(table, figures)?;
     check_call(table, client, now)?;
     let requests = requests(&read220(option)?);
     // "the option has 1 to 25 requests, none with i".
@@ -164,6 +188,8 @@ pub fn ask(
         return Err(refusal);
     }
     let bytes = write220(&reply, buffer)?;
+    let kept = present_rows(&rows, table, now);
+    put_rows(&rows_after(&next, &kept), figures);
     *table = next;
     Ok(Answer {
         bytes,
@@ -202,43 +228,49 @@ fn serve(table: &mut Table, client: u32, now: u32, request: Request) -> Result<L
     Ok(lease)
 }
 
-/// The rows that take and return share, 5 to 8: the entries of the option, "no
+/// The rows that take and return share after 15, 2 to 8: the entries of the option, "no
 /// requests, at least one entry".
 fn entries_only(
     table: &Table,
     client: u32,
     now: u32,
     option: &[u8],
-) -> Result<Vec<Prefix>, Refusal> {
+) -> Result<Vec<Entry>, Refusal> {
     check_call(table, client, now)?;
     let list = read220(option)?;
-    let prefixes = entry_prefixes(&list);
-    if !requests(&list).is_empty() || prefixes.is_empty() {
+    let entries = all_entries(&list);
+    if !requests(&list).is_empty() || entries.is_empty() {
         return Err(refusal(8));
     }
-    Ok(prefixes)
+    Ok(entries)
 }
 
 /// Take (confirm or renew): "Each entry that equals a present line of this station in
 /// network and length makes it leased until now + term. The reply is one Information
-/// with those entries in order".
+/// with those entries in order". "a take with figures updates the rows of its lines, in
+/// entry order"; the reply has none of them.
 pub fn take(
     table: &mut Table,
+    figures: &mut [u8],
     client: u32,
     now: u32,
     option: &[u8],
     buffer: &mut [u8],
 ) -> Result<Answer, Refusal> {
     check_buffer(buffer)?;
-    let prefixes = entries_only(table, client, now, option)?;
+    let rows = check_figures(table, figures)?;
+    let named = entries_only(table, client, now, option)?;
     let mut next = struck_at(table, now);
+    let mut rows = rows_after(&next, &present_rows(&rows, table, now));
     let term = next.term;
     let mut entries = Vec::new();
-    for prefix in prefixes {
-        for lease in &mut next.leases {
+    for entry in named {
+        let prefix = prefix_of(&entry);
+        for (lease, row) in next.leases.iter_mut().zip(&mut rows) {
             if lease.state != State::None && lease.client == client && lease.prefix == prefix {
                 lease.state = State::Leased;
                 lease.expires = now + term;
+                row.tell(&entry.figures);
                 entries.push(entry_of(lease));
             }
         }
@@ -254,6 +286,7 @@ pub fn take(
         entries,
     });
     let bytes = write220(&[reply], buffer)?;
+    put_rows(&rows, figures);
     *table = next;
     Ok(Answer { bytes, count })
 }
@@ -269,6 +302,7 @@ pub fn list(
     buffer: &mut [u8],
 ) -> Result<Answer, Refusal> {
     check_buffer(buffer)?;
+    check_sound(table)?;
     check_call(table, client, now)?;
     let pieces = read220(option)?;
     // "at least one request, all with i".
@@ -310,9 +344,17 @@ pub fn list(
 }
 
 /// Return: "as take, but strikes the lines; no reply buffer. Held lines may be
-/// returned."
-pub fn release(table: &mut Table, client: u32, now: u32, option: &[u8]) -> Result<Answer, Refusal> {
-    let prefixes = entries_only(table, client, now, option)?;
+/// returned." Figures of its entries have no effect: only a take files them.
+pub fn release(
+    table: &mut Table,
+    figures: &mut [u8],
+    client: u32,
+    now: u32,
+    option: &[u8],
+) -> Result<Answer, Refusal> {
+    let rows = check_figures(table, figures)?;
+    let named = entries_only(table, client, now, option)?;
+    let prefixes: Vec<Prefix> = named.iter().map(prefix_of).collect();
     let mut next = struck_at(table, now);
     let present = next.used_leases().to_vec();
     let mut kept = Vec::new();
@@ -326,14 +368,22 @@ pub fn release(table: &mut Table, client: u32, now: u32, option: &[u8]) -> Resul
         return Err(refusal(11));
     }
     next.set_leases(kept);
+    let kept = present_rows(&rows, table, now);
+    put_rows(&rows_after(&next, &kept), figures);
     *table = next;
     Ok(Answer { bytes: 0, count })
 }
 
 /// Mark: "sets or clears d on the present line with a given network and length."
 /// "Mark has no station".
-pub fn mark(table: &mut Table, now: u32, prefix: Prefix, d: bool) -> Result<Answer, Refusal> {
-    check_sound(table)?;
+pub fn mark(
+    table: &mut Table,
+    figures: &mut [u8],
+    now: u32,
+    prefix: Prefix,
+    d: bool,
+) -> Result<Answer, Refusal> {
+    let rows = check_figures(table, figures)?;
     check_time(table, now)?;
     let mut next = struck_at(table, now);
     let mut found = false;
@@ -346,6 +396,8 @@ pub fn mark(table: &mut Table, now: u32, prefix: Prefix, d: bool) -> Result<Answ
     if !found {
         return Err(refusal(11));
     }
+    let kept = present_rows(&rows, table, now);
+    put_rows(&rows_after(&next, &kept), figures);
     *table = next;
     Ok(Answer::default())
 }

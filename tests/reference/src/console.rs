@@ -4,9 +4,10 @@
 use std::io::{self, BufRead, Write};
 
 use crate::calls::{self, Answer};
+use crate::figures::{rows_of, untold_sheet, SHEET, UNTOLD};
 use crate::image;
 use crate::option::{read118, read220, write118, write220, SUBNET_SELECTION};
-use crate::prefix::dotted;
+use crate::prefix::{dotted, Prefix};
 use crate::refusal::Refusal;
 use crate::sheet::sheet;
 use crate::suboptions::{list_of, text_of};
@@ -33,9 +34,10 @@ pub fn run(mut script: impl BufRead, mut out: impl Write) -> io::Result<()> {
     }
 }
 
-/// One open table, a reply buffer, and the count of lines so far.
+/// One open table with its figures sheet, a reply buffer, and the count of lines so far.
 pub struct Console {
     pub table: Table,
+    pub figures: Vec<u8>,
     pub buffer: Vec<u8>,
     pub lines: u64,
 }
@@ -47,10 +49,12 @@ impl Default for Console {
 }
 
 impl Console {
-    /// "Until the first accepted open or load the book is all zero".
+    /// "Until the first accepted open or load the book is all zero", and "the sheet is all
+    /// empty lines' rows".
     pub fn new() -> Console {
         Console {
             table: Table::zero(),
+            figures: untold_sheet(&Table::zero()),
             buffer: vec![0; calls::REPLY],
             lines: 0,
         }
@@ -90,10 +94,11 @@ impl Console {
             }
             (b"ask" | b"take" | b"list", [client, now, option]) => {
                 let (client, now, option) = (number(client)?, number(now)?, hex(option)?);
-                let (table, buffer) = (&mut self.table, &mut self.buffer[..]);
+                let (table, figures) = (&mut self.table, &mut self.figures[..]);
+                let buffer = &mut self.buffer[..];
                 let answer = match command {
-                    b"ask" => calls::ask(table, client, now, &option, buffer),
-                    b"take" => calls::take(table, client, now, &option, buffer),
+                    b"ask" => calls::ask(table, figures, client, now, &option, buffer),
+                    b"take" => calls::take(table, figures, client, now, &option, buffer),
                     _ => calls::list(table, client, now, &option, buffer),
                 };
                 Some(match answer {
@@ -106,16 +111,16 @@ impl Console {
             }
             (b"return", [client, now, option]) => {
                 let (client, now, option) = (number(client)?, number(now)?, hex(option)?);
-                Some(
-                    match calls::release(&mut self.table, client, now, &option) {
-                        Ok(answer) => format!("ok count={}\n", answer.count),
-                        Err(refusal) => refused(refusal),
-                    },
-                )
+                let (table, figures) = (&mut self.table, &mut self.figures[..]);
+                Some(match calls::release(table, figures, client, now, &option) {
+                    Ok(answer) => format!("ok count={}\n", answer.count),
+                    Err(refusal) => refused(refusal),
+                })
             }
             (b"mark", [now, prefix, d]) => {
                 let (now, prefix, d) = (number(now)?, prefix_of(prefix)?, bit(d)?);
-                Some(ok_or_refused(calls::mark(&mut self.table, now, prefix, d)))
+                let (table, figures) = (&mut self.table, &mut self.figures[..]);
+                Some(ok_or_refused(calls::mark(table, figures, now, prefix, d)))
             }
             (b"save", []) => {
                 let mut buffer = vec![0; image::FULL];
@@ -124,7 +129,18 @@ impl Console {
             }
             (b"load", [image]) => {
                 let image = hex(image)?;
-                Some(ok_or_refused(image::load(&mut self.table, &image)))
+                let (table, figures) = (&mut self.table, &mut self.figures[..]);
+                Some(ok_or_refused(image::load(table, figures, &image)))
+            }
+            (b"figures", []) => Some(figures_text(&self.figures)),
+            (b"figures", [sheet]) => {
+                let sheet = hex(sheet)?;
+                // "an error if they are not exactly as many as the sheet has".
+                if sheet.len() != SHEET {
+                    return None;
+                }
+                self.figures = sheet;
+                Some("ok\n".to_string())
             }
             (b"sheet", []) => Some(match sheet(&self.table) {
                 Ok(rows) => rows,
@@ -160,9 +176,33 @@ impl Console {
         for word in words {
             pools.push(prefix_of(word)?);
         }
-        let opened = calls::open(&pools, term, default, start);
+        let opened = calls::open(&pools, term, default, start, &mut self.figures);
         Some(ok_or_refused(opened.map(|table| self.table = table)))
     }
+}
+
+/// "a line for each row that is not an empty line's, in order, then `ok`"; "A row is an
+/// empty line's if its network and length are 0".
+fn figures_text(sheet: &[u8]) -> String {
+    // "`-` for a figure that is untold".
+    let figure = |figure: u16| match figure {
+        UNTOLD => "-".to_string(),
+        told => told.to_string(),
+    };
+    let mut text = String::new();
+    for row in rows_of(sheet).unwrap_or_default() {
+        if row.prefix != Prefix::default() {
+            text.push_str(&format!(
+                "figures {} high-water={} in-use={} unusable={}\n",
+                row.prefix,
+                figure(row.high_water),
+                figure(row.in_use),
+                figure(row.unusable)
+            ));
+        }
+    }
+    text.push_str("ok\n");
+    text
 }
 
 /// "what the reader finds: option 118 if the first byte is 118, otherwise option 220".

@@ -3,6 +3,7 @@
 //! "Records: a 2-byte length counting kind and body, a 2-byte kind, the body; all
 //! little-endian."
 
+use crate::figures::fill;
 use crate::prefix::Prefix;
 use crate::refusal::{refusal, Refusal};
 use crate::table::{Lease, State, Table, LEASES, POOLS};
@@ -74,14 +75,20 @@ fn put_record(image: &mut Vec<u8>, kind: u16, body: &[u8]) {
     image.extend(body);
 }
 
-/// Loads an image into the table. Row 5 is about "the saved bytes only": what the
-/// table was does not matter, and a refusal leaves it as it was.
-pub fn load(table: &mut Table, image: &[u8]) -> Result<(), Refusal> {
+/// Loads an image into the table and makes the figures sheet its own, nothing told:
+/// figures are not saved. What table and sheet were does not matter, and a refusal leaves
+/// them as they were.
+pub fn load(table: &mut Table, figures: &mut [u8], image: &[u8]) -> Result<(), Refusal> {
+    let loaded = loaded(image)?;
+    fill(&loaded, figures)?;
+    *table = loaded;
+    Ok(())
+}
+
+/// The table that an image is of. Row 5 is about "the saved bytes only".
+pub fn loaded(image: &[u8]) -> Result<Table, Refusal> {
     match table_of(image) {
-        Some(loaded) if loaded.sound() => {
-            *table = loaded;
-            Ok(())
-        }
+        Some(table) if table.sound() => Ok(table),
         _ => Err(refusal(5)),
     }
 }

@@ -51,6 +51,19 @@ pub fn entries(prefixes: &[Prefix]) -> Vec<u8> {
     option(&[information(false, false, prefixes)])
 }
 
+/// An information of entries with these figures.
+pub fn telling(told: &[(Prefix, &[u16])]) -> Vec<u8> {
+    let entries = told.iter().map(|(at, figures)| Entry {
+        figures: figures.to_vec(),
+        ..entry(*at)
+    });
+    option(&[Suboption::Information(Information {
+        c: false,
+        s: false,
+        entries: entries.collect(),
+    })])
+}
+
 pub fn asking(lengths: &[u8]) -> Vec<u8> {
     let requests: Vec<Suboption> = lengths.iter().map(|at| request(*at, false)).collect();
     option(&requests)

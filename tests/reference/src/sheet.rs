@@ -1,14 +1,13 @@
 //! The sheet: every pool as used and free rows.
 
-use crate::image::load;
+use crate::image::loaded;
 use crate::prefix::{Prefix, LONGEST};
 use crate::refusal::{refusal, Refusal};
 use crate::table::{Lease, Table};
 
 /// What the sheet program prints for an image: the sheet, or `refused 5`.
 pub fn sheet_of_image(image: &[u8]) -> String {
-    let mut table = Table::zero();
-    match load(&mut table, image).and_then(|()| sheet(&table)) {
+    match loaded(image).and_then(|table| sheet(&table)) {
         Ok(rows) => rows,
         Err(refusal) => format!("refused {}\n", refusal.number),
     }

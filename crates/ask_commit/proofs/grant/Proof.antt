@@ -2,29 +2,28 @@
 -- Assumes nothing.
 use Prim.Native.Nat.{ℕ, _+_, _-_, _*_, _≤_}
 use mathlib.Core.Path.{_≡_, sym, ap, _∙_}
-use mathlib.Core.List.{List, map}
-use mathlib.Core.Option.{some}
+use mathlib.Core.List.{List}
 use native.Mathlib.Omega.{arith}
 use lib.ListN.{length, take}
 use lib.Seq.{length-take-le}
 use borrow.Author.Needs.{needs}
 use Rattle.table.specs.Table.{present}
-use Rattle.image.specs.Image.{leaseSize, usedLeases}
+use Rattle.image.specs.Image.{leaseSize}
 use Rattle.option.specs.Values.{mostRequests}
 use Rattle.option.specs.Contents.{requestsIn}
 use Rattle.ledger.specs.declared.Answer.{Answer}
-use Rattle.ledger.specs.Ledger.{call, result, holdTime, addAll}
-use Rattle.ask_serve.specs.Granting.{grantedIn, Granted}
-use Rattle.call_spec.specs.ImageCalls.{lent, tableIn}
-use Rattle.call_rows.specs.Admission.{leasesFrom, left}
+use Rattle.ledger.specs.Ledger.{call, result, holdTime}
+use Rattle.ask_serve.specs.Granting.{Granted}
+use Rattle.call_spec.specs.ImageCalls.{lent, tableIn, stateIn}
+use Rattle.call_rows.specs.Admission.{leasesFrom}
 use Rattle.ask_commit.specs.Asking.{Asking}
-use Rattle.ask_commit.proofs.GrantLaws.{fewer, present-many, pools-end, fits, ask-full, gaps-few, ask-ready, ask-none, ask-ascends, ask-granted}
+use Rattle.ask_commit.proofs.GrantLaws.{fewer, pools-end, fits, rows-fit, standing, ask-full, gaps-few, ask-ready, ask-none, ask-fresh, ask-granted}
 use Rattle.ask_commit.proofs.grant.Statement.{statement}
 use Rattle.ask_commit.proofs.grant.Tie as tie
 
 -- Places further back in the code: where it begins, where there is an empty slot, where the gaps are known, where the requests are served, and where something is granted.
 abbrev start-of : tie.After-struct-known → tie.Start
-start-of c = c .before .before .before .before .before
+start-of c = c .before .before .before .before .before .before
 
 abbrev slot-of : tie.After-gaps-in → tie.Else1
 slot-of c = c .before .before .before .before
@@ -36,7 +35,7 @@ abbrev served-of : tie.After-flags2 → tie.After-serve
 served-of c = c .before .before .before .before .before
 
 abbrev else-of : tie.After-commit-grants → tie.Else2
-else-of c = c .before .before .before .before .before
+else-of c = c .before .before .before .before .before .before
 
 sub-present : tie.Need-sub-present
 sub-present c = fewer _ _ _ _ _ _ _ (start-of c .pre)
@@ -46,7 +45,7 @@ returns c =
     λ option k.
     let s = start-of (c .before .before) in
     let a = s .args in
-    ap (λ (r : Answer). result r (lent (a .image .now) (a .image-bytes .now)) (a .reply .now)) (c .refused .ensures)
+    ap (λ (r : Answer). result r (lent (a .image .now) (a .image-bytes .now) (a .figures .now)) (a .reply .now)) (c .refused .ensures)
     ∙ ask-full _ _ _ _ _ _ _ (s .pre) option k (c .before .if1 .taken)
 
 gaps-in-requires : tie.Need-gaps-in-requires
@@ -65,15 +64,15 @@ serve-requires c κs =
     (k .same, omega (arith, few, found .gaps-in .kept .1 .1 .1 .1 .0), omega (arith, few, found .gaps-in .kept .1 .1 .1 .1 .1 .0), omega (arith, k .few), omega (arith, k .few), omega (arith, k .few))
 
 -- What is granted, in the ledger's terms.
-granted : (served : tie.After-serve) → let a = start-of (slot-of (gaps-of served) .before) .args in let h = lent (a .image .now) (a .image-bytes .now) in
-    (option : List ℕ) → Asking h (a .time) (call (a .client) option (a .reply .now)) (a .ask-lengths .now) (a .ask-h .now)
-    → Granted (tableIn h) (a .time) (a .client) (present (a .time) (tableIn h .leases)) (requestsIn option) (served .serve .result) (served .serve .last .1 .1 .1 .1 .1 .0) (served .serve .last .1 .1 .1 .1 .1 .1 .0) (served .serve .last .1 .1 .1 .1 .1 .1 .1 .0)
+granted : (served : tie.After-serve) → let a = start-of (slot-of (gaps-of served) .before) .args in let h = lent (a .image .now) (a .image-bytes .now) (a .figures .now) in
+    (option : List ℕ) → Asking h (a .asker .time) (call (a .asker .client) option (a .reply .now)) (a .ask-lengths .now) (a .ask-h .now)
+    → Granted (tableIn h) (a .asker .time) (a .asker .client) (present (a .asker .time) (tableIn h .leases)) (requestsIn option) (served .serve .result) (served .serve .last .1 .1 .1 .1 .1 .0) (served .serve .last .1 .1 .1 .1 .1 .1 .0) (served .serve .last .1 .1 .1 .1 .1 .1 .1 .0)
 granted served option k =
     let found = gaps-of served in
     let s = start-of (slot-of found .before) in
     let a = s .args in
-    let h = lent (a .image .now) (a .image-bytes .now) in
-    served .serve .ensures .1 .1 (tableIn h) (a .time) (a .client) (present (a .time) (tableIn h .leases)) (requestsIn option)
+    let h = lent (a .image .now) (a .image-bytes .now) (a .figures .now) in
+    served .serve .ensures .1 .1 (tableIn h) (a .asker .time) (a .asker .client) (present (a .asker .time) (tableIn h .leases)) (requestsIn option)
     (ask-ready _ _ _ _ _ _ _ (s .pre) option k (found .gaps-in .last .1 .1 .1 .1 .0) (found .gaps-in .last .1 .1 .1 .1 .1 .0) (found .gaps-in .result) (found .gaps-in .ensures .1))
 
 -- No more is granted than an option may ask for.
@@ -99,35 +98,38 @@ returns-2 c =
     let slot = slot-of (gaps-of served) in
     let s = start-of (slot .before) in
     let a = s .args in
-    ap (λ (r : Answer). result r (lent (a .image .now) (a .image-bytes .now)) (a .reply .now)) (c .refused2 .ensures)
+    ap (λ (r : Answer). result r (lent (a .image .now) (a .image-bytes .now) (a .figures .now)) (a .reply .now)) (c .refused2 .ensures)
     ∙ ask-none _ _ _ _ _ _ _ (s .pre) option k (served .serve .result) _ _ _ (granted served option k) (slot .if1 .left) (then .if2 .taken)
 
 slice-aggregate-commit-grants : tie.Need-slice-aggregate-commit-grants
 slice-aggregate-commit-grants c =
-    let served = served-of (c .before .before .before) in
+    let served = served-of (c .before .before .before .before) in
     sym (length-take-le _ _ (omega (arith, few-granted served, served .serve .kept .1 .1 .1 .1 .1 .0)))
 
 slice-aggregate-commit-grants-2 : tie.Need-slice-aggregate-commit-grants-2
 slice-aggregate-commit-grants-2 c =
-    let served = served-of (c .before .before .before .before) in
+    let served = served-of (c .before .before .before .before .before) in
     sym (length-take-le _ _ (omega (arith, few-granted served, served .serve .kept .1 .1 .1 .1 .1 .1 .0)))
 
 slice-aggregate-commit-grants-3 : tie.Need-slice-aggregate-commit-grants-3
 slice-aggregate-commit-grants-3 c =
-    let served = served-of (c .before .before .before .before .before) in
+    let served = served-of (c .before .before .before .before .before .before) in
     sym (length-take-le _ _ (omega (arith, few-granted served, served .serve .kept .1 .1 .1 .1 .1 .1 .1 .0)))
 
 commit-grants-requires : tie.Need-commit-grants-requires
 commit-grants-requires c κs =
-    let else = c .before .before .before .before in
+    let else = c .before .before .before .before .before in
     let served = served-of (else .before) in
     let s = pre-of else in
     let k = s .pre in
     let o = k .admitted in
-    let many = taken-many served in (
+    let many = taken-many served in
+    let fit = fits _ _ _ _ _ _ _ k (served .serve .result) (served .serve .ensures .1 .0) (slot-of (gaps-of served) .if1 .left) in (
       fewer _ _ _ _ _ _ _ k,
       omega (arith, o .size, o .within),
-      omega (arith, many .0, fits _ _ _ _ _ _ _ k (served .serve .result) (served .serve .ensures .1 .0) (slot-of (gaps-of served) .if1 .left)),
+      omega (arith, many .0, fit .0),
+      rows-fit _ _ _ _ _ _ _ k,
+      omega (arith, many .0, fit .1),
       o .early,
       omega (arith, many .0, few-granted served),
       many .1 ∙ sym (many .0),
@@ -136,7 +138,7 @@ commit-grants-requires c κs =
 
 put-offers-requires : tie.Need-put-offers-requires
 put-offers-requires c κs =
-    let else = else-of (c .before .before .before .before .before .before) in
+    let else = else-of (c .before .before .before .before .before .before .before .before) in
     let served = served-of (else .before) in
     let k = pre-of else .pre in
     let few = few-granted served in
@@ -146,19 +148,19 @@ returns-3 : tie.Need-returns-3
 returns-3 c =
     λ option k.
     let put = c .before .before .before in
-    let committed = put .before .before .before .before .before .before .before in
+    let committed = put .before .before .before .before .before .before .before .before .before in
     let else = else-of committed in
     let served = served-of (else .before) in
     let s = pre-of else in
     let a = s .args in
-    let o = s .pre .admitted in
     let n = served .serve .result in
     let is-granted = granted served option k in
-    let xs = usedLeases (tableIn (lent (a .image .now) (a .image-bytes .now))) in
-    let image : committed .commit-grants .last .0 ≡ left (a .image .now) (leasesFrom (a .summary)) (a .summary .leases) (addAll (map some (grantedIn (a .client) (a .time + holdTime) (served .serve .last .1 .1 .1 .1 .1 .0) (served .serve .last .1 .1 .1 .1 .1 .1 .0) (served .serve .last .1 .1 .1 .1 .1 .1 .1 .0) n)) (present (a .time) xs)) (a .time) =
-    committed .commit-grants .ensures .1 xs (o .records) (o .leases) (o .none-expired) (present-many _ _ _ _ _ _ _ (s .pre) ∙ ap length (o .present-used)) (o .ascending) (ask-ascends _ _ _ _ _ _ _ (s .pre) option k n _ _ _ is-granted) in
-    ap (λ (r : Answer). result r (lent (committed .commit-grants .last .0) (committed .commit-grants .result)) (put .put-offers .last .0)) (c .accepted .ensures)
-    ∙ ask-granted _ _ _ _ _ _ _ (s .pre) option k n _ _ _ is-granted (else .if2 .left) (served .serve .ensures .0) (committed .commit-grants .last .0) (put .put-offers .last .0) image (put .put-offers .ensures (a .client) (a .time + holdTime))
+    let h = lent (a .image .now) (a .image-bytes .now) (a .figures .now) in
+    let image = committed .commit-grants .last .0 in
+    let sheet = committed .commit-grants .last .1 .0 in
+    let is-grown = committed .commit-grants .ensures .1 (tableIn h) (stateIn h .rows) (standing _ _ _ _ _ _ _ (s .pre)) (ask-fresh _ _ _ _ _ _ _ (s .pre) option k n _ _ _ is-granted) in
+    ap (λ (r : Answer). result r (lent image (committed .commit-grants .result) sheet) (put .put-offers .last .0)) (c .accepted .ensures)
+    ∙ ask-granted _ _ _ _ _ _ _ (s .pre) option k n _ _ _ is-granted (else .if2 .left) (served .serve .ensures .0) image sheet (put .put-offers .last .0) is-grown (put .put-offers .ensures (a .asker .client) (a .asker .time + holdTime))
     (committed .commit-grants .result) (committed .commit-grants .ensures .0 ∙ ap (λ (m : ℕ). leasesFrom (a .summary) + leaseSize * (a .summary .leases - a .summary .expired + m)) (taken-many served .0))
 
 pub grant-spec : {M : Type 1} → statement M
@@ -169,4 +171,4 @@ grant-spec =
     (λ c κs. search needs) (λ c. search needs) returns-2 (λ c. search needs) slice-aggregate-commit-grants (λ c. search needs)
     slice-aggregate-commit-grants-2 (λ c. search needs) slice-aggregate-commit-grants-3 commit-grants-requires (λ c. search needs)
     (λ c. search needs) (λ c. search needs) put-offers-requires (λ c. search needs) (λ c. search needs) (λ c. search needs)
-    (λ c. search needs) (λ c κs. search needs) (λ c. search needs) (λ c. search needs) returns-3)
+    (λ c. search needs) (λ c κs. search needs) (λ c. search needs) (λ c. search needs) (λ c. search needs) returns-3)

@@ -2,6 +2,7 @@
 -- Assumes nothing.
 use Prim.Native.Nat.{_≤_}
 use mathlib.Core.Path.{sym, ap, _∙_}
+use mathlib.Core.Bool.{true}
 use native.Mathlib.Omega.{arith}
 use lib.ListN.{length}
 use lib.Seq.{length-take-le}
@@ -25,16 +26,16 @@ abbrev else-of : tie.After-read → tie.Else1
 else-of c = c .before .before .before .before .before
 
 abbrev start-of : tie.Else1 → tie.Start
-start-of c = c .before .before .before .before .before .before .before .before
+start-of c = c .before .before .before .before .before .before .before .before .before .before
 
 -- What is lent, and the call.
 abbrev lent-of : tie.Else1 → Lent
-lent-of c = let a = start-of c .args in lent (a .image .now) (a .image-bytes .now)
+lent-of c = let a = start-of c .args in lent (a .image .now) (a .image-bytes .now) (a .figures .now)
 
 abbrev call-of : tie.Else1 → Call
 call-of c = let a = start-of c .args in call (a .client) (a .option .now) (a .reply .now)
 
-abbrev read-call : (c : tie.After-option-refusal) → let else = else-of (read-of c) in ReadCall (length (call-of else .reply)) (lent-of else) (start-of else .args .time) (call-of else)
+abbrev read-call : (c : tie.After-option-refusal) → let else = else-of (read-of c) in ReadCall true (length (call-of else .reply)) (lent-of else) (start-of else .args .time) (call-of else)
 read-call c =
     let read = read-of c in
     let else = else-of read in
@@ -44,16 +45,16 @@ read-call c =
 returns : tie.Need-returns
 returns c =
     let adm = c .before .before .before in
-    let a = adm .before .before .before .before .before .before .args in
-    let h = lent (a .image .now) (a .image-bytes .now) in
+    let a = adm .before .before .before .before .before .before .before .before .args in
+    let h = lent (a .image .now) (a .image-bytes .now) (a .figures .now) in
     ap (λ (r : Answer). result r h (a .reply .now)) (c .refused .ensures)
     ∙ ask-refused h (a .time) (call (a .client) (a .option .now) (a .reply .now)) (adm .admit .result) (adm .admit .ensures) (c .before .if1 .taken)
 
 option-refusal-requires : tie.Need-option-refusal-requires
 option-refusal-requires c κs =
     let read = c .before .before .before .before in
-    let known = else-of read .before .before .before .before .before .before in
-    let option = known .before .before .args .option .now in
+    let known = else-of read .before .before .before .before .before .before .before in
+    let option = known .before .before .before .args .option .now in
     place-small option (bytes-all option (λ i. omega (arith, known .shared-slice-known .given i))) (read .read .result .checked) (read .read .ensures .checked)
 
 returns-2 : tie.Need-returns-2
@@ -75,20 +76,20 @@ few-of : (c : tie.Else3) → read-of (c .before .before .before .before) .read .
 few-of c = let tested = c .before in let m = read-of (c .before .before .before .before) .read .result in and-few (m .requests) (m .listing) (tested .for-ask .result) (tested .for-ask .ensures) (not-false _ (c .if3 .left))
 
 array-share-prefix-ask-lengths : tie.Need-array-share-prefix-ask-lengths
-array-share-prefix-ask-lengths c = omega (arith, few-of (c .before .before .before .before), read-of (c .before .before .before .before .before .before .before .before) .read .kept .1 .0)
+array-share-prefix-ask-lengths c = omega (arith, few-of (c .before .before .before .before .before), read-of (c .before .before .before .before .before .before .before .before .before) .read .kept .1 .0)
 
 slice-aggregate-grant : tie.Need-slice-aggregate-grant
-slice-aggregate-grant c = sym (length-take-le _ _ (omega (arith, few-of (c .before .before .before .before .before), read-of (c .before .before .before .before .before .before .before .before .before) .read .kept .1 .0)))
+slice-aggregate-grant c = sym (length-take-le _ _ (omega (arith, few-of (c .before .before .before .before .before .before), read-of (c .before .before .before .before .before .before .before .before .before .before) .read .kept .1 .0)))
 
 array-share-prefix-ask-h : tie.Need-array-share-prefix-ask-h
-array-share-prefix-ask-h c = omega (arith, few-of (c .before .before .before .before .before), read-of (c .before .before .before .before .before .before .before .before .before) .read .kept .1 .1 .0)
+array-share-prefix-ask-h c = omega (arith, few-of (c .before .before .before .before .before .before), read-of (c .before .before .before .before .before .before .before .before .before .before) .read .kept .1 .1 .0)
 
 slice-aggregate-grant-2 : tie.Need-slice-aggregate-grant-2
-slice-aggregate-grant-2 c = sym (length-take-le _ _ (omega (arith, few-of (c .before .before .before .before .before .before), read-of (c .before .before .before .before .before .before .before .before .before .before) .read .kept .1 .1 .0)))
+slice-aggregate-grant-2 c = sym (length-take-le _ _ (omega (arith, few-of (c .before .before .before .before .before .before .before), read-of (c .before .before .before .before .before .before .before .before .before .before .before) .read .kept .1 .1 .0)))
 
 grant-requires : tie.Need-grant-requires
 grant-requires c κs =
-    let else3 = c .before .before .before .before .before .before in
+    let else3 = c .before .before .before .before .before .before .before in
     let tested = else3 .before in
     let answer = tested .before .before .before in
     let read = read-of answer in
@@ -103,8 +104,8 @@ grant-requires c κs =
 
 returns-4 : tie.Need-returns-4
 returns-4 c =
-    let granted = c .before .before .before .before in
-    let else3 = granted .before .before .before .before .before .before .before in
+    let granted = c .before .before .before .before .before .before in
+    let else3 = granted .before .before .before .before .before .before .before .before in
     let tested = else3 .before in
     let answer = tested .before .before .before in
     let else = else-of (read-of answer) in
@@ -114,7 +115,4 @@ returns-4 c =
 pub ask-spec : {M : Type 1} → statement M
 ask-spec =
     tie.close
-    (tie.spec (λ c κs. search needs) (λ c κs. search needs) (λ c. search needs) returns (λ c. search needs) (λ c. search needs)
-    (λ c. search needs) (λ c. search needs) (λ c κs. search needs) option-refusal-requires (λ c. search needs) returns-2
-    (λ c κs. search needs) (λ c κs. search needs) (λ c. search needs) returns-3 array-share-prefix-ask-lengths slice-aggregate-grant
-    array-share-prefix-ask-h slice-aggregate-grant-2 grant-requires (λ c. search needs) (λ c. search needs) returns-4)
+    (tie.spec (λ c κs. search needs) (λ c κs. search needs) (λ c. search needs) (λ c. search needs) returns (λ c. search needs) (λ c. search needs) (λ c. search needs) (λ c. search needs) (λ c κs. search needs) option-refusal-requires (λ c. search needs) (λ c. search needs) returns-2 (λ c κs. search needs) (λ c κs. search needs) (λ c. search needs) (λ c. search needs) returns-3 array-share-prefix-ask-lengths slice-aggregate-grant array-share-prefix-ask-h slice-aggregate-grant-2 grant-requires (λ c. search needs) (λ c. search needs) (λ c. search needs) returns-4)

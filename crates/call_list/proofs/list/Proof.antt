@@ -1,6 +1,8 @@
 -- `list` meets its contract, row by row.
 -- Assumes nothing.
 use mathlib.Core.Path.{ap, _∙_}
+use mathlib.Core.Bool.{false}
+use mathlib.Core.List.{[]}
 use native.Mathlib.Omega.{arith}
 use lib.ListN.{length}
 use borrow.Author.Tests.{not-true, not-false}
@@ -22,16 +24,16 @@ abbrev else-of : tie.After-read → tie.Else1
 else-of c = c .before .before .before .before .before
 
 abbrev start-of : tie.Else1 → tie.Start
-start-of c = c .before .before .before .before .before .before
+start-of c = c .before .before .before .before .before .before .before
 
 -- What is lent, and the call.
 abbrev lent-of : tie.Else1 → Lent
-lent-of c = let a = start-of c .args in lent (a .image .now) (a .image-bytes)
+lent-of c = let a = start-of c .args in lent (a .image .now) (a .image-bytes) []
 
 abbrev call-of : tie.Else1 → Call
 call-of c = let a = start-of c .args in call (a .client) (a .option .now) (a .reply .now)
 
-abbrev read-call : (c : tie.After-option-refusal) → let else = else-of (read-of c) in ReadCall (length (call-of else .reply)) (lent-of else) (start-of else .args .time) (call-of else)
+abbrev read-call : (c : tie.After-option-refusal) → let else = else-of (read-of c) in ReadCall false (length (call-of else .reply)) (lent-of else) (start-of else .args .time) (call-of else)
 read-call c =
     let read = read-of c in
     let else = else-of read in
@@ -41,15 +43,15 @@ read-call c =
 returns : tie.Need-returns
 returns c =
     let adm = c .before .before .before in
-    let a = adm .before .before .before .before .args in
-    let h = lent (a .image .now) (a .image-bytes) in
+    let a = adm .before .before .before .before .before .args in
+    let h = lent (a .image .now) (a .image-bytes) [] in
     ap (λ (r : Answer). result r h (a .reply .now)) (c .refused .ensures)
     ∙ list-refused h (a .time) (call (a .client) (a .option .now) (a .reply .now)) (adm .admit .result) (adm .admit .ensures) (c .before .if1 .taken)
 
 option-refusal-requires : tie.Need-option-refusal-requires
 option-refusal-requires c κs =
     let read = c .before .before .before .before in
-    let known = else-of read .before .before .before .before in
+    let known = else-of read .before .before .before .before .before in
     let option = known .before .before .args .option .now in
     place-small option (bytes-all option (λ i. omega (arith, known .shared-slice-known2 .given i))) (read .read .result .checked) (read .read .ensures .checked)
 
@@ -81,6 +83,6 @@ returns-4 c = c .before .before .show-listed .ensures
 pub list-spec : {M : Type 1} → statement M
 list-spec =
     tie.close
-    (tie.spec (λ c κs. search needs) (λ c κs. search needs) returns (λ c. search needs) (λ c. search needs) (λ c. search needs)
+    (tie.spec (λ c. search needs) (λ c κs. search needs) (λ c κs. search needs) returns (λ c. search needs) (λ c. search needs) (λ c. search needs)
     (λ c. search needs) (λ c κs. search needs) option-refusal-requires returns-2 (λ c κs. search needs) (λ c κs. search needs) returns-3
     show-listed-requires (λ c. search needs) returns-4)

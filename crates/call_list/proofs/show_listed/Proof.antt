@@ -2,13 +2,13 @@
 -- Assumes nothing.
 use Prim.Native.Nat.{_≤_}
 use mathlib.Core.Path.{_≡_, ap, _∙_}
+use mathlib.Core.List.{[]}
 use native.Mathlib.Omega.{arith}
 use lib.ListN.{drop}
 use borrow.Author.Needs.{needs}
 use Rattle.lists.specs.Lists.{filter}
 use Rattle.lists.proofs.TakeLaws.{take-short}
 use Rattle.image.specs.Image.{usedLeases}
-use Rattle.image.proofs.FieldLaws.{bytes-all}
 use Rattle.ledger.specs.declared.Answer.{Answer}
 use Rattle.ledger.specs.Ledger.{call, result}
 use Rattle.option_reply.specs.Reply.{mostEntries}
@@ -24,7 +24,7 @@ returns : tie.Need-returns
 returns c =
     let start = c .before .before .before .before .before in
     let a = start .args in
-    let h = lent (a .image .now) (a .image-bytes) in
+    let h = lent (a .image .now) (a .image-bytes) [] in
     let m = call (a .client) (a .option .now) (a .reply .now) in
     ap (λ (r : Answer). result r h (a .reply .now)) (c .refused .ensures) ∙ list-empty h (a .time) m (a .summary) (a .pieces) (start .pre) (c .before .if1 .taken)
 
@@ -34,30 +34,30 @@ start-of c = c .before .before .before .before .before .before .before .before
 
 -- The first lease above the position, and the page from there on.
 placed : (c : tie.After-show-page) → let a = start-of c .args in
-    c .before .before .first-above .result ≡ startOf (positionOf (a .pieces)) (usedLeases (tableIn (lent (a .image .now) (a .image-bytes))))
+    c .before .before .first-above .result ≡ startOf (positionOf (a .pieces)) (usedLeases (tableIn (lent (a .image .now) (a .image-bytes) [])))
 placed c =
     let a = start-of c .args in
     let o = start-of c .pre .admitted in
-    c .before .before .first-above .ensures .1 (usedLeases (tableIn (lent (a .image .now) (a .image-bytes)))) (o .records) (o .leases) (o .ascending)
+    c .before .before .first-above .ensures .1 (usedLeases (tableIn (lent (a .image .now) (a .image-bytes) []))) (o .records) (o .leases) (o .ascending)
 
 shown : (c : tie.After-show-page) → let a = start-of c .args in
-    PageOf (filter (shown? (a .time) (a .client)) (drop (c .before .before .first-above .result) (usedLeases (tableIn (lent (a .image .now) (a .image-bytes)))))) (a .reply .now) (c .show-page .last .1 .1 .1 .1 .1 .1 .0) (c .show-page .result)
+    PageOf (filter (shown? (a .time) (a .client)) (drop (c .before .before .first-above .result) (usedLeases (tableIn (lent (a .image .now) (a .image-bytes) []))))) (a .reply .now) (c .show-page .last .1 .1 .1 .1 .1 .1 .0) (c .show-page .result)
 shown c =
     let a = start-of c .args in
     let o = start-of c .pre .admitted in
-    c .show-page .ensures (usedLeases (tableIn (lent (a .image .now) (a .image-bytes)))) (o .records) (o .leases)
+    c .show-page .ensures (usedLeases (tableIn (lent (a .image .now) (a .image-bytes) []))) (o .records) (o .leases)
 
 few : (c : tie.After-show-page) → c .show-page .result .count ≤ mostEntries
 few c =
     let a = start-of c .args in
-    omega (arith, shown c .count, take-short mostEntries (filter (shown? (a .time) (a .client)) (drop (c .before .before .first-above .result) (usedLeases (tableIn (lent (a .image .now) (a .image-bytes)))))))
+    omega (arith, shown c .count, take-short mostEntries (filter (shown? (a .time) (a .client)) (drop (c .before .before .first-above .result) (usedLeases (tableIn (lent (a .image .now) (a .image-bytes) []))))))
 
 returns-2 : tie.Need-returns-2
 returns-2 c =
     let page = c .before .before .before .before in
     let start = start-of page in
     let a = start .args in
-    let h = lent (a .image .now) (a .image-bytes) in
+    let h = lent (a .image .now) (a .image-bytes) [] in
     let m = call (a .client) (a .option .now) (a .reply .now) in
     ap (λ (r : Answer). result r h (page .show-page .last .1 .1 .1 .1 .1 .1 .0)) (c .refused2 .ensures)
     ∙ list-nothing h (a .time) m (a .summary) (a .pieces) (start .pre) (page .before .before .first-above .result) (placed page) (page .show-page .result) _ (shown page) (c .before .if2 .taken)
@@ -78,11 +78,10 @@ returns-3 c =
     let page = some .before .before .before in
     let start = start-of page in
     let a = start .args in
-    let h = lent (a .image .now) (a .image-bytes) in
+    let h = lent (a .image .now) (a .image-bytes) [] in
     let m = call (a .client) (a .option .now) (a .reply .now) in
-    let b = bytes-all (a .image .now) (λ i. omega (arith, page .before .before .before .before .before .before .before .shared-slice-known .given i)) in
     ap (λ (r : Answer). result r h (heads .put-heads .last .0)) (c .accepted .ensures)
-    ∙ list-found h (a .time) m (a .summary) (a .pieces) (start .pre) (page .before .before .first-above .result) (placed page) (page .show-page .result) _ (shown page) b (some .if2 .left) _ _ (heads .put-heads .ensures .0) (heads .put-heads .ensures .1)
+    ∙ list-found h (a .time) m (a .summary) (a .pieces) (start .pre) (page .before .before .first-above .result) (placed page) (page .show-page .result) _ (shown page) (some .if2 .left) _ _ (heads .put-heads .ensures .0) (heads .put-heads .ensures .1)
 
 pub show-listed-spec : {M : Type 1} → statement M
 show-listed-spec =

@@ -1,72 +1,122 @@
 -- `call_load::load` meets its contract: what is checked is copied.
 -- Assumes nothing.
-use Prim.Native.Nat.{_<_}
+use Prim.Native.Nat.{_+_, _*_, _≤_, _<_}
 use mathlib.Core.Path.{_≡_, sym, ap, _∙_}
 use mathlib.Core.List.{[]}
 use mathlib.Core.Option.{some}
 use native.Mathlib.Omega.{arith}
 use borrow.Author.Tests.{not-true, not-false}
 use Rattle.lists.specs.Lists.{All}
-use Rattle.image.specs.Image.{loadedTable}
+use lib.ListN.{length}
+use Rattle.table.specs.Table.{leaseSlots}
+use Rattle.image.specs.Image.{headSize, poolSize, leaseSize, loadedTable}
 use Rattle.image.specs.Reading.{loadImage}
 use Rattle.image.proofs.FieldLaws.{bytes-all}
 use Rattle.image_check.specs.declared.ImageSummary.{ImageSummary}
+use Rattle.image_check.specs.ImageSummary.{summaryOf}
 use Rattle.image_check.proofs.SummaryLaws.{summary-some, summary-none}
 use Rattle.ledger.specs.declared.Answer.{Answer}
 use Rattle.ledger.specs.Ledger.{result}
 use Rattle.call_spec.specs.ImageCalls.{lent}
-use Rattle.call_load.proofs.LoadLaws.{load-unsound, load-small, saved-short, load-accepted}
+use Rattle.call_load.proofs.LoadLaws.{load-unsound, load-small, load-other, saved-short, saved-within, load-filled, load-accepted}
 use borrow.Author.Needs.{needs}
 use Rattle.call_load.proofs.load.Statement.{statement}
 use Rattle.call_load.proofs.load.Tie as tie
 
+-- Where the call begins, seen from where the check has passed.
+abbrev start-of : tie.Else1 → tie.Start
+start-of c = c .before .before .before .before .before .before
+
 -- What the check tells.
-loads : (c : tie.Else1) → let s = c .before .before .before .before .before .args .saved .now in loadImage s ≡ some (loadedTable (loadImage s))
+loads : (c : tie.Else1) → let s = start-of c .args .saved .now in loadImage s ≡ some (loadedTable (loadImage s))
 loads c =
     let check = c .before .before in
-    let s = check .before .before .before .args .saved .now in
+    let s = start-of c .args .saved .now in
     summary-some 0 (loadImage s) (ap (λ (r : ImageSummary). r .sound) (sym (check .check .ensures)) ∙ not-false _ (c .if1 .left))
 
-bytes : (c : tie.Else1) → All (λ b. b < 256) (c .before .before .before .before .before .args .saved .now)
-bytes c = bytes-all (c .before .before .before .before .before .args .saved .now) (λ i. omega (arith, c .before .before .before .shared-slice-known .given i))
+tells : (c : tie.Else1) → let s = start-of c .args .saved .now in c .before .before .check .result ≡ summaryOf 0 (some (loadedTable (loadImage s)))
+tells c = c .before .before .check .ensures ∙ ap (summaryOf 0) (loads c)
+
+bytes : (c : tie.Else1) → All (λ b. b < 256) (start-of c .args .saved .now)
+bytes c = bytes-all (start-of c .args .saved .now) (λ i. omega (arith, c .before .before .before .shared-slice-known .given i))
 
 returns : tie.Need-returns
 returns c =
     let then = c .before in
     let check = then .before .before in
-    let a = check .before .before .before .args in
+    let a = check .before .before .before .before .args in
     let s = a .saved .now in
-    ap (λ (r : Answer). result r (lent (a .image .now) (a .image-bytes .now)) []) (c .refused .ensures)
-    ∙ load-unsound (lent (a .image .now) (a .image-bytes .now)) s (summary-none 0 (loadImage s) (ap (λ (r : ImageSummary). r .sound) (sym (check .check .ensures)) ∙ not-true _ (then .if1 .taken)))
+    let h = lent (a .image .now) (a .image-bytes .now) (a .figures .now) in
+    ap (λ (r : Answer). result r h []) (c .refused .ensures)
+    ∙ load-unsound h s (summary-none 0 (loadImage s) (ap (λ (r : ImageSummary). r .sound) (sym (check .check .ensures)) ∙ not-true _ (then .if1 .taken)))
 
 returns-2 : tie.Need-returns-2
 returns-2 c =
     let one = c .before .before in
-    let a = one .before .before .before .before .before .args in
-    ap (λ (r : Answer). result r (lent (a .image .now) (a .image-bytes .now)) []) (c .refused2 .ensures)
-    ∙ load-small (lent (a .image .now) (a .image-bytes .now)) (a .saved .now) (loadedTable (loadImage (a .saved .now))) (loads one) (c .before .if2 .taken)
-
-copy-requires : tie.Need-copy-requires
-copy-requires c κs =
-    let two = c .before in
-    let one = two .before in
-    let a = one .before .before .before .before .before .args in
-    let short = saved-short (lent (a .image .now) (a .image-bytes .now)) (a .saved .now) (loadedTable (loadImage (a .saved .now))) (loads one) (bytes one) in
-    (short, omega (arith, short, two .if2 .left))
+    let a = start-of one .args in
+    let h = lent (a .image .now) (a .image-bytes .now) (a .figures .now) in
+    ap (λ (r : Answer). result r h []) (c .refused2 .ensures) ∙ load-small h (a .saved .now) (loadedTable (loadImage (a .saved .now))) (loads one) (c .before .if2 .taken)
 
 returns-3 : tie.Need-returns-3
 returns-3 c =
-    let clear = c .before .before .before in
-    let copy = clear .before .before .before .before in
-    let two = copy .before .before in
+    let two = c .before .before in
     let one = two .before in
-    let a = one .before .before .before .before .before .args in
-    ap (λ (r : Answer). result r (lent (clear .clear .last .0) (copy .copy .result)) []) (c .accepted .ensures)
-    ∙ load-accepted (lent (a .image .now) (a .image-bytes .now)) (a .saved .now) (loadedTable (loadImage (a .saved .now))) (loads one) (bytes one) (two .if2 .left) (copy .copy .result) (copy .copy .ensures .0)
-    (copy .copy .last .1 .0) (clear .clear .last .0) (copy .copy .ensures .1) (clear .clear .ensures)
+    let a = start-of one .args in
+    let h = lent (a .image .now) (a .image-bytes .now) (a .figures .now) in
+    ap (λ (r : Answer). result r h []) (c .refused3 .ensures)
+    ∙ load-other h (a .saved .now) (loadedTable (loadImage (a .saved .now))) (loads one) (two .if2 .left) (c .before .if3 .taken)
+
+copy-requires : tie.Need-copy-requires
+copy-requires c κs =
+    let two = c .before .before in
+    let one = two .before in
+    let a = start-of one .args in
+    let short = saved-short (lent (a .image .now) (a .image-bytes .now) (a .figures .now)) (a .saved .now) (loadedTable (loadImage (a .saved .now))) (loads one) (bytes one) in
+    (short, omega (arith, short, two .if2 .left))
+
+-- Where the leases stand in the saved bytes.
+abbrev one-of : tie.After-copy → tie.Else1
+one-of c = c .before .before .before .before
+
+within : (c : tie.Else1) → let summary = c .before .before .check .result in
+    (summary .leases ≤ leaseSlots) × (headSize + poolSize * summary .pools + leaseSize * summary .leases ≤ length (start-of c .args .saved .now))
+within c =
+    let a = start-of c .args in
+    saved-within (lent (a .image .now) (a .image-bytes .now) (a .figures .now)) (a .saved .now) (loadedTable (loadImage (a .saved .now))) (loads c) (bytes c) (c .before .before .check .result) (tells c)
+
+abbrev copy-of : tie.After-clear → tie.After-copy
+copy-of c = c .before .before .before .before
+
+mul-fill : tie.Need-mul-fill
+mul-fill c = omega (arith, within (one-of (copy-of (c .before .before .before .before))) .1)
+
+add-fill : tie.Need-add-fill
+add-fill c = omega (arith, within (one-of (copy-of (c .before .before .before .before))) .1)
+
+fill-requires : tie.Need-fill-requires
+fill-requires c κs =
+    let copy = copy-of (c .before .before .before .before) in
+    let w = within (one-of copy) in
+    (w .0, copy .before .before .if3 .left, w .1)
+
+returns-4 : tie.Need-returns-4
+returns-4 c =
+    let fill = c .before .before .before in
+    let clear = fill .before .before .before .before .before in
+    let copy = copy-of clear in
+    let three = copy .before .before in
+    let two = three .before in
+    let one = two .before in
+    let a = start-of one .args in
+    let h = lent (a .image .now) (a .image-bytes .now) (a .figures .now) in
+    let t = loadedTable (loadImage (a .saved .now)) in
+    ap (λ (r : Answer). result r (lent (clear .clear .last .0) (copy .copy .result) (fill .fill .last .0)) []) (c .accepted .ensures)
+    ∙ load-accepted h (a .saved .now) t (loads one) (bytes one) (two .if2 .left) (three .if3 .left) (copy .copy .result) (copy .copy .ensures .0)
+    (copy .copy .last .1 .0) (clear .clear .last .0) (copy .copy .ensures .1) (clear .clear .ensures) (fill .fill .last .0)
+    (load-filled h (a .saved .now) t (loads one) (bytes one) (one .before .before .check .result) (tells one) (fill .fill .last .0) (fill .fill .ensures))
 
 pub load-spec : {M : Type 1} → statement M
 load-spec =
     tie.close
-    (tie.spec (λ c κs. search needs) (λ c κs. search needs) returns (λ c κs. search needs) returns-2 copy-requires (λ c κs. search needs)
-    (λ c κs. search needs) (λ c. search needs) returns-3)
+    (tie.spec (λ c κs. search needs) (λ c κs. search needs) returns (λ c κs. search needs) returns-2 (λ c κs. search needs) returns-3 copy-requires
+    (λ c κs. search needs) mul-fill add-fill fill-requires (λ c κs. search needs) (λ c. search needs) (λ c. search needs) returns-4)

@@ -1,6 +1,7 @@
 -- `check` meets its contract.
 -- Assumes nothing.
 use mathlib.Core.Path.{_∙_}
+use mathlib.Core.List.{[]}
 use native.Mathlib.Omega.{arith}
 use borrow.Author.Needs.{needs}
 use borrow.Author.Tests.{not-true, not-false}
@@ -18,13 +19,13 @@ returns : tie.Need-returns
 returns c =
     let s = c .before .before .before in
     let a = s .before .before .args in
-    c .refused .ensures ∙ check-refused (lent (a .image .now) (a .image-bytes)) (bytes s) (s .summary-in .result) (s .summary-in .ensures) (not-true _ (c .before .if1 .taken))
+    c .refused .ensures ∙ check-refused (lent (a .image .now) (a .image-bytes) []) (bytes s) (s .summary-in .result) (s .summary-in .ensures) (not-true _ (c .before .if1 .taken))
 
 returns-2 : tie.Need-returns-2
 returns-2 c =
     let s = c .before .before .before in
     let a = s .before .before .args in
-    c .accepted .ensures ∙ check-accepted (lent (a .image .now) (a .image-bytes)) (bytes s) (s .summary-in .result) (s .summary-in .ensures) (not-false _ (c .before .if1 .left))
+    c .accepted .ensures ∙ check-accepted (lent (a .image .now) (a .image-bytes) []) (bytes s) (s .summary-in .result) (s .summary-in .ensures) (not-false _ (c .before .if1 .left))
 
 pub check-spec : {M : Type 1} → statement M
 check-spec =

@@ -2,6 +2,7 @@
 -- Assumes nothing.
 use Prim.Native.Nat.{ℕ, _≤_}
 use mathlib.Core.Path.{ap, _∙_}
+use mathlib.Core.List.{[]}
 use native.Mathlib.Omega.{arith}
 use borrow.Author.Needs.{needs}
 use Rattle.table.specs.Table.{poolSlots, leaseSlots}
@@ -16,7 +17,7 @@ bytes : (c : tie.After-summary-in) → Bytes (c .before .before .args .image .no
 bytes c = bytes-all (c .before .before .args .image .now) (λ i. omega (arith, c .before .shared-slice-known .given i))
 
 few : (c : tie.After-summary-in) → (c .summary-in .result .pools ≤ poolSlots) × (c .summary-in .result .leases ≤ leaseSlots)
-few c = let a = c .before .before .args in few-at-all (lent (a .image .now) (a .image-bytes)) (bytes c) (c .summary-in .result) (c .summary-in .ensures)
+few c = let a = c .before .before .args in few-at-all (lent (a .image .now) (a .image-bytes) []) (bytes c) (c .summary-in .result) (c .summary-in .ensures)
 
 cast-pools : tie.Need-cast-t6
 cast-pools c = omega (arith, few (c .before .before .before) .0)
@@ -28,7 +29,7 @@ returns : tie.Need-returns
 returns c =
     let s = c .before .before .before .before in
     let a = s .before .before .args in
-    ap (λ (n : ℕ). headFrom n (s .summary-in .result)) (c .before .before .before .row-5 .ensures) ∙ head-answered (lent (a .image .now) (a .image-bytes)) (bytes s) (s .summary-in .result) (s .summary-in .ensures)
+    ap (λ (n : ℕ). headFrom n (s .summary-in .result)) (c .before .before .before .row-5 .ensures) ∙ head-answered (lent (a .image .now) (a .image-bytes) []) (bytes s) (s .summary-in .result) (s .summary-in .ensures)
 
 pub head-spec : {M : Type 1} → statement M
 head-spec = tie.close (tie.spec (λ c κs. search needs) (λ c κs. search needs) (λ c. search needs) cast-pools cast-leases returns)

@@ -3,6 +3,7 @@
 use Prim.Native.Nat.{ℕ, _+_, _*_, _≤_, _<_}
 use mathlib.Core.Path.{_≡_, ap, _∙_}
 use mathlib.Core.Bool.{true}
+use mathlib.Core.List.{[]}
 use native.Mathlib.Omega.{arith}
 use lib.ListN.{length}
 use borrow.Author.Needs.{needs}
@@ -26,7 +27,7 @@ returns c =
     let a = s .before .before .args in
     c .lease-answer .ensures
     ∙ ap (leaseAnswer 5 0) (c .before .no-lease .ensures)
-    ∙ lease-refused (lent (a .image .now) (a .image-bytes)) (bytes s) (s .summary-in .result) (s .summary-in .ensures) (not-true _ (c .before .before .if1 .taken)) (a .index)
+    ∙ lease-refused (lent (a .image .now) (a .image-bytes) []) (bytes s) (s .summary-in .result) (s .summary-in .ensures) (not-true _ (c .before .before .if1 .taken)) (a .index)
 
 returns-2 : tie.Need-returns-2
 returns-2 c =
@@ -35,7 +36,7 @@ returns-2 c =
     let a = s .before .before .args in
     c .lease-answer2 .ensures
     ∙ ap (leaseAnswer 11 0) (c .before .no-lease2 .ensures)
-    ∙ lease-none (lent (a .image .now) (a .image-bytes)) (bytes s) (s .summary-in .result) (s .summary-in .ensures) (not-false _ (else .if1 .left)) (a .index) (c .before .before .if2 .taken)
+    ∙ lease-none (lent (a .image .now) (a .image-bytes) []) (bytes s) (s .summary-in .result) (s .summary-in .ensures) (not-false _ (else .if1 .left)) (a .index) (c .before .before .if2 .taken)
 
 -- There is a lease with that index, and its record lies in the buffer.
 abbrev summed : tie.Else2 → tie.After-summary-in
@@ -49,13 +50,13 @@ within : (c : tie.Else2) → let s = summed c in let a = s .before .before .args
 within c =
     let s = summed c in
     let a = s .before .before .args in
-    omega (arith, c .if2 .left, inside (lent (a .image .now) (a .image-bytes)) (bytes s) (s .summary-in .result) (s .summary-in .ensures) (found c))
+    omega (arith, c .if2 .left, inside (lent (a .image .now) (a .image-bytes) []) (bytes s) (s .summary-in .result) (s .summary-in .ensures) (found c))
 
 few-before : (c : tie.Else2) → let s = summed c in (s .summary-in .result .pools ≤ poolSlots) × (s .before .before .args .index < leaseSlots)
 few-before c =
     let s = summed c in
     let a = s .before .before .args in
-    let both = few (lent (a .image .now) (a .image-bytes)) (bytes s) (s .summary-in .result) (s .summary-in .ensures) (found c) in
+    let both = few (lent (a .image .now) (a .image-bytes) []) (bytes s) (s .summary-in .result) (s .summary-in .ensures) (found c) in
     (both .0, omega (arith, c .if2 .left, both .1))
 
 mul-pools : tie.Need-mul-lease-at
@@ -81,7 +82,7 @@ returns-3 c =
     let a = s .before .before .args in
     c .lease-answer3 .ensures
     ∙ ap (λ (state : ℕ). leaseAnswer 0 state (read .lease-at .result)) (c .before .state-byte .ensures)
-    ∙ lease-found (lent (a .image .now) (a .image-bytes)) (bytes s) (s .summary-in .result) (s .summary-in .ensures) (found else) (a .index) (else .if2 .left) (read .lease-at .result) (read .lease-at .ensures)
+    ∙ lease-found (lent (a .image .now) (a .image-bytes) []) (bytes s) (s .summary-in .result) (s .summary-in .ensures) (found else) (a .index) (else .if2 .left) (read .lease-at .result) (read .lease-at .ensures)
 
 pub lease-spec : {M : Type 1} → statement M
 lease-spec =

@@ -3,6 +3,7 @@
 use Prim.Native.Nat.{_+_, _*_, _≤_, _<_}
 use mathlib.Core.Path.{_≡_, ap, _∙_}
 use mathlib.Core.Bool.{true}
+use mathlib.Core.List.{[]}
 use native.Mathlib.Omega.{arith}
 use lib.ListN.{length}
 use borrow.Author.Needs.{needs}
@@ -26,7 +27,7 @@ returns c =
     let a = s .before .before .args in
     c .pool-answer .ensures
     ∙ ap (poolAnswer 5) (c .before .no-pool .ensures)
-    ∙ pool-refused (lent (a .image .now) (a .image-bytes)) (bytes s) (s .summary-in .result) (s .summary-in .ensures) (not-true _ (c .before .before .if1 .taken)) (a .index)
+    ∙ pool-refused (lent (a .image .now) (a .image-bytes) []) (bytes s) (s .summary-in .result) (s .summary-in .ensures) (not-true _ (c .before .before .if1 .taken)) (a .index)
 
 returns-2 : tie.Need-returns-2
 returns-2 c =
@@ -35,7 +36,7 @@ returns-2 c =
     let a = s .before .before .args in
     c .pool-answer2 .ensures
     ∙ ap (poolAnswer 11) (c .before .no-pool2 .ensures)
-    ∙ pool-none (lent (a .image .now) (a .image-bytes)) (bytes s) (s .summary-in .result) (s .summary-in .ensures) (not-false _ (else .if1 .left)) (a .index) (c .before .before .if2 .taken)
+    ∙ pool-none (lent (a .image .now) (a .image-bytes) []) (bytes s) (s .summary-in .result) (s .summary-in .ensures) (not-false _ (else .if1 .left)) (a .index) (c .before .before .if2 .taken)
 
 -- There is a pool with that index, and its record lies in the buffer.
 abbrev summed : tie.Else2 → tie.After-summary-in
@@ -48,13 +49,13 @@ within : (c : tie.Else2) → let a = summed c .before .before .args in headSize 
 within c =
     let s = summed c in
     let a = s .before .before .args in
-    omega (arith, c .if2 .left, inside (lent (a .image .now) (a .image-bytes)) (bytes s) (s .summary-in .result) (s .summary-in .ensures) (found c))
+    omega (arith, c .if2 .left, inside (lent (a .image .now) (a .image-bytes) []) (bytes s) (s .summary-in .result) (s .summary-in .ensures) (found c))
 
 few-before : (c : tie.Else2) → summed c .before .before .args .index < poolSlots
 few-before c =
     let s = summed c in
     let a = s .before .before .args in
-    omega (arith, c .if2 .left, few (lent (a .image .now) (a .image-bytes)) (bytes s) (s .summary-in .result) (s .summary-in .ensures) (found c) .0)
+    omega (arith, c .if2 .left, few (lent (a .image .now) (a .image-bytes) []) (bytes s) (s .summary-in .result) (s .summary-in .ensures) (found c) .0)
 
 mul-pool-at : tie.Need-mul-pool-at
 mul-pool-at c = omega (arith, few-before c)
@@ -71,7 +72,7 @@ returns-3 c =
     let s = summed else in
     let a = s .before .before .args in
     c .pool-answer3 .ensures
-    ∙ pool-found (lent (a .image .now) (a .image-bytes)) (bytes s) (s .summary-in .result) (s .summary-in .ensures) (found else) (a .index) (else .if2 .left) (c .before .pool-at .result) (c .before .pool-at .ensures)
+    ∙ pool-found (lent (a .image .now) (a .image-bytes) []) (bytes s) (s .summary-in .result) (s .summary-in .ensures) (found else) (a .index) (else .if2 .left) (c .before .pool-at .result) (c .before .pool-at .ensures)
 
 pub pool-spec : {M : Type 1} → statement M
 pool-spec =

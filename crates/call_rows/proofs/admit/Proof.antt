@@ -6,6 +6,8 @@ use borrow.Author.Needs.{needs}
 use Rattle.ledger.specs.Sizes.{Bytes}
 use Rattle.call_spec.specs.ImageCalls.{lent}
 use Rattle.call_spec.proofs.TableLaws.{bytes-all}
+use Rattle.call_rows.specs.InnerSummary.{SummaryIn}
+use Rattle.call_rows.proofs.SummaryLaws.{measured}
 use Rattle.call_rows.proofs.AdmitLaws.{admit-short, admit-rest}
 use Rattle.call_rows.proofs.admit.Statement.{statement}
 use Rattle.call_rows.proofs.admit.Tie as tie
@@ -13,18 +15,37 @@ use Rattle.call_rows.proofs.admit.Tie as tie
 returns : tie.Need-returns
 returns c =
     let then = c .before .before in
-    let a = then .before .before .args in
-    admit-short (a .room) (lent (a .image .now) (a .image-bytes)) (a .time) (a .client) _ (then .if1 .taken) refl
+    let a = then .before .before .before .args in
+    admit-short (a .has-sheet) (a .room) (lent (a .image .now) (a .image-bytes) (a .figures .now)) (a .time) (a .client) _ (then .if1 .taken) refl
+
+-- What is lent is bytes, and this is what the check says of it.
+seen : (c : tie.After-summary-in) → let a = c .before .before .before .before .args in let h = lent (a .image .now) (a .image-bytes) (a .figures .now) in
+    Bytes (h .image) × Bytes (h .figures) × SummaryIn h (a .time) (c .summary-in .result)
+seen c =
+    let sheet = c .before .before in
+    let image = sheet .before in
+    let a = image .before .args in (
+      bytes-all (a .image .now) (λ i. omega (arith, image .shared-slice-known .given i)),
+      bytes-all (a .figures .now) (λ i. omega (arith, sheet .shared-slice-known2 .given i)),
+      c .summary-in .ensures (a .figures .now),
+    )
+
+sheet-passes-requires : tie.Need-sheet-passes-requires
+sheet-passes-requires c κs =
+    let a = c .before .before .before .before .args in
+    let k = seen c in
+    measured (lent (a .image .now) (a .image-bytes) (a .figures .now)) (a .time) (k .0) (c .summary-in .result) (k .2)
 
 returns-2 : tie.Need-returns-2
 returns-2 c =
-    let summed = c .before in
-    let else = summed .before in
-    let a = else .before .before .args in
-    let b : Bytes (a .image .now) = bytes-all (a .image .now) (λ i. omega (arith, else .before .shared-slice-known .given i)) in
-    admit-rest (a .room) (lent (a .image .now) (a .image-bytes)) (a .time) (a .client) _ (else .if1 .left) b (summed .summary-in .ensures) (c .first-row .ensures)
+    let passed = c .before in
+    let summed = passed .before in
+    let a = summed .before .before .before .before .args in
+    let k = seen summed in
+    admit-rest (a .has-sheet) (a .room) (lent (a .image .now) (a .image-bytes) (a .figures .now)) (a .time) (a .client) _ (summed .before .if1 .left) (k .0) (k .1) (k .2)
+    (passed .sheet-passes .result) (passed .sheet-passes .ensures) (c .first-row .ensures)
 
 pub admit-spec : {M : Type 1} → statement M
 admit-spec =
     tie.close
-    (tie.spec (λ c. search needs) (λ c κs. search needs) returns (λ c κs. search needs) (λ c κs. search needs) returns-2)
+    (tie.spec (λ c. search needs) (λ c κs. search needs) returns (λ c κs. search needs) sheet-passes-requires (λ c κs. search needs) returns-2)

@@ -10,12 +10,12 @@ use Rattle.console.proofs.run_script.Statement.{statement}
 use Rattle.console.proofs.run_script.Tie as tie
 
 abbrev Inv-loop : tie.InvT-loop
-Inv-loop fd echo input₀ line₀ kept₀ image₀ reply₀ out₀ s₀ r₀ image-bytes₀ turns₀ input line kept image reply out s r image-bytes turns =
+Inv-loop fd echo input₀ line₀ kept₀ image₀ figures₀ out₀ s₀ r₀ image-bytes₀ turns₀ input line kept image figures out s r image-bytes turns =
     (s .at ≤ length out₀) × (s .«reply_length» ≤ longestReply) × (r .from ≤ r .to) × (r .to ≤ length input₀) × (r .pending ≤ length line₀)
-    × (length input ≡ length input₀) × (length line ≡ length line₀) × (length kept ≡ length kept₀) × (length image ≡ length image₀) × (length reply ≡ length reply₀) × (length out ≡ length out₀)
+    × (length input ≡ length input₀) × (length line ≡ length line₀) × (length kept ≡ length kept₀) × (length image ≡ length image₀) × (length figures ≡ length figures₀) × (length out ≡ length out₀)
 
 abbrev μ-loop : tie.MeasureT-loop
-μ-loop fd echo input₀ line₀ kept₀ image₀ reply₀ out₀ s₀ r₀ image-bytes₀ turns₀ input line kept image reply out s r image-bytes turns =
+μ-loop fd echo input₀ line₀ kept₀ image₀ figures₀ out₀ s₀ r₀ image-bytes₀ turns₀ input line kept image figures out s r image-bytes turns =
     turns
 
 end-line-requires : tie.Need-end-line-requires Inv-loop μ-loop

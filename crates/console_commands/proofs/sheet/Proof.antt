@@ -14,12 +14,35 @@ use Rattle.console_commands.proofs.sheet.Statement.{statement}
 use Rattle.console_commands.proofs.sheet.Tie as tie
 
 returns : tie.Need-returns
-returns c = (omega (arith, c .before .before .refusal .ensures .0, c .before .before .before .before .before .before .before .before .before .before .before .before .before .before .pre), sheet-refuses (given (lent (c .before .before .before .before .before .before .before .before .before .before .before .before .before .before .args .image .now) (c .before .before .before .before .before .before .before .before .before .before .before .before .before .before .args .image-bytes)) (c .before .before .before .before .before .before .before .before .before .before .before .before .before .before .args .s .«reply_length») (c .before .before .before .before .before .before .before .before .before .before .before .before .before .before .args .s .lines) (drop (c .before .before .before .before .before .before .before .before .before .before .before .before .before .before .args .s .at) (c .before .before .before .before .before .before .before .before .before .before .before .before .before .before .args .out .now))) (c .before .before .before .before .before .before .before .before .sheet .result) (c .before .before .before .before .before .before .before .before .sheet .last .1 .0) _ _ (first-bytes (c .before .before .before .before .before .before .before .before .before .before .before .before .before .before .args .image-bytes) (c .before .before .before .before .before .before .before .before .before .before .before .least .result) (c .before .before .before .before .before .before .before .before .before .before .before .before .before .before .args .image .now) (c .before .before .before .before .before .before .before .before .before .before .before .least .ensures .2) (c .before .before .before .before .before .before .before .before .before .before .before .least .ensures .3)) (rest-of (c .before .before .before .before .before .before .before .before .before .before .before .before .before .before .args .out .now) (c .before .before .before .before .before .before .before .before .before .before .before .before .before .before .args .s .at)) (c .before .before .before .before .before .before .before .before .sheet .ensures) (c .before .before .before .before .before .before .before .before .before .before .before .before .before .before .args .out .now) (c .before .before .before .before .before .before .before .before .before .before .before .before .before .before .args .s .at) (omega (arith, c .before .before .before .before .before .before .before .before .before .before .before .before .before .before .pre)) (postOf (c .before .before .before .before .before .before .before .before .before .before .before .before .before .before .args .s .at) (length (c .before .before .before .before .before .before .before .before .before .before .before .before .before .before .args .out .now) - c .before .before .before .before .before .before .before .before .before .before .before .before .before .before .args .s .at) (c .before .before .before .before .before .before .before .before .before .before .before .before .before .before .args .out .now)) _ _ (c .before .before .before .before .if1 .taken) (omega (arith, c .before .before .refusal .ensures .0, c .before .before .before .before .before .before .before .before .before .before .before .before .before .before .pre, same-len-mid (c .before .before .before .before .before .before .before .before .before .before .before .before .before .before .args .s .at) (length (c .before .before .before .before .before .before .before .before .before .before .before .before .before .before .args .out .now) - c .before .before .before .before .before .before .before .before .before .before .before .before .before .before .args .s .at) (c .before .before .before .before .before .before .before .before .before .before .before .before .before .before .args .out .now) (c .before .before .before .before .before .before .before .before .sheet .last .1 .0) (c .before .before .before .before .before .before .before .before .sheet .kept .1 .0))) (c .before .before .refusal .ensures .1))
+returns c =
+    let a = c .before .before .before .before .before .before .before .before .before .before .before .before .before .before .args in
+    let at = a .s .at in
+    let old = a .out .now in
+    let n = c .before .before .before .before .before .before .before .before .before .before .before .least in
+    let shown = c .before .before .before .before .before .before .before .before .sheet in
+    let said = c .before .before .refusal in (
+      omega (arith, said .ensures .0, c .before .before .before .before .before .before .before .before .before .before .before .before .before .before .pre),
+      λ figures.
+          sheet-refuses (given (lent (a .image .now) (a .image-bytes) figures) (a .s .«reply_length») (a .s .lines) (drop at old)) (shown .result) (shown .last .1 .0) _ _
+          (first-bytes (a .image-bytes) (n .result) (a .image .now) (n .ensures .2) (n .ensures .3)) (rest-of old at) (shown .ensures) old at (omega (arith, c .before .before .before .before .before .before .before .before .before .before .before .before .before .before .pre)) (postOf at (length old - at) old) _ _ (c .before .before .before .before .if1 .taken)
+          (omega (arith, said .ensures .0, c .before .before .before .before .before .before .before .before .before .before .before .before .before .before .pre, same-len-mid at (length old - at) old (shown .last .1 .0) (shown .kept .1 .0))) (said .ensures .1),
+    )
 
 returns-2 : tie.Need-returns-2
 returns-2 c =
-    let e : length (c .before .before .before .before .before .before .sheet .last .1 .0) ≡ length (c .before .before .before .before .before .before .before .before .before .before .before .before .args .out .now) - c .before .before .before .before .before .before .before .before .before .before .before .before .args .s .at = c .before .before .before .before .before .before .sheet .kept .1 .0 ∙ ap length (rest-of (c .before .before .before .before .before .before .before .before .before .before .before .before .args .out .now) (c .before .before .before .before .before .before .before .before .before .before .before .before .args .s .at)) ∙ length-drop (c .before .before .before .before .before .before .before .before .before .before .before .before .args .s .at) (c .before .before .before .before .before .before .before .before .before .before .before .before .args .out .now) in
-    (omega (arith, c .least2 .ensures .1, c .before .before .before .before .before .before .before .before .before .before .before .before .pre), sheet-shows (given (lent (c .before .before .before .before .before .before .before .before .before .before .before .before .args .image .now) (c .before .before .before .before .before .before .before .before .before .before .before .before .args .image-bytes)) (c .before .before .before .before .before .before .before .before .before .before .before .before .args .s .«reply_length») (c .before .before .before .before .before .before .before .before .before .before .before .before .args .s .lines) (drop (c .before .before .before .before .before .before .before .before .before .before .before .before .args .s .at) (c .before .before .before .before .before .before .before .before .before .before .before .before .args .out .now))) (c .before .before .before .before .before .before .sheet .result) (c .before .before .before .before .before .before .sheet .last .1 .0) _ _ (first-bytes (c .before .before .before .before .before .before .before .before .before .before .before .before .args .image-bytes) (c .before .before .before .before .before .before .before .before .before .least .result) (c .before .before .before .before .before .before .before .before .before .before .before .before .args .image .now) (c .before .before .before .before .before .before .before .before .before .least .ensures .2) (c .before .before .before .before .before .before .before .before .before .least .ensures .3)) (rest-of (c .before .before .before .before .before .before .before .before .before .before .before .before .args .out .now) (c .before .before .before .before .before .before .before .before .before .before .before .before .args .s .at)) (c .before .before .before .before .before .before .sheet .ensures) (c .before .before .before .before .before .before .before .before .before .before .before .before .args .out .now) (c .before .before .before .before .before .before .before .before .before .before .before .before .args .s .at) (omega (arith, c .before .before .before .before .before .before .before .before .before .before .before .before .pre)) (postOf (c .before .before .before .before .before .before .before .before .before .before .before .before .args .s .at) (length (c .before .before .before .before .before .before .before .before .before .before .before .before .args .out .now) - c .before .before .before .before .before .before .before .before .before .before .before .before .args .s .at) (c .before .before .before .before .before .before .before .before .before .before .before .before .args .out .now)) (c .least2 .result) (c .before .before .if1 .left) (omega (arith, c .least2 .ensures .1, e)) (λ h. c .least2 .ensures .2 (omega (arith, e)) ∙ sym e) (λ h. c .least2 .ensures .3 (omega (arith, e))))
+    let a = c .before .before .before .before .before .before .before .before .before .before .before .before .args in
+    let at = a .s .at in
+    let old = a .out .now in
+    let n = c .before .before .before .before .before .before .before .before .before .least in
+    let shown = c .before .before .before .before .before .before .sheet in
+    let some = c .least2 in
+    let e : length (shown .last .1 .0) ≡ length old - at = shown .kept .1 .0 ∙ ap length (rest-of old at) ∙ length-drop at old in (
+      omega (arith, some .ensures .1, c .before .before .before .before .before .before .before .before .before .before .before .before .pre),
+      λ figures.
+          sheet-shows (given (lent (a .image .now) (a .image-bytes) figures) (a .s .«reply_length») (a .s .lines) (drop at old)) (shown .result) (shown .last .1 .0) _ _
+          (first-bytes (a .image-bytes) (n .result) (a .image .now) (n .ensures .2) (n .ensures .3)) (rest-of old at) (shown .ensures) old at (omega (arith, c .before .before .before .before .before .before .before .before .before .before .before .before .pre)) (postOf at (length old - at) old) (some .result) (c .before .before .if1 .left)
+          (omega (arith, some .ensures .1, e)) (λ h. some .ensures .2 (omega (arith, e)) ∙ sym e) (λ h. some .ensures .3 (omega (arith, e))),
+    )
 
 pub sheet-spec : {M : Type 1} → statement M
 sheet-spec =

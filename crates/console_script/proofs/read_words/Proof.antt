@@ -30,16 +30,20 @@ returns-7 : tie.Need-returns-7
 returns-7 c = (c .before .before .before .pre, ap (λ (n : Name). parseWords n (drop (c .before .before .before .args .from) (c .before .before .before .args .s .now))) (sym (c .enum-told5 .given .1)))
 
 returns-8 : tie.Need-returns-8
-returns-8 c = (c .buffer-line .ensures .0, c .buffer-line .ensures .1 ∙ ap (λ (n : Name). parseWords n (drop (c .before .before .before .before .before .args .from) (c .before .before .before .before .before .args .s .now))) (sym (c .before .before .enum-told6 .given .1)))
+returns-8 c = (c .before .before .figures-line .ensures .0, c .before .before .figures-line .ensures .1 ∙ ap (λ (n : Name). parseWords n (drop (c .before .before .before .before .before .before .before .args .from) (c .before .before .before .before .before .before .before .args .s .now))) (sym (c .before .before .before .before .enum-told6 .given .1)))
 
 returns-9 : tie.Need-returns-9
-returns-9 c = (tt, ap (λ (n : Name). parseWords n (drop (c .before .before .before .args .from) (c .before .before .before .args .s .now))) (sym (c .enum-told7 .given .1)))
+returns-9 c = (c .buffer-line .ensures .0, c .buffer-line .ensures .1 ∙ ap (λ (n : Name). parseWords n (drop (c .before .before .before .before .before .args .from) (c .before .before .before .before .before .args .s .now))) (sym (c .before .before .enum-told7 .given .1)))
+
+returns-10 : tie.Need-returns-10
+returns-10 c = (tt, ap (λ (n : Name). parseWords n (drop (c .before .before .before .args .from) (c .before .before .before .args .s .now))) (sym (c .enum-told8 .given .1)))
 
 pub read-words-spec : {M : Type 1} → statement M
 read-words-spec =
     tie.close
-    (tie.spec (λ c. search needs) (λ c κs. search needs) (λ c. search needs) (λ c κs. search needs) (λ c. search needs) (λ c κs. search needs)
-    (λ c. search needs) (λ c κs. search needs) (λ c. search needs) (λ c κs. search needs) (λ c. search needs) (λ c κs. search needs)
-    (λ c. search needs) (λ c. search needs) (λ c κs. search needs) (λ c. search needs) (λ c. search needs) returns (λ c. search needs)
-    returns-2 (λ c. search needs) returns-3 (λ c. search needs) returns-4 (λ c. search needs) returns-5 (λ c. search needs) returns-6
-    returns-7 (λ c. search needs) returns-8 returns-9)
+    (tie.spec (λ c. search needs) (λ c κs. search needs) (λ c. search needs) (λ c κs. search needs) (λ c. search needs)
+    (λ c κs. search needs) (λ c. search needs) (λ c κs. search needs) (λ c. search needs) (λ c κs. search needs) (λ c. search needs)
+    (λ c κs. search needs) (λ c. search needs) (λ c. search needs) (λ c κs. search needs) (λ c. search needs) (λ c κs. search needs)
+    (λ c. search needs) (λ c. search needs) returns (λ c. search needs) returns-2 (λ c. search needs) returns-3 (λ c. search needs)
+    returns-4 (λ c. search needs) returns-5 (λ c. search needs) returns-6 returns-7 (λ c. search needs) returns-8 (λ c. search needs)
+    returns-9 returns-10)

@@ -1,5 +1,6 @@
 //! Options: those that calls are given, and any for the reader.
 
+use reference::figures::UNTOLD;
 use reference::prefix::Prefix;
 
 use super::tables::aligned;
@@ -20,11 +21,21 @@ impl Author {
         }
     }
 
+    /// A figure, often untold, now and then with bytes that show if they are exchanged.
+    pub(super) fn figure(&mut self) -> u16 {
+        let any = self.number() as u16;
+        self.one_of(&[any, any, UNTOLD, UNTOLD, 0, 1, 0xfffe, 0x00ff, 0xff00])
+    }
+
     /// None to nine figures; once in a while half a figure too many.
     pub(super) fn figures(&mut self) -> Vec<u8> {
-        let count = self.one_of(&[0, 0, 0, 0, 0, 0, 1, 2, 3, 4, 9]);
-        let half = usize::from(self.numbers.once_in(80));
-        (0..2 * count + half).map(|_| self.byte()).collect()
+        let count = self.one_of(&[0, 0, 0, 0, 1, 2, 3, 3, 3, 4, 9]);
+        let figures = (0..count).flat_map(|_| self.figure().to_be_bytes());
+        let mut bytes: Vec<u8> = figures.collect();
+        if self.numbers.once_in(80) {
+            bytes.push(self.byte());
+        }
+        bytes
     }
 
     pub(super) fn entry(&mut self, at: Prefix, plain: bool) -> Vec<u8> {

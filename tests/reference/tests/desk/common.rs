@@ -1,6 +1,8 @@
 //! What the tests share: bytes from text, options from pieces, calls with a buffer.
 
 use reference::calls::{self, Answer};
+use reference::figures::{matches, rows_of, untold_sheet};
+use reference::image;
 pub use reference::numbers::Numbers;
 use reference::option::{Entry, Information, Request, Suboption};
 use reference::prefix::{prefix, Prefix};
@@ -94,16 +96,77 @@ pub fn random_list(numbers: &mut Numbers, most: usize) -> Vec<Suboption> {
 /// The count of an accepted answer and the bytes written, or the refusal.
 pub type Reply = Result<(usize, Vec<u8>), Refusal>;
 
+/// Open, with a sheet of its own.
+pub fn open(pools: &[Prefix], term: u32, default: u8, start: u32) -> Result<Table, Refusal> {
+    let mut sheet = untold_sheet(&Table::zero());
+    calls::open(pools, term, default, start, &mut sheet)
+}
+
+/// Load, with a sheet of its own.
+pub fn load(table: &mut Table, bytes: &[u8]) -> Result<(), Refusal> {
+    let mut sheet = untold_sheet(table);
+    let answer = image::load(table, &mut sheet, bytes);
+    assert_eq!(sheet, untold_sheet(table));
+    answer
+}
+
 pub fn ask(table: &mut Table, client: u32, now: u32, option: &[u8]) -> Reply {
-    replied(|buffer| calls::ask(table, client, now, option, buffer))
+    replied(|buffer| ask_into(table, client, now, option, buffer))
 }
 
 pub fn take(table: &mut Table, client: u32, now: u32, option: &[u8]) -> Reply {
-    replied(|buffer| calls::take(table, client, now, option, buffer))
+    replied(|buffer| take_into(table, client, now, option, buffer))
 }
 
 pub fn list(table: &Table, client: u32, now: u32, option: &[u8]) -> Reply {
     replied(|buffer| calls::list(table, client, now, option, buffer))
+}
+
+type Answered = Result<Answer, Refusal>;
+
+pub fn ask_into(
+    t: &mut Table,
+    client: u32,
+    now: u32,
+    option: &[u8],
+    buffer: &mut [u8],
+) -> Answered {
+    with_sheet(t, |t, sheet| {
+        calls::ask(t, sheet, client, now, option, buffer)
+    })
+}
+
+pub fn take_into(
+    t: &mut Table,
+    client: u32,
+    now: u32,
+    option: &[u8],
+    buffer: &mut [u8],
+) -> Answered {
+    with_sheet(t, |t, sheet| {
+        calls::take(t, sheet, client, now, option, buffer)
+    })
+}
+
+pub fn release(t: &mut Table, client: u32, now: u32, option: &[u8]) -> Answered {
+    with_sheet(t, |t, sheet| calls::release(t, sheet, client, now, option))
+}
+
+pub fn mark(t: &mut Table, now: u32, at: Prefix, d: bool) -> Answered {
+    with_sheet(t, |t, sheet| calls::mark(t, sheet, now, at, d))
+}
+
+/// A call with a sheet of which nothing was told. Accepted, its rows match the leases
+/// after it; refused, it is as it was.
+fn with_sheet(table: &mut Table, call: impl FnOnce(&mut Table, &mut [u8]) -> Answered) -> Answered {
+    let before = untold_sheet(table);
+    let mut sheet = before.clone();
+    let answer = call(table, &mut sheet);
+    match answer {
+        Ok(_) => assert!(matches(&rows_of(&sheet).unwrap(), table)),
+        Err(_) => assert_eq!(sheet, before),
+    }
+    answer
 }
 
 /// A call with a fresh buffer, of which the rest keeps its content.
@@ -117,7 +180,7 @@ fn replied(call: impl FnOnce(&mut [u8]) -> Result<Answer, Refusal>) -> Reply {
 
 /// A table with these leases, in ascending order.
 pub fn table_with(texts: &[&str], last: u32, leases: &[Lease]) -> Table {
-    let mut table = calls::open(&pools(texts), 3600, 28, last).unwrap();
+    let mut table = open(&pools(texts), 3600, 28, last).unwrap();
     table.set_leases(leases.to_vec());
     assert!(table.sound());
     table

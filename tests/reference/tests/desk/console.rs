@@ -62,6 +62,15 @@ fn words_lines_and_errors() {
         (b"\r\n", ""),
         (b"# anything \xff\t", ""),
         (b"  #x", ""),
+        (b"figures", "ok\n"),
+        (b"  figures  \r\n", "ok\n"),
+        (b"figures -", "error line 1\n"),
+        (b"figures 00", "error line 1\n"),
+        (b"figures 0", "error line 1\n"),
+        (b"figures #", "error line 1\n"),
+        (b"Figures", "error line 1\n"),
+        (b"figures\t", "error line 1\n"),
+        (b"figure", "error line 1\n"),
         (b"buffer 0", "ok\n"),
         (b"  buffer   1024  ", "ok\n"),
         (b"buffer 0000000000000000257\r\n", "ok\n"),
@@ -122,6 +131,117 @@ fn words_lines_and_errors() {
     assert_eq!(answers(b"\n# x\n\nx\nsave"), "error line 4\nrefused 5\n");
 }
 
+/// 256 rows: these, and empty lines' rows after them.
+fn sheet(rows: &str) -> String {
+    let empty = "00000000 00 ffff ffff ffff ".repeat(256);
+    let rows: String = rows.split_whitespace().collect();
+    let empty: String = empty.split_whitespace().collect();
+    format!("{rows}{}", &empty[rows.len()..])
+}
+
+#[test]
+fn figures_are_written_row_by_row() {
+    let script = "figures\n\
+                  open 3600 28 1000 10.0.1.0/24\n\
+                  ask 7 1000 dc0900010200190102001a\n\
+                  figures\n\
+                  take 7 1000 dc0f00020c000a000180 1a0004 000a0007\n\
+                  take 7 1000 dc0f00020c000a0001801a0004000a0007\n\
+                  figures\n\
+                  load -\n\
+                  open 0 0 0\n\
+                  figures\n\
+                  return 7 1001 dc0b000208000a000100190000\n\
+                  figures\n\
+                  open 3600 28 1000 10.0.1.0/24\n\
+                  figures\n";
+    assert_eq!(
+        answers(script.as_bytes()),
+        "ok\nok\n\
+         ok bytes=23 count=2 dc15000208000a0001001900000208000a0001801a0000\n\
+         figures 10.0.1.0/25 high-water=- in-use=- unusable=-\n\
+         figures 10.0.1.128/26 high-water=- in-use=- unusable=-\n\
+         ok\n\
+         error line 5\n\
+         ok bytes=13 count=1 dc0b000208000a0001801a0000\n\
+         figures 10.0.1.0/25 high-water=- in-use=- unusable=-\n\
+         figures 10.0.1.128/26 high-water=10 in-use=7 unusable=-\n\
+         ok\n\
+         refused 5\n\
+         refused 12\n\
+         figures 10.0.1.0/25 high-water=- in-use=- unusable=-\n\
+         figures 10.0.1.128/26 high-water=10 in-use=7 unusable=-\n\
+         ok\n\
+         ok count=1\n\
+         figures 10.0.1.128/26 high-water=10 in-use=7 unusable=-\n\
+         ok\n\
+         ok\n\
+         ok\n"
+    );
+}
+
+#[test]
+fn figures_become_what_is_given() {
+    // Whatever the bytes say, and as they stand; a row of 0.0.0.0/0 is an empty line's.
+    let rows =
+        "0001000a 1a 0a00 0700 ffff  00000000 00 0100 0200 0300  00000000 ff 0000 feff ffff \
+                01000000 00 ffff ffff 0002";
+    let script = format!("figures {}\nfigures\n", sheet(rows));
+    let written = "ok\n\
+                   figures 10.0.1.0/26 high-water=10 in-use=7 unusable=-\n\
+                   figures 0.0.0.0/255 high-water=0 in-use=65534 unusable=-\n\
+                   figures 0.0.0.1/0 high-water=- in-use=- unusable=512\n\
+                   ok\n";
+    assert_eq!(answers(script.as_bytes()), written);
+    assert_eq!(answers(script.replace('a', "A").as_bytes()), written);
+    // "an error if they are not exactly as many as the sheet has": the sheet stays.
+    let good = sheet(rows);
+    for bad in [
+        good[..5630].to_string(),
+        good[..5631].to_string(),
+        format!("{good}0"),
+        format!("{good}00"),
+        format!("{good}{}", &good[..22]),
+        good.replacen('f', "g", 1),
+        format!("{good} {good}"),
+        format!("{good} -"),
+        good.repeat(4),
+    ] {
+        let script = format!("figures {good}\nfigures {bad}\nfigures\n");
+        let (ok, rows) = written.split_at(3);
+        assert_eq!(
+            answers(script.as_bytes()),
+            format!("{ok}error line 2\n{rows}")
+        );
+    }
+}
+
+#[test]
+fn a_sheet_that_does_not_match_is_refused_by_four_commands() {
+    let wrong = sheet("0001000a 1b ffff ffff ffff");
+    let script = format!(
+        "figures {wrong}\nask 7 1000 dc05000102001a\n\
+         open 3600 28 1000 10.0.1.0/24\nask 7 1000 dc05000102001a\n\
+         take 7 1000 dc0b000208000a0001001a0000\nsave\nsheet\nlist 7 1000 dc050001020200\n\
+         figures {wrong}\nsave\nsheet\nlist 7 1000 dc050001020200\n\
+         ask 0 0 -\ntake 0 0 -\nreturn 0 0 -\nmark 0 0.0.0.0/0 0\n\
+         buffer 256\nask 0 0 -\ntake 0 0 -\nreturn 0 0 -\n\
+         load 00\nfigures\n"
+    );
+    let text = answers(script.as_bytes());
+    let lines: Vec<&str> = text.lines().collect();
+    // The book is looked at first, and open makes the sheet anew.
+    assert_eq!(lines[..3], ["ok", "refused 5", "ok"]);
+    assert!(lines[3].starts_with("ok bytes=13"));
+    // save, sheet and list answer as they did.
+    assert_eq!(lines[5..11], lines[12..18]);
+    assert_eq!(lines[11], "ok");
+    let rest = "refused 15\nrefused 15\nrefused 15\nrefused 15\n\
+                ok\nrefused 1\nrefused 1\nrefused 15\nrefused 5\n\
+                figures 10.0.1.0/27 high-water=- in-use=- unusable=-\nok";
+    assert_eq!(lines[18..].join("\n"), rest);
+}
+
 #[test]
 fn long_lines() {
     let mut script = b"read ".to_vec();
@@ -145,7 +265,7 @@ fn long_lines() {
 fn any_bytes_do_no_harm() {
     let mut numbers = Numbers::new(11);
     let words =
-        "open ask take list return mark save load sheet read write buffer 0 7 1000 3600 28 \
+        "open ask take list return mark save load sheet figures read write buffer 0 7 1000 3600 28 \
                  10.0.0.0/8 dc05000102001a dc05000102021a - unknown name address 10.0.0.0";
     let words: Vec<&[u8]> = words.split_whitespace().map(str::as_bytes).collect();
     let mut script = Vec::new();

@@ -1,6 +1,5 @@
 //! The shift log of document 01.
 
-use reference::calls;
 use reference::option::{read118, read220, write118, write220, Request, Suboption};
 use reference::prefix::prefix;
 use reference::refusal::Refusal;
@@ -8,8 +7,8 @@ use reference::table::{State, Table};
 
 use crate::common::*;
 
-fn open(texts: &[&str]) -> Table {
-    calls::open(&pools(texts), 3600, 28, 1000).unwrap()
+fn opened(texts: &[&str]) -> Table {
+    open(&pools(texts), 3600, 28, 1000).unwrap()
 }
 
 /// The prefix that a single ask gets, or its refusal's number.
@@ -49,7 +48,7 @@ fn p2_offer_of_24() {
         Ok(13)
     );
     assert_eq!(buffer[..], offer[..]);
-    let mut table = open(&["10.0.1.0/24"]);
+    let mut table = opened(&["10.0.1.0/24"]);
     assert_eq!(ask(&mut table, 7, 1000, &asking(&[24])), Ok((1, offer)));
 }
 
@@ -67,7 +66,7 @@ fn p4_no_suboption_and_a_cut_one() {
 
 #[test]
 fn p5_smallest_whole_block_first() {
-    let mut table = open(&["10.0.1.0/24"]);
+    let mut table = opened(&["10.0.1.0/24"]);
     assert_eq!(gets(&mut table, 1, 26), Ok("10.0.1.0/26".into()));
     assert_eq!(gets(&mut table, 2, 25), Ok("10.0.1.128/25".into()));
     assert_eq!(gets(&mut table, 3, 27), Ok("10.0.1.64/27".into()));
@@ -76,26 +75,26 @@ fn p5_smallest_whole_block_first() {
 
 #[test]
 fn p6_pools_are_never_joined() {
-    let mut table = open(&["10.0.0.0/25", "10.0.0.128/25"]);
+    let mut table = opened(&["10.0.0.0/25", "10.0.0.128/25"]);
     assert_eq!(gets(&mut table, 1, 24), Err(10));
 }
 
 #[test]
 fn p7_smallest_over_all_pools() {
-    let mut table = open(&["10.0.0.0/24", "10.0.8.0/26"]);
+    let mut table = opened(&["10.0.0.0/24", "10.0.8.0/26"]);
     assert_eq!(gets(&mut table, 1, 27), Ok("10.0.8.0/27".into()));
     assert_eq!(gets(&mut table, 2, 24), Ok("10.0.0.0/24".into()));
 }
 
 #[test]
 fn p8_default_length() {
-    let mut table = open(&["10.0.1.0/24"]);
+    let mut table = opened(&["10.0.1.0/24"]);
     assert_eq!(gets(&mut table, 1, 0), Ok("10.0.1.0/28".into()));
 }
 
 #[test]
 fn p9_an_end_does_not_count_at_its_own_second() {
-    let mut table = open(&["10.0.1.0/24"]);
+    let mut table = opened(&["10.0.1.0/24"]);
     ask(&mut table, 7, 1000, &asking(&[24])).unwrap();
     let mut late = table.clone();
     let offer = entries(&[p("10.0.1.0/24")]);
@@ -134,7 +133,7 @@ fn p12_option_118() {
 
 #[test]
 fn requests_25_are_served_and_26_are_not() {
-    let mut table = open(&["10.0.0.0/16"]);
+    let mut table = opened(&["10.0.0.0/16"]);
     let before = table.clone();
     assert_eq!(ask(&mut table, 7, 1000, &asking(&[30; 26])), Err(no(8, 0)));
     assert_eq!(table, before);
@@ -186,7 +185,7 @@ fn a_list_goes_on_after_a_return() {
         30,
     );
     assert_eq!(last, p("10.0.0.136/30"));
-    calls::release(&mut table, 7, 1001, &entries(&[last, p("10.0.0.0/30")])).unwrap();
+    release(&mut table, 7, 1001, &entries(&[last, p("10.0.0.0/30")])).unwrap();
     let next = option(&[request_i(), information(true, true, &[last])]);
     let (count, reply) = list(&table, 7, 1001, &next).unwrap();
     assert_eq!(count, 5);

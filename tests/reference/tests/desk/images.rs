@@ -1,7 +1,6 @@
 //! Images and sheets.
 
-use reference::calls;
-use reference::image::{load, save, FULL};
+use reference::image::{save, FULL};
 use reference::samples::full_table;
 use reference::sheet::{sheet, sheet_of_image};
 use reference::table::{State, Table};
@@ -22,7 +21,7 @@ fn the_sheet_example() {
     assert_eq!(bytes.len(), 41);
     assert_eq!(sheet_of_image(&bytes), EXAMPLE_SHEET);
     // The same book made by calls has this image.
-    let mut table = calls::open(&pools(&["10.0.1.0/24"]), 3600, 28, 1000).unwrap();
+    let mut table = open(&pools(&["10.0.1.0/24"]), 3600, 28, 1000).unwrap();
     ask(&mut table, 7, 1000, &asking(&[26])).unwrap();
     assert_eq!(image(&table), bytes);
     assert_eq!(sheet(&table).unwrap(), EXAMPLE_SHEET);
@@ -222,7 +221,7 @@ fn damaged_images() {
 
 #[test]
 fn sheets_at_both_ends() {
-    let empty = calls::open(&pools(&["0.0.0.0/8", "255.255.255.252/30"]), 60, 1, 0).unwrap();
+    let empty = open(&pools(&["0.0.0.0/8", "255.255.255.252/30"]), 60, 1, 0).unwrap();
     let text = "sheet lines=0 free=2\nfree 0.0.0.0/8\nfree 255.255.255.252/30\n";
     assert_eq!(sheet(&empty).unwrap(), text);
     let mut table = empty;

@@ -1,7 +1,6 @@
 //! Random histories: soundness, the ledger, and what a list depends on.
 
 use reference::calls::{self, Answer};
-use reference::image::load;
 use reference::option::{read220, Suboption};
 use reference::prefix::Prefix;
 use reference::refusal::Refusal;
@@ -36,7 +35,7 @@ fn the_ledger_balances_over_random_histories() {
             &["10.0.0.0/22", "10.1.0.0/20", "192.168.0.0/24"],
             &["10.0.0.0/8", "0.0.0.0/8", "255.0.0.0/8"],
         ][numbers.below(3)];
-        let mut table = calls::open(&pools(texts), 300, 29, 1000).unwrap();
+        let mut table = open(&pools(texts), 300, 29, 1000).unwrap();
         // Granted less returned less struck as ended, from open.
         let mut ledger: u64 = 0;
         let mut now = 1000;
@@ -60,11 +59,11 @@ fn the_ledger_balances_over_random_histories() {
                     let asks: Vec<u8> = (0..numbers.between(1, 25))
                         .map(|_| numbers.between(18, 30) as u8)
                         .collect();
-                    calls::ask(&mut table, client, now, &asking(&asks), &mut buffer)
+                    ask_into(&mut table, client, now, &asking(&asks), &mut buffer)
                 }
-                1 => calls::take(&mut table, client, now, &entries(&prefixes), &mut buffer),
-                2 => calls::release(&mut table, client, now, &entries(&prefixes)),
-                3 => calls::mark(&mut table, now, prefixes[0], numbers.once_in(2)),
+                1 => take_into(&mut table, client, now, &entries(&prefixes), &mut buffer),
+                2 => release(&mut table, client, now, &entries(&prefixes)),
+                3 => mark(&mut table, now, prefixes[0], numbers.once_in(2)),
                 _ => calls::list(&table, client, now, &option(&[request_i()]), &mut buffer),
             };
             assert!(table.sound());

@@ -1,8 +1,10 @@
-//! Tests of the reference program, one module for each part of document 01.
+//! Tests of the reference program, one module for each part of document 01, and one for
+//! each request of document 02.
 
 mod common;
 mod console;
 mod examples;
+mod figures;
 mod images;
 mod ledger;
 mod options;

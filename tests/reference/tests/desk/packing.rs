@@ -2,7 +2,6 @@
 //! at all, all are granted, in any order; one is refused exactly for want of lines or
 //! of a free block.
 
-use reference::calls;
 use reference::option::{read220, Information, Suboption};
 use reference::prefix::{prefix, Prefix};
 use reference::table::{Lease, State, Table, LEASES};
@@ -390,7 +389,7 @@ fn every_order(items: &mut [u8], from: usize, check: &mut dyn FnMut(&[u8])) {
 
 #[test]
 fn asks_of_length_below_8_are_refused_with_10() {
-    let mut table = calls::open(&pools(&["10.0.0.0/8"]), 3600, 7, NOW).unwrap();
+    let mut table = open(&pools(&["10.0.0.0/8"]), 3600, 7, NOW).unwrap();
     for length in 0..8 {
         assert_eq!(ask(&mut table, 1, NOW, &asking(&[length])), Err(no(10, 0)));
     }

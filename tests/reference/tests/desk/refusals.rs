@@ -2,15 +2,16 @@
 //! changes nothing.
 
 use reference::calls::{self, Answer};
-use reference::image::{load, save};
+use reference::figures::untold_sheet;
+use reference::image::save;
 use reference::prefix::{prefix, Prefix};
 use reference::refusal::Refusal;
 use reference::table::{State, Table, LATEST};
 
 use crate::common::*;
 
-/// "The first that applies, in this row order".
-const ROWS: [u8; 14] = [1, 5, 2, 3, 4, 6, 7, 8, 9, 10, 11, 12, 13, 14];
+/// "The first that applies, in this row order"; 15 is "after 5".
+const ROWS: [u8; 15] = [1, 5, 15, 2, 3, 4, 6, 7, 8, 9, 10, 11, 12, 13, 14];
 
 fn first_row(applying: &[u8]) -> Option<u8> {
     ROWS.into_iter().find(|row| applying.contains(row))
@@ -21,6 +22,7 @@ fn first_row(applying: &[u8]) -> Option<u8> {
 struct Case {
     short_buffer: bool,
     unsound: bool,
+    wrong_sheet: bool,
     client: u32,
     /// 0, 3 or 4.
     time: u8,
@@ -38,6 +40,9 @@ impl Case {
         }
         if self.unsound {
             rows.push(5);
+        }
+        if self.wrong_sheet {
+            rows.push(15);
         }
         if self.client == 0 {
             rows.push(2);
@@ -60,6 +65,15 @@ impl Case {
         table
     }
 
+    /// The table's sheet, or one whose first row has another length than its line.
+    fn sheet(self, table: &Table) -> Vec<u8> {
+        let mut sheet = untold_sheet(table);
+        if self.wrong_sheet {
+            sheet[4] ^= 1;
+        }
+        sheet
+    }
+
     /// A table with a lease of client 7 at 10.0.0.0/25.
     fn one_lease(self, state: State) -> Table {
         let leases = [lease(p("10.0.0.0/25"), 7, state, u32::MAX)];
@@ -78,27 +92,29 @@ impl Case {
 
 fn cases(outcomes: &[u8]) -> Vec<Case> {
     let mut cases = Vec::new();
-    for short_buffer in [false, true] {
-        for unsound in [false, true] {
-            for client in [7, 0] {
-                for time in [0, 3, 4] {
-                    for option in [0, 6, 7, 8] {
-                        for &outcome in outcomes {
-                            cases.push(Case {
-                                short_buffer,
-                                unsound,
-                                client,
-                                time,
-                                option,
-                                outcome,
-                            });
-                        }
-                    }
+    for [short_buffer, unsound, wrong_sheet, no_client] in yes_and_no() {
+        for time in [0, 3, 4] {
+            for option in [0, 6, 7, 8] {
+                for &outcome in outcomes {
+                    cases.push(Case {
+                        short_buffer,
+                        unsound,
+                        wrong_sheet,
+                        client: if no_client { 0 } else { 7 },
+                        time,
+                        option,
+                        outcome,
+                    });
                 }
             }
         }
     }
     cases
+}
+
+/// All sixteen.
+fn yes_and_no() -> impl Iterator<Item = [bool; 4]> {
+    (0..16).map(|bits| [8, 4, 2, 1].map(|bit| bits & bit != 0))
 }
 
 /// Bytes that rows 6, 7 and 8 apply to; the last two with a piece that the call
@@ -138,18 +154,21 @@ fn expect(case: Case, answer: Result<Answer, Refusal>) -> bool {
     }
 }
 
-/// The call of a case, with a reply buffer: a refusal leaves table and buffer.
+/// The call of a case, with a reply buffer: a refusal leaves table, sheet and buffer.
 fn try_case(
     case: Case,
     before: &Table,
     bytes: &[u8],
-    call: impl Fn(&mut Table, u32, u32, &[u8], &mut [u8]) -> Result<Answer, Refusal>,
+    call: impl Fn(&mut Table, &mut [u8], u32, u32, &[u8], &mut [u8]) -> Result<Answer, Refusal>,
 ) {
     let mut table = before.clone();
+    let mut sheet = case.sheet(before);
     let mut buffer = vec![0x5a; if case.short_buffer { 256 } else { 257 }];
-    let answer = call(&mut table, case.client, case.now(), bytes, &mut buffer);
+    let (client, now) = (case.client, case.now());
+    let answer = call(&mut table, &mut sheet, client, now, bytes, &mut buffer);
     if !expect(case, answer) {
         assert_eq!(table, *before);
+        assert_eq!(sheet, case.sheet(before));
         assert!(buffer.iter().all(|byte| *byte == 0x5a));
     }
 }
@@ -182,7 +201,8 @@ fn take_rows_in_every_combination() {
 
 #[test]
 fn list_rows_in_every_combination() {
-    for case in cases(&[0, 11]) {
+    // It does not have the sheet, so no row 15.
+    for case in cases(&[0, 11]).into_iter().filter(|case| !case.wrong_sheet) {
         let state = if case.outcome == 11 {
             State::Offered
         } else {
@@ -194,7 +214,7 @@ fn list_rows_in_every_combination() {
             case,
             &before,
             &bytes,
-            |table, client, now, bytes, buffer| calls::list(table, client, now, bytes, buffer),
+            |table, _, client, now, bytes, buffer| calls::list(table, client, now, bytes, buffer),
         );
     }
 }
@@ -209,23 +229,25 @@ fn return_rows_in_every_combination() {
         let at = case.named("10.0.0.0/26");
         let before = case.one_lease(State::Offered);
         let bytes = bad_option(case.option, &entries(&[at]), &hex("01 02 00 18"));
-        try_case(case, &before, &bytes, |table, client, now, bytes, _| {
-            calls::release(table, client, now, bytes)
-        });
+        try_case(
+            case,
+            &before,
+            &bytes,
+            |table, sheet, client, now, bytes, _| calls::release(table, sheet, client, now, bytes),
+        );
     }
 }
 
 #[test]
 fn mark_rows_in_every_combination() {
-    // "Mark has no station"; its rows are 5, 3, 4 and 11.
+    // "Mark has no station"; its rows are 5, 15, 3, 4 and 11.
     let all = cases(&[0, 11]).into_iter();
     for case in all.filter(|case| !case.short_buffer && case.client != 0 && case.option == 0) {
         let at = case.named("10.0.0.0/26");
         let before = case.one_lease(State::Offered);
-        let mut table = before.clone();
-        if !expect(case, calls::mark(&mut table, case.now(), at, true)) {
-            assert_eq!(table, before);
-        }
+        try_case(case, &before, &[], |table, sheet, _, now, _, _| {
+            calls::mark(table, sheet, now, at, true)
+        });
     }
 }
 
@@ -245,7 +267,7 @@ fn open_has_only_12() {
         (60, 1, LATEST + 1, false),
         (60, 1, u32::MAX, false),
     ] {
-        let opened = calls::open(&one, term, default, start);
+        let opened = open(&one, term, default, start);
         assert_eq!(
             opened.as_ref().err().copied(),
             if good { None } else { Some(no(12, 0)) }
@@ -274,11 +296,11 @@ fn open_has_only_12() {
         pools(&["10.0.0.0/24", "10.0.0.128/25"]),
         pools(&["10.0.0.128/25", "10.0.0.0/24"]),
     ] {
-        assert_eq!(calls::open(&bad, 3600, 28, 0), Err(no(12, 0)), "{bad:?}");
+        assert_eq!(open(&bad, 3600, 28, 0), Err(no(12, 0)), "{bad:?}");
     }
-    assert!(calls::open(&nine[..8], 3600, 28, 0).unwrap().sound());
+    assert!(open(&nine[..8], 3600, 28, 0).unwrap().sound());
     // "roots (any order given)", stored ascending; neighbours stay two.
-    let table = calls::open(
+    let table = open(
         &pools(&["10.0.0.128/25", "0.0.0.0/8", "10.0.0.0/25"]),
         3600,
         28,
@@ -342,17 +364,17 @@ fn every_way_to_be_unsound() {
         let found = entries(&[p("10.0.0.0/25")]);
         let i = option(&[request_i()]);
         assert_eq!(
-            calls::ask(&mut table, 7, 1000, &asking(&[30]), &mut buffer),
+            ask_into(&mut table, 7, 1000, &asking(&[30]), &mut buffer),
             Err(no(5, 0))
         );
         assert_eq!(
-            calls::take(&mut table, 7, 1000, &found, &mut buffer),
+            take_into(&mut table, 7, 1000, &found, &mut buffer),
             Err(no(5, 0))
         );
         assert_eq!(calls::list(&table, 8, 1000, &i, &mut buffer), Err(no(5, 0)));
-        assert_eq!(calls::release(&mut table, 7, 1000, &found), Err(no(5, 0)));
+        assert_eq!(release(&mut table, 7, 1000, &found), Err(no(5, 0)));
         assert_eq!(
-            calls::mark(&mut table, 1000, p("10.0.0.0/25"), true),
+            mark(&mut table, 1000, p("10.0.0.0/25"), true),
             Err(no(5, 0))
         );
         assert_eq!(save(&table, &mut buffer), Err(no(5, 0)));
@@ -401,7 +423,7 @@ fn pieces_not_as_the_call_demands() {
             Err(no(8, 0))
         );
         assert_eq!(
-            calls::release(&mut table, 7, 1000, &option(&list_of_pieces)),
+            release(&mut table, 7, 1000, &option(&list_of_pieces)),
             Err(no(8, 0))
         );
     }
@@ -446,7 +468,7 @@ fn ended_lines_count_as_empty_and_stay_after_a_refusal() {
 
 #[test]
 fn times_at_their_limits() {
-    let mut table = calls::open(&pools(&["10.0.0.0/24"]), 2_592_000, 28, 0).unwrap();
+    let mut table = open(&pools(&["10.0.0.0/24"]), 2_592_000, 28, 0).unwrap();
     assert_eq!(
         ask(&mut table, 7, LATEST + 1, &asking(&[30])),
         Err(no(4, 0))
@@ -497,11 +519,11 @@ fn take_and_return_as_the_readings_say() {
     assert_eq!(taken.last_time, 1049);
     // A repeated entry strikes one line, an ended one is struck and not counted.
     let mut returned = table.clone();
-    let answer = calls::release(&mut returned, 7, 1050, &option(&pieces)).unwrap();
+    let answer = release(&mut returned, 7, 1050, &option(&pieces)).unwrap();
     assert_eq!((answer.bytes, answer.count), (0, 1));
     assert_eq!(returned.used_leases(), &leases[2..]);
     assert_eq!(
-        calls::release(&mut returned, 7, 1050, &entries(&[c])),
+        release(&mut returned, 7, 1050, &entries(&[c])),
         Err(no(11, 0))
     );
 }
@@ -578,7 +600,7 @@ fn mark_sets_and_clears_d() {
     ];
     let mut table = table_with(&["10.0.0.0/24"], 1000, &leases);
     for (d, now) in [(true, 1100), (true, 1200), (false, 1300)] {
-        let answer = calls::mark(&mut table, now, at, d).unwrap();
+        let answer = mark(&mut table, now, at, d).unwrap();
         assert_eq!((answer.bytes, answer.count), (0, 0));
         assert_eq!((table.leases[0].d, table.last_time), (d, now));
     }
@@ -591,9 +613,9 @@ fn mark_sets_and_clears_d() {
         prefix(at.network + 1, 30),
         prefix(0, 255),
     ] {
-        assert_eq!(calls::mark(&mut table, 1300, other, true), Err(no(11, 0)));
+        assert_eq!(mark(&mut table, 1300, other, true), Err(no(11, 0)));
     }
-    assert_eq!(calls::mark(&mut table, 1500, at, true), Err(no(11, 0)));
+    assert_eq!(mark(&mut table, 1500, at, true), Err(no(11, 0)));
     assert_eq!(table, before);
 }
 

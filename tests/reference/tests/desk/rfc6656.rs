@@ -1,7 +1,6 @@
 //! RFC 6656 section 8 as conversations with the desk.
 
-use reference::calls;
-use reference::image::{load, save, FULL};
+use reference::image::{save, FULL};
 use reference::option::read220;
 use reference::table::{State, Table};
 
@@ -9,7 +8,7 @@ use crate::common::*;
 
 #[test]
 fn example_1() {
-    let mut table = calls::open(&pools(&["10.0.1.0/24"]), 3600, 24, 1000).unwrap();
+    let mut table = open(&pools(&["10.0.1.0/24"]), 3600, 24, 1000).unwrap();
     let offer = hex("DC 0B 00 02 08 00 0A 00 01 00 18 00 00");
     // DHCPDISCOVER, DHCPOFFER.
     assert_eq!(
@@ -23,7 +22,7 @@ fn example_1() {
         lease(p("10.0.1.0/24"), 7, State::Leased, 4610)
     );
     // DHCPRELEASE.
-    let struck = calls::release(&mut table, 7, 2000, &offer).unwrap();
+    let struck = release(&mut table, 7, 2000, &offer).unwrap();
     assert_eq!((struck.bytes, struck.count), (0, 1));
     assert!(table.used_leases().is_empty());
 }
@@ -32,7 +31,7 @@ fn example_1() {
 fn example_2() {
     // A pool that has one /24 free at 10.0.2.0, and a /28 beside it: the desk gives
     // exactly 24 or nothing, so only the offer of 24 is its own.
-    let mut table = calls::open(&pools(&["10.0.2.0/24", "10.0.3.0/28"]), 3600, 24, 1000).unwrap();
+    let mut table = open(&pools(&["10.0.2.0/24", "10.0.3.0/28"]), 3600, 24, 1000).unwrap();
     let offer = hex("DC 0B 00 02 08 00 0A 00 02 00 18 00 00");
     let discover = hex("DC 09 00 01 02 00 18 01 02 00 18");
     assert_eq!(ask(&mut table, 7, 1000, &discover), Ok((1, offer.clone())));
@@ -46,7 +45,7 @@ fn example_2() {
     assert_eq!(take(&mut table, 7, 1010, &offer), Ok((1, offer.clone())));
     assert_eq!(again, table);
     // Deprecation, and the renewal with figures 10, 7 and 2.
-    calls::mark(&mut table, 2000, p("10.0.2.0/24"), true).unwrap();
+    mark(&mut table, 2000, p("10.0.2.0/24"), true).unwrap();
     let renewal = hex("DC 11 00 02 0E 00 0A 00 02 00 18 00 06 00 0A 00 07 00 02");
     let deprecated = hex("DC 0B 00 02 08 00 0A 00 02 00 18 01 00");
     assert_eq!(take(&mut table, 7, 2000, &renewal), Ok((1, deprecated)));
@@ -62,10 +61,7 @@ fn example_2() {
         Ok((1, listed))
     );
     // DHCPRELEASE, whose entry lacks the d that the book has.
-    assert_eq!(
-        calls::release(&mut loaded, 7, 2002, &offer).unwrap().count,
-        1
-    );
+    assert_eq!(release(&mut loaded, 7, 2002, &offer).unwrap().count, 1);
     assert_eq!(
         list(&loaded, 7, 2002, &hex("DC 05 00 01 02 02 00")),
         Err(no(11, 0))

@@ -2,6 +2,7 @@
 //! script there: `cargo run --release --bin scripts -- FOLDER`. The other scripts are
 //! left as they are.
 
+mod figures;
 mod writing;
 
 use std::fs;
@@ -9,6 +10,7 @@ use std::io;
 use std::path::{Path, PathBuf};
 
 use reference::console::{self, Console};
+use reference::figures::{matches, rows_of};
 use reference::numbers::Numbers;
 use reference::option::{Entry, Information, Request, Suboption};
 use reference::prefix::{prefix, Prefix};
@@ -48,6 +50,11 @@ fn main() -> io::Result<()> {
         ("random-calls-eight-pools", random_calls(23, "10.0.0.0/24 10.0.1.0/24 10.0.2.0/23 10.2.0.0/16 0.0.0.0/30 255.255.255.0/24 128.0.0.0/9 127.255.255.252/30", 20, false)),
         ("random-calls-wide-pool", random_calls(24, "10.0.0.0/8", 8, false)),
         ("random-calls-crowded-table", random_calls(25, "10.0.0.0/19 10.0.64.0/22", 26, true)),
+        ("figures-match", figures::matching()),
+        ("figures-numbers", figures::numbers()),
+        ("figures-full-256-leases", figures::full()),
+        ("random-calls-figures", figures::random_calls()),
+        ("console-figures", figures::console()),
         ("rfc6656-options-written", writing::rfc6656_options(&fs::read_to_string(folder.join("rfc6656.options"))?)),
         ("write-lengths", writing::lengths()),
         ("write-buffer", writing::buffers()),
@@ -322,7 +329,7 @@ fn pools_at_both_ends() -> String {
 // Every number in every call, and the row order.
 
 /// Rows in the order of the table of numbers.
-const ROWS: [u8; 11] = [1, 5, 2, 3, 4, 6, 7, 8, 9, 10, 11];
+const ROWS: [u8; 12] = [1, 5, 15, 2, 3, 4, 6, 7, 8, 9, 10, 11];
 
 /// The option for row 6, 7 or 8, or the good one. The one for 7 has the wrong piece
 /// of 8 as well.
@@ -347,8 +354,11 @@ fn combinations(
 ) {
     let sound = script.console.table.sound();
     let start = image(&script.console.table);
-    // Return has no reply buffer, so row 1 never applies to it.
+    // Return has no reply buffer, so row 1 never applies to it; list has no sheet.
     let has_buffer = !call(0, 0, "-").starts_with("return");
+    let has_sheet = !call(0, 0, "-").starts_with("list");
+    let sheet = script.console.figures.clone();
+    let matches = rows_of(&sheet).is_some_and(|rows| matches(&rows, &script.console.table));
     for buffer in [257, 256] {
         script.say(&format!("buffer {buffer}"));
         for client in [7, 0] {
@@ -360,6 +370,9 @@ fn combinations(
                     }
                     if buffer == 256 && has_buffer {
                         rows.push(1);
+                    }
+                    if !matches && has_sheet {
+                        rows.push(15);
                     }
                     if !sound {
                         rows.retain(|row| *row != 3 && *row != outcome);
@@ -380,6 +393,9 @@ fn combinations(
                     if answer.starts_with("ok") {
                         script.say("save");
                         script.say(&format!("load {start}"));
+                        if !matches {
+                            script.say(&format!("figures {}", hex(&sheet)));
+                        }
                     }
                 }
             }

@@ -1,0 +1,19 @@
+-- `row_head` meets its contract.
+-- Assumes nothing.
+use native.Mathlib.Omega.{arith}
+use Rattle.console_lines.proofs.TextLaws.{filled-wrote, wrote-as}
+use Rattle.console_lines.proofs.FigureLaws.{head-filled}
+use borrow.Author.Needs.{needs}
+use Rattle.console_lines.proofs.row_head.Statement.{statement}
+use Rattle.console_lines.proofs.row_head.Tie as tie
+
+returns : tie.Need-returns
+returns c = (
+  omega (arith, c .before .before .fill .ensures .0),
+  wrote-as _ _ _ _ _ _ (head-filled (c .before .before .before .before .before .before .before .before .args .r .network) (c .before .before .before .before .before .before .before .before .args .r .length)) (filled-wrote _ _ _ _ _ _ (omega arith, (omega arith, (omega arith, (omega arith, (omega arith, tt))))) (c .before .before .fill .ensures .1)),
+)
+
+pub row-head-spec : {M : Type 1} → statement M
+row-head-spec =
+    tie.close
+    (tie.spec (λ c. search needs) (λ c. search needs) (λ c. search needs) (λ c κs. search needs) (λ c. search needs) returns)

@@ -1,0 +1,138 @@
+-- Laws of filling a sheet: rows of empty slots, and untold rows.
+-- Assumes nothing.
+use Prim.Native.Nat.{ℕ, zero, suc, _+_, _-_, _*_, _≤_, _<_}
+use native.Mathlib.Omega.{arith}
+use mathlib.Core.Path.{_≡_, refl, sym, ap, ap₂, _∙_}
+use mathlib.Core.List.{List, _∷_, _++_, map, append-nil}
+use lib.ListN.{length, getD, take, drop, replicate, length-append, length-map, length-replicate, replicate-append-replicate, getD-replicate, List·getD-map}
+use lib.Seq.{take-all, take-at}
+use Rattle.lists.specs.Put.{put}
+use Rattle.lists.proofs.DropLaws.{drop-end}
+use Rattle.lists.proofs.ConcatMapLaws.{concatMap-append}
+use Rattle.lists.proofs.MapLaws.{map-append}
+use Rattle.lists.proofs.PutLaws.{put-nothing, put-append, put-front}
+use Rattle.table.specs.declared.Lease.{Lease}
+use Rattle.table.specs.Table.{leaseSlots, noLease, padded}
+use Rattle.image.specs.Image.{leaseSize}
+use Rattle.image.specs.Reading.{leaseIn}
+use Rattle.image.proofs.WriteLaws.{more-put}
+use Rattle.image_records.specs.Records.{Records}
+use Rattle.image_records.proofs.PutForms.{drop-put-at}
+use Rattle.image_records.proofs.RecordLaws.{lease-in-place}
+use Rattle.figures.specs.declared.FigureRow.{FigureRow}
+use Rattle.figures.specs.Figures.{untoldRow, emptyRow}
+use Rattle.image_figures.specs.Sheets.{rowSize, figuresSize, rowBytes, sheetOf}
+use Rattle.image_figures.proofs.RowLaws.{length-row, length-rows}
+
+-- EMPTY ROWS
+
+-- So many of m.
+abbrev pub empties : ℕ → ℕ → List FigureRow
+empties m k = take k (replicate m emptyRow)
+
+module _ (l : List ℕ) (first last : ℕ) (below : first ≤ last) where
+  pub cleared-none : l ≡ put l (rowSize * first) (sheetOf (empties (last - first) (first - first)))
+  cleared-none =
+      let z : first - first ≡ 0 = omega arith in
+      sym (ap (λ (k : ℕ). put l (rowSize * first) (sheetOf (empties (last - first) k))) z ∙ put-nothing l (rowSize * first))
+
+  pub cleared-more : (l₁ l₂ : List ℕ) (i : ℕ) (y : FigureRow) → first ≤ i → i < last → l₁ ≡ put l (rowSize * first) (sheetOf (empties (last - first) (i - first))) → y ≡ emptyRow
+      → l₂ ≡ put l₁ (rowSize * i) (rowBytes y) → l₂ ≡ put l (rowSize * first) (sheetOf (empties (last - first) (i + 1 - first)))
+  cleared-more l₁ l₂ i y h j e₁ y-is e₂ =
+      let all : List FigureRow = replicate (last - first) emptyRow in
+      let place : rowSize * i ≡ rowSize * first + rowSize * (i - first) = omega arith in
+      let one : i - first + 1 ≡ i + 1 - first = omega arith in
+      more-put rowBytes rowSize length-row l l₁ l₂ (rowSize * first) (i - first) all emptyRow (omega (arith, length-replicate (last - first) emptyRow)) e₁
+      (e₂ ∙ ap₂ (λ (k : ℕ) (v : FigureRow). put l₁ k (rowBytes v)) place (y-is ∙ sym (getD-replicate (last - first) (i - first) emptyRow emptyRow (omega arith))))
+      ∙ ap (λ (k : ℕ). put l (rowSize * first) (sheetOf (take k all))) one
+
+  pub cleared-all : (l₁ : List ℕ) (i : ℕ) → last ≤ i → i ≤ last → l₁ ≡ put l (rowSize * first) (sheetOf (empties (last - first) (i - first)))
+      → l₁ ≡ put l (rowSize * first) (sheetOf (replicate (last - first) emptyRow))
+  cleared-all l₁ i h j e =
+      e ∙ ap (λ (s : List FigureRow). put l (rowSize * first) (sheetOf s)) (take-all (i - first) (replicate (last - first) emptyRow) (omega (arith, length-replicate (last - first) emptyRow)))
+
+-- Sixteen of them are read back, and so many more are put behind those that stand.
+module _ (l : List ℕ) (first : ℕ) where
+  pub block-is : (l₁ : List ℕ) (m n : ℕ) → n ≡ m → rowSize * first + m * rowSize ≤ length l → l₁ ≡ put l (rowSize * first) (sheetOf (replicate n emptyRow))
+      → take (m * rowSize) (drop (rowSize * first) l₁) ≡ sheetOf (replicate m emptyRow)
+  block-is l₁ m n same room e =
+      let rows : List FigureRow = replicate m emptyRow in
+      let size : length (sheetOf rows) ≡ m * rowSize = length-rows rows ∙ omega (arith, length-replicate m emptyRow) in
+      ap (λ (b : List ℕ). take (m * rowSize) (drop (rowSize * first) b)) (e ∙ ap (λ (k : ℕ). put l (rowSize * first) (sheetOf (replicate k emptyRow))) same)
+      ∙ ap (take (m * rowSize)) (drop-put-at (sheetOf rows) l (rowSize * first) (omega (arith, size)))
+      ∙ take-at (sheetOf rows) (drop (rowSize * first + length (sheetOf rows)) l) (m * rowSize) size
+
+  pub block-none : l ≡ put l (rowSize * first) (sheetOf (replicate (first - first) emptyRow))
+  block-none =
+      let z : first - first ≡ 0 = omega arith in
+      sym (ap (λ (k : ℕ). put l (rowSize * first) (sheetOf (replicate k emptyRow))) z ∙ put-nothing l (rowSize * first))
+
+  pub block-more : (l₁ l₂ : List ℕ) (i m k : ℕ) → first ≤ i → k ≡ i + m → l₁ ≡ put l (rowSize * first) (sheetOf (replicate (i - first) emptyRow))
+      → l₂ ≡ put l₁ (rowSize * i) (sheetOf (replicate m emptyRow)) → l₂ ≡ put l (rowSize * first) (sheetOf (replicate (k - first) emptyRow))
+  block-more l₁ l₂ i m k h up e₁ e₂ =
+      let a : List FigureRow = replicate (i - first) emptyRow in
+      let b : List FigureRow = replicate m emptyRow in
+      let place : rowSize * i ≡ rowSize * first + length (sheetOf a) = omega (arith, length-rows a, length-replicate (i - first) emptyRow) in
+      let all : i - first + m ≡ k - first = omega arith in
+      e₂
+      ∙ ap₂ (λ (s : List ℕ) (j : ℕ). put s j (sheetOf b)) e₁ place
+      ∙ put-append (sheetOf a) l (rowSize * first) (sheetOf b)
+      ∙ ap (put l (rowSize * first))
+      (sym (concatMap-append rowBytes a b)
+      ∙ ap sheetOf (replicate-append-replicate (i - first) m emptyRow ∙ ap (λ (j : ℕ). replicate j emptyRow) all))
+
+-- UNTOLD ROWS
+
+-- The first i leases have untold rows.
+pub Filling : List ℕ → List ℕ → ℕ → ℕ → List ℕ → ℕ → Type 0
+Filling l image from n sheet i = (xs : List Lease) → Records image from xs → n ≡ length xs → sheet ≡ put l 0 (sheetOf (take i (map untoldRow xs)))
+
+module _ (l image : List ℕ) (from n : ℕ) where
+  pub filling-none : Filling l image from n l 0
+  unfolding Filling
+  filling-none xs r e = sym (put-nothing l 0)
+
+  pub filling-more : (l₁ l₂ : List ℕ) (i : ℕ) (x : Lease) (y : FigureRow) → i < n → Filling l image from n l₁ i → x ≡ leaseIn (drop (from + leaseSize * i) image) → y ≡ untoldRow x
+      → l₂ ≡ put l₁ (rowSize * i) (rowBytes y) → Filling l image from n l₂ (i + 1)
+  unfolding Filling
+  filling-more l₁ l₂ i x y lt before read y-is e₂ xs r e =
+      let place : rowSize * i ≡ 0 + rowSize * i = omega arith in
+      let v-is : y ≡ getD (map untoldRow xs) i emptyRow =
+      y-is ∙ ap untoldRow (read ∙ lease-in-place image from xs r i (omega arith)) ∙ sym (List·getD-map untoldRow xs i noLease) in
+      more-put rowBytes rowSize length-row l l₁ l₂ 0 i (map untoldRow xs) emptyRow (omega (arith, length-map xs untoldRow)) (before xs r e)
+      (e₂ ∙ ap₂ (λ (k : ℕ) (v : FigureRow). put l₁ k (rowBytes v)) place v-is)
+
+  pub filling-all : (l₁ : List ℕ) (i : ℕ) → n ≤ i → Filling l image from n l₁ i → (xs : List Lease) → Records image from xs → n ≡ length xs → l₁ ≡ put l 0 (sheetOf (map untoldRow xs))
+  unfolding Filling
+  filling-all l₁ i h before xs r e =
+      before xs r e ∙ ap (λ (s : List FigureRow). put l 0 (sheetOf s)) (take-all i (map untoldRow xs) (omega (arith, length-map xs untoldRow)))
+
+map-none : (m : ℕ) → map untoldRow (replicate m noLease) ≡ replicate m emptyRow
+map-none zero = refl
+map-none (suc m) = ap (λ (s : List FigureRow). emptyRow ∷ s) (map-none m)
+
+-- A whole sheet, over a size that is no numeral here.
+whole : (slots : ℕ) (l l₁ l₂ : List ℕ) (xs : List Lease) → length xs ≤ slots → length l ≡ rowSize * slots → l₁ ≡ put l 0 (sheetOf (map untoldRow xs))
+    → l₂ ≡ put l₁ (rowSize * length xs) (sheetOf (replicate (slots - length xs) emptyRow)) → l₂ ≡ sheetOf (map untoldRow (xs ++ replicate (slots - length xs) noLease))
+whole slots l l₁ l₂ xs h size e₁ e₂ =
+    let a : List FigureRow = map untoldRow xs in
+    let b : List FigureRow = replicate (slots - length xs) emptyRow in
+    let sa = length-rows a in
+    let sb = length-rows b in
+    let place : rowSize * length xs ≡ 0 + length (sheetOf a) = omega (arith, sa, length-map xs untoldRow) in
+    let total : List ℕ = sheetOf a ++ sheetOf b in
+    let st : length total ≡ length l = omega (arith, length-append (sheetOf a) (sheetOf b), sa, sb, length-map xs untoldRow, length-replicate (slots - length xs) emptyRow) in
+    e₂
+    ∙ ap₂ (λ (m : List ℕ) (k : ℕ). put m k (sheetOf b)) e₁ place
+    ∙ put-append (sheetOf a) l 0 (sheetOf b)
+    ∙ put-front total l (omega (arith, st))
+    ∙ ap (λ (d : List ℕ). total ++ d) (drop-end l (length total) (omega (arith, st)))
+    ∙ append-nil total
+    ∙ sym (concatMap-append rowBytes a b)
+    ∙ ap (λ (s : List FigureRow). sheetOf (a ++ s)) (sym (map-none (slots - length xs)))
+    ∙ ap sheetOf (sym (map-append untoldRow xs (replicate (slots - length xs) noLease)))
+
+pub filled : (l l₁ l₂ : List ℕ) (n : ℕ) (xs : List Lease) → n ≤ leaseSlots → length l ≡ figuresSize → n ≡ length xs → l₁ ≡ put l 0 (sheetOf (map untoldRow xs))
+    → l₂ ≡ put l₁ (rowSize * n) (sheetOf (replicate (leaseSlots - n) emptyRow)) → l₂ ≡ sheetOf (map untoldRow (padded xs))
+filled l l₁ l₂ n xs h size e e₁ e₂ =
+    whole leaseSlots l l₁ l₂ xs (omega arith) size e₁ (e₂ ∙ ap (λ (k : ℕ). put l₁ (rowSize * k) (sheetOf (replicate (leaseSlots - k) emptyRow))) e)

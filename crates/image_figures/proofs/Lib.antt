@@ -1,0 +1,12 @@
+-- Laws for callers.
+pub mod SheetLaws
+pub mod AcceptedLaws
+-- Laws of the functions.
+mod RowLaws
+mod EmptyLaws
+mod MatchLaws
+mod BlockLaws
+mod StrikeLaws
+mod PlacedLaws
+mod SpreadLaws
+mod FillLaws
