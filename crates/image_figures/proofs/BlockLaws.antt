@@ -1,14 +1,14 @@
 -- Thirty-two rows compared at once: both halves stand there as the same bytes, those of rows of empty slots.
 -- Assumes nothing.
-use Prim.Native.Nat.{ℕ, zero, suc, _+_, _-_, _*_, _≤_, _<_}
+use Prim.Native.Nat.{ℕ, zero, suc, _+_, _*_, _≤_, _<_}
 use native.Mathlib.Omega.{arith}
 use mathlib.Core.Path.{_≡_, refl, sym, ap, subst, _∙_}
 use mathlib.Core.Logic.{⊎-elim}
 use mathlib.Core.Bool.{true, false, _&&_}
-use mathlib.Core.List.{List, [], _∷_, _++_, map}
-use lib.ListN.{length, getD, take, drop, replicate, length-drop, length-replicate, take-append-drop, List·getD-append, List·getD-map}
+use mathlib.Core.List.{List, _++_}
+use lib.ListN.{length, getD, take, drop, replicate, length-drop, length-replicate, take-append-drop, List·getD-append}
 use lib.Seq.{drop-drop, getD-take, length-take-le, ext-getD}
-use lib.Bits.{bitOr, bitXor, or-add-and, xor-add-and, and-le-l, and-le-r, or-zero-l, xor-self}
+use lib.Bits.{bitOr, bitXor, or-add-and, xor-add-and, and-le-l, and-le-r}
 use lib.Dec.{eqb}
 use borrow.Author.Tests.{eqb-true, eqb-false, eq-eqb}
 use Rattle.lists.specs.Lists.{all?}
@@ -19,9 +19,9 @@ use Rattle.figures.specs.Figures.{emptyRow}
 use Rattle.figures.specs.Inner.{emptyRow?}
 use Rattle.figures.proofs.MatchLaws.{all-empty}
 use Rattle.image_figures.specs.Sheets.{rowSize, sheetOf, rowsIn}
-use Rattle.image_figures.proofs.RowLaws.{length-rows}
 use Rattle.image_figures.proofs.SheetLaws.{length-rows-in, rows-in-two, rows-front, bytes-front}
 use Rattle.image_figures.proofs.MatchLaws.{all?-append}
+use Rattle.image_figures.proofs.EmptyBytes.{emptyBytes, length-empty}
 
 -- TWO BYTES
 
@@ -32,33 +32,6 @@ pub xor-none : (a b : ℕ) → bitXor a b ≡ 0 → a ≡ b
 xor-none a b e = omega (arith, e, xor-add-and a b, and-le-l a b, and-le-r a b)
 
 -- BYTES OF EMPTY ROWS
-
-abbrev pub emptyBytes : ℕ → List ℕ
-emptyBytes n = sheetOf (replicate n emptyRow)
-
-pub length-empty : (n : ℕ) → length (emptyBytes n) ≡ rowSize * n
-length-empty n = length-rows (replicate n emptyRow) ∙ ap (λ (k : ℕ). rowSize * k) (length-replicate n emptyRow)
-
--- These are they, each bit turned.
-abbrev pub turn : ℕ → ℕ
-turn x = 255 - x
-
-pub Turned : List ℕ → ℕ → Type 0
-Turned turned n = map turn turned ≡ emptyBytes n
-
-pub turned-all : (turned : List ℕ) (n : ℕ) → map turn turned ≡ emptyBytes n → Turned turned n
-unfolding Turned
-turned-all turned n e = e
-
-other-default : (l : List ℕ) (k d e : ℕ) → k < length l → getD l k d ≡ getD l k e
-other-default [] k d e h = absurd (omega arith)
-other-default (x ∷ l) zero d e h = refl
-other-default (x ∷ l) (suc k) d e h = other-default l k d e (omega arith)
-
-pub turned-byte : (turned : List ℕ) (n : ℕ) → Turned turned n → (k : ℕ) → k < rowSize * n → turn (getD turned k 0) ≡ getD (emptyBytes n) k 0
-unfolding Turned
-turned-byte turned n e k h =
-    sym (List·getD-map turn turned k 0) ∙ ap (λ (l : List ℕ). getD l k 255) e ∙ other-default (emptyBytes n) k 255 0 (omega (arith, length-empty n))
 
 -- From a place on stand the first k of them.
 pub Stand : List ℕ → ℕ → ℕ → ℕ → Type 0

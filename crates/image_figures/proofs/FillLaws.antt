@@ -4,8 +4,8 @@ use Prim.Native.Nat.{ℕ, zero, suc, _+_, _-_, _*_, _≤_, _<_}
 use native.Mathlib.Omega.{arith}
 use mathlib.Core.Path.{_≡_, refl, sym, ap, ap₂, _∙_}
 use mathlib.Core.List.{List, _∷_, _++_, map, append-nil}
-use lib.ListN.{length, getD, take, drop, replicate, length-append, length-map, length-replicate, replicate-append-replicate, getD-replicate, List·getD-map}
-use lib.Seq.{take-all, take-at}
+use lib.ListN.{length, getD, take, drop, replicate, length-append, length-map, length-replicate, List·getD-map}
+use lib.Seq.{take-all}
 use Rattle.lists.specs.Put.{put}
 use Rattle.lists.proofs.DropLaws.{drop-end}
 use Rattle.lists.proofs.ConcatMapLaws.{concatMap-append}
@@ -17,69 +17,35 @@ use Rattle.image.specs.Image.{leaseSize}
 use Rattle.image.specs.Reading.{leaseIn}
 use Rattle.image.proofs.WriteLaws.{more-put}
 use Rattle.image_records.specs.Records.{Records}
-use Rattle.image_records.proofs.PutForms.{drop-put-at}
+use Rattle.image_records.proofs.PutForms.{put-over-last}
 use Rattle.image_records.proofs.RecordLaws.{lease-in-place}
 use Rattle.figures.specs.declared.FigureRow.{FigureRow}
 use Rattle.figures.specs.Figures.{untoldRow, emptyRow}
 use Rattle.image_figures.specs.Sheets.{rowSize, figuresSize, rowBytes, sheetOf}
 use Rattle.image_figures.proofs.RowLaws.{length-row, length-rows}
+use Rattle.image_figures.proofs.EmptyBytes.{emptyBytes, length-empty, empty-append}
 
 -- EMPTY ROWS
 
--- So many of m.
-abbrev pub empties : ℕ → ℕ → List FigureRow
-empties m k = take k (replicate m emptyRow)
-
-module _ (l : List ℕ) (first last : ℕ) (below : first ≤ last) where
-  pub cleared-none : l ≡ put l (rowSize * first) (sheetOf (empties (last - first) (first - first)))
+module _ (l : List ℕ) (first : ℕ) where
+  pub cleared-none : l ≡ put l (rowSize * first) (emptyBytes (first - first))
   cleared-none =
       let z : first - first ≡ 0 = omega arith in
-      sym (ap (λ (k : ℕ). put l (rowSize * first) (sheetOf (empties (last - first) k))) z ∙ put-nothing l (rowSize * first))
+      sym (ap (λ (k : ℕ). put l (rowSize * first) (emptyBytes k)) z ∙ put-nothing l (rowSize * first))
 
-  pub cleared-more : (l₁ l₂ : List ℕ) (i : ℕ) (y : FigureRow) → first ≤ i → i < last → l₁ ≡ put l (rowSize * first) (sheetOf (empties (last - first) (i - first))) → y ≡ emptyRow
-      → l₂ ≡ put l₁ (rowSize * i) (rowBytes y) → l₂ ≡ put l (rowSize * first) (sheetOf (empties (last - first) (i + 1 - first)))
-  cleared-more l₁ l₂ i y h j e₁ y-is e₂ =
-      let all : List FigureRow = replicate (last - first) emptyRow in
-      let place : rowSize * i ≡ rowSize * first + rowSize * (i - first) = omega arith in
-      let one : i - first + 1 ≡ i + 1 - first = omega arith in
-      more-put rowBytes rowSize length-row l l₁ l₂ (rowSize * first) (i - first) all emptyRow (omega (arith, length-replicate (last - first) emptyRow)) e₁
-      (e₂ ∙ ap₂ (λ (k : ℕ) (v : FigureRow). put l₁ k (rowBytes v)) place (y-is ∙ sym (getD-replicate (last - first) (i - first) emptyRow emptyRow (omega arith))))
-      ∙ ap (λ (k : ℕ). put l (rowSize * first) (sheetOf (take k all))) one
-
-  pub cleared-all : (l₁ : List ℕ) (i : ℕ) → last ≤ i → i ≤ last → l₁ ≡ put l (rowSize * first) (sheetOf (empties (last - first) (i - first)))
-      → l₁ ≡ put l (rowSize * first) (sheetOf (replicate (last - first) emptyRow))
-  cleared-all l₁ i h j e =
-      e ∙ ap (λ (s : List FigureRow). put l (rowSize * first) (sheetOf s)) (take-all (i - first) (replicate (last - first) emptyRow) (omega (arith, length-replicate (last - first) emptyRow)))
-
--- Sixteen of them are read back, and so many more are put behind those that stand.
-module _ (l : List ℕ) (first : ℕ) where
-  pub block-is : (l₁ : List ℕ) (m n : ℕ) → n ≡ m → rowSize * first + m * rowSize ≤ length l → l₁ ≡ put l (rowSize * first) (sheetOf (replicate n emptyRow))
-      → take (m * rowSize) (drop (rowSize * first) l₁) ≡ sheetOf (replicate m emptyRow)
-  block-is l₁ m n same room e =
-      let rows : List FigureRow = replicate m emptyRow in
-      let size : length (sheetOf rows) ≡ m * rowSize = length-rows rows ∙ omega (arith, length-replicate m emptyRow) in
-      ap (λ (b : List ℕ). take (m * rowSize) (drop (rowSize * first) b)) (e ∙ ap (λ (k : ℕ). put l (rowSize * first) (sheetOf (replicate k emptyRow))) same)
-      ∙ ap (take (m * rowSize)) (drop-put-at (sheetOf rows) l (rowSize * first) (omega (arith, size)))
-      ∙ take-at (sheetOf rows) (drop (rowSize * first + length (sheetOf rows)) l) (m * rowSize) size
-
-  pub block-none : l ≡ put l (rowSize * first) (sheetOf (replicate (first - first) emptyRow))
-  block-none =
-      let z : first - first ≡ 0 = omega arith in
-      sym (ap (λ (k : ℕ). put l (rowSize * first) (sheetOf (replicate k emptyRow))) z ∙ put-nothing l (rowSize * first))
-
-  pub block-more : (l₁ l₂ : List ℕ) (i m k : ℕ) → first ≤ i → k ≡ i + m → l₁ ≡ put l (rowSize * first) (sheetOf (replicate (i - first) emptyRow))
-      → l₂ ≡ put l₁ (rowSize * i) (sheetOf (replicate m emptyRow)) → l₂ ≡ put l (rowSize * first) (sheetOf (replicate (k - first) emptyRow))
-  block-more l₁ l₂ i m k h up e₁ e₂ =
-      let a : List FigureRow = replicate (i - first) emptyRow in
-      let b : List FigureRow = replicate m emptyRow in
-      let place : rowSize * i ≡ rowSize * first + length (sheetOf a) = omega (arith, length-rows a, length-replicate (i - first) emptyRow) in
-      let all : i - first + m ≡ k - first = omega arith in
+  -- The rows up to i are cleared; m more from j on, which may stand among them.
+  pub cleared-more : (l₁ l₂ : List ℕ) (i j m k : ℕ) → first ≤ j → j ≤ i → i ≤ k → k ≡ j + m → l₁ ≡ put l (rowSize * first) (emptyBytes (i - first))
+      → l₂ ≡ put l₁ (rowSize * j) (emptyBytes m) → l₂ ≡ put l (rowSize * first) (emptyBytes (k - first))
+  cleared-more l₁ l₂ i j m k from among up last e₁ e₂ =
+      let p : List ℕ = emptyBytes (j - first) in
+      let q : List ℕ = emptyBytes (i - j) in
+      let place : rowSize * j ≡ rowSize * first + length p = omega (arith, length-empty (j - first)) in
+      let before : i - first ≡ j - first + (i - j) = omega arith in
+      let after : j - first + m ≡ k - first = omega arith in
       e₂
-      ∙ ap₂ (λ (s : List ℕ) (j : ℕ). put s j (sheetOf b)) e₁ place
-      ∙ put-append (sheetOf a) l (rowSize * first) (sheetOf b)
-      ∙ ap (put l (rowSize * first))
-      (sym (concatMap-append rowBytes a b)
-      ∙ ap sheetOf (replicate-append-replicate (i - first) m emptyRow ∙ ap (λ (j : ℕ). replicate j emptyRow) all))
+      ∙ ap₂ (λ (s : List ℕ) (n : ℕ). put s n (emptyBytes m)) (e₁ ∙ ap (put l (rowSize * first)) (ap emptyBytes before ∙ empty-append (j - first) (i - j))) place
+      ∙ put-over-last p q (emptyBytes m) l (rowSize * first) (omega (arith, length-empty (i - j), length-empty m))
+      ∙ ap (put l (rowSize * first)) (sym (empty-append (j - first) m) ∙ ap emptyBytes after)
 
 -- UNTOLD ROWS
 

@@ -4,6 +4,7 @@ pub mod AcceptedLaws
 -- Laws of the functions.
 mod RowLaws
 mod EmptyLaws
+mod EmptyBytes
 mod MatchLaws
 mod BlockLaws
 mod StrikeLaws

@@ -7,7 +7,7 @@ use mathlib.Core.Logic.{⊎-elim}
 use mathlib.Core.Bool.{true, false}
 use mathlib.Core.List.{List, [], _∷_, _++_, append-assoc}
 use lib.ListN.{length, set, getD, take, drop, replicate, length-append, length-set, length-replicate, length-drop}
-use lib.Seq.{take-all, take-set-le, take-suc-set, drop-set-lt, drop-drop, getD-drop, length-take-le}
+use lib.Seq.{take-set-le, take-suc-set, drop-set-lt, drop-drop, getD-drop, length-take-le}
 use lib.Dec.{ltb}
 use borrow.Author.Tests.{ltb-true, ltb-false}
 use Rattle.lists.specs.Put.{put}
@@ -24,7 +24,7 @@ use Rattle.image_records.proofs.RemoveLaws.{outside-stays}
 use Rattle.figures.specs.declared.FigureRow.{FigureRow}
 use Rattle.figures.specs.Figures.{emptyRow, keptRows}
 use Rattle.figures.proofs.KeptLaws.{kept-more, kept-skip, kept-first, kept-from, kept-count}
-use Rattle.image_figures.specs.Sheets.{rowSize, rowBytes, sheetOf}
+use Rattle.image_figures.specs.Sheets.{rowSize, sheetOf}
 use Rattle.image_figures.specs.Inner.{Closing}
 use Rattle.image_figures.proofs.RowLaws.{sheet-length, bytes-in-place, part-in-place, row-edited, rows-edited}
 

@@ -1,5 +1,5 @@
 -- What is known of a sheet while its rows are moved, one after another.
-use Prim.Native.Nat.{ℕ, zero, suc, _+_, _-_, _<_}
+use Prim.Native.Nat.{ℕ, zero, suc, _-_}
 use mathlib.Core.Path.{_≡_}
 use mathlib.Core.Bool.{Bool, false, cond}
 use mathlib.Core.List.{List}
@@ -8,7 +8,7 @@ use Rattle.table.specs.declared.Lease.{Lease}
 use Rattle.image_records.specs.Records.{Records, ExpiredIn}
 use Rattle.figures.specs.declared.FigureRow.{FigureRow}
 use Rattle.figures.specs.Figures.{untoldRow, emptyRow, ofLease?, keptRows}
-use Rattle.image_figures.specs.Sheets.{rowSize, sheetOf}
+use Rattle.image_figures.specs.Sheets.{sheetOf}
 
 -- STRIKING. After its first i leases: the rows of those of them that are present, `kept` in all, stand first, and the rows from i on where they stood.
 unfoldable pub Closing : List ℕ → List ℕ → ℕ → ℕ → ℕ → ℕ → ℕ → List ℕ → ℕ → ℕ → Type 0

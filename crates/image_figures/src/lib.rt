@@ -147,7 +147,8 @@ fn empty_at(sheet: &[u8], at: usize) -> bool
     image::read32(sheet, at + IN_USE) == EMPTY_END
 }
 
-// Sixteen rows of empty slots, each bit turned. What is made of a constant, here by turning it back, stays in registers.
+// Sixteen rows of empty slots, each bit turned: bytes that are computed of a constant are compared and stored by the register,
+// but a constant that is copied as it is would be made byte by byte.
 const TURNED: [u8; SIXTEEN] =
     *b"\xff\xff\xff\xff\xff\0\0\0\0\0\0\xff\xff\xff\xff\xff\0\0\0\0\0\0\xff\xff\xff\xff\xff\0\0\0\0\0\0\xff\xff\xff\xff\xff\0\0\0\0\0\0\
     \xff\xff\xff\xff\xff\0\0\0\0\0\0\xff\xff\xff\xff\xff\0\0\0\0\0\0\xff\xff\xff\xff\xff\0\0\0\0\0\0\xff\xff\xff\xff\xff\0\0\0\0\0\0\
@@ -320,23 +321,34 @@ fn clear_each(sheet: &mut [u8], first: usize, last: usize)
     }
 }
 
-// The same, sixteen at a time: the first sixteen, and copies of them.
+// Sixteen of them.
+fn put_empty(sheet: &mut [u8], at: usize)
+    requires { ⌜ at + (16 * rowSize) ≤ length (now sheet) ⌝ }
+    ensures { λ _. ⌜ now (sheet .exit) ≡ put (now (sheet .entry)) at (sheetOf (replicate 16 emptyRow)) ⌝ }
+{
+    let turned = TURNED;
+    let mut k: usize = 0;
+    while k < SIXTEEN {
+        sheet[at + k] = !turned[k];
+        k = k + 1;
+    }
+}
+
+// Rows of empty slots from the place `first` up to `last`, by sixteen; the last of them may begin among rows that were cleared.
 fn clear_rows(sheet: &mut [u8], first: usize, last: usize)
     requires { ⌜ (first ≤ last) × (rowSize * last ≤ length (now sheet)) ⌝ }
     ensures { λ _. ⌜ now (sheet .exit) ≡ put (now (sheet .entry)) (rowSize * first) (sheetOf (replicate (last - first) emptyRow)) ⌝ }
 {
-    if last - first < 32 {
+    if last - first < 16 {
         clear_each(sheet, first, last);
         return;
     }
-    clear_each(sheet, first, first + 16);
-    let bytes = sixteen_at(sheet, ROW * first);
-    let mut i: usize = first + 16;
-    while i + 16 <= last {
-        put_sixteen(sheet, ROW * i, bytes);
+    let mut i: usize = first;
+    while i + 16 < last {
+        put_empty(sheet, ROW * i);
         i = i + 16;
     }
-    clear_each(sheet, i, last);
+    put_empty(sheet, ROW * (last - 16));
 }
 
 // STRIKING

@@ -1,7 +1,6 @@
 -- `image_figures::leases_match` meets its contract: the rows up to i are of their leases, so the answer is that for the rest.
 -- Assumes nothing.
 use Prim.Native.Nat.{_-_, _≤_}
-use mathlib.Core.Path.{_≡_, sym, _∙_}
 use native.Mathlib.Omega.{arith}
 use borrow.Author.Tests.{not-true, not-false}
 use Rattle.table.specs.Table.{leaseSlots}

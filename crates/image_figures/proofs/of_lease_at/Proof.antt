@@ -1,7 +1,6 @@
 -- `image_figures::of_lease_at` meets its contract.
 -- Assumes nothing.
-use mathlib.Core.Path.{sym, ap, _∙_}
-use lib.Dec.{eqb}
+use mathlib.Core.Path.{sym, _∙_}
 use Rattle.image.specs.Reading.{leaseIn}
 use Rattle.image.proofs.FieldLaws.{byte-from}
 use Rattle.image_figures.specs.Sheets.{rowIn}

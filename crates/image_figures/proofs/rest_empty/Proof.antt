@@ -1,6 +1,6 @@
 -- `image_figures::rest_empty` meets its contract: the rows up to i are empty, so the answer is that for the rest.
 -- Assumes nothing.
-use Prim.Native.Nat.{_+_, _*_, _-_, _≤_}
+use Prim.Native.Nat.{_+_, _-_, _≤_}
 use mathlib.Core.Path.{_≡_, refl}
 use native.Mathlib.Omega.{arith}
 use lib.ListN.{drop}
@@ -8,7 +8,7 @@ use borrow.Author.Tests.{not-true, not-false}
 use Rattle.lists.specs.Lists.{all?}
 use Rattle.table.specs.Table.{leaseSlots}
 use Rattle.figures.specs.Inner.{emptyRow?}
-use Rattle.image_figures.specs.Sheets.{rowSize, rowsIn}
+use Rattle.image_figures.specs.Sheets.{rowsIn}
 use Rattle.image_figures.proofs.MatchLaws.{empty-more, empty-not, empty-last}
 use borrow.Author.Needs.{needs}
 use Rattle.image_figures.proofs.rest_empty.Statement.{statement}

@@ -1,12 +1,13 @@
 -- `image_figures::thirty_two_empty` meets its contract: the flag is 0 where the first k bytes of both halves are those of empty rows.
 -- Assumes nothing.
-use Prim.Native.Nat.{_+_, _*_, _-_, _≤_}
-use mathlib.Core.Path.{_≡_, refl}
+use Prim.Native.Nat.{_*_, _-_, _≤_}
+use mathlib.Core.Path.{refl}
 use native.Mathlib.Omega.{arith}
 use Rattle.image.specs.Image.{le16, le32}
 use Rattle.image.proofs.FieldLaws.{Bytes}
 use Rattle.image_figures.specs.Sheets.{rowSize, rowBytes}
-use Rattle.image_figures.proofs.BlockLaws.{Turned, turned-all, turned-byte, Agree, agree-none, agree-more, agree-all}
+use Rattle.image_figures.proofs.EmptyBytes.{Turned, turned-byte}
+use Rattle.image_figures.proofs.BlockLaws.{Agree, agree-none, agree-more, agree-all}
 use borrow.Author.Needs.{needs}
 use Rattle.image_figures.proofs.thirty_two_empty.Statement.{statement}
 use Rattle.image_figures.proofs.thirty_two_empty.Tie as tie
@@ -18,8 +19,8 @@ abbrev μ-loop : tie.MeasureT-loop
 μ-loop sheet at turned other₀ k₀ other k = 16 * rowSize - k
 
 loop-holds : tie.Need-loop-holds Inv-loop μ-loop
-unfolding rowBytes le16 le32
-loop-holds c = let a = c .before .args in (omega arith, turned-all _ 16 refl, agree-none (a .sheet .now) (a .at) 16)
+unfolding Turned rowBytes le16 le32
+loop-holds c = let a = c .before .args in (omega arith, refl, agree-none (a .sheet .now) (a .at) 16)
 
 loop-again : tie.Need-loop-again Inv-loop μ-loop
 loop-again c =
