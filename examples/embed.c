@@ -16,9 +16,9 @@
  * A client gets its answer only after the new image is on the disk: it is written to another file, which is synced and
  * then renamed over the old one, and the directory is synced. So a server that is killed between any two steps finds at
  * its next start the image from before the message or the one from after it, whole, and it has promised no lease that
- * is not in it. A client whose answer was lost asks again: a take then gets the same answer, and the prefix of an ask
- * that nobody takes is free again after 120 seconds. STOP-AFTER shows this: the server kills itself after so many
- * steps.
+ * is not in it. A client whose answer was lost asks again: a take then gets the same answer, and an ask within 120
+ * seconds the same prefixes; after that a prefix that nobody took is free again. STOP-AFTER shows this: the server kills
+ * itself after so many steps.
  *
  * If the image cannot be written the server goes back to the book from before the message, gives no answer, says why on
  * standard error and goes on. A new book takes the place of no other: open is no word where there is a book, and its

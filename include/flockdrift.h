@@ -56,9 +56,10 @@
  * none. The row of a place without a lease has network 0, length 0 and three times 0xffff. A sheet of which one row is
  * not so does not match the table, nor does one of another size.
  *
- * Open and load fill the sheet, nothing told. An ask adds rows, nothing told; with a lease its row is removed, whether
- * it ended or was released; a take files the figures of the entries that it finds, in order, where 0xffff or a missing
- * one keeps what was told before; nothing else changes a figure. flockdrift_book_figures answers a row as numbers.
+ * Open and load fill the sheet, nothing told. An ask adds a row for each lease that it makes, nothing told; with a lease
+ * its row is removed, whether it ended or was released; a take files the figures of the entries that it finds, in
+ * order, where 0xffff or a missing one keeps what was told before; nothing else changes a figure.
+ * flockdrift_book_figures answers a row as numbers.
  */
 #ifndef FLOCKDRIFT_H
 #define FLOCKDRIFT_H
@@ -71,7 +72,7 @@ extern "C" {
 #endif
 
 /* Of this header and of the library that belongs to it. */
-#define FLOCKDRIFT_VERSION "0.10.0"
+#define FLOCKDRIFT_VERSION "0.11.0"
 
 /*
  * The image of a full table: 8 pools and 256 leases. No image is longer, and an image buffer must not be smaller. After
@@ -119,8 +120,8 @@ enum {
     FLOCKDRIFT_NOT_THE_OPTION = 6,    /* the input is not exactly one option 220; read_selection: one option 118 */
     FLOCKDRIFT_BAD_SUBOPTION = 7,     /* a suboption breaks the format: `place` says which */
     FLOCKDRIFT_WRONG_SUBOPTIONS = 8,  /* requests or entries are not those that this call takes */
-    FLOCKDRIFT_TABLE_FULL = 9,        /* ask: 256 leases are present */
-    FLOCKDRIFT_NO_SPACE = 10,         /* ask: no free prefix of the length */
+    FLOCKDRIFT_TABLE_FULL = 9,        /* ask: 256 leases are present, and nothing is offered again */
+    FLOCKDRIFT_NO_SPACE = 10,         /* ask: no free prefix of the length, and nothing is offered again */
     FLOCKDRIFT_NOT_FOUND = 11,        /* take, list, release, mark: no such lease; pool, lease: none with the index */
     FLOCKDRIFT_OUTSIDE_RULES = 12,    /* open: pools, term, default length or start */
     FLOCKDRIFT_BUFFER_TOO_SMALL = 14, /* open, load: the image buffer is below FLOCKDRIFT_IMAGE_CAPACITY, or the
@@ -167,9 +168,14 @@ struct flockdrift_answer flockdrift_open(uint8_t *image, size_t capacity, size_t
                                          uint32_t start);
 
 /*
- * Offers a free prefix for each of the option's 1 to 25 requests, where there is one, and holds it for 120 seconds; the
- * reply has one information for each, in order. At least one request must be granted. Numbers: 1, 5, 15, 2, 3, 4, 6, 7,
- * 8, 9, 10.
+ * Offers a prefix for each of the option's 1 to 25 requests, where there is one, and holds it for 120 seconds; the reply
+ * has one information for each, in order. At least one request must be granted.
+ *
+ * What the client was offered before and has not taken, if it has not ended, it is offered again: a request gets the
+ * lease of its length and h that the client holds, of several the lowest, each only once in a call. It is held for 120
+ * seconds from now on, even if it would have ended later; its d stays and is in the reply, and its row of the figures
+ * sheet stays. This needs no place in the table and no free prefix. Only the other requests get free prefixes. So a
+ * client whose answer was lost, and who asks again, gets the same prefixes. Numbers: 1, 5, 15, 2, 3, 4, 6, 7, 8, 9, 10.
  */
 struct flockdrift_answer flockdrift_ask(uint8_t *image, size_t capacity, size_t *image_bytes, uint8_t *figures,
                                         size_t figures_capacity, uint32_t client, uint32_t now, const uint8_t *option,
@@ -261,7 +267,7 @@ struct flockdrift_pool_answer {
 struct flockdrift_pool_answer flockdrift_pool(const uint8_t *image, size_t capacity, size_t image_bytes, size_t index);
 
 enum {
-    FLOCKDRIFT_HELD = 1,  /* offered, until it is taken or 120 seconds have passed */
+    FLOCKDRIFT_HELD = 1,  /* offered, until it is taken or 120 seconds have passed since it was offered last */
     FLOCKDRIFT_LEASED = 2
 };
 

@@ -1,5 +1,7 @@
 //! Images and figures sheets made by hand, sound or not.
 
+/// A lease's record.
+pub const LEASE: usize = 19;
 /// A row of a figures sheet.
 pub const ROW: usize = 11;
 pub const ROWS: usize = 256;
@@ -86,7 +88,7 @@ impl Table {
                     client: word(at + 11),
                     expires: word(at + 15),
                 });
-                at += 19;
+                at += LEASE;
             }
         }
         table

@@ -1,7 +1,7 @@
 //! The calls that are measured, each on eight different tables, so that no branch is learnt by heart.
 
 use crate::desk::{Answer, Desk, FIGURES, FULL, Lent, REPLY, SHEET};
-use crate::images::{EMPTY_ROW, Lease, ROW, Table};
+use crate::images::{EMPTY_ROW, LEASE, Lease, ROW, Table};
 use crate::options;
 use crate::random::Random;
 
@@ -10,6 +10,8 @@ const LAST: u32 = 1_000_000;
 /// Leases that expire by then are still in the image.
 const NOW: u32 = LAST + 500;
 const CLIENT: u32 = 1;
+/// One that has nothing in any table.
+const STRANGER: u32 = 3;
 
 /// How the leases lie.
 #[derive(Clone, Copy, Debug, PartialEq, Eq)]
@@ -112,6 +114,8 @@ pub struct Row {
     pub shape: Shape,
     /// The number that every case answers with.
     pub number: u32,
+    /// How many leases there are more after the call, where a row is about that.
+    pub grows: Option<usize>,
     /// The bytes of the largest image before or after the call.
     pub restored: usize,
     /// The bytes of all rows that are a lease's before or after the call.
@@ -268,6 +272,9 @@ struct Plan {
     number: u32,
     client: u32,
     expired: usize,
+    /// How many offers the client has, all with this h; nothing: any, as they come.
+    offers: Option<(usize, bool)>,
+    grows: Option<usize>,
     option: fn(&mut Random, &Table) -> Vec<u8>,
     /// Mark looks for a lease that there is.
     found: bool,
@@ -281,6 +288,9 @@ fn row(plan: &Plan, shape: Shape, scale: usize, leases: usize) -> Row {
         let mut table = table_of(&mut random, shape, leases);
         for place in places(&mut random, leases, plan.expired) {
             table.leases[place].expires = LAST + 1;
+        }
+        if let Some((count, h)) = plan.offers {
+            make_offers(&mut random, &mut table, count, h);
         }
         let option = (plan.option)(&mut random, &table);
         let mut prefix = named(&mut random, &table, 1)[0];
@@ -303,11 +313,34 @@ fn row(plan: &Plan, shape: Shape, scale: usize, leases: usize) -> Row {
         scale,
         shape,
         number: plan.number,
+        grows: plan.grows,
         restored: 0,
         restored_figures: 0,
         cases,
         run: plan.run,
     }
+}
+
+/// So many leases are offers to the client, all with this h; what else it has is leased.
+fn make_offers(random: &mut Random, table: &mut Table, count: usize, h: bool) {
+    for lease in table.leases.iter_mut().filter(|lease| lease.client == CLIENT) {
+        lease.state = 2;
+    }
+    for place in places(random, table.leases.len(), count) {
+        let lease = &mut table.leases[place];
+        (lease.client, lease.state) = (CLIENT, 1);
+        lease.flags = lease.flags & 2 | u8::from(h);
+    }
+}
+
+/// 25 requests without h in any order: one for the length of each offer that the client has, the others for lengths of which
+/// there is no lease.
+fn ask_offers(random: &mut Random, table: &Table) -> Vec<u8> {
+    let offers = table.leases.iter().filter(|lease| lease.client == CLIENT && lease.state == 1);
+    let mut lengths: Vec<u8> = offers.map(|offer| offer.length).collect();
+    lengths.resize_with(25, || 22 + random.below(5) as u8);
+    let order = places(random, 25, 25);
+    options::ask(&order.iter().map(|&place| lengths[place]).collect::<Vec<u8>>())
 }
 
 fn ask_20(_: &mut Random, _: &Table) -> Vec<u8> {
@@ -362,8 +395,18 @@ fn listing(_: &mut Random, _: &Table) -> Vec<u8> {
 /// All rows, checked: every case answers with the row's number, on each desk with the same answer and bytes.
 pub fn rows(desks: &[&Desk]) -> Vec<Row> {
     use Shape::{Empty, Fragmented, Full, Packed};
-    let plain =
-        Plan { call: "", command: "", run: list, number: 0, client: CLIENT, expired: 0, option: listing, found: true };
+    let plain = Plan {
+        call: "",
+        command: "",
+        run: list,
+        number: 0,
+        client: CLIENT,
+        expired: 0,
+        offers: None,
+        grows: None,
+        option: listing,
+        found: true,
+    };
     let plan = |call, command, run, option| Plan { call, command, run, option, ..plain };
     let mut rows = vec![row(&plan("open", "open", open, listing), Empty, 0, 0)];
     let mut add = |plan: &Plan, sizes: &[(Shape, usize, usize)]| {
@@ -387,20 +430,33 @@ pub fn rows(desks: &[&Desk]) -> Vec<Row> {
         add(plan, &some);
     }
 
-    // One more and 25 more, up to a table of 256.
-    let one = plan("ask 1", "ask", ask, ask_20);
+    // One more and 25 more, up to a table of 256, for a client that has nothing.
+    let plan_ask = |call, option| Plan { client: STRANGER, ..plan(call, "ask", ask, option) };
+    let one = plan_ask("ask 1", ask_20);
     add(&one, &zero);
     add(&one, &[(Packed, 64, 64), (Packed, 256, 255), (Fragmented, 64, 64), (Fragmented, 256, 255)]);
-    let many = plan("ask 25", "ask", ask, ask_25);
+    let many = plan_ask("ask 25", ask_25);
     add(&many, &zero);
     add(&many, &[(Packed, 64, 64), (Packed, 256, 231), (Fragmented, 64, 64), (Fragmented, 256, 231)]);
-    add(&Plan { expired: 25, ..plan("ask 25, 25 expired", "ask", ask, ask_25) }, &some);
-    add(&refused(plan("ask 1", "ask", ask, ask_28), 9), &[(Packed, 256, 256), (Fragmented, 256, 256)]);
+    add(&Plan { expired: 25, ..plan_ask("ask 25, 25 expired", ask_25) }, &some);
+    add(&refused(plan_ask("ask 1", ask_28), 9), &[(Packed, 256, 256), (Fragmented, 256, 256)]);
     add(
-        &refused(plan("ask 1", "ask", ask, ask_9), 10),
+        &refused(plan_ask("ask 1", ask_9), 10),
         &[(Full, 64, 64), (Full, 256, 255), (Fragmented, 64, 64), (Fragmented, 256, 255)],
     );
-    add(&refused(plan("ask 25", "ask", ask, ask_9_25), 10), &[(Fragmented, 64, 64), (Fragmented, 256, 255)]);
+    add(&refused(plan_ask("ask 25", ask_9_25), 10), &[(Fragmented, 64, 64), (Fragmented, 256, 255)]);
+
+    // A client that has offers: all of 25 again, 12 of them again beside 13 new ones, none again because of h; up to a
+    // table of 256.
+    for (call, count, h, new) in [
+        ("ask 25, all again", 25, false, 0),
+        ("ask 25, half again", 12, false, 13),
+        ("ask 25, none again", 25, true, 25),
+    ] {
+        let plan = Plan { offers: Some((count, h)), grows: Some(new), ..plan(call, "ask", ask, ask_offers) };
+        let most = 256 - new;
+        add(&plan, &[(Packed, 64, 64), (Packed, 256, most), (Fragmented, 64, 64), (Fragmented, 256, most)]);
+    }
 
     for (call, command, run, option) in [
         ("take 1", "take", take as Run, entries_1 as fn(&mut Random, &Table) -> Vec<u8>),
@@ -437,6 +493,9 @@ fn check(row: &mut Row, desks: &[&Desk]) {
             let answer = (row.run)(desk, case, &mut buffers);
             let what = format!("{} on {} leases, {}", row.call, row.leases, row.shape.name());
             assert_eq!(answer.number, row.number, "{what}: {}", desk.name);
+            if let Some(grows) = row.grows {
+                assert_eq!(buffers.bytes, case.bytes + LEASE * grows, "{what}: {}", desk.name);
+            }
             if let Some((other, left)) = &first {
                 assert!(*other == answer && *left == buffers, "{what}: {} and {} differ", desks[0].name, desk.name);
             } else {

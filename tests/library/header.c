@@ -507,6 +507,43 @@ static void removed(struct lent *s)
     REFUSED(s, save(s, BUFFER), 5, 0);
 }
 
+/* What a client holds it is offered again, and only what is not held is new. */
+static void again(struct lent *s)
+{
+    static const uint8_t ask_h[] = {0xdc, 5, 0, 1, 2, 1, 26};
+    static const uint8_t ask_default[] = {0xdc, 5, 0, 1, 2, 0, 0};
+    static const uint8_t rows[] = {0, 1, 0, 10, 26, NO, NO, NO, 0, 8, 0, 10, 26, 1, 0, 2, 0, 3, 0};
+    uint8_t reply[13];
+
+    begin(s);
+    memcpy(s->figures + 5, rows + ROW + 5, 6);
+    keep(s);
+    ACCEPTED(s, ask(s, 7, 1060, ask_26, sizeof ask_26), 13, 1, 50);
+    SAME("the reply", memcmp(s->reply, name_26, sizeof name_26) != 0, 0);
+    LEASE(lease(s, BUFFER, 0), 0, network[0], 26, 7, FLOCKDRIFT_HELD, 0, 0, 1180);
+    ROWS(s, rows + ROW, 1);
+
+    /* d stays and is in the reply; nothing else of it differs */
+    ACCEPTED(s, mark(s, network[0], 26, 1, 1070), 0, 0, 50);
+    ACCEPTED(s, ask(s, 7, 1070, ask_26, sizeof ask_26), 13, 1, 50);
+    memcpy(reply, name_26, sizeof reply);
+    reply[11] = 1;
+    SAME("the reply", memcmp(s->reply, reply, sizeof reply) != 0, 0);
+    LEASE(lease(s, BUFFER, 0), 0, network[0], 26, 7, FLOCKDRIFT_HELD, 0, 1, 1190);
+
+    /* another h, another client: a lease more, and the row of the first moves with it */
+    ACCEPTED(s, ask(s, 7, 1070, ask_h, sizeof ask_h), 13, 1, 69);
+    ROWS(s, rows, 2);
+    ACCEPTED(s, ask(s, 8, 1070, ask_default, sizeof ask_default), 13, 1, 88);
+    ACCEPTED(s, ask(s, 8, 1080, ask_default, sizeof ask_default), 13, 1, 88);
+    LEASE(lease(s, BUFFER, 1), 0, 0x0a000140, 28, 8, FLOCKDRIFT_HELD, 0, 0, 1200);
+
+    /* leased, it is offered to nobody */
+    ACCEPTED(s, take(s, 7, 1080, name_26, sizeof name_26), 13, 1, 88);
+    ACCEPTED(s, ask(s, 7, 1080, ask_26, sizeof ask_26), 13, 1, 107);
+    LEASE(lease(s, BUFFER, 3), 0, network[0], 26, 7, FLOCKDRIFT_LEASED, 0, 1, 4680);
+}
+
 /*
  * A sheet that does not match, or of another size, is refused in the place of 15: after 1 and 5, before 2 and 3. Open
  * and load, which would fill it, refuse its size last.
@@ -793,16 +830,19 @@ static void full(struct lent *s)
     fill(s);
     ACCEPTED(s, flockdrift_open(s->image, FULL, b, f, FIGURES, pools, 8, eights, 8, 60, 30, 0), 0, 0, 85);
     for (i = 1; i <= 256; i++) {
-        a = flockdrift_ask(s->image, FULL, b, f, FIGURES, 7, 0, ask_26, sizeof ask_26, s->reply, REPLY);
+        a = flockdrift_ask(s->image, FULL, b, f, FIGURES, i, 0, ask_26, sizeof ask_26, s->reply, REPLY);
         ACCEPTED(s, a, 13, 1, 85 + 19 * i);
     }
     SAME("the length of a full image", s->bytes, FULL);
     HEAD(head(s, FULL), 0, 60, 30, 0, 8, 256);
     POOL(pool(s, FULL, 7), 0, 3u << 30, 8);
-    LEASE(lease(s, FULL, 255), 0, 255u << 6, 26, 7, FLOCKDRIFT_HELD, 0, 0, 120);
+    LEASE(lease(s, FULL, 255), 0, 255u << 6, 26, 256, FLOCKDRIFT_HELD, 0, 0, 120);
     LEASE(lease(s, FULL, 256), 11, 0, 0, 0, 0, 0, 0, 0);
-    /* neither a lease more nor a prefix of this length */
+    /* neither a lease more nor a prefix of this length; what is offered again needs none */
     REFUSED(s, flockdrift_ask(s->image, FULL, b, f, FIGURES, 7, 0, ask_8, sizeof ask_8, s->reply, REPLY), 9, 0);
+    REFUSED(s, flockdrift_ask(s->image, FULL, b, f, FIGURES, 257, 0, ask_26, sizeof ask_26, s->reply, REPLY), 9, 0);
+    a = flockdrift_ask(s->image, FULL, b, f, FIGURES, 256, 0, ask_26, sizeof ask_26, s->reply, REPLY);
+    ACCEPTED(s, a, 13, 1, FULL);
 
     REFUSED(s, save(s, FULL - 1), 14, 0);
     READ(s, save(s, FULL), FULL, 0);
@@ -863,6 +903,7 @@ int main(void)
     order(s);
     calls(s);
     removed(s);
+    again(s);
     unsound_figures(s);
     figures(s);
     load_and_save(s);

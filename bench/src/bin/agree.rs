@@ -10,7 +10,7 @@ use std::collections::BTreeMap;
 use std::process::exit;
 
 use bench::desk::{Answer, Desk, FIGURES, FULL, Lent, REPLY, SHEET};
-use bench::images::{EMPTY_ROW, Lease, ROW, Table};
+use bench::images::{EMPTY_ROW, Lease, ROW, ROWS, Table};
 use bench::options::{information, option, request};
 use bench::peer::PEER;
 use bench::random::Random;
@@ -120,6 +120,38 @@ fn agreed(desks: &[Desk], call: &Call, given: &Buffers) -> Result<(Answer, Buffe
     Ok(first.expect("there is a desk"))
 }
 
+/// The entries of an ask's reply, one in each information: network, length, flags.
+fn offers(reply: &[u8]) -> Vec<(u32, u8, u8)> {
+    let entry = |offer: &[u8]| (u32::from_be_bytes(offer[3..7].try_into().unwrap()), offer[7], offer[8]);
+    reply[3..].chunks(10).map(entry).collect()
+}
+
+/// What an accepted ask offers is the client's in the table after it, until then, and each only once.
+fn offers_are_there(client: u32, now: u32, reply: &[u8], table: &Table) -> Result<(), String> {
+    let mut offers = offers(reply);
+    for &(network, length, flags) in &offers {
+        // h and d are the other way round in a record.
+        let flags = flags >> 1 | flags << 1 & 2;
+        let offer = Lease { network, length, state: 1, flags, client, expires: now + 120 };
+        if !table.leases.contains(&offer) {
+            return Err(format!("what is offered is not in the table: {offer:?}"));
+        }
+    }
+    let count = offers.len();
+    offers.sort_unstable();
+    offers.dedup();
+    if offers.len() < count { Err("something is offered twice".into()) } else { Ok(()) }
+}
+
+/// Whether an accepted ask has given something again: an offer that was there before, as no new one lies where a lease is
+/// present.
+fn gave_again(now: u32, before: &Table, reply: &[u8]) -> bool {
+    let is_there = |&(network, length, _): &(u32, u8, u8)| {
+        before.leases.iter().any(|lease| (lease.network, lease.length) == (network, length) && lease.expires > now)
+    };
+    offers(reply).iter().any(is_there)
+}
+
 /// What every answer has to be, whoever gave it.
 fn plausible(call: &Call, given: &Buffers, answer: &Answer, left: &Buffers) -> Result<(), String> {
     if answer.number != 0 {
@@ -151,10 +183,13 @@ fn plausible(call: &Call, given: &Buffers, answer: &Answer, left: &Buffers) -> R
     if left.image[zeroed..] != given.image[zeroed..] {
         return Err("bytes past the image have changed".into());
     }
+    let table = Table::of_image(&left.image[..left.bytes]);
+    if let Call::Ask { client, now, .. } = call {
+        offers_are_there(*client, *now, &left.out[..answer.bytes as usize], &table)?;
+    }
     // "Rows match lines, place for place, after every accepted call that has the sheet".
-    let leases = Table::of_image(&left.image[..left.bytes]).leases;
     for (place, row) in left.figures.chunks(ROW).enumerate() {
-        let matches = match leases.get(place) {
+        let matches = match table.leases.get(place) {
             Some(lease) => row[..4] == lease.network.to_le_bytes() && row[4] == lease.length,
             None => row == EMPTY_ROW,
         };
@@ -427,6 +462,28 @@ fn random_pieces(random: &mut Random, table: &Table, kind: u64) -> Vec<u8> {
     bytes
 }
 
+/// A client that has offers, and an ask for some of them, in any order and now and then more than once; with other requests
+/// among them.
+fn random_again(random: &mut Random, table: &Table) -> Option<(u32, Vec<u8>)> {
+    let mut offers: Vec<Lease> = table.leases.iter().filter(|lease| lease.state == 1).copied().collect();
+    if offers.is_empty() {
+        return None;
+    }
+    let client = random.pick(&offers).client;
+    offers.retain(|offer| offer.client == client);
+    let mut pieces = Vec::new();
+    for _ in 0..random.pick(&[1, 1, 2, 3, 8, 25, 25]) {
+        let offer = random.pick(&offers);
+        let default = offer.length == table.default_length && random.once_in(2);
+        let h = offer.flags & 1 ^ u8::from(random.once_in(8));
+        pieces.extend(match random.below(6) {
+            0 => random_request(random, table, false),
+            _ => request(h, if default { 0 } else { offer.length }),
+        });
+    }
+    Some((client, option(&pieces)))
+}
+
 fn random_option(random: &mut Random, table: &Table, kind: u64) -> Vec<u8> {
     // Now and then the pieces of another call.
     let kind = if random.once_in(20) { random.below(3) } else { kind };
@@ -605,7 +662,11 @@ fn random_call(random: &mut Random, table: &Table) -> Call {
     let client = random_client(random);
     let now = random_time(random, table.last);
     match random.below(100) {
-        0..=31 => Call::Ask { client, now, option: random_option(random, table, 0) },
+        0..=31 => {
+            let again = if random.once_in(3) { random_again(random, table) } else { None };
+            let (client, option) = again.unwrap_or_else(|| (client, random_option(random, table, 0)));
+            Call::Ask { client, now, option }
+        }
         32..=49 => Call::Take { client, now, option: random_option(random, table, 1) },
         50..=63 => Call::List { client, now, option: random_option(random, table, 2) },
         64..=76 => Call::Release { client, now, option: random_option(random, table, 1) },
@@ -746,7 +807,7 @@ fn main() {
     }
     let mut random = Random(seed);
     let mut answers: BTreeMap<(&str, u32), u64> = BTreeMap::new();
-    let (mut most, mut full, mut filing) = (0, 0, 0);
+    let (mut most, mut full, mut filing, mut again, mut again_full) = (0, 0, 0, 0, 0);
     let (mut image, mut figures) = (Vec::new(), Vec::new());
     for index in 0..calls {
         if index % HISTORY == 0 {
@@ -766,6 +827,12 @@ fn main() {
                 if answer.number == 0 {
                     full += u64::from(left.bytes == FULL);
                     filing += u64::from(matches!(call, Call::Take { .. }) && filed(&given, &left));
+                    if let Call::Ask { now, .. } = call {
+                        let before = Table::of_image(&given.image[..given.bytes]);
+                        let gave = gave_again(now, &before, &left.out[..answer.bytes as usize]);
+                        again += u64::from(gave);
+                        again_full += u64::from(gave && before.leases.len() == ROWS);
+                    }
                     // A call that only reads may have been given the image of another sound table, or another's figures.
                     if !matches!(call, Call::List { .. } | Call::Save | Call::Sheet) {
                         image = left.image[..left.bytes].to_vec();
@@ -794,5 +861,6 @@ fn main() {
     let unsound: u64 = answers.iter().filter(|((_, number), _)| *number == 15).map(|(_, count)| count).sum();
     println!("\nmost entries in an answer: {most}; full images: {full}");
     println!("figures sheets refused with 15: {unsound}; takes that filed a figure: {filing}");
+    println!("asks that gave an offer again: {again}, on a table of 256: {again_full}");
     println!("agree: {calls} calls, the same answer, image, figures and output by all {}", names.len());
 }

@@ -61,10 +61,14 @@ pub fn set_flags(lease: &mut Record, flags: u8) {
     lease[10] = flags;
 }
 
+pub fn set_expires(lease: &mut Record, expires: u32) {
+    lease[15..].copy_from_slice(&expires.to_le_bytes());
+}
+
 /// Leased until `expires`.
 pub fn renew(lease: &mut Record, expires: u32) {
     lease[9] = LEASED;
-    lease[15..].copy_from_slice(&expires.to_le_bytes());
+    set_expires(lease, expires);
 }
 
 /// A new lease, offered until `expires`.
@@ -129,9 +133,10 @@ pub fn pool_size(network: u32, length: u8) -> Option<u64> {
     ((8..=30).contains(&length) && u64::from(network) & (size - 1) == 0).then_some(size)
 }
 
-/// A lease as the pass over an image meets it: its place, the number of its pool, where it begins and ends, and when it
-/// expires.
-pub struct Met {
+/// A lease as the pass over an image meets it: its record and its place, the number of its pool, where it begins and ends,
+/// and when it expires.
+pub struct Met<'a> {
+    pub record: &'a Record,
     pub place: usize,
     pub pool: usize,
     pub from: u64,
@@ -234,7 +239,7 @@ pub fn check(image: &[u8], notes: &mut impl Notes) -> Option<Summary> {
             return None;
         }
         free_from = to;
-        notes.lease(Met { place, pool, from, to, expires }, &pools);
+        notes.lease(Met { record, place, pool, from, to, expires }, &pools);
     }
     notes.end(&pools);
     Some(Summary { term, default_length, last, pools: pools.count, leases: leases.len() })

@@ -79,10 +79,10 @@ fn put_entry(entry: &mut [u8; 7], network: u32, length: u8, h: bool, d: bool) {
 }
 
 /// The offer number `index` of an ask's reply: an information of its own.
-pub fn put_offer(reply: &mut [u8], index: usize, network: u32, length: u8, h: bool) {
+pub fn put_offer(reply: &mut [u8], index: usize, network: u32, length: u8, h: bool, d: bool) {
     let (head, entry) = reply[3 + 10 * index..13 + 10 * index].split_first_chunk_mut::<3>().unwrap();
     *head = [INFORMATION, 8, 0];
-    put_entry(entry.first_chunk_mut().unwrap(), network, length, h, false);
+    put_entry(entry.first_chunk_mut().unwrap(), network, length, h, d);
 }
 
 /// The head of an ask's reply; answers its size.

@@ -1,262 +1,290 @@
--- Laws of the end of ask in place: rows 9 and 10, what its requests are served on, and what it leaves once something is granted.
+-- Laws of the end of ask in place: what its requests get again and are offered, rows 9 and 10, and what it leaves once a request gets something.
 -- Assumes nothing.
-use Prim.Native.Nat.{ℕ, _+_, _-_, _*_, _≤_, _<_}
+use Prim.Native.Nat.{ℕ, suc, _+_, _-_, _*_, _≤_, _<_}
 use native.Mathlib.Nat.{zero-add}
 use native.Mathlib.Omega.{arith}
 use mathlib.Core.Path.{_≡_, refl, sym, ap, ap₂, subst, _∙_}
 use mathlib.Core.Logic.{⊎-elim}
 use mathlib.Core.Bool.{true, false}
 use mathlib.Core.List.{List, [], _∷_, _++_, map}
-use mathlib.Core.Option.{Option, none, some}
-use lib.ListN.{length, drop, length-map}
-use lib.Dec.{leb}
-use borrow.Author.Tests.{le-leb, lt-leb, leb-true, leb-false, eqb-false}
-use Rattle.lists.specs.Lists.{All, filter, catMaybes}
+use mathlib.Core.Option.{Option, some}
+use lib.Dec.{eqb}
+use lib.ListN.{length, drop, replicate, length-append, length-map, length-replicate}
+use borrow.Author.Tests.{le-leb, lt-leb, eqb-false}
+use Rattle.lists.specs.Lists.{All, concatMap, catMaybes}
 use Rattle.lists.specs.Put.{put}
 use Rattle.lists.proofs.Tests.{bool-cases}
 use Rattle.lists.proofs.ListLaws.{all-map}
+use Rattle.lists.proofs.PartLaws.{catMaybes-few}
 use Rattle.lists.proofs.PutLaws.{put-fits}
-use Rattle.lists.proofs.FilterLaws.{filter-yes, filter-no}
-use Rattle.prefix.specs.declared.Prefix.{Prefix}
-use Rattle.prefix.specs.Prefixes.{end}
-use Rattle.option.specs.Writing.{optionBytes}
-use Rattle.table.specs.declared.Lease.{Lease}
-use Rattle.table.specs.declared.LeaseTable.{LeaseTable}
-use Rattle.table.specs.Table.{poolSlots, leaseSlots, addresses, prefixOf, poolsOf, empty?, present, store}
-use Rattle.table.proofs.TableLaws.{sound-fewer, sound-fine, fine-long, long-not-empty, present-yes, present-no}
-use Rattle.image.specs.Image.{headSize, leaseSize, usedPools, usedLeases}
-use Rattle.image_check.specs.declared.ImageSummary.{ImageSummary}
-use Rattle.image_check.specs.Inner.{nthPool}
-use Rattle.image_records.specs.Records.{Ascending}
-use Rattle.image_records.proofs.SoundLaws.{ascending-prefixes}
-use Rattle.figures.specs.declared.FigureRow.{FigureRow}
-use Rattle.figures.specs.Figures.{followed}
-use Rattle.image_figures.specs.Sheets.{rowSize, sheetOf}
-use Rattle.gap_list.specs.Gaps.{gapsOf}
-use Rattle.gap_list.specs.Columns.{heldIn}
-use Rattle.ask_gaps.specs.Ground.{ahead, Ground}
-use Rattle.ask_gaps.proofs.GroundLaws.{ground, ground-ends, held-few}
+use Rattle.option.specs.Values.{SuboptionValue}
 use Rattle.option.specs.Contents.{Request, requestsIn}
-use Rattle.ledger.specs.Ledger.{State, left, Call, call, Result, result, refusal, acceptance, accept, firstOf, refusalPlace, nothing?, holdTime, offers, addAll, askOffers, informationFor, grantRows, askRows, ask}
+use Rattle.option.specs.Writing.{optionBytes}
+use Rattle.table.specs.declared.{Lease.Lease, LeaseTable.LeaseTable}
+use Rattle.table.specs.Table.{leaseSlots, poolsOf, empty?, present, store}
+use Rattle.table.proofs.TableLaws.{sound-fewer, sound-fine, fine-long, long-not-empty}
+use Rattle.image.specs.Image.{le32, leaseSize, leaseRecord, usedLeases}
+use Rattle.image.specs.Reading.{lastAt}
+use Rattle.image_check.specs.declared.ImageSummary.{ImageSummary}
+use Rattle.image_records.specs.Records.{Records, Ascending}
+use Rattle.image_records.proofs.PutForms.{put-over}
+use Rattle.image_records.proofs.RecordLaws.{length-leases, put-records}
+use Rattle.image_records.proofs.SoundLaws.{ascending-prefixes}
+use Rattle.figures.specs.Figures.{followed}
+use Rattle.image_figures.specs.Sheets.{sheetOf}
+use Rattle.ledger.specs.Ledger.{State, left, Call, call, Result, result, refusal, acceptance, accept, firstOf, refusalPlace, nothing?, holdTime, offers, addAll, again, restOf, heldAgain, inTurn, askHeld, askOffers, askGives, askLeases, informationFor, grantRows, askRows, ask}
+use Rattle.ledger.proofs.AgainLaws.{again-length, held-fine, held-length, rest-all, rest-fills, turn-length, turn-count, rest-offers}
 use Rattle.ledger.proofs.OfferLaws as offer-laws
 use Rattle.ledger.proofs.RowLaws.{nothing-none, nothing-some}
 use Rattle.ledger.proofs.ReadLaws.{requests-short}
 use Rattle.ledger.proofs.ReplyLaws.{ask-bytes}
-use Rattle.ask_serve.specs.Granting.{grantedIn, Serving, Granted}
-use Rattle.ask_insert.specs.Growing.{Standing, Fresh, Grown}
-use Rattle.ask_insert.proofs.AddLaws.{with-length}
+use Rattle.ask_again.specs.Places.{noPlace, givenIn, othersIn, Asks}
+use Rattle.ask_serve.specs.Granting.{offersIn, leasesIn, restOffers, Granted}
+use Rattle.ask_serve.proofs.ColumnLaws.{offers-many}
+use Rattle.ask_serve.proofs.RestLaws.{rest-added}
+use Rattle.ask_insert.specs.Growing.{Standing, grown, Fresh, Grown}
+use Rattle.ask_insert.proofs.AddLaws.{added-length}
 use Rattle.call_spec.specs.ImageCalls.{Lent, lent, tableIn, stateIn, askImage}
 use Rattle.call_spec.proofs.StoreLaws.{row-refuses}
-use Rattle.call_rows.specs.Admission.{leasesFrom, Admitted}
+use Rattle.call_rows.specs.Admission.{leasesFrom}
 use Rattle.call_rows.specs.Admission.{left as leftIn}
 use Rattle.call_rows.proofs.RowLaws.{accepts}
 use Rattle.call_rows.proofs.FinishLaws.{left-in-place}
-use Rattle.ask_commit.specs.Asking.{Ready, Asking}
+use Rattle.ask_commit.specs.Asking.{OfAdmitted, Ready, Asking}
+use Rattle.ask_commit.specs.InnerReply.{eachOf}
+use Rattle.ask_commit.proofs.AdmittedLaws.{here, present-many}
+use Rattle.ask_commit.proofs.HeldTable.{Alone, given-alone, heldTable, held-present, held-used, held-sound, held-matched, held-followed}
+use Rattle.ask_commit.proofs.ReplyPuts.{turn-shown}
 
--- LISTS OF OFFERS
+-- As many leases are given again as there are places.
+given-count : (us : List Lease) (places : List ℕ) (n : ℕ) → length places ≡ n → length (catMaybes (givenIn us places)) ≡ othersIn noPlace places n
+given-count us places n e = one-each places ∙ ap (othersIn noPlace places) e
+  where
+    one-each : (ps : List ℕ) → length (catMaybes (givenIn us ps)) ≡ othersIn noPlace ps (length ps)
+    one-each [] = refl
+    one-each (p ∷ ps) = ⊎-elim (λ (b : eqb p noPlace ≡ true). rw b (one-each ps)) (λ (b : eqb p noPlace ≡ false). rw b (ap suc (one-each ps))) (bool-cases (eqb p noPlace))
 
--- While no slot is empty nothing is offered.
-offers-full : (t : LeaseTable) (now client : ℕ) (xs : List Lease) → leaseSlots ≤ length xs → (rs : List Request) → catMaybes (offers t now client xs rs) ≡ []
-unfolding offers
-offers-full t now client xs h [] = refl
-offers-full t now client xs h (r ∷ rs) = rw (offer-laws.offer-full t now client xs r h) (offers-full t now client xs h rs)
-
-addAll-catMaybes : (os : List (Option Lease)) (xs : List Lease) → addAll os xs ≡ addAll (map some (catMaybes os)) xs
-unfolding addAll
-addAll-catMaybes [] xs = refl
-addAll-catMaybes (none ∷ os) xs = addAll-catMaybes os xs
-addAll-catMaybes (some x ∷ os) xs = addAll-catMaybes os _
-
--- A lease has expired or is present.
-present-left : (now : ℕ) (xs : List Lease) → length (filter (λ x. leb (x .expires) now) xs) + length (present now xs) ≡ length xs
-unfolding present
-present-left now [] = refl
-present-left now (x ∷ xs) =
-    ⊎-elim
-    (λ (e : leb (x .expires) now ≡ true).
-    omega (arith, ap length (filter-yes (λ (y : Lease). leb (y .expires) now) x xs e), ap length (present-no now x xs (leb-true (x .expires) now e)), present-left now xs))
-    (λ (e : leb (x .expires) now ≡ false).
-    omega (arith, ap length (filter-no (λ (y : Lease). leb (y .expires) now) x xs e), ap length (present-yes now x xs (leb-false (x .expires) now e)), present-left now xs))
-    (bool-cases (leb (x .expires) now))
-
--- THE CALL
-
--- The leases that are present.
-abbrev here : Lent → ℕ → List Lease
-here h now = present now (tableIn h .leases)
+-- What an accepted call leaves does not depend on what stood in the place of the leases.
+left-over : (l l₁ : List ℕ) (from n : ℕ) (zs ys : List Lease) (now : ℕ) → length zs ≡ n → l₁ ≡ put l from (concatMap leaseRecord zs) → leftIn l₁ from n ys now ≡ leftIn l from n ys now
+left-over l l₁ from n zs ys now many e =
+    let new : List ℕ = concatMap leaseRecord ys ++ replicate (leaseSize * (n - length ys)) 0 in
+    let long : length new ≡ leaseSize * length ys + leaseSize * (n - length ys) =
+    length-append (concatMap leaseRecord ys) (replicate (leaseSize * (n - length ys)) 0) ∙ omega (arith, length-leases ys, length-replicate {A = ℕ} (leaseSize * (n - length ys)) 0) in
+    ap (λ (m : List ℕ). put m lastAt (le32 now))
+    (ap (λ (m : List ℕ). put m from new) e ∙ put-over (concatMap leaseRecord zs) new l from (omega (arith, long, length-leases zs)))
 
 module _ (h : Lent) (now client : ℕ) (reply : List ℕ) (summary : ImageSummary) (askLengths askH : List ℕ) (a : Ready h now client reply summary askLengths askH) where
-  -- THE IMAGE: how many leases are present, and where pools and leases stand.
+  abbrev pub admitted-image : OfAdmitted (h .image) now client summary
+  admitted-image = record { lent = h; same = refl; admitted = a .admitted }
 
-  o : Admitted true h now client summary
-  o = a .admitted
+  abbrev t : LeaseTable
+  t = tableIn h
 
-  present-is : length (here h now) ≡ length (present now (usedLeases (tableIn h)))
-  unfolding o
-  present-is = ap length (o .present-used)
+  abbrev us : List Lease
+  us = usedLeases (tableIn h)
 
-  pub fewer : summary .expired ≤ summary .leases
-  unfolding o
-  fewer = omega (arith, o .leases, o .expired, present-left now (usedLeases (tableIn h)))
+  abbrev xs : List Lease
+  xs = here h now
 
-  pub present-many : summary .leases - summary .expired ≡ length (here h now)
-  unfolding o
-  present-many = omega (arith, o .leases, o .expired, present-is, present-left now (usedLeases (tableIn h)))
-
-  ground-is : Ground (h .image) (summary .pools) (summary .leases) (poolsOf (tableIn h)) (usedLeases (tableIn h))
-  unfolding o
-  ground-is =
-      subst (λ (n : ℕ). Ground (h .image) n (summary .leases) (poolsOf (tableIn h)) (usedLeases (tableIn h))) (sym (o .pools))
-      (subst (λ (n : ℕ). Ground (h .image) (length (usedPools (tableIn h))) n (poolsOf (tableIn h)) (usedLeases (tableIn h))) (sym (o .leases))
-      (ground (tableIn h) (o .sound) (h .image) (h .bytes) (o .image)))
-
-  pub pools-end : (k : ℕ) → k < summary .pools → end (nthPool (drop headSize (h .image)) k) ≤ addresses
-  unfolding o
-  pools-end k lt = ground-ends (tableIn h) (o .sound) (h .image) (h .bytes) (o .image) k (omega (arith, o .pools))
-
-  -- What is granted to empty slots fits the buffer and the sheet.
-  pub fits : (n : ℕ) → n ≤ leaseSlots - (summary .leases - summary .expired) → summary .leases - summary .expired < leaseSlots
-      → (leasesFrom summary + leaseSize * (summary .leases - summary .expired + n) ≤ length (h .image)) × (rowSize * (summary .leases - summary .expired + n) ≤ length (h .figures))
-  unfolding o
-  fits n few space = (omega (arith, o .few-pools, o .room), omega (arith, o .sheet-in refl .size))
-
-  pub rows-fit : rowSize * summary .leases ≤ length (h .figures)
-  unfolding o
-  rows-fit = omega (arith, o .few-leases, o .sheet-in refl .size)
-
-  -- What the leases are put among.
-  pub standing : Standing (h .image) (h .figures) (leasesFrom summary) (summary .leases) (summary .expired) now (tableIn h) (stateIn h .rows)
-  unfolding o
-  standing =
-      let sheet = o .sheet-in refl in
-      record {
-        sound = o .sound;
-        matched = sheet .matched;
-        whole = sheet .whole;
-        records = o .records;
-        leases = o .leases;
-        none-expired = o .none-expired;
-        present-many = present-many ∙ ap length (o .present-used);
-      }
-
-  -- The gaps that requests are served on.
-  module _ (starts lasts : List ℕ) (g : ℕ)
-      (gaps : (ps : List Prefix) (xs : List Lease) → Ground (h .image) (summary .pools) (summary .leases) ps xs → heldIn starts lasts g ≡ gapsOf ps (ahead now 0 xs)) where
-    gaps-are : heldIn starts lasts g ≡ gapsOf (poolsOf (tableIn h)) (map prefixOf (here h now))
-    unfolding o
-    gaps-are =
-        gaps (poolsOf (tableIn h)) (usedLeases (tableIn h)) (ground-is)
-        ∙ ap (λ (xs : List Lease). gapsOf (poolsOf (tableIn h)) (map prefixOf xs)) (sym (o .present-used))
-
-    -- There is room for a gap more with each lease more.
-    pub gaps-few : g ≤ length starts → g ≤ length lasts → summary .leases - summary .expired < leaseSlots → g + (leaseSlots - (summary .leases - summary .expired)) ≤ leaseSlots + poolSlots
-    unfolding o
-    gaps-few long long₁ space =
-        omega (arith, held-few starts lasts g (poolsOf (tableIn h)) (map prefixOf (here h now)) long long₁ gaps-are, ground-is .pools-are, o .few-pools, length-map (here h now) prefixOf, present-many)
+  many-present : summary .leases - summary .expired ≡ length (here h now)
+  many-present = present-many (h .image) now client summary admitted-image
 
   module _ (option : List ℕ) (k : Asking h now (call client option reply) askLengths askH) where
     abbrev c : Call
     c = call client option reply
 
-    -- What the requests are offered, and what is left where no row applies.
+    abbrev rs : List Request
+    rs = requestsIn option
+
+    pub asks-are : Asks (tableIn h) (requestsIn option) (summary .«default_length») askLengths askH
+    asks-are = record { byDefault = a .admitted .default; lengths = k .lengths; flags = k .flags }
+
+    -- What the requests get again, what they get, and what is left where no row applies.
+    abbrev gs : List (Option Lease)
+    gs = again t client xs rs
+
     abbrev asked : List (Option Lease)
-    asked = askOffers (tableIn h) now client option
+    asked = askGives t now client xs rs
+
+    abbrev after : List Lease
+    after = askLeases t now client xs rs
 
     abbrev outcome : Result State
-    outcome = accept (left (stateIn h) now (addAll asked (here h now))) (optionBytes (map informationFor (catMaybes asked))) (length (catMaybes asked)) reply
+    outcome = accept (left (stateIn h) now after) (optionBytes (map informationFor (catMaybes asked))) (length (catMaybes asked)) reply
 
     own-row : (n : ℕ) → (n ≡ 0 → ⊥) → refusalPlace option n ≡ 0 → firstOf (grantRows (stateIn h) now c) ≡ some n → result (refusal n 0) h reply ≡ askImage h now c
     unfolding ask
     own-row n some-row p e =
         ap (λ (m : ℕ). result (refusal n m) h reply) (sym p) ∙ row-refuses h (askRows (stateIn h) now c) (refusalPlace option) reply outcome n some-row (k .left-rows ∙ e)
 
-    -- Row 9.
-    pub ask-full : leaseSlots ≤ summary .leases - summary .expired → result (refusal 9 0) h reply ≡ askImage h now c
-    ask-full all =
-        let taken : leaseSlots ≤ length (here h now) = omega (arith, present-many) in
-        let nothing : nothing? (catMaybes asked) ≡ true = ap nothing? (offers-full (tableIn h) now client (here h now) taken (requestsIn option)) in
-        own-row 9 (λ w. omega arith) refl (rw (nothing, le-leb leaseSlots (length (here h now)) taken))
+    -- The leases after it are good, and fit the table.
+    after-good : offer-laws.Inv t now client (offer-laws.pools-good t (a .admitted .sound)) after
+    after-good =
+        offer-laws.offers-inv t now client (offer-laws.pools-good t (a .admitted .sound)) (a .admitted .sound) (eqb-false client 0 (a .admitted .some-client)) (restOf gs rs) (askHeld t now client xs rs)
+        (rest-all (λ r. r .length ≤ 30) gs rs (requests-short option))
+        (record { fine = held-fine now (catMaybes gs) (poolsOf t) xs (sound-fine t (a .admitted .sound) now); fit = omega (arith, held-length now (catMaybes gs) xs, sound-fewer t (a .admitted .sound) now) })
 
-    module _ (starts lasts : List ℕ) (g : ℕ)
-        (gaps : (ps : List Prefix) (xs : List Lease) → Ground (h .image) (summary .pools) (summary .leases) ps xs → heldIn starts lasts g ≡ gapsOf ps (ahead now 0 xs)) where
-      pub ask-ready : Serving (tableIn h) now client (here h now) (requestsIn option) starts lasts
-          (record { «default_length» = summary .«default_length»; gaps = g; slots = leaseSlots - (summary .leases - summary .expired) }) askLengths askH
-      unfolding o
-      ask-ready = record {
-        soundTable = o .sound;
-        presentLeases = refl;
-        named = eqb-false client 0 (o .some-client);
-        gaps = gaps-are starts lasts g gaps;
-        empty = omega (arith, present-many);
-        byDefault = o .default;
-        askedLengths = k .lengths;
-        askedH = k .flags;
-        long = requests-short option;
-      }
+    -- THE PLACES of what is given again, and THE COLUMNS of what is offered.
+    module _ (places : List ℕ) (same : length places ≡ length askLengths) (found : givenIn us places ≡ again t client (present now us) rs)
+        (networks lengths : List ℕ) (hn : length askLengths ≤ length networks) (hl : length askLengths ≤ length lengths) (granted : Granted t now client xs (givenIn us places) rs networks lengths)
+        (m n : ℕ) (m-is : m ≡ othersIn noPlace places (length askLengths)) (n-is : n ≡ leasesIn lengths (length askLengths)) where
+      given-is : givenIn us places ≡ gs
+      given-is = found ∙ ap (λ (ys : List Lease). again t client ys rs) (sym (a .admitted .present-used))
 
-    -- WHAT IS GRANTED
+      abbrev os : List (Option Lease)
+      os = offersIn client (now + holdTime) networks lengths askH
 
-    module _ (n : ℕ) (networks lengths flags : List ℕ) (granted : Granted (tableIn h) now client (here h now) (requestsIn option) n networks lengths flags) where
-      -- Row 10.
-      pub ask-none : summary .leases - summary .expired < leaseSlots → n ≡ 0 → result (refusal 10 0) h reply ≡ askImage h now c
-      ask-none space z =
-          let nothing : nothing? (catMaybes asked) ≡ true = nothing-none (catMaybes asked) (sym (granted .count) ∙ z) in
-          own-row 10 (λ w. omega arith) refl (rw (nothing, lt-leb leaseSlots (length (here h now)) (omega (arith, present-many))))
+      offered-is : os ≡ restOffers t now client xs gs rs
+      offered-is =
+          ap (offersIn client (now + holdTime) networks lengths) (k .flags) ∙ granted .held ∙ ap (λ (ps : List (Option Lease)). restOffers t now client xs ps rs) given-is
 
-      abbrev gs : List Lease
-      gs = grantedIn client (now + holdTime) networks lengths flags n
+      same-many : length gs ≡ length rs
+      same-many = again-length t client rs xs
 
-      after : offer-laws.Inv (tableIn h) now client (offer-laws.pools-good (tableIn h) (a .admitted .sound)) (addAll asked (here h now))
-      after =
-          offer-laws.offers-inv (tableIn h) now client (offer-laws.pools-good (tableIn h) (a .admitted .sound)) (a .admitted .sound) (eqb-false client 0 (a .admitted .some-client)) (requestsIn option) (here h now)
-          (requests-short option)
-          (record { fine = sound-fine (tableIn h) (a .admitted .sound) now; fit = sound-fewer (tableIn h) (a .admitted .sound) now })
+      -- What is added is what the ledger offers the rest.
+      added-is : (ys : List Lease) → addAll os ys ≡ addAll (askOffers t now client xs rs) ys
+      added-is ys =
+          ap (λ (ps : List (Option Lease)). addAll ps ys) offered-is
+          ∙ rest-added t now client gs rs xs ys same-many
+          ∙ ap (λ (ps : List (Option Lease)). addAll ps ys) (sym (rest-offers t now client xs rs))
 
-      -- The leases after it, in the code's terms.
-      after-is : addAll (map some gs) (present now (usedLeases (tableIn h))) ≡ addAll asked (here h now)
-      after-is =
-          ap₂ (λ (ys xs : List Lease). addAll (map some ys) xs) (granted .leases) (sym (a .admitted .present-used)) ∙ sym (addAll-catMaybes asked (here h now))
+      offered-many : length (catMaybes (askOffers t now client xs rs)) ≡ n
+      offered-many =
+          let e = ap length (added-is []) in
+          let here-many = offers-many client (now + holdTime) networks lengths askH (omega (arith, a .same)) (omega (arith, a .same)) ∙ ap (leasesIn lengths) (a .same) in
+          omega (arith, e, added-length os [], added-length (askOffers t now client xs rs) [], here-many, n-is)
 
-      after-many : length (addAll asked (here h now)) ≡ summary .leases - summary .expired + n
-      after-many = omega (arith, ap length (addAll-catMaybes asked (here h now)), with-length (catMaybes asked) (here h now), granted .count, present-many)
+      given-many : length (catMaybes gs) ≡ m
+      given-many = sym (ap (λ (ps : List (Option Lease)). length (catMaybes ps)) given-is) ∙ given-count us places (length askLengths) same ∙ sym m-is
 
-      pub ask-fresh : Fresh (tableIn h) now gs
+      gets-many : length (catMaybes asked) ≡ m + n
+      gets-many = turn-count now gs (askOffers t now client xs rs) (rest-fills t now client xs (askHeld t now client xs rs) rs) ∙ omega (arith, given-many, offered-many)
+
+      -- No more than ask.
+      gets-few : m + n ≤ length askLengths
+      gets-few =
+          omega (arith, gets-many, catMaybes-few asked, turn-length now gs (askOffers t now client xs rs), same-many, ap length (k .lengths), length-map rs (λ (r : Request). r .length))
+
+      -- Rows 9 and 10: no request gets anything.
+      module _ (nothing : m + n ≡ 0) where
+        pub ask-full : leaseSlots ≤ summary .leases - summary .expired → result (refusal 9 0) h reply ≡ askImage h now c
+        ask-full all =
+            own-row 9 (λ w. omega arith) refl
+            (rw (nothing-none (catMaybes asked) (gets-many ∙ nothing), le-leb leaseSlots (length xs) (omega (arith, many-present))))
+
+        pub ask-none : summary .leases - summary .expired < leaseSlots → result (refusal 10 0) h reply ≡ askImage h now c
+        ask-none space =
+            own-row 10 (λ w. omega arith) refl
+            (rw (nothing-none (catMaybes asked) (gets-many ∙ nothing), lt-leb leaseSlots (length xs) (omega (arith, many-present))))
+
+      -- HELD ANEW
+
+      abbrev given : List Lease
+      given = catMaybes (givenIn us places)
+
+      alone : All (Alone now us) given
+      alone = subst (λ (ps : List (Option Lease)). All (Alone now us) (catMaybes ps)) (sym found) (given-alone t (a .admitted .sound) now client rs)
+
+      pub anew : LeaseTable
+      anew = heldTable t (a .admitted .sound) now (a .admitted .since) (a .admitted .early) given alone
+
+      abbrev zs : List Lease
+      zs = heldAgain now given us
+
+      used-anew : usedLeases anew ≡ zs
+      unfolding anew
+      used-anew = held-used t (a .admitted .sound) now (a .admitted .since) (a .admitted .early) given alone
+
+      present-anew : present now (usedLeases anew) ≡ askHeld t now client xs rs
+      unfolding anew
+      present-anew =
+          ap (present now) used-anew
+          ∙ held-present t (a .admitted .sound) now (a .admitted .since) (a .admitted .early) given alone
+          ∙ ap₂ (λ (ps : List (Option Lease)) (ys : List Lease). heldAgain now (catMaybes ps) ys) given-is (sym (a .admitted .present-used))
+
+      grown-is : grown anew now os ≡ after
+      grown-is = ap (addAll os) present-anew ∙ added-is (askHeld t now client xs rs)
+
+      pub ask-fresh : Fresh anew now os
       ask-fresh = record {
-        ascends = subst Ascending (sym after-is) (ascending-prefixes 0 (addAll asked (here h now)) (after .fine .1));
-        fits = omega (arith, ap length after-is, after .fit);
+        ascends = subst Ascending (sym grown-is) (ascending-prefixes 0 after (after-good .fine .1));
+        fits = omega (arith, ap length grown-is, after-good .fit);
       }
 
-      module _ (some-granted : n ≡ 0 → ⊥) (upTo : n ≤ length askLengths) (image sheet offers : List ℕ)
-          (g : Grown (h .image) (leasesFrom summary) (summary .leases) now (tableIn h) (stateIn h .rows) gs image sheet)
-          (f : offers ≡ put reply 0 (optionBytes (map informationFor gs))) where
-        written : List ℕ
-        written = optionBytes (map informationFor (catMaybes asked))
+      module _ (image : List ℕ) (edited : image ≡ put (h .image) (leasesFrom summary) (concatMap leaseRecord zs)) where
+        zs-many : length zs ≡ summary .leases
+        zs-many = held-length now given us ∙ sym (a .admitted .leases)
 
-        written-many : length written ≡ 3 + 10 * n
-        unfolding written
-        written-many = ask-bytes (catMaybes asked) ∙ omega (arith, granted .count)
+        pub standing : Standing image (h .figures) (leasesFrom summary) (summary .leases) (summary .expired) now anew (stateIn h .rows)
+        unfolding anew
+        standing =
+            let o = a .admitted in
+            let sheet = o .sheet-in refl in
+            record {
+              sound = held-sound t (o .sound) now (o .since) (o .early) given alone;
+              matched = held-matched t (o .sound) now (o .since) (o .early) given alone (stateIn h .rows) (sheet .matched);
+              whole = sheet .whole;
+              records =
+                  subst (λ (ys : List Lease). Records image (leasesFrom summary) ys) (sym used-anew)
+                  (subst (λ (l : List ℕ). Records l (leasesFrom summary) zs) (sym edited) (put-records (h .image) (leasesFrom summary) zs (omega (arith, zs-many, o .size, o .within))));
+              leases = sym zs-many ∙ ap length (sym used-anew);
+              none-expired = λ z.
+                  let all = o .none-expired z in
+                  ap (present now) used-anew
+                  ∙ held-present t (o .sound) now (o .since) (o .early) given alone
+                  ∙ ap (heldAgain now given) all
+                  ∙ sym used-anew;
+              present-many = many-present ∙ sym (held-length now (catMaybes gs) xs) ∙ ap length (sym present-anew);
+            }
 
-        reply-is : offers ≡ written ++ drop (length written) reply
-        unfolding written
-        reply-is =
-            f
-            ∙ ap (λ (ys : List Lease). put reply 0 (optionBytes (map informationFor ys))) (granted .leases)
-            ∙ put-fits written reply 0 (omega (arith, written-many, a .room, a .few))
-            ∙ ap (λ (k : ℕ). written ++ drop k reply) (zero-add (length written))
+        module _ (some-given : m + n ≡ 0 → ⊥) (image₁ sheet offered : List ℕ)
+            (g : Grown image (leasesFrom summary) (summary .leases) now anew (stateIn h .rows) os image₁ sheet)
+            (f : offered ≡ put reply 0 (optionBytes (map informationFor (catMaybes (eachOf (givenIn us places) os))))) where
+          written : List ℕ
+          written = optionBytes (map informationFor (catMaybes asked))
 
-        pub ask-granted : (bytes : ℕ) → bytes ≡ leasesFrom summary + leaseSize * (summary .leases - summary .expired + n)
-            → result (acceptance (3 + 10 * n) n) (lent image bytes sheet) offers ≡ askImage h now c
-        unfolding written ask left
-        ask-granted bytes ends =
-            let some-lease : nothing? (catMaybes asked) ≡ false = nothing-some (catMaybes asked) (λ z. some-granted (granted .count ∙ z)) in
-            let full-slots : All (λ x. empty? x ≡ false) (addAll asked (here h now)) =
-            all-map (λ x l. long-not-empty x (omega arith)) (addAll asked (here h now)) (fine-long (poolsOf (tableIn h)) now 0 (addAll asked (here h now)) (after .fine)) in
-            let rows-after : List Lease → List FigureRow = λ zs. followed now (tableIn h) (stateIn h .rows) (store (tableIn h) now zs) in
-            let place =
-            left-in-place true h now client summary (a .admitted) (addAll asked (here h now)) (after .fit) full-slots image
-            (g .after-is ∙ ap (λ (zs : List Lease). leftIn (h .image) (leasesFrom summary) (summary .leases) zs now) after-is)
-            (rows-after (addAll asked (here h now))) sheet (g .sheet-is ∙ ap (λ (zs : List Lease). sheetOf (rows-after zs)) after-is) in
-            ap₂ (λ (m : ℕ) (w : List ℕ). result (acceptance m n) (lent image bytes sheet) w) (sym written-many) reply-is
-            ∙ ap₂ (λ (m b : ℕ). result (acceptance (length written) m) (lent image b sheet) (written ++ drop (length written) reply)) (granted .count) (ends ∙ ap (λ (m : ℕ). leasesFrom summary + leaseSize * m) (sym after-many))
-            ∙ accepts h (askRows (stateIn h) now c) (refusalPlace option) reply outcome (k .left-rows ∙ rw some-lease) outcome refl refl
-            (lent image (leasesFrom summary + leaseSize * length (addAll asked (here h now))) sheet) place
+          written-many : length written ≡ 3 + 10 * (m + n)
+          unfolding written
+          written-many = ask-bytes (catMaybes asked) ∙ omega (arith, gets-many)
+
+          shown-is : map informationFor (catMaybes (eachOf (givenIn us places) os)) ≡ map informationFor (catMaybes asked)
+          shown-is =
+              ap₂ (λ (ps qs : List (Option Lease)). map informationFor (catMaybes (eachOf ps qs))) given-is offered-is
+              ∙ sym (turn-shown t now client gs rs xs same-many)
+              ∙ ap (λ (ps : List (Option Lease)). map informationFor (catMaybes (inTurn now gs ps))) (sym (rest-offers t now client xs rs))
+
+          reply-is : offered ≡ written ++ drop (length written) reply
+          unfolding written
+          reply-is =
+              f
+              ∙ ap (λ (ss : List SuboptionValue). put reply 0 (optionBytes ss)) shown-is
+              ∙ put-fits written reply 0 (omega (arith, written-many, gets-few, a .room, a .few))
+              ∙ ap (λ (k : ℕ). written ++ drop k reply) (zero-add (length written))
+
+          image-is : image₁ ≡ leftIn (h .image) (leasesFrom summary) (summary .leases) after now
+          image-is =
+              g .after-is
+              ∙ ap (λ (ys : List Lease). leftIn image (leasesFrom summary) (summary .leases) ys now) grown-is
+              ∙ left-over (h .image) image (leasesFrom summary) (summary .leases) zs after now zs-many edited
+
+          sheet-is : sheet ≡ sheetOf (followed now t (stateIn h .rows) (store t now after))
+          unfolding anew
+          sheet-is =
+              g .sheet-is
+              ∙ ap (λ (ys : List Lease). sheetOf (followed now anew (stateIn h .rows) (store anew now ys))) grown-is
+              ∙ ap sheetOf (held-followed t (a .admitted .sound) now (a .admitted .since) (a .admitted .early) given alone (stateIn h .rows) after)
+
+          after-many : length after ≡ summary .leases - summary .expired + n
+          after-many = omega (arith, added-length (askOffers t now client xs rs) (askHeld t now client xs rs), held-length now (catMaybes gs) xs, offered-many, many-present)
+
+          pub ask-granted : (bytes : ℕ) → bytes ≡ leasesFrom summary + leaseSize * (summary .leases - summary .expired + n)
+              → result (acceptance (3 + 10 * (m + n)) (m + n)) (lent image₁ bytes sheet) offered ≡ askImage h now c
+          unfolding written ask left
+          ask-granted bytes ends =
+              let some-lease : nothing? (catMaybes asked) ≡ false = nothing-some (catMaybes asked) (λ z. some-given (sym gets-many ∙ z)) in
+              let full-slots : All (λ x. empty? x ≡ false) after = all-map (λ x l. long-not-empty x (omega arith)) after (fine-long (poolsOf t) now 0 after (after-good .fine)) in
+              let place = left-in-place true h now client summary (a .admitted) after (after-good .fit) full-slots image₁ image-is (followed now t (stateIn h .rows) (store t now after)) sheet sheet-is in
+              ap₂ (λ (w : ℕ) (l : List ℕ). result (acceptance w (m + n)) (lent image₁ bytes sheet) l) (sym written-many) reply-is
+              ∙ ap₂ (λ (w b : ℕ). result (acceptance (length written) w) (lent image₁ b sheet) (written ++ drop (length written) reply)) (sym gets-many) (ends ∙ ap (λ (w : ℕ). leasesFrom summary + leaseSize * w) (sym after-many))
+              ∙ accepts h (askRows (stateIn h) now c) (refusalPlace option) reply outcome (k .left-rows ∙ rw some-lease) outcome refl refl
+              (lent image₁ (leasesFrom summary + leaseSize * length after) sheet) place

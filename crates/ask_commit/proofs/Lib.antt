@@ -1,2 +1,4 @@
 pub mod ReplyPuts
+pub mod HeldTable
+pub mod AdmittedLaws
 pub mod GrantLaws

@@ -12,6 +12,12 @@ use Rattle.option_scan.specs.Scanned.{flagOf}
 use Rattle.call_spec.specs.ImageCalls.{Lent, stateIn}
 use Rattle.call_rows.specs.Admission.{Admitted}
 
+-- The image is that of a call that is admitted, with its figures sheet.
+pub record OfAdmitted (image : List ℕ) (now client : ℕ) (summary : ImageSummary) : Type 0 where
+  pub lent : Lent
+  pub same : lent .image ≡ image
+  pub admitted : Admitted true lent now client summary
+
 -- The call is admitted, with its figures sheet, the reply has room for every offer, and two columns have as many requests.
 pub record Ready (h : Lent) (now client : ℕ) (reply : List ℕ) (summary : ImageSummary) (askLengths askH : List ℕ) : Type 0 where
   pub admitted : Admitted true h now client summary

@@ -1,6 +1,11 @@
-// The end of ask as a call on an image: its requests are served on the gaps of the image, and what is granted becomes records
-// and rows of the figures sheet.
+// The end of ask as a call on an image: what its requests get, leases again and new ones on the gaps of the image, becomes records
+// and rows of the figures sheet, and the reply.
+use ask_again::Asker;
+use ask_again::NONE;
 use ask_serve::Start;
+use image::HEAD;
+use image::LEASE;
+use image::POOL;
 use image_check::ImageSummary;
 use ledger::Answer;
 use option::MOST_REQUESTS;
@@ -8,17 +13,26 @@ use table::LEASES;
 use table::Lease;
 use table::POOLS;
 ghost use mathlib.Core.Path.{_≡_};
-ghost use mathlib.Core.List.{List, map};
-ghost use Prim.Native.Nat.{ℕ, _+_, _*_, _≤_};
-ghost use lib.ListN.{length as lengthOf};
+ghost use mathlib.Core.List.{List, [], _∷_, _++_, map};
+ghost use Prim.Native.Nat.{ℕ, _+_, _-_, _*_, _≤_};
+ghost use lib.ListN.{length as lengthOf, drop};
+ghost use Rattle.lists.specs.Lists.{All, catMaybes};
 ghost use Rattle.lists.specs.Put.{put};
+ghost use Rattle.prefix.specs.Prefixes.{longest};
 ghost use Rattle.option.specs.Values.{mostRequests};
+ghost use Rattle.option.specs.Contents.{Request};
 ghost use Rattle.option.specs.Writing.{suboptionBytes, optionBytes};
 ghost use Rattle.table.specs.declared.Lease.{Lease};
+ghost use Rattle.table.specs.Table.{leaseSlots, present};
+ghost use Rattle.image.specs.Image.{leaseSize};
+ghost use Rattle.image.specs.Reading.{leaseIn};
+ghost use Rattle.image_records.specs.Records.{Records};
 ghost use Rattle.ledger.specs.Ledger.{call, result, informationFor};
-ghost use Rattle.ask_serve.specs.Granting.{grantedIn};
-ghost use Rattle.call_spec.specs.ImageCalls.{lent, askImage};
-ghost use Rattle.ask_commit.specs.Asking.{Ready, Asking};
+ghost use Rattle.ask_again.specs.Places.{noPlace, Within, InBuffer, givenIn, othersIn};
+ghost use Rattle.ask_serve.specs.Granting.{offersIn, leasesIn, Granted};
+ghost use Rattle.call_spec.specs.ImageCalls.{lent, tableIn, askImage};
+ghost use Rattle.ask_commit.specs.Asking.{OfAdmitted, Ready, Asking};
+ghost use Rattle.ask_commit.specs.InnerReply.{Shown, givenOr, eachOf};
 
 // How many gaps there can be: one before each lease, and one at the end of each pool.
 const GAPS: usize = LEASES + POOLS;
@@ -36,40 +50,109 @@ fn put_offer(reply: &mut [u8], at: usize, x: Lease)
     option_reply::put_lease(reply, at + 3, x);
 }
 
-// An information for each lease in the first `count` places of the columns, in order. An entry shows neither the client
-// nor the end.
-fn put_offers(reply: &mut [u8], networks: &[u32], lengths: &[u8], flags: &[u8], count: usize)
-    requires { ⌜ (count ≤ mostRequests) × (3 + 10 * count ≤ lengthOf (now reply)) × (count ≤ lengthOf (now networks)) × (count ≤ lengthOf (now lengths)) × (count ≤ lengthOf (now flags)) ⌝ }
-    ensures { λ _. ⌜ ((client expires : ℕ)
-        → now (reply .exit) ≡ put (now (reply .entry)) 0 (optionBytes (map informationFor (grantedIn client expires (now (networks .entry)) (now (lengths .entry)) (now (flags .entry)) count)))) ⌝ }
+// What one request gets, if it gets something: the lease at its place again, or a new one, whose length is 0 if there is none.
+// Answers where the next information stands.
+fn put_one(reply: &mut [u8], at: usize, image: &[u8], from: usize, place: u16, x: Lease) -> usize
+    requires { ⌜ (at + 10 ≤ lengthOf (now reply)) × InBuffer from (lengthOf (now image)) place ⌝ }
+    ensures { λ r. ⌜ (at ≤ r) × (r ≤ at + 10) ⌝ }
+    ensures { λ r. ⌜ ((before : List ℕ) (xs : List Lease) → Shown before (now (reply .entry)) at xs
+        → Shown before (now (reply .exit)) r (xs ++ catMaybes (givenOr place (leaseIn (drop (from + leaseSize * place) (now (image .entry)))) x ∷ []))) ⌝ }
 {
-    option_reply::put_option_head(reply, (10 * count + 1) as u8);
-    let mut k: usize = 0;
-    while k < count {
-        let x = Lease {
-            network: networks[k],
-            length: lengths[k],
-            client: 0,
-            leased: false,
-            h: flags[k] == 1,
-            d: false,
-            expires: 0,
-        };
-        put_offer(reply, 3 + 10 * k, x);
-        k += 1;
+    if place != NONE {
+        let y = image_records::lease_at(image, from + LEASE * (place as usize));
+        put_offer(reply, at, y);
+        return at + 10;
     }
+    if x.length != 0 {
+        put_offer(reply, at, x);
+        return at + 10;
+    }
+    at
+}
+
+// An information for each request that gets something, in order, and the option's head before them. An entry shows neither the
+// client nor the end.
+fn put_offers(
+    reply: &mut [u8],
+    image: &[u8],
+    from: usize,
+    places: &[u16],
+    networks: &[u32],
+    lengths: &[u8],
+    flags: &[u8],
+)
+    requires { ⌜ (lengthOf (now flags) ≤ mostRequests) × (3 + 10 * lengthOf (now flags) ≤ lengthOf (now reply)) × (lengthOf (now places) ≡ lengthOf (now flags)) × (lengthOf (now flags) ≤ lengthOf (now networks))
+        × (lengthOf (now flags) ≤ lengthOf (now lengths)) × All (InBuffer from (lengthOf (now image))) (now places) ⌝ }
+    ensures { λ _. ⌜ ((client expires : ℕ) (us : List Lease) → Records (now (image .entry)) from us → All (Within (lengthOf us)) (now (places .entry))
+        → now (reply .exit) ≡ put (now (reply .entry)) 0
+        (optionBytes (map informationFor (catMaybes (eachOf (givenIn us (now (places .entry))) (offersIn client expires (now (networks .entry)) (now (lengths .entry)) (now (flags .entry)))))))) ⌝ }
+{
+    let mut at: usize = 3;
+    let mut j: usize = 0;
+    while j < flags.len() {
+        let x = ask_insert::granted_at(networks, lengths, flags, j, 0, 0);
+        at = put_one(reply, at, image, from, places[j], x);
+        j = j + 1;
+    }
+    option_reply::put_option_head(reply, (at - 2) as u8);
 }
 
 // THE CALL
 
-// Who asks, and when.
-pub struct Asker {
-    pub client: u32,
-    pub time: u32,
+// The requests that have no place, served on the gaps of an image; answers how many are granted. Where there are none, or no slot
+// is empty, the gaps are not looked for.
+fn serve_rest(
+    image: &[u8],
+    summary: ImageSummary,
+    asker: Asker,
+    ask_lengths: &[u8],
+    places: &[u16],
+    again: usize,
+    networks: &mut [u32],
+    lengths: &mut [u8],
+) -> usize
+    requires { ⌜ OfAdmitted (now image) (asker .time) (asker .client) summary × (lengthOf (now places) ≡ lengthOf (now «ask_lengths»)) × (again ≡ othersIn noPlace (now places) (lengthOf (now «ask_lengths»)))
+        × (lengthOf (now «ask_lengths») ≤ lengthOf (now networks)) × (lengthOf (now «ask_lengths») ≤ lengthOf (now lengths)) × (leasesIn (now lengths) (lengthOf (now «ask_lengths»)) ≡ 0) ⌝ }
+    ensures { λ r. ⌜ (r ≤ lengthOf (now («ask_lengths» .entry))) × (r ≤ leaseSlots - (summary .leases - summary .expired)) × (r ≡ leasesIn (now (lengths .exit)) (lengthOf (now («ask_lengths» .entry)))) ⌝ }
+    ensures { λ _. ⌜ ((o : OfAdmitted (now (image .entry)) (asker .time) (asker .client) summary) (us : List Lease) (rs : List Request)
+        → now («ask_lengths» .entry) ≡ map (λ r. r .length) rs → All (λ r. r .length ≤ longest) rs
+        → Granted (tableIn (o .lent)) (asker .time) (asker .client) (present (asker .time) (tableIn (o .lent) .leases)) (givenIn us (now (places .entry))) rs (now (networks .exit)) (now (lengths .exit))) ⌝ }
+{
+    if again == ask_lengths.len() {
+        return 0;
+    }
+    let present = summary.leases - summary.expired;
+    if LEASES <= present {
+        return 0;
+    }
+    let mut starts = [0u32; GAPS];
+    let mut lasts = [0u32; GAPS];
+    let gaps = ask_gaps::gaps_in(
+        image,
+        summary.pools,
+        summary.leases,
+        asker.time,
+        &mut starts,
+        &mut lasts,
+    );
+    let start = Start {
+        default_length: summary.default_length,
+        gaps,
+        slots: LEASES - present,
+    };
+    ask_serve::serve(
+        ask_lengths,
+        places,
+        start,
+        &mut starts,
+        &mut lasts,
+        networks,
+        lengths,
+    )
 }
 
-// Rows 9 and 10, and what is granted, once every row before them has passed. Nothing is written before a request is granted.
-// The columns have the length and h of each request.
+// Rows 9 and 10, and what the requests get, once every row before them has passed. Nothing is written before a request gets
+// something. The columns have the length and h of each request.
 pub fn grant(
     image: &mut [u8],
     image_bytes: &mut usize,
@@ -86,51 +169,57 @@ pub fn grant(
         → result r (lent (now (image .exit)) (now («image_bytes» .exit)) (now (figures .exit))) (now (reply .exit))
         ≡ askImage (lent (now (image .entry)) (now («image_bytes» .entry)) (now (figures .entry))) (asker .time) (call (asker .client) option (now (reply .entry)))) ⌝ }
 {
-    let present = summary.leases - summary.expired;
-    if LEASES <= present {
-        return call_spec::refused(9, 0);
-    }
-    let mut starts = [0u32; GAPS];
-    let mut lasts = [0u32; GAPS];
-    let gaps = ask_gaps::gaps_in(
+    let from = HEAD + POOL * summary.pools;
+    let requests = ask_lengths.len();
+    let mut places = [0u16; MOST_REQUESTS];
+    let again = ask_again::find_held(
         image,
-        summary.pools,
+        from,
         summary.leases,
-        asker.time,
-        &mut starts,
-        &mut lasts,
+        asker,
+        summary.default_length,
+        ask_lengths,
+        ask_h,
+        &mut places,
     );
     let mut networks = [0u32; MOST_REQUESTS];
     let mut lengths = [0u8; MOST_REQUESTS];
-    let mut flags = [0u8; MOST_REQUESTS];
-    let start = Start {
-        default_length: summary.default_length,
-        gaps,
-        slots: LEASES - present,
-    };
-    let granted = ask_serve::serve(
+    let granted = serve_rest(
+        image,
+        summary,
+        asker,
         ask_lengths,
-        ask_h,
-        start,
-        &mut starts,
-        &mut lasts,
+        &places[..requests],
+        again,
         &mut networks,
         &mut lengths,
-        &mut flags,
     );
-    if granted == 0 {
+    let count = again + granted;
+    if count == 0 {
+        if LEASES <= summary.leases - summary.expired {
+            return call_spec::refused(9, 0);
+        }
         return call_spec::refused(10, 0);
     }
+    put_offers(
+        reply,
+        image,
+        from,
+        &places[..requests],
+        &networks,
+        &lengths,
+        ask_h,
+    );
+    ask_again::hold_again(image, from, &places[..requests], asker.time);
     *image_bytes = ask_insert::commit_grants(
         image,
         figures,
         summary,
         asker.client,
         asker.time,
-        &networks[..granted],
-        &lengths[..granted],
-        &flags[..granted],
+        &networks,
+        &lengths,
+        ask_h,
     );
-    put_offers(reply, &networks, &lengths, &flags, granted);
-    call_spec::accepted((3 + 10 * granted) as u32, granted as u32)
+    call_spec::accepted((3 + 10 * count) as u32, count as u32)
 }

@@ -2,8 +2,8 @@
 use Prim.Native.Nat.{ℕ, _-_, _≤_}
 use mathlib.Core.Path.{_≡_}
 use mathlib.Core.Bool.{true}
-use mathlib.Core.List.{List, map}
-use mathlib.Core.Option.{some}
+use mathlib.Core.List.{List}
+use mathlib.Core.Option.{Option}
 use lib.ListN.{length}
 use Rattle.table.specs.declared.{Lease.Lease, LeaseTable.LeaseTable}
 use Rattle.table.specs.Table.{leaseSlots, present, store}
@@ -26,16 +26,16 @@ pub record Standing (image sheet : List ℕ) (from n expired time : ℕ) (t : Le
   pub none-expired : expired ≡ 0 → present time (usedLeases t) ≡ usedLeases t
   pub present-many : n - expired ≡ length (present time (usedLeases t))
 
--- The leases of a table once those granted are put among the present ones.
-abbrev pub grown : LeaseTable → ℕ → List Lease → List Lease
-grown t time gs = addAll (map some gs) (present time (usedLeases t))
+-- The leases of a table once those offered are put among the present ones.
+abbrev pub grown : LeaseTable → ℕ → List (Option Lease) → List Lease
+grown t time os = addAll os (present time (usedLeases t))
 
--- What is granted has its own networks and fits the table.
-pub record Fresh (t : LeaseTable) (time : ℕ) (gs : List Lease) : Type 0 where
-  pub ascends : Ascending (grown t time gs)
-  pub fits : length (grown t time gs) ≤ leaseSlots
+-- What is offered has its own networks and fits the table.
+pub record Fresh (t : LeaseTable) (time : ℕ) (os : List (Option Lease)) : Type 0 where
+  pub ascends : Ascending (grown t time os)
+  pub fits : length (grown t time os) ≤ leaseSlots
 
 -- The records of those leases are left, and the sheet of the rows that follow them.
-pub record Grown (image : List ℕ) (from n time : ℕ) (t : LeaseTable) (rows : List FigureRow) (gs : List Lease) (after sheet : List ℕ) : Type 0 where
-  pub after-is : after ≡ left image from n (grown t time gs) time
-  pub sheet-is : sheet ≡ sheetOf (followed time t rows (store t time (grown t time gs)))
+pub record Grown (image : List ℕ) (from n time : ℕ) (t : LeaseTable) (rows : List FigureRow) (os : List (Option Lease)) (after sheet : List ℕ) : Type 0 where
+  pub after-is : after ≡ left image from n (grown t time os) time
+  pub sheet-is : sheet ≡ sheetOf (followed time t rows (store t time (grown t time os)))

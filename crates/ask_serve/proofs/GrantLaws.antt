@@ -1,18 +1,17 @@
 -- One request served on the gaps in columns is what the ledger offers.
 -- Assumes nothing.
-use Prim.Native.Nat.{ℕ, zero, suc, _+_, _-_, _≤_, _<_}
+use Prim.Native.Nat.{ℕ, _+_, _-_, _≤_, _<_}
 use mathlib.Core.Path.{_≡_, refl, sym, ap, ap₂, subst, _∙_}
 use mathlib.Core.Logic.{by-cases}
 use mathlib.Core.Bool.{Bool, true, false, not}
-use mathlib.Core.List.{List, [], _∷_, _++_, map, append-nil}
+use mathlib.Core.List.{List, [], _∷_, _++_, map}
 use mathlib.Core.Option.{Option, none, some}
 use native.Mathlib.Decide.{decLe}
 use native.Mathlib.Omega.{arith}
-use native.Mathlib.Numerals.{add-one}
 use lib.Dec.{eqb}
-use lib.ListN.{length, take, set, getD, length-append}
-use lib.Seq.{take-suc-set, length-take-le, getD-take}
-use Rattle.lists.specs.Lists.{catMaybes}
+use lib.ListN.{length, set, getD, length-set}
+use lib.Seq.{getD-set-same, set-set}
+use borrow.Author.Tests.{ne-eqb}
 use Rattle.lists.proofs.ListLaws.{all-every}
 use Rattle.lists.proofs.Tests.{cond-true, cond-false}
 use Rattle.lists.proofs.SortingLaws.{insertBy-longer, insertBy-image}
@@ -31,51 +30,12 @@ use Rattle.option.specs.Contents.{Request}
 use Rattle.option_scan.specs.Scanned.{flagOf}
 use Rattle.ledger.specs.Ledger.{askLength, holdTime, offered, offer, add}
 use Rattle.ledger.proofs.OfferLaws.{offer-room, offer-full}
+use Rattle.ask_again.specs.Places.{noPlace}
+use Rattle.ask_again.proofs.Counting.{others-same, others-more}
 use Rattle.ask_serve.specs.declared.Progress.{Progress}
-use Rattle.ask_serve.specs.Granting.{grantedLease, leasesHeld, grantedIn}
-use Rattle.ask_serve.specs.InnerServing.{Columns, columns, GrantsHeld, Asked, Served}
-
--- One lease more at the end of the columns.
-
-leases-snoc : (client expires : ℕ) (ns ls fs : List ℕ) → length ns ≡ length ls → length ns ≡ length fs → (n l f : ℕ)
-    → leasesHeld client expires (ns ++ (n ∷ [])) (ls ++ (l ∷ [])) (fs ++ (f ∷ []))
-    ≡ leasesHeld client expires ns ls fs ++ (grantedLease client expires n l f ∷ [])
-leases-snoc client expires [] [] [] d e n l f = refl
-leases-snoc client expires [] [] (y ∷ fs) d e n l f = absurd (omega arith)
-leases-snoc client expires [] (x ∷ ls) fs d e n l f = absurd (omega arith)
-leases-snoc client expires (w ∷ ns) [] fs d e n l f = absurd (omega arith)
-leases-snoc client expires (w ∷ ns) (x ∷ ls) [] d e n l f = absurd (omega arith)
-leases-snoc client expires (w ∷ ns) (x ∷ ls) (y ∷ fs) d e n l f =
-    ap (λ (xs : List Lease). grantedLease client expires w x y ∷ xs) (leases-snoc client expires ns ls fs (omega arith) (omega arith) n l f)
-
-granted-snoc : (client expires : ℕ) (ns ls fs : List ℕ) (k n l f : ℕ) → k < length ns → k < length ls → k < length fs
-    → grantedIn client expires (set ns k n) (set ls k l) (set fs k f) (k + 1)
-    ≡ grantedIn client expires ns ls fs k ++ (grantedLease client expires n l f ∷ [])
-granted-snoc client expires ns ls fs k n l f hn hl hf =
-    let low : k ≤ length ns = omega arith in
-    let mid : k ≤ length ls = omega arith in
-    let top : k ≤ length fs = omega arith in
-    ap (grantedIn client expires (set ns k n) (set ls k l) (set fs k f)) (add-one k)
-    ∙ ap₂ (λ (a b : List ℕ). leasesHeld client expires a b (take (suc k) (set fs k f))) (take-suc-set ns k n hn) (take-suc-set ls k l hl)
-    ∙ ap (leasesHeld client expires (take k ns ++ (n ∷ [])) (take k ls ++ (l ∷ []))) (take-suc-set fs k f hf)
-    ∙ leases-snoc client expires (take k ns) (take k ls) (take k fs) (length-take-le k ns low ∙ sym (length-take-le k ls mid)) (length-take-le k ns low ∙ sym (length-take-le k fs top)) n l f
-
--- The lease at a place of the columns.
-
-leases-at : (client expires : ℕ) (ns ls fs : List ℕ) (i : ℕ) (d : Lease) → i < length ns → i < length ls → i < length fs
-    → getD (leasesHeld client expires ns ls fs) i d ≡ grantedLease client expires (getD ns i 0) (getD ls i 0) (getD fs i 0)
-leases-at client expires [] ls fs i d hn hl hf = absurd (omega arith)
-leases-at client expires (n ∷ ns) [] fs i d hn hl hf = absurd (omega arith)
-leases-at client expires (n ∷ ns) (l ∷ ls) [] i d hn hl hf = absurd (omega arith)
-leases-at client expires (n ∷ ns) (l ∷ ls) (f ∷ fs) zero d hn hl hf = refl
-leases-at client expires (n ∷ ns) (l ∷ ls) (f ∷ fs) (suc i) d hn hl hf = leases-at client expires ns ls fs i d (omega arith) (omega arith) (omega arith)
-
-pub granted-at : (client expires : ℕ) (ns ls fs : List ℕ) (k i : ℕ) (d : Lease) → i < k → k ≤ length ns → k ≤ length ls → k ≤ length fs
-    → getD (grantedIn client expires ns ls fs k) i d ≡ grantedLease client expires (getD ns i 0) (getD ls i 0) (getD fs i 0)
-granted-at client expires ns ls fs k i d lt hn hl hf =
-    leases-at client expires (take k ns) (take k ls) (take k fs) i d
-    (omega (arith, length-take-le k ns hn)) (omega (arith, length-take-le k ls hl)) (omega (arith, length-take-le k fs hf))
-    ∙ rw (getD-take k ns i 0 lt, getD-take k ls i 0 lt, getD-take k fs i 0 lt)
+use Rattle.ask_serve.specs.Granting.{grantedLease, offerIn, offersIn, leasesIn}
+use Rattle.ask_serve.specs.InnerServing.{Columns, columns, OffersHeld, Asked, Served}
+use Rattle.ask_serve.proofs.ColumnLaws.{offers-in-snoc, networks-behind, lengths-behind}
 
 flag-back : (b : Bool) → eqb (flagOf b) 1 ≡ b
 flag-back true = refl
@@ -85,59 +45,93 @@ pub not-back : (b c : Bool) → not b ≡ c → b ≡ not c
 not-back true c e = ap not e
 not-back false c e = ap not e
 
--- what a request that is refused leaves
+module _ (place l j : ℕ) (c : Columns) (p : Progress) (hn : j < length (c .networks)) (hl : j < length (c .lengths)) where
+  -- NOTHING GRANTED: the length in its place is 0.
 
-module _ (l h : ℕ) (c : Columns) (p : Progress) where
-  refused : ((t : LeaseTable) (time client : ℕ) (ys gs : List Lease) (r : Request) → Asked t ys r l h → GrantsHeld t time client ys gs c p → offer t time client ys r ≡ none) → Served l h c p c p
-  refused none-offered = record {
-    offered = λ t time client ys gs r a k.
-        subst (λ (o : Option Lease). GrantsHeld t time client (add o ys) (gs ++ catMaybes (o ∷ [])) c p) (sym (none-offered t time client ys gs r a k))
-        (subst (λ (xs : List Lease). GrantsHeld t time client ys xs c p) (sym (append-nil gs)) k);
+  abbrev cleared : Columns
+  cleared = columns (c .starts) (c .lasts) (c .networks) (set (c .lengths) j 0)
+
+  -- The request gets nothing, and the gaps are as before.
+  left-out : (t : LeaseTable) (time client : ℕ) (ys : List Lease) (fs : List ℕ) (os : List (Option Lease)) (f : ℕ) → length fs ≡ j → OffersHeld t time client ys fs os c p
+      → OffersHeld t time client ys (fs ++ (f ∷ [])) (os ++ (none ∷ [])) cleared p
+  left-out t time client ys fs os f e k = record {
+    gaps = k .gaps;
+    left = k .left;
+    held =
+        offers-in-snoc client (time + holdTime) (c .networks) (set (c .lengths) j 0) fs f j e hn (omega (arith, length-set (c .lengths) j 0))
+        ∙ ap₂ (λ (qs : List (Option Lease)) (m : ℕ). qs ++ (offerIn client (time + holdTime) (getD (c .networks) j 0) m f ∷ []))
+        (lengths-behind client (time + holdTime) (c .networks) (c .lengths) fs j 0 (omega arith) ∙ k .held) (getD-set-same (c .lengths) j 0 0 hl);
+  }
+
+  nothing-granted : (place ≡ noPlace
+      → (t : LeaseTable) (time client : ℕ) (ys : List Lease) (fs : List ℕ) (os : List (Option Lease)) (r : Request) → Asked t ys r l → OffersHeld t time client ys fs os c p → offer t time client ys r ≡ none)
+      → Served place l j c p cleared p
+  nothing-granted none-offered = record {
+    offered = λ e t time client ys fs os r s a k.
+        subst (λ (o : Option Lease). OffersHeld t time client (add o ys) (fs ++ (flagOf (r .h) ∷ [])) (os ++ (o ∷ [])) cleared p) (sym (none-offered e t time client ys fs os r a k))
+        (left-out t time client ys fs os (flagOf (r .h)) s k);
+    passed = λ some-place. left-out;
+    counted = λ long e. e ∙ sym (others-same 0 (c .lengths) j 0 hl refl);
     room = omega arith;
     few = omega arith;
     slots = omega arith;
   }
 
+  -- The request gets a lease again.
+  pub served-again : (place ≡ noPlace → ⊥) → Served place l j c p cleared p
+  served-again some-place = nothing-granted (λ e. absurd (some-place e))
+
   -- No slot is left.
-  pub served-full : p .left ≡ 0 → Served l h c p c p
-  served-full e = refused (λ t time client ys gs r a k. offer-full t time client ys r (omega (arith, k .left)))
+  pub served-full : p .left ≡ 0 → Served place l j c p cleared p
+  served-full e = nothing-granted (λ z t time client ys fs os r a k. offer-full t time client ys r (omega (arith, k .left)))
 
   module _ (r : Choice) (fitted : Fitted (heldIn (c .starts) (c .lasts) (p .gaps)) l r) where
     -- The fit is what the ledger grants.
-    grant-is : (t : LeaseTable) (time client : ℕ) (ys gs : List Lease) (q : Request) → Asked t ys q l h → GrantsHeld t time client ys gs c p
+    grant-is : (t : LeaseTable) (time client : ℕ) (ys : List Lease) (fs : List ℕ) (os : List (Option Lease)) (q : Request) → Asked t ys q l → OffersHeld t time client ys fs os c p
         → grant (poolsOf t) (map prefixOf ys) (askLength t q) ≡ fitOf r l
-    grant-is t time client ys gs q a k =
+    grant-is t time client ys fs os q a k =
         ap (grant (poolsOf t) (map prefixOf ys)) (a .asked)
         ∙ sym (fit-grants (poolsOf t) (map prefixOf ys) (a .ordered) l (a .block))
         ∙ sym (fitted .best (omega (arith, a .block .1)) ∙ ap (λ (gs : List Gap). lowestPart l (fitIn l gs)) (k .gaps))
 
     -- Nothing fits.
-    pub served-none : not (r .found) ≡ true → Served l h c p c p
+    pub served-none : not (r .found) ≡ true → Served place l j c p cleared p
     served-none e =
-        refused (λ t time client ys gs q a k.
+        nothing-granted (λ z t time client ys fs os q a k.
         by-cases (decLe leaseSlots (length ys)) (λ full. offer-full t time client ys q full)
         (λ room.
         offer-room t time client ys q (omega arith)
-        ∙ ap (offered time client (q .h)) (grant-is t time client ys gs q a k ∙ cond-false (r .found) (some (prefix (r .network) l)) none (not-back (r .found) true e))))
+        ∙ ap (offered time client (q .h)) (grant-is t time client ys fs os q a k ∙ cond-false (r .found) (some (prefix (r .network) l)) none (not-back (r .found) true e))))
 
-    module _ (e : not (r .found) ≡ false) (left : 0 < p .left) (hn : p .granted < length (c .networks)) (hl : p .granted < length (c .lengths)) (hf : p .granted < length (c .flags))
-        (starts lasts : List ℕ) (n : ℕ) (kept : Kept (p .gaps) (without (prefix (r .network) l) (r .index) (heldIn (c .starts) (c .lasts) (p .gaps))) n starts lasts) where
+    -- A REQUEST THAT IS GRANTED
+
+    module _ (no-place : place ≡ noPlace) (e : not (r .found) ≡ false) (left : 0 < p .left) (starts lasts : List ℕ) (n : ℕ)
+        (kept : Kept (p .gaps) (without (prefix (r .network) l) (r .index) (heldIn (c .starts) (c .lasts) (p .gaps))) n starts lasts) where
       abbrev after : Columns
-      after = columns starts lasts (set (c .networks) (p .granted) (r .network)) (set (c .lengths) (p .granted) l) (set (c .flags) (p .granted) h)
+      after = columns starts lasts (set (c .networks) j (r .network)) (set (set (c .lengths) j 0) j l)
 
       abbrev on : Progress
       on = record { gaps = n; granted = p .granted + 1; left = p .left - 1 }
 
-      holds-more : (t : LeaseTable) (time client : ℕ) (ys gs : List Lease) (q : Request) → Asked t ys q l h → GrantsHeld t time client ys gs c p
-          → GrantsHeld t time client (add (offered time client (q .h) (some (prefix (r .network) l))) ys) (gs ++ catMaybes (offered time client (q .h) (some (prefix (r .network) l)) ∷ [])) after on
-      holds-more t time client ys gs q a k =
+      -- The lease in its place.
+      stored : (client expires : ℕ) (fs : List ℕ) (f : ℕ) → length fs ≡ j → 1 ≤ l
+          → offersIn client expires (after .networks) (after .lengths) (fs ++ (f ∷ [])) ≡ offersIn client expires (c .networks) (c .lengths) fs ++ (some (grantedLease client expires (r .network) l f) ∷ [])
+      stored client expires fs f s long =
+          let ns : List ℕ = set (c .networks) j (r .network) in
+          let there : offerIn client expires (getD ns j 0) (getD (set (c .lengths) j l) j 0) f ≡ some (grantedLease client expires (r .network) l f) =
+          ap₂ (λ (m k : ℕ). offerIn client expires m k f) (getD-set-same (c .networks) j (r .network) 0 hn) (getD-set-same (c .lengths) j l 0 hl)
+          ∙ cond-false (eqb l 0) none (some (grantedLease client expires (r .network) l f)) (ne-eqb l 0 (λ z. omega arith)) in
+          ap (λ (ls : List ℕ). offersIn client expires ns ls (fs ++ (f ∷ []))) (set-set (c .lengths) j 0 l)
+          ∙ offers-in-snoc client expires ns (set (c .lengths) j l) fs f j s (omega (arith, length-set (c .networks) j (r .network))) (omega (arith, length-set (c .lengths) j l))
+          ∙ ap₂ (λ (os : List (Option Lease)) (o : Option Lease). os ++ (o ∷ []))
+          (networks-behind client expires (c .networks) (set (c .lengths) j l) fs j (r .network) (omega arith) ∙ lengths-behind client expires (c .networks) (c .lengths) fs j l (omega arith)) there
+
+      holds-more : (t : LeaseTable) (time client : ℕ) (ys : List Lease) (fs : List ℕ) (os : List (Option Lease)) (q : Request) → length fs ≡ j → Asked t ys q l → OffersHeld t time client ys fs os c p
+          → OffersHeld t time client (add (offered time client (q .h) (some (prefix (r .network) l))) ys) (fs ++ (flagOf (q .h) ∷ [])) (os ++ (offered time client (q .h) (some (prefix (r .network) l)) ∷ [])) after on
+      holds-more t time client ys fs os q s a k =
           let x : Lease = record { network = r .network; length = l; client = client; leased = false; h = q .h; d = false; expires = time + holdTime } in
           let lies : LiesIn (prefix (r .network) l) (r .index) (gapsOf (poolsOf t) (map prefixOf ys)) =
           subst (LiesIn (prefix (r .network) l) (r .index)) (k .gaps) (fitted .place (not-back (r .found) false e)) in
-          let more : grantedIn client (time + holdTime) (set (c .networks) (p .granted) (r .network)) (set (c .lengths) (p .granted) l) (set (c .flags) (p .granted) h) (p .granted + 1) ≡ gs ++ (x ∷ []) =
-          granted-snoc client (time + holdTime) (c .networks) (c .lengths) (c .flags) (p .granted) (r .network) l h hn hl hf
-          ∙ ap₂ (λ (xs : List Lease) (b : Bool). xs ++ (record { network = r .network; length = l; client = client; leased = false; h = b; d = false; expires = time + holdTime } ∷ []))
-          (k .granted) (ap (λ (f : ℕ). eqb f 1) (a .flag) ∙ flag-back (q .h)) in
           record {
             gaps =
                 kept .gaps
@@ -145,17 +139,21 @@ module _ (l h : ℕ) (c : Columns) (p : Progress) where
                 ∙ sym (gaps-split (prefix (r .network) l) (poolsOf t) (map prefixOf ys) (a .ordered .poolsAscend) (a .ordered .leasesAscend) (r .index) lies)
                 ∙ ap (gapsOf (poolsOf t)) (sym (insertBy-image prefixOf networkOf (λ (y : Prefix). y .network) x ys refl (all-every (λ y. refl) ys)));
             left = omega (arith, k .left, insertBy-longer networkOf x ys);
-            granted = more;
-            count = omega (arith, k .count, length-append gs (x ∷ []));
+            held =
+                stored client (time + holdTime) fs (flagOf (q .h)) s (a .block .0)
+                ∙ ap₂ (λ (qs : List (Option Lease)) (b : Bool). qs ++ (some (record { network = r .network; length = l; client = client; leased = false; h = b; d = false; expires = time + holdTime }) ∷ []))
+                (k .held) (flag-back (q .h));
           }
 
-      pub served-granted : Served l h c p after on
+      pub served-granted : Served place l j c p after on
       served-granted = record {
-        offered = λ t time client ys gs q a k.
-            subst (λ (o : Option Lease). GrantsHeld t time client (add o ys) (gs ++ catMaybes (o ∷ [])) after on)
+        offered = λ z t time client ys fs os q s a k.
+            subst (λ (o : Option Lease). OffersHeld t time client (add o ys) (fs ++ (flagOf (q .h) ∷ [])) (os ++ (o ∷ [])) after on)
             (sym (offer-room t time client ys q (omega (arith, k .left))
-            ∙ ap (offered time client (q .h)) (grant-is t time client ys gs q a k ∙ cond-true (r .found) (some (prefix (r .network) l)) none (not-back (r .found) false e))))
-            (holds-more t time client ys gs q a k);
+            ∙ ap (offered time client (q .h)) (grant-is t time client ys fs os q a k ∙ cond-true (r .found) (some (prefix (r .network) l)) none (not-back (r .found) false e))))
+            (holds-more t time client ys fs os q s a k);
+        passed = λ some-place. absurd (some-place no-place);
+        counted = λ long e. omega (arith, e, ap (λ (ls : List ℕ). leasesIn ls (j + 1)) (set-set (c .lengths) j 0 l), others-more 0 (c .lengths) j l hl (λ z. omega arith));
         room = omega (arith, kept .few);
         few = omega arith;
         slots = omega arith;

@@ -1,2 +1,4 @@
+pub mod ColumnLaws
+pub mod RestLaws
 pub mod GrantLaws
 pub mod ServeLaws

@@ -1,37 +1,51 @@
 -- What serving the requests of an ask begins with and what it answers, in columns, in the ledger's terms.
 use Prim.Native.Nat.{ℕ, _+_, _-_, _≤_}
 use mathlib.Core.Path.{_≡_}
-use mathlib.Core.Bool.{true, false}
+use mathlib.Core.Bool.{true, false, cond}
 use mathlib.Core.List.{List, [], _∷_, map}
+use mathlib.Core.Option.{Option, none, some}
 use lib.Dec.{eqb}
-use lib.ListN.{length, take}
-use Rattle.lists.specs.Lists.{All, catMaybes}
+use lib.ListN.{length}
+use Rattle.lists.specs.Lists.{All}
 use Rattle.prefix.specs.Prefixes.{longest}
 use Rattle.gap_list.specs.Gaps.{gapsOf}
 use Rattle.gap_list.specs.Columns.{heldIn}
 use Rattle.table.specs.declared.{Lease.Lease, LeaseTable.LeaseTable}
 use Rattle.table.specs.Table.{leaseSlots, prefixOf, poolsOf, present, sound}
 use Rattle.option.specs.Contents.{Request}
-use Rattle.option_scan.specs.Scanned.{flagOf}
-use Rattle.ledger.specs.Ledger.{holdTime, offers}
+use Rattle.ledger.specs.Ledger.{holdTime, offer, add}
+use Rattle.ask_again.specs.Places.{othersIn, flagsOf}
 use Rattle.ask_serve.specs.declared.Start.{Start}
 
--- A lease as it is granted to a client and held until a time; and those that three columns hold.
+-- A lease as it is granted to a client and held until a time.
 abbrev pub grantedLease : ℕ → ℕ → ℕ → ℕ → ℕ → Lease
 grantedLease client expires network len flag = record { network = network; length = len; client = client; leased = false; h = eqb flag 1; d = false; expires = expires }
 
-abbrev pub leasesHeld : ℕ → ℕ → List ℕ → List ℕ → List ℕ → List Lease
-leasesHeld client expires [] ls fs = []
-leasesHeld client expires (n ∷ ns) [] fs = []
-leasesHeld client expires (n ∷ ns) (l ∷ ls) [] = []
-leasesHeld client expires (n ∷ ns) (l ∷ ls) (f ∷ fs) = grantedLease client expires n l f ∷ leasesHeld client expires ns ls fs
+-- What a place of two columns has for a request with this h: a lease, or nothing where the length is 0.
+abbrev pub offerIn : ℕ → ℕ → ℕ → ℕ → ℕ → Option Lease
+offerIn client expires network len flag = cond (eqb len 0) none (some (grantedLease client expires network len flag))
 
--- The leases in the first n places of the columns.
-abbrev pub grantedIn : ℕ → ℕ → List ℕ → List ℕ → List ℕ → ℕ → List Lease
-grantedIn client expires networks lengths flags n = leasesHeld client expires (take n networks) (take n lengths) (take n flags)
+-- What the columns have, place for place with the requests, of which a third has h.
+abbrev pub offersIn : ℕ → ℕ → List ℕ → List ℕ → List ℕ → List (Option Lease)
+offersIn client expires ns ls [] = []
+offersIn client expires [] ls (f ∷ fs) = []
+offersIn client expires (n ∷ ns) [] (f ∷ fs) = []
+offersIn client expires (n ∷ ns) (l ∷ ls) (f ∷ fs) = offerIn client expires n l f ∷ offersIn client expires ns ls fs
+
+-- How many of the first n places have a lease.
+abbrev pub leasesIn : List ℕ → ℕ → ℕ
+leasesIn lengths n = othersIn 0 lengths n
+
+-- What each request is offered, place for place, where `gs` has what each gets again: one that gets something is offered nothing, and the rest is served in
+-- order.
+unfoldable pub restOffers : LeaseTable → ℕ → ℕ → List Lease → List (Option Lease) → List Request → List (Option Lease)
+restOffers t now client xs gs [] = []
+restOffers t now client xs [] (r ∷ rs) = []
+restOffers t now client xs (some x ∷ gs) (r ∷ rs) = none ∷ restOffers t now client xs gs rs
+restOffers t now client xs (none ∷ gs) (r ∷ rs) = let o = offer t now client xs r in o ∷ restOffers t now client (add o xs) gs rs
 
 -- What serving asks for: a sound table, the leases present in it, its gaps in columns, how many slots are empty, and requests of lengths that an option can have.
-pub record Serving (t : LeaseTable) (time client : ℕ) (xs : List Lease) (rs : List Request) (starts lasts : List ℕ) (start : Start) (ask-lengths ask-h : List ℕ) : Type 0 where
+pub record Serving (t : LeaseTable) (time client : ℕ) (xs : List Lease) (rs : List Request) (starts lasts : List ℕ) (start : Start) (ask-lengths : List ℕ) : Type 0 where
   pub soundTable : sound t ≡ true
   pub presentLeases : xs ≡ present time (t .leases)
   pub named : client ≡ 0 → ⊥
@@ -39,10 +53,8 @@ pub record Serving (t : LeaseTable) (time client : ℕ) (xs : List Lease) (rs : 
   pub empty : start .slots ≡ leaseSlots - length xs
   pub byDefault : start .«default_length» ≡ t .«default_length»
   pub askedLengths : ask-lengths ≡ map (λ r. r .length) rs
-  pub askedH : ask-h ≡ map (λ r. flagOf (r .h)) rs
   pub long : All (λ r. r .length ≤ longest) rs
 
--- What serving answers: as many as the ledger grants, and these in the columns.
-pub record Granted (t : LeaseTable) (time client : ℕ) (xs : List Lease) (rs : List Request) (r : ℕ) (networks lengths flags : List ℕ) : Type 0 where
-  pub count : r ≡ length (catMaybes (offers t time client xs rs))
-  pub leases : grantedIn client (time + holdTime) networks lengths flags r ≡ catMaybes (offers t time client xs rs)
+-- What serving answers: the columns have what the rest is offered, place for place.
+pub record Granted (t : LeaseTable) (time client : ℕ) (xs : List Lease) (gs : List (Option Lease)) (rs : List Request) (networks lengths : List ℕ) : Type 0 where
+  pub held : offersIn client (time + holdTime) networks lengths (flagsOf rs) ≡ restOffers t time client xs gs rs

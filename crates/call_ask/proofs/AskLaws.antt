@@ -15,7 +15,7 @@ use Rattle.lists.proofs.Tests.{bool-cases, and-list-to}
 use Rattle.option.specs.Values.{mostRequests, SuboptionValue}
 use Rattle.option.specs.Reading.{readOption}
 use Rattle.option.specs.Contents.{Request, suboptions, requests, requestsIn}
-use Rattle.ledger.specs.Ledger.{State, left, Call, Result, result, refusal, accept, refusalPlace, forAsk, addAll, askOffers, informationFor, grantRows, askRows, ask}
+use Rattle.ledger.specs.Ledger.{State, left, Call, Result, result, refusal, accept, refusalPlace, forAsk, askGives, askLeases, informationFor, grantRows, askRows, ask}
 use Rattle.option.specs.Writing.{optionBytes}
 use Rattle.table.specs.Table.{present}
 use Rattle.option_scan.specs.declared.Contents.{Contents}
@@ -50,8 +50,10 @@ wanted subs = forAsk (requests subs)
 -- What is left where no row applies.
 abbrev accepted : Lent → ℕ → Call → Result State
 accepted h now c =
-    let os = askOffers (tableIn h) now (c .client) (c .option) in
-    accept (left (stateIn h) now (addAll os (present now (tableIn h .leases)))) (optionBytes (map informationFor (catMaybes os))) (length (catMaybes os)) (c .reply)
+    let xs = present now (tableIn h .leases) in
+    let rs = requestsIn (c .option) in
+    let granted = catMaybes (askGives (tableIn h) now (c .client) xs rs) in
+    accept (left (stateIn h) now (askLeases (tableIn h) now (c .client) xs rs)) (optionBytes (map informationFor granted)) (length granted) (c .reply)
 
 module _ (h : Lent) (now : ℕ) (c : Call) where
   by-row : RefusedBy (rowsWith8 true (length (c .reply)) h now c wanted (grantRows (stateIn h) now c)) h c (askImage h now c)

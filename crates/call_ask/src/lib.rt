@@ -1,5 +1,5 @@
 // Ask as a call on an image, in place.
-use ask_commit::Asker;
+use ask_again::Asker;
 use ledger::Answer;
 use option_scan::MOST_ENTRIES;
 use option_scan::MOST_REQUESTS;

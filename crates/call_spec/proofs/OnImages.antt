@@ -1,5 +1,6 @@
--- THE THEOREMS ON WHAT THE CODE IS LENT. The calls on images follow the ledger's, from every start, sound or not; so demand 3, conservation, that no address
--- is shared and what a list depends on hold of histories of calls in which the buffer, the length and the figures sheet go from call to call.
+-- THE THEOREMS ON WHAT THE CODE IS LENT. The calls on images follow the ledger's, from every start, sound or not; so demand 3, what a client that asks twice
+-- gets, conservation, that no address is shared and what a list depends on hold of histories of calls in which the buffer, the length and the figures sheet go
+-- from call to call.
 -- Assumes nothing.
 use Prim.Native.Nat.{ℕ, _≤_}
 use mathlib.Core.Path.{_≡_, refl, sym, ap, subst, _∙_}
@@ -24,6 +25,7 @@ use Rattle.image_figures.specs.Sheets.{figuresSize}
 use Rattle.ledger.specs.Sizes.{Bytes}
 use Rattle.ledger.specs.Ledger.{State, filled, Call, Result, Row, firstOf, orElse, refuse, accept, openRows, openTable, ask, take, list, release, mark, ledger}
 use Rattle.ledger.specs.Demand3.{none?, Demand3}
+use Rattle.ledger.specs.AskingTwice.{AsksTwice}
 use Rattle.ledger.specs.Histories.{NeverShared}
 use Rattle.ledger.specs.Conservation.{Conserved, FromLoad}
 use Rattle.ledger.specs.ListDepends.{DependsOnly}
@@ -31,7 +33,7 @@ use Rattle.ledger.proofs.RowLaws.{first-none, accepted-none}
 use Rattle.ledger.proofs.SoundKept.{SoundIfAccepted, ask-sound, take-sound, list-keeps, release-sound, mark-sound, ask-refused-unchanged, take-refused-unchanged, release-refused-unchanged, mark-refused-unchanged}
 use Rattle.ledger.proofs.MatchedKept.{MatchedIfAccepted, ask-matched, take-matched, release-matched, mark-matched}
 use Rattle.ledger.proofs.ConservationHolds.{conservation-open}
-use Rattle.ledger.proofs.Following.{Follows, FollowsAll, demand3-followed, never-shared-followed, conserved-followed, conservation-followed, list-depends-followed}
+use Rattle.ledger.proofs.Following.{Follows, FollowsAll, demand3-followed, asks-twice-followed, never-shared-followed, conserved-followed, conservation-followed, list-depends-followed}
 use Rattle.call_spec.specs.ImageCalls.{Lent, tableIn, stateIn, storedIn, settled, askImage, listImage, imageCalls, openImage, loadInto, roomRows}
 use Rattle.call_spec.specs.OnImages.{Begins, opened, loaded, FromOpen}
 use Rattle.call_spec.proofs.StoreLaws.{settled-refused, settled-accepted}
@@ -76,6 +78,10 @@ follows-all = record {
 -- DEMAND 3 OF THE CODE'S ASK: `askImage` is what `flockdrift_ask` is proved to be.
 pub demand3-on-images : Demand3 stateIn askImage
 demand3-on-images = demand3-followed stateIn askImage (follows-all .asks)
+
+-- A CLIENT THAT ASKS TWICE gets its leases again.
+pub asks-twice-on-images : AsksTwice stateIn askImage
+asks-twice-on-images = asks-twice-followed stateIn askImage (follows-all .asks)
 
 -- CONSERVATION over histories of calls on what is lent, and WHAT A LIST DEPENDS ON.
 pub conservation-on-images : FromLoad imageCalls

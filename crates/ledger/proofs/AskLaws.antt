@@ -1,4 +1,4 @@
--- One ask call: what a reader of its reply and of the table after it finds is what was offered.
+-- One ask call: what a reader of its reply and of the table after it finds is what was given again and what was offered.
 -- Assumes nothing.
 use Prim.Native.Nat.{ℕ, _+_, _-_, _≤_}
 use mathlib.Core.Path.{_≡_, refl, sym, ap, ap₂, subst, _∙_}
@@ -11,8 +11,8 @@ use lib.ListN.{length, replicate}
 use lib.Dec.{eqb}
 use borrow.Author.Tests.{eq-eqb, ne-eqb}
 use Rattle.lists.specs.Lists.{All, Any, any?, catMaybes}
-use Rattle.lists.proofs.Tests.{cond-true, cond-false, and-list-of, not-of, any?-of}
-use Rattle.lists.proofs.ListLaws.{all-image, all-preimage, any-left}
+use Rattle.lists.proofs.Tests.{cond-true, cond-false, and-to, and-list-to, and-list-of, not-of, any?-of}
+use Rattle.lists.proofs.ListLaws.{all-map, all-map₂, all-image, all-preimage, all-every, all-member, any-map, any-left}
 use Rattle.lists.proofs.Permutations.{perm-all, perm-any, perm-length}
 use Rattle.prefix.specs.Prefixes.{prefix, Apart}
 use Rattle.free_space.specs.Space.{Free}
@@ -24,9 +24,10 @@ use Rattle.table.specs.declared.LeaseTable.{LeaseTable}
 use Rattle.table.specs.Table.{leaseSlots, prefixOf, noLease, poolsOf, insert}
 use Rattle.option.specs.Contents.{Request}
 use Rattle.option_reply.specs.Reply.{entryOf}
-use Rattle.ledger.specs.Ledger.{holdTime, askLength, offer, add, offers, addAll}
+use Rattle.ledger.specs.Ledger.{holdTime, askLength, offer, add, offers, addAll, heldBy?, heldFor?, firstThat, butFirst, again, restOf, holdAgain, inTurn, askHeld, askOffers, askGives, askLeases}
 use Rattle.ledger.specs.Demand3.{answers?, pairOff, isHeld?, confirmed}
 use Rattle.ledger.proofs.OfferLaws.{prefixes, insert-perm, Offered, Offer, offer-is}
+use Rattle.ledger.proofs.AgainLaws.{first-none, first-some, but-first-all, again-all, held-there, gives, turn-all}
 use mathlib.Core.List.{Permᴰ·symm}
 
 abbrev pub entry? : Option Lease → Option Entry
@@ -69,37 +70,72 @@ module _ (t : LeaseTable) (good : Pools (poolsOf t)) (now client : ℕ) where
   dead-offers (r ∷ rs) xs len d =
       dead-step rs xs len r (offer t now client xs r) (offer-is t now client good xs r) d (λ e. dead-offers rs (add (offer t now client xs r) xs) len e)
 
+  -- No answer to this request.
+  Other : Request → Lease → Type 0
+  Other r y = answers? t r (entryOf y) ≡ false
+
+  -- A lease that the client holds and that is not for a request is no answer to it.
+  held-other : (r : Request) (x : Lease) → heldBy? client x ≡ true → heldFor? t client r x ≡ false → Other r (holdAgain now x)
+  unfolding Other
+  held-other r x b n = sym (ap (λ (b : Bool). b && answers? t r (entryOf x)) b) ∙ n
+
+  dead-other : (r : Request) (ys : List Lease) → All (λ y. y .length ≡ askLength t r → ⊥) ys → All (Other r) ys
+  unfolding Other
+  dead-other r ys a = all-map (λ y (k : y .length ≡ askLength t r → ⊥). ap (λ (b : Bool). b && (Bool·beq (r .h) (y .h) && true)) (ne-eqb (askLength t r) (y .length) (λ e. k (sym e)))) ys a
+
+  -- Once a request got nothing, no later one of the call gets what would answer it: no lease left to be given again is for it, and its length finds no space.
+  later-other : (r : Request) (rs : List Request) (hs ys : List Lease) → All (λ x. heldFor? t client r x ≡ false) hs → Dead t ys (askLength t r) → All (Other r) (catMaybes (gives t now client hs ys rs))
+  later-other r rs hs ys a d =
+      turn-all now (Other r) (again t client hs rs) (offers t now client ys (restOf (again t client hs rs) rs))
+      (all-map (λ x (k : (heldBy? client x ≡ true) × (heldFor? t client r x ≡ false)). held-other r x (k .0) (k .1)) (catMaybes (again t client hs rs)) (again-all t client (λ x. heldFor? t client r x ≡ false) rs hs a))
+      (dead-other r (catMaybes (offers t now client ys (restOf (again t client hs rs) rs))) (dead-offers (restOf (again t client hs rs) rs) ys (askLength t r) d))
+
+  skip : (r : Request) (rs : List Request) (ys : List Lease) → All (Other r) ys → pairOff t (r ∷ rs) (map entryOf ys) ≡ none ∷ pairOff t rs (map entryOf ys)
+  unfolding Other
+  skip r rs [] a = refl
+  skip r rs (y ∷ ys) a = cond-false (answers? t r (entryOf y)) (some (entryOf y) ∷ pairOff t rs (map entryOf ys)) (none ∷ pairOff t rs (map entryOf (y ∷ ys))) (a .0)
+
+  hit : (r : Request) (rs : List Request) (y : Lease) (ys : List Lease) → answers? t r (entryOf y) ≡ true → pairOff t (r ∷ rs) (map entryOf (y ∷ ys)) ≡ some (entryOf y) ∷ pairOff t rs (map entryOf ys)
+  hit r rs y ys e = cond-true (answers? t r (entryOf y)) (some (entryOf y) ∷ pairOff t rs (map entryOf ys)) (none ∷ pairOff t rs (map entryOf (y ∷ ys))) e
+
   beq-refl : (b : Bool) → Bool·beq b b ≡ true
   beq-refl true = refl
   beq-refl false = refl
 
-  and-first : (a b : Bool) → a ≡ false → (a && b) ≡ false
-  and-first a b e = rw e
+  offered-answers : (xs : List Lease) (r : Request) (x : Lease) → Offered t now client xs r x → answers? t r (entryOf x) ≡ true
+  offered-answers xs r x f =
+      and-list-of (eqb (askLength t r) (x .length) ∷ Bool·beq (r .h) (x .h) ∷ [])
+      (eq-eqb (askLength t r) (x .length) (sym (f .len)), (subst (λ (b : Bool). Bool·beq (r .h) b ≡ true) (sym (f .h)) (beq-refl (r .h)), tt))
 
-  skip : (r : Request) (rs : List Request) (ys : List Lease) → All (λ y. y .length ≡ askLength t r → ⊥) ys → pairOff t (r ∷ rs) (map entryOf ys) ≡ none ∷ pairOff t rs (map entryOf ys)
-  skip r rs [] a = refl
-  skip r rs (y ∷ ys) a =
-      cond-false (answers? t r (entryOf y)) (some (entryOf y) ∷ pairOff t rs (map entryOf ys)) (none ∷ pairOff t rs (map entryOf (y ∷ ys)))
-      (and-first (eqb (askLength t r) (y .length)) _ (ne-eqb (askLength t r) (y .length) (λ e. a .0 (sym e))))
+  Pairs : List Request → List (Option Lease) → Type 0
+  Pairs rs gs = pairOff t rs (map entryOf (catMaybes gs)) ≡ map entry? gs
 
-  pair-step : (rs : List Request) (xs : List Lease) (r : Request) (o : Option Lease) → Offer t now client xs r o
-      → pairOff t rs (map entryOf (catMaybes (offers t now client (add o xs) rs))) ≡ map entry? (offers t now client (add o xs) rs)
-      → pairOff t (r ∷ rs) (map entryOf (catMaybes (o ∷ offers t now client (add o xs) rs))) ≡ map entry? (o ∷ offers t now client (add o xs) rs)
-  pair-step rs xs r none f e =
-      skip r rs (catMaybes (offers t now client xs rs)) (dead-offers rs xs (askLength t r) (offer-dead t good now client xs r f)) ∙ ap (λ (l : List (Option Entry)). none ∷ l) e
-  pair-step rs xs r (some x) f e =
-      let ys : List Entry = map entryOf (catMaybes (offers t now client (insert x xs) rs)) in
-      cond-true (answers? t r (entryOf x)) (some (entryOf x) ∷ pairOff t rs ys) (none ∷ pairOff t rs (entryOf x ∷ ys))
-      (and-list-of (eqb (askLength t r) (x .length) ∷ Bool·beq (r .h) (x .h) ∷ [])
-      (eq-eqb (askLength t r) (x .length) (sym (f .len)), (subst (λ (b : Bool). Bool·beq (r .h) b ≡ true) (sym (f .h)) (beq-refl (r .h)), tt)))
-      ∙ ap (λ (l : List (Option Entry)). some (entryOf x) ∷ l) e
+  pair-new : (r : Request) (rs : List Request) (hs ys : List Lease) (o : Option Lease) → Offer t now client ys r o → All (λ x. heldFor? t client r x ≡ false) hs
+      → Pairs rs (gives t now client hs (add o ys) rs) → Pairs (r ∷ rs) (o ∷ gives t now client hs (add o ys) rs)
+  unfolding Pairs
+  pair-new r rs hs ys none f a e =
+      skip r rs (catMaybes (gives t now client hs ys rs)) (later-other r rs hs ys a (offer-dead t good now client ys r f)) ∙ ap (λ (l : List (Option Entry)). none ∷ l) e
+  pair-new r rs hs ys (some x) f a e =
+      hit r rs x (catMaybes (gives t now client hs (insert x ys) rs)) (offered-answers ys r x f) ∙ ap (λ (l : List (Option Entry)). some (entryOf x) ∷ l) e
 
-  -- The entries of what was offered pair off with the asks that were offered it: once a length found nothing, no later request of the call gets it.
-  pub pairs : (rs : List Request) (xs : List Lease) → pairOff t rs (map entryOf (catMaybes (offers t now client xs rs))) ≡ map entry? (offers t now client xs rs)
-  unfolding offers
-  pairs [] xs = refl
-  pairs (r ∷ rs) xs =
-      pair-step rs xs r (offer t now client xs r) (offer-is t now client good xs r) (pairs rs (add (offer t now client xs r) xs))
+  -- By what the request gets again, of hs; ks are the others of these.
+  pair-step : (r : Request) (rs : List Request) (hs ks ys : List Lease) (g : Option Lease) → firstThat (heldFor? t client r) hs ≡ g
+      → (firstThat (heldFor? t client r) hs ≡ none → All (λ x. heldFor? t client r x ≡ false) ks) → ((zs : List Lease) → Pairs rs (gives t now client ks zs rs))
+      → Pairs (r ∷ rs) (inTurn now (g ∷ again t client ks rs) (offers t now client ys (restOf (g ∷ again t client ks rs) (r ∷ rs))))
+  unfolding inTurn restOf offers Pairs
+  pair-step r rs hs ks ys (some x) e others k =
+      let for : heldFor? t client r x ≡ true = first-some (heldFor? t client r) (λ y. Unit {0}) hs x e (all-every (λ y. tt) hs) .0 in
+      hit r rs (holdAgain now x) (catMaybes (gives t now client ks ys rs)) (and-to (heldBy? client x) (answers? t r (entryOf x)) for .1)
+      ∙ ap (λ (l : List (Option Entry)). some (entryOf (holdAgain now x)) ∷ l) (k ys)
+  pair-step r rs hs ks ys none e others k = let o : Option Lease = offer t now client ys r in pair-new r rs ks ys o (offer-is t now client good ys r) (others e) (k (add o ys))
+
+  -- Entries pair off with the asks that got them.
+  pub pairs : (rs : List Request) (hs ys : List Lease) → pairOff t rs (map entryOf (catMaybes (gives t now client hs ys rs))) ≡ map entry? (gives t now client hs ys rs)
+  unfolding Pairs again inTurn
+  pairs [] hs ys = refl
+  pairs (r ∷ rs) hs ys =
+      let f : Lease → Bool = heldFor? t client r in
+      pair-step r rs hs (butFirst f hs) ys (firstThat f hs) refl (λ e. but-first-all f (λ x. f x ≡ false) hs (first-none f hs e)) (λ zs. pairs rs (butFirst f hs) zs)
 
 -- CONFIRMATION BY THE TABLE
 
@@ -131,6 +167,13 @@ abbrev pub Kept : ℕ → ℕ → List Lease → Option Lease → Type 0
 Kept now client ys none = Unit {0}
 Kept now client ys (some x) = Any (λ y. isHeld? now client (entryOf x) y ≡ true) ys
 
+-- And so is one given again.
+held-again : (now client : ℕ) (x : Lease) → heldBy? client x ≡ true → isHeld? now client (entryOf (holdAgain now x)) (holdAgain now x) ≡ true
+held-again now client x e =
+    let b = and-list-to (eqb (x .client) client ∷ not (x .leased) ∷ []) e in
+    and-list-of (heldTests now client (entryOf (holdAgain now x)) (holdAgain now x))
+    (eq-eqb (x .network) (x .network) refl, (eq-eqb (x .length) (x .length) refl, (b .0, (b .1 .0, (eq-eqb (now + holdTime) (now + holdTime) refl, tt)))))
+
 module _ (t : LeaseTable) (good : Pools (poolsOf t)) (now client : ℕ) where
   kept-one : (xs : List Lease) (r : Request) (o : Option Lease) (os : List (Option Lease)) → Offer t now client xs r o → Kept now client (addAll os (add o xs)) o
   kept-one xs r none os f = tt
@@ -138,12 +181,31 @@ module _ (t : LeaseTable) (good : Pools (poolsOf t)) (now client : ℕ) where
       addAll-any (λ y. isHeld? now client (entryOf x) y ≡ true) os (insert x xs)
       (insert-self (λ y. isHeld? now client (entryOf x) y ≡ true) x xs (held-of t now client xs r x f))
 
-  pub kept : (rs : List Request) (xs : List Lease) → All (Kept now client (addAll (offers t now client xs rs) xs)) (offers t now client xs rs)
+  kept-offers : (rs : List Request) (xs : List Lease) → All (Kept now client (addAll (offers t now client xs rs) xs)) (offers t now client xs rs)
   unfolding offers addAll
-  kept [] xs = tt
-  kept (r ∷ rs) xs =
+  kept-offers [] xs = tt
+  kept-offers (r ∷ rs) xs =
       let o : Option Lease = offer t now client xs r in
-      (kept-one xs r o (offers t now client (add o xs) rs) (offer-is t now client good xs r), kept rs (add o xs))
+      (kept-one xs r o (offers t now client (add o xs) rs) (offer-is t now client good xs r), kept-offers rs (add o xs))
+
+  kept-turn : (zs : List Lease) (gs os : List (Option Lease)) → All (λ x. Kept now client zs (some (holdAgain now x))) (catMaybes gs) → All (Kept now client zs) os
+      → All (Kept now client zs) (inTurn now gs os)
+  unfolding inTurn
+  kept-turn zs [] os a b = tt
+  kept-turn zs (some x ∷ gs) os a b = (a .0, kept-turn zs gs os (a .1) b)
+  kept-turn zs (none ∷ gs) [] a b = (tt, kept-turn zs gs [] a b)
+  kept-turn zs (none ∷ gs) (o ∷ os) a b = (b .0, kept-turn zs gs os a (b .1))
+
+  -- All that is granted is held in the table that the call leaves.
+  pub kept : (rs : List Request) (xs : List Lease) → All (Kept now client (askLeases t now client xs rs)) (askGives t now client xs rs)
+  kept rs xs =
+      let gs : List (Option Lease) = again t client xs rs in
+      let os : List (Option Lease) = askOffers t now client xs rs in
+      let hs : List Lease = askHeld t now client xs rs in
+      let there : (x : Lease) → Any (λ y. y ≡ x) (catMaybes gs) → (heldBy? client x ≡ true) × Any (λ y. y ≡ x) xs → Kept now client (addAll os hs) (some (holdAgain now x)) =
+      λ x given was. addAll-any (λ y. isHeld? now client (entryOf (holdAgain now x)) y ≡ true) os hs
+      (any-map (λ y (e : y ≡ holdAgain now x). ap (isHeld? now client (entryOf (holdAgain now x))) e ∙ held-again now client x (was .0)) hs (held-there now (catMaybes gs) x xs given (was .1))) in
+      kept-turn (addAll os hs) gs os (all-map₂ there (catMaybes gs) (all-member (catMaybes gs)) (again-all t client (λ x. Any (λ y. y ≡ x) xs) rs xs (all-member xs))) (kept-offers (restOf gs rs) hs)
 
 pub confirm : (now client k : ℕ) (u : LeaseTable) (ys : List Lease) → u .leases ≡ ys ++ replicate k noLease → (os : List (Option Lease)) → All (Kept now client ys) os
     → map (confirmed now client u) (map entry? os) ≡ map entry? os

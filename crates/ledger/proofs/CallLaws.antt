@@ -10,6 +10,8 @@ use lib.ListN.{length, drop, length-map}
 use lib.Dec.{leb, ltb, eqb}
 use borrow.Author.Tests.{ltb-false, le-ltb, eqb-false, not-false}
 use Rattle.lists.specs.Lists.{All, catMaybes}
+use Rattle.lists.proofs.ListLaws.{all-map}
+use Rattle.prefix.specs.Prefixes.{longest}
 use Rattle.free_space.specs.Serving.{Pools}
 use Rattle.option.specs.Values.{Entry}
 use Rattle.option.specs.Reading.{readOption}
@@ -17,18 +19,19 @@ use Rattle.option.specs.Writing.{optionBytes}
 use Rattle.table.specs.declared.Lease.{Lease}
 use Rattle.table.specs.declared.LeaseTable.{LeaseTable}
 use Rattle.table.specs.Table.{leaseSlots, latest, prefixOf, poolsOf, present, sound, store}
-use Rattle.table.proofs.TableLaws.{Good, sound-fine, sound-fewer, store-sound, present-stored}
+use Rattle.table.proofs.TableLaws.{Good, Fine, sound-fine, sound-fewer, store-sound, present-stored}
 use Rattle.option.specs.Contents.{Request, refuses?}
 use Rattle.option_reply.specs.Reply.{entryOf}
 use Rattle.figures.specs.Figures.{matches?}
-use Rattle.ledger.specs.Ledger.{State, left, Call, leastReply, full, Result, Row, firstOf, before, refuse, refusalPlace, forAsk, askRows, offers, addAll, askOffers, informationFor, ask}
-use Rattle.ledger.specs.Demand3.{none?, wellFormed, Accepts, asksOf, replyEntries, pairOff, confirmed, granted, inUse, Fate, isGranted, wantsSlot, wantsSpace, fate}
+use Rattle.ledger.specs.Ledger.{State, left, Call, leastReply, full, Result, Row, firstOf, before, refuse, refusalPlace, forAsk, askRows, offers, addAll, heldBy?, again, restOf, holdAgain, heldAgain, askHeld, askOffers, askGives, askLeases, informationFor, ask}
+use Rattle.ledger.specs.Demand3.{none?, wellFormed, Accepts, asksOf, replyEntries, pairOff, confirmed, granted, inUse, Fate, isGranted, wantsSlot, wantsSpace, fate, HoldsNothing}
 use Rattle.ledger.proofs.RowLaws.{first-none, none-to, none-not, answerAsk, ask-served, ask-refused}
 use Rattle.ledger.proofs.LeftLaws.{left-matches}
 use Rattle.ledger.proofs.ReadLaws.{requests-short}
 use Rattle.ledger.proofs.OfferLaws.{pools-good, Inv, offers-inv, offers-good}
+use Rattle.ledger.proofs.AgainLaws.{again-all, hold-good, held-none, held-fine, held-length, rest-all, rest-fills, turn-all, turn-none, nothing-gives, nothing-leases}
 use Rattle.ledger.proofs.ReplyLaws.{reads-none, reads-back}
-use Rattle.ledger.proofs.AskLaws.{entry?, pairs, kept, confirm, confirm-none, addAll-none}
+use Rattle.ledger.proofs.AskLaws.{entry?, pairs, Kept, kept, confirm, confirm-none, addAll-none}
 
 -- The rows of a call before 9.
 abbrev pub rowsFor : ℕ → State → Call → List Row
@@ -56,7 +59,8 @@ well now t c e =
     }
 
 run-well : (now : ℕ) (t : State) (c : Call) → wellFormed now t c ≡ true
-    → ask t now c ≡ answerAsk t now (c .reply) (present now (t .table .leases)) (askOffers (t .table) now (c .client) (c .option)) (catMaybes (askOffers (t .table) now (c .client) (c .option)))
+    → let xs = present now (t .table .leases) in
+    ask t now c ≡ answerAsk t now (c .reply) xs (askLeases (t .table) now (c .client) xs (asksOf c)) (catMaybes (askGives (t .table) now (c .client) xs (asksOf c)))
 unfolding wellFormed
 run-well now t c e = ask-served t now c (none-to (firstOf (rowsFor now t c)) e)
 
@@ -97,20 +101,20 @@ abbrev pub numberFor : List Lease → List Lease → ℕ
 numberFor xs [] = cond (full xs) 9 10
 numberFor xs (g ∷ gs) = 0
 
--- The table after a call: what it was if nothing is granted.
-abbrev pub stateFor : State → ℕ → List (Option Lease) → List Lease → List Lease → State
-stateFor t now os xs [] = t
-stateFor t now os xs (g ∷ gs) = left t now (addAll os xs)
+-- The state after a call that is to leave the leases ys: what it was if nothing is granted.
+abbrev pub stateFor : State → ℕ → List Lease → List Lease → State
+stateFor t now ys [] = t
+stateFor t now ys (g ∷ gs) = left t now ys
 
--- What is so of the result of a call whose requests were offered `os` on the leases `xs`.
-pub record Served (t : State) (now client : ℕ) (rs : List Request) (xs : List Lease) (os : List (Option Lease)) (r : Result State) : Type 0 where
-  pub given : map (confirmed now client (r .state .table)) (pairOff (t .table) rs (replyEntries r)) ≡ map entry? os
-  pub told : replyEntries r ≡ map entryOf (catMaybes os)
-  pub number : r .answer .number ≡ numberFor xs (catMaybes os)
-  pub count : r .answer .count ≡ length (catMaybes os)
-  pub left-state : r .state ≡ stateFor t now os xs (catMaybes os)
-  pub good : All (Good (poolsOf (t .table)) now) (addAll os xs)
-  pub left : present now (r .state .table .leases) ≡ addAll os xs
+-- What is so of the result of a call on the leases xs whose requests get `gs`, and which leaves the leases ys.
+pub record Served (t : State) (now client : ℕ) (rs : List Request) (xs : List Lease) (gs : List (Option Lease)) (ys : List Lease) (r : Result State) : Type 0 where
+  pub given : map (confirmed now client (r .state .table)) (pairOff (t .table) rs (replyEntries r)) ≡ map entry? gs
+  pub told : replyEntries r ≡ map entryOf (catMaybes gs)
+  pub number : r .answer .number ≡ numberFor xs (catMaybes gs)
+  pub count : r .answer .count ≡ length (catMaybes gs)
+  pub left-state : r .state ≡ stateFor t now ys (catMaybes gs)
+  pub good : All (Good (poolsOf (t .table)) now) ys
+  pub left : present now (r .state .table .leases) ≡ ys
   pub sound : sound (r .state .table) ≡ true
   pub matched : matches? (r .state .table .leases) (r .state .rows) ≡ true
   pub since : r .state .table .last ≤ now
@@ -124,22 +128,73 @@ module _ (now : ℕ) (t : State) (c : Call) (w : WellFormed now t c) where
   xs : List Lease
   xs = present now (t .table .leases)
 
-  os : List (Option Lease)
-  os = offers (t .table) now (c .client) xs (asksOf c)
+  -- What its requests get again, the leases with that held anew, and what the rest is offered.
+  abbrev hs : List (Option Lease)
+  hs = again (t .table) (c .client) xs (asksOf c)
 
-  served : (gs : List Lease) → catMaybes os ≡ gs → Served t now (c .client) (asksOf c) xs os (answerAsk t now (c .reply) xs os gs)
-  unfolding os xs store left
+  abbrev held : List Lease
+  held = askHeld (t .table) now (c .client) xs (asksOf c)
+
+  abbrev os : List (Option Lease)
+  os = askOffers (t .table) now (c .client) xs (asksOf c)
+
+  gives : List (Option Lease)
+  gives = askGives (t .table) now (c .client) xs (asksOf c)
+
+  ys : List Lease
+  ys = askLeases (t .table) now (c .client) xs (asksOf c)
+
+  -- Where nothing is granted nothing is given again, so the leases are as they were.
+  stay : catMaybes gives ≡ [] → ys ≡ xs
+  unfolding gives ys
+  stay e =
+      let z = turn-none now hs os (rest-fills (t .table) now (c .client) xs held (asksOf c)) e in
+      addAll-none os held (z .1) ∙ ap (λ (given : List Lease). heldAgain now given xs) (z .0) ∙ held-none now xs
+
+  fine : Fine (poolsOf (t .table)) now 0 xs
+  unfolding xs
+  fine = sound-fine (t .table) (w .sound) now
+
+  rest-short : All (λ r. r .length ≤ longest) (restOf hs (asksOf c))
+  rest-short = rest-all (λ r. r .length ≤ longest) hs (asksOf c) (requests-short (c .option))
+
+  -- The leases that it is to leave are good, ascend, and fit the table; what it grants is good.
+  leaves : Inv (t .table) now (c .client) good ys
+  unfolding xs ys
+  leaves =
+      offers-inv (t .table) now (c .client) good (w .sound) (w .named) (restOf hs (asksOf c)) held rest-short
+      (record { fine = held-fine now (catMaybes hs) (poolsOf (t .table)) xs fine; fit = omega (arith, held-length now (catMaybes hs) xs, sound-fewer (t .table) (w .sound) now) })
+
+  grants-good : All (Good (poolsOf (t .table)) now) (catMaybes gives)
+  unfolding gives
+  grants-good =
+      let again-good : (x : Lease) → (heldBy? (c .client) x ≡ true) × Good (poolsOf (t .table)) now x → Good (poolsOf (t .table)) now (holdAgain now x) =
+      λ x k. hold-good (poolsOf (t .table)) now x (k .1) in
+      turn-all now (Good (poolsOf (t .table)) now) hs os
+      (all-map again-good (catMaybes hs) (again-all (t .table) (c .client) (Good (poolsOf (t .table)) now) (asksOf c) xs (fine .0)))
+      (offers-good (t .table) now (c .client) good (w .sound) (w .named) (restOf hs (asksOf c)) held rest-short)
+
+  paired : pairOff (t .table) (asksOf c) (map entryOf (catMaybes gives)) ≡ map entry? gives
+  unfolding gives
+  paired = pairs (t .table) good now (c .client) (asksOf c) xs held
+
+  all-kept : All (Kept now (c .client) ys) gives
+  unfolding gives ys
+  all-kept = kept (t .table) good now (c .client) (asksOf c) xs
+
+  served : (gs : List Lease) → catMaybes gives ≡ gs → Served t now (c .client) (asksOf c) xs gives ys (answerAsk t now (c .reply) xs ys gs)
+  unfolding store left xs
   served [] e = record {
     given =
         ap (λ (es : List Entry). map (confirmed now (c .client) (t .table)) (pairOff (t .table) (asksOf c) es)) (reads-none (cond (full xs) 9 10) 0 t (c .reply) ∙ ap (map entryOf) (sym e))
-        ∙ ap (map (confirmed now (c .client) (t .table))) (pairs (t .table) good now (c .client) (asksOf c) xs)
-        ∙ confirm-none now (c .client) (t .table) os e;
+        ∙ ap (map (confirmed now (c .client) (t .table))) paired
+        ∙ confirm-none now (c .client) (t .table) gives e;
     told = reads-none (cond (full xs) 9 10) 0 t (c .reply) ∙ ap (map entryOf) (sym e);
     number = ap (numberFor xs) (sym e);
     count = ap length (sym e);
-    left-state = ap (stateFor t now os xs) (sym e);
-    good = subst (All (Good (poolsOf (t .table)) now)) (sym (addAll-none os xs e)) (sound-fine (t .table) (w .sound) now .0);
-    left = sym (addAll-none os xs e);
+    left-state = ap (stateFor t now ys) (sym e);
+    good = leaves .fine .0;
+    left = sym (stay e);
     sound = w .sound;
     matched = w .matched;
     since = w .accepted .0;
@@ -147,41 +202,57 @@ module _ (now : ℕ) (t : State) (c : Call) (w : WellFormed now t c) where
     default = refl;
   }
   served (g ∷ gs) e =
-      let i : Inv (t .table) now (c .client) good (addAll os xs) =
-      offers-inv (t .table) now (c .client) good (w .sound) (w .named) (asksOf c) xs (requests-short (c .option)) (record { fine = sound-fine (t .table) (w .sound) now; fit = sound-fewer (t .table) (w .sound) now }) in
-      let a : All (Good (poolsOf (t .table)) now) (g ∷ gs) =
-      subst (All (Good (poolsOf (t .table)) now)) e (offers-good (t .table) now (c .client) good (w .sound) (w .named) (asksOf c) xs (requests-short (c .option))) in
-      let u : LeaseTable = store (t .table) now (addAll os xs) in
+      let a : All (Good (poolsOf (t .table)) now) (g ∷ gs) = subst (All (Good (poolsOf (t .table)) now)) e grants-good in
+      let u : LeaseTable = store (t .table) now ys in
       let rest : List ℕ = drop (length (optionBytes (map informationFor (g ∷ gs)))) (c .reply) in
       record {
         given =
             ap (λ (es : List Entry). map (confirmed now (c .client) u) (pairOff (t .table) (asksOf c) es)) (reads-back (poolsOf (t .table)) now g gs rest a ∙ ap (map entryOf) (sym e))
-            ∙ ap (map (confirmed now (c .client) u)) (pairs (t .table) good now (c .client) (asksOf c) xs)
-            ∙ confirm now (c .client) (leaseSlots - length (addAll os xs)) u (addAll os xs) refl os (kept (t .table) good now (c .client) (asksOf c) xs);
+            ∙ ap (map (confirmed now (c .client) u)) paired
+            ∙ confirm now (c .client) (leaseSlots - length ys) u ys refl gives all-kept;
         told = reads-back (poolsOf (t .table)) now g gs rest a ∙ ap (map entryOf) (sym e);
         number = ap (numberFor xs) (sym e);
         count = ap length (sym e);
-        left-state = ap (stateFor t now os xs) (sym e);
-        good = i .fine .0;
-        left = present-stored (poolsOf (t .table)) now (addAll os xs) (i .fine .0);
-        sound = store-sound (t .table) now (addAll os xs) (w .sound) (w .accepted .1) (i .fit) (i .fine);
-        matched = left-matches t now (w .sound) (w .matched) (addAll os xs);
+        left-state = ap (stateFor t now ys) (sym e);
+        good = leaves .fine .0;
+        left = present-stored (poolsOf (t .table)) now ys (leaves .fine .0);
+        sound = store-sound (t .table) now ys (w .sound) (w .accepted .1) (leaves .fit) (leaves .fine);
+        matched = left-matches t now (w .sound) (w .matched) ys;
         since = omega arith;
         pools = refl;
         default = refl;
       }
 
-pub called : (now : ℕ) (t : State) (c : Call) → wellFormed now t c ≡ true
-    → Served t now (c .client) (asksOf c) (present now (t .table .leases)) (offers (t .table) now (c .client) (present now (t .table .leases)) (asksOf c)) (ask t now c)
-unfolding os xs
-called now t c e =
-    subst (Served t now (c .client) (asksOf c) (present now (t .table .leases)) (offers (t .table) now (c .client) (present now (t .table .leases)) (asksOf c))) (sym (run-well now t c e))
-    (served now t c (well now t c e) (catMaybes (offers (t .table) now (c .client) (present now (t .table .leases)) (asksOf c))) refl)
+-- What a well-formed call on a state gives, and the leases that it leaves.
+abbrev pub givesOn : ℕ → State → Call → List (Option Lease)
+givesOn now t c = askGives (t .table) now (c .client) (present now (t .table .leases)) (asksOf c)
 
-pub granted-is : (now : ℕ) (t : State) (c : Call) → wellFormed now t c ≡ true
-    → granted (λ s. s) ask now t c ≡ map entry? (offers (t .table) now (c .client) (present now (t .table .leases)) (asksOf c))
+abbrev pub leasesOn : ℕ → State → Call → List Lease
+leasesOn now t c = askLeases (t .table) now (c .client) (present now (t .table .leases)) (asksOf c)
+
+pub called : (now : ℕ) (t : State) (c : Call) → wellFormed now t c ≡ true → Served t now (c .client) (asksOf c) (present now (t .table .leases)) (givesOn now t c) (leasesOn now t c) (ask t now c)
+unfolding xs gives ys
+called now t c e =
+    subst (Served t now (c .client) (asksOf c) (present now (t .table .leases)) (givesOn now t c) (leasesOn now t c)) (sym (run-well now t c e))
+    (served now t c (well now t c e) (catMaybes (givesOn now t c)) refl)
+
+pub granted-is : (now : ℕ) (t : State) (c : Call) → wellFormed now t c ≡ true → granted (λ s. s) ask now t c ≡ map entry? (givesOn now t c)
 unfolding granted
 granted-is now t c e = called now t c e .given
+
+-- A client that holds nothing gets what all its requests are offered.
+module _ (now : ℕ) (t : State) (c : Call) (e : wellFormed now t c ≡ true) (n : HoldsNothing now (t .table) (c .client)) where
+  pub called-first : let xs = present now (t .table .leases) in let os = offers (t .table) now (c .client) xs (asksOf c) in
+      Served t now (c .client) (asksOf c) xs os (addAll os xs) (ask t now c)
+  called-first =
+      let xs : List Lease = present now (t .table .leases) in
+      let os : List (Option Lease) = offers (t .table) now (c .client) xs (asksOf c) in
+      subst (λ (gs : List (Option Lease)). Served t now (c .client) (asksOf c) xs gs (addAll os xs) (ask t now c)) (nothing-gives (t .table) (c .client) now xs (asksOf c) n)
+      (subst (λ (ys : List Lease). Served t now (c .client) (asksOf c) xs (givesOn now t c) ys (ask t now c)) (nothing-leases (t .table) (c .client) now xs (asksOf c) n) (called now t c e))
+
+  pub granted-first : granted (λ s. s) ask now t c ≡ map entry? (offers (t .table) now (c .client) (present now (t .table .leases)) (asksOf c))
+  unfolding granted
+  granted-first = called-first .given
 
 -- THE REPLY TELLS WHAT IS GRANTED AND NOTHING ELSE, in order: entries pair off, and none is left over.
 catMaybes-told : (os : List (Option Lease)) → map entryOf (catMaybes os) ≡ catMaybes (map entry? os)
@@ -191,7 +262,7 @@ catMaybes-told (some x ∷ os) = ap (λ (l : List Entry). entryOf x ∷ l) (catM
 
 pub reply-is-granted : (now : ℕ) (t : State) (c : Call) → wellFormed now t c ≡ true → replyEntries (ask t now c) ≡ catMaybes (granted (λ s. s) ask now t c)
 reply-is-granted now t c e =
-    called now t c e .told ∙ catMaybes-told (offers (t .table) now (c .client) (present now (t .table .leases)) (asksOf c)) ∙ ap catMaybes (sym (granted-is now t c e))
+    called now t c e .told ∙ catMaybes-told (givesOn now t c) ∙ ap catMaybes (sym (granted-is now t c e))
 
 -- "If none is granted, the answer is the refusal of the first": 9 if it wants a slot, 10 if it wants space.
 abbrev pub numberOf : Fate → ℕ
@@ -202,8 +273,8 @@ numberOf wantsSpace = 10
 pub refused-number : (now : ℕ) (t : State) (c : Call) → wellFormed now t c ≡ true → catMaybes (granted (λ s. s) ask now t c) ≡ []
     → (ask t now c .answer .number ≡ numberOf (fate (inUse now (t .table)) none)) × (ask t now c .answer .count ≡ 0)
 refused-number now t c e n =
-    let os : List (Option Lease) = offers (t .table) now (c .client) (present now (t .table .leases)) (asksOf c) in
-    let z : catMaybes os ≡ [] = nil-map (catMaybes os) (catMaybes-told os ∙ ap catMaybes (sym (granted-is now t c e)) ∙ n) in (
+    let gs : List (Option Lease) = givesOn now t c in
+    let z : catMaybes gs ≡ [] = nil-map (catMaybes gs) (catMaybes-told gs ∙ ap catMaybes (sym (granted-is now t c e)) ∙ n) in (
       called now t c e .number ∙ ap (numberFor (present now (t .table .leases))) z ∙ ap (λ (k : ℕ). cond (leb leaseSlots k) 9 10) (sym (length-map (present now (t .table .leases)) prefixOf))
           ∙ same (leb leaseSlots (length (inUse now (t .table)))),
       called now t c e .count ∙ ap length z,
@@ -221,7 +292,7 @@ refused-number now t c e n =
 pub accepted-number : (now : ℕ) (t : State) (c : Call) → wellFormed now t c ≡ true → (g : Entry) (gs : List Entry) → catMaybes (granted (λ s. s) ask now t c) ≡ g ∷ gs
     → (ask t now c .answer .number ≡ 0) × (ask t now c .answer .count ≡ length (replyEntries (ask t now c)))
 accepted-number now t c e g gs n =
-    let os : List (Option Lease) = offers (t .table) now (c .client) (present now (t .table .leases)) (asksOf c) in
+    let os : List (Option Lease) = givesOn now t c in
     let q : map entryOf (catMaybes os) ≡ g ∷ gs = catMaybes-told os ∙ ap catMaybes (sym (granted-is now t c e)) ∙ n in
     (called now t c e .number ∙ some-number (catMaybes os) q, called now t c e .count ∙ sym (length-map (catMaybes os) entryOf) ∙ ap length (sym (called now t c e .told)))
   where

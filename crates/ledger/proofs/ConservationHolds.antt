@@ -10,11 +10,12 @@ use native.Mathlib.Omega.{arith}
 use lib.ListN.{length}
 use lib.Dec.{leb, ltb, eqb}
 use borrow.Author.Tests.{ltb-false}
-use Rattle.lists.specs.Lists.{All, filter, catMaybes}
-use Rattle.lists.proofs.Tests.{bool-cases, cond-false}
+use Rattle.lists.specs.Lists.{All, any?, filter, catMaybes}
+use Rattle.lists.proofs.Tests.{bool-cases, cond-false, not-of, not-to}
+use Rattle.lists.proofs.ListLaws.{all-map}
 use Rattle.lists.proofs.FilterLaws.{filter-yes, filter-no}
 use Rattle.prefix.specs.declared.Prefix.{Prefix}
-use Rattle.prefix.specs.Prefixes.{size}
+use Rattle.prefix.specs.Prefixes.{size, Apart}
 use Rattle.option.specs.Values.{Entry}
 use Rattle.table.specs.declared.Lease.{Lease}
 use Rattle.table.specs.declared.LeaseTable.{LeaseTable}
@@ -22,18 +23,20 @@ use Rattle.table.specs.Table.{leaseSlots, prefixOf, poolsOf, present, sound, st
 use Rattle.table.proofs.TableLaws.{Good, sound-fine, fine-filter, fine-map, present-padded, present-stored}
 use Rattle.table_open.proofs.OpenLaws.{open-sound}
 use Rattle.figures.specs.declared.FigureRow.{FigureRow}
-use Rattle.option.specs.Contents.{entriesIn}
+use Rattle.option.specs.Contents.{Request, entriesIn}
 use Rattle.option_reply.specs.Reply.{entryOf}
-use Rattle.ledger.specs.Ledger.{State, state, left, Call, ledger, Result, before, refusalPlace, full, openTable, add, offers, addAll, askRows, ask, namedBy?, renew, renewed, takeRows, take, releaseRows, release, at?, withD, markRows, mark}
-use Rattle.ledger.specs.Demand3.{wellFormed, asksOf, replyEntries}
+use Rattle.ledger.specs.Ledger.{State, state, left, Call, ledger, Result, before, refusalPlace, full, openTable, add, addAll, heldBy?, again, restOf, holdAgain, inTurn, askHeld, askOffers, askGives, askLeases, askRows, ask, namedBy?, renew, renewed, takeRows, take, releaseRows, release, at?, withD, markRows, mark}
+use Rattle.ledger.specs.Demand3.{wellFormed, asksOf, replyEntries, inUse, same?}
 use Rattle.ledger.specs.Histories.{Event, asked, taken, wasListed, returned, marked, saved, next, afterwards, leasesOf}
-use Rattle.ledger.specs.Conservation.{addressesOf, addressesIn, grantedBy, returnedBy, endedAt, endedBy, summed, FromLoad, FromOpen}
+use Rattle.ledger.specs.Conservation.{addressesOf, addressesIn, newlyMade, grantedBy, returnedBy, endedAt, endedBy, summed, FromLoad, FromOpen}
 use Rattle.lists.proofs.PartLaws.{Opposite, opposite-not}
 use Rattle.ledger.proofs.RowLaws.{first-none, first-number, Numbered, by-rows, numbered-take, numbered-release, numbered-mark}
 use Rattle.ledger.proofs.EmptySlots.{present-or-ended, present-later}
 use Rattle.ledger.proofs.ReplyLaws.{reads-none}
-use Rattle.ledger.proofs.OfferLaws.{insert-perm}
-use Rattle.ledger.proofs.CallLaws.{rowsFor, numberFor, stateFor, well, run-refused, called}
+use Rattle.ledger.proofs.OfferLaws.{prefixes, pools-good, insert-perm, offers-new}
+use Rattle.ledger.proofs.AgainLaws.{again-all, held, held-place, held-prefixes, Fills, rest-fills, turn-none}
+use Rattle.ledger.proofs.CallLaws.{rowsFor, numberFor, stateFor, well, run-refused, givesOn, leasesOn, called}
+use Rattle.ledger.proofs.FirstSentence.{all-in-use, not-there}
 use Rattle.ledger.proofs.SoundKept.{Mild, cond-mild, renew-mild, withD-mild, list-keeps}
 use Rattle.ledger.proofs.HistoriesHold.{next-sound, opened-is}
 
@@ -76,6 +79,35 @@ parts t now l =
     ap (λ (xs : List Lease). addressesOf xs + endedAt now t) (sym (present-later (t .last) now l (t .leases)))
     ∙ total-parts (λ x. ltb now (x .expires)) (λ x. leb (x .expires) now) (present-or-ended now) (leasesOf t)
 
+-- LEASES NEWLY MADE: of what an ask grants, those that the rest is offered.
+module _ (now : ℕ) (t : LeaseTable) where
+  abbrev used? : Lease → Bool
+  used? x = any? (same? (prefixOf x)) (inUse now t)
+
+  newly : (gs os : List (Option Lease)) → Fills gs os → All (λ x. used? x ≡ true) (catMaybes gs) → All (λ x. used? x ≡ false) (catMaybes os)
+      → newlyMade now t (map entryOf (catMaybes (inTurn now gs os))) ≡ map entryOf (catMaybes os)
+  unfolding inTurn
+  newly [] [] f a b = refl
+  newly [] (o ∷ os) f a b = absurd f
+  newly (some x ∷ gs) os f a b = filter-no _ (entryOf (holdAgain now x)) (map entryOf (catMaybes (inTurn now gs os))) (not-to (used? x) (a .0)) ∙ newly gs os f (a .1) b
+  newly (none ∷ gs) [] f a b = absurd f
+  newly (none ∷ gs) (none ∷ os) f a b = newly gs os f a b
+  newly (none ∷ gs) (some x ∷ os) f a b =
+      filter-yes _ (entryOf x) (map entryOf (catMaybes (inTurn now gs os))) (not-of (used? x) (b .0)) ∙ ap (λ (l : List Entry). entryOf x ∷ l) (newly gs os f a (b .1))
+
+  pub newly-made : (client : ℕ) (rs : List Request) → sound t ≡ true
+      → let xs = present now (t .leases) in newlyMade now t (map entryOf (catMaybes (askGives t now client xs rs))) ≡ map entryOf (catMaybes (askOffers t now client xs rs))
+  newly-made client rs so =
+      let xs : List Lease = present now (t .leases) in
+      let gs : List (Option Lease) = again t client xs rs in
+      let hs : List Lease = askHeld t now client xs rs in
+      let os : List (Option Lease) = askOffers t now client xs rs in
+      let same : prefixes hs ≡ inUse now t = held-prefixes now (catMaybes gs) xs in
+      newly gs os (rest-fills t now client xs hs rs)
+      (all-map (λ x (k : (heldBy? client x ≡ true) × (used? x ≡ true)). k .1) (catMaybes gs) (again-all t client (λ x. used? x ≡ true) rs xs (all-in-use xs)))
+      (all-map (λ x (a : All (Apart (prefixOf x)) (inUse now t)). not-there (prefixOf x) (inUse now t) a) (catMaybes os)
+      (offers-new t now client (pools-good t so) (restOf gs rs) (inUse now t) hs (λ P a. subst (All P) same a)))
+
 stored : (t : LeaseTable) (now : ℕ) (xs : List Lease) → All (Good (poolsOf t) now) xs → leasesOf (store t now xs) ≡ xs
 unfolding store
 stored t now xs g = present-stored (poolsOf t) now xs g
@@ -109,21 +141,29 @@ module _ (t : LeaseTable) (now : ℕ) (s : sound t ≡ true) (since : t .last �
       let xs : List Lease = present now (t .leases) in
       store-balance 0 (addressesOf (filter q xs)) (filter p xs) (fine-filter (poolsOf t) now 0 p xs (sound-fine t s now) .0) (omega (arith, total-parts p q o xs))
 
-  -- Leases added by an ask.
-  offers-balance : (rows : List FigureRow) (os : List (Option Lease)) (gs : List Lease) → catMaybes os ≡ gs → All (Good (poolsOf t) now) (addAll os (present now (t .leases)))
-      → Balance t now (addressesOf gs) 0 (numberFor (present now (t .leases)) gs) (stateFor (state t rows) now os (present now (t .leases)) gs .table)
+  -- Leases given again, which count as they did, and leases newly made.
+  ask-total : (client : ℕ) (rs : List Request)
+      → let xs = present now (t .leases) in addressesOf (askLeases t now client xs rs) ≡ addressesOf xs + addressesOf (catMaybes (askOffers t now client xs rs))
+  ask-total client rs =
+      let xs : List Lease = present now (t .leases) in
+      let given : List Lease = catMaybes (again t client xs rs) in
+      total-addAll (askOffers t now client xs rs) (askHeld t now client xs rs) ∙ ap (λ (n : ℕ). n + addressesOf (catMaybes (askOffers t now client xs rs))) (total-map (held now given) (held-place now given) xs)
+
+  asked-balance : (rows : List FigureRow) (made : ℕ) (gs ys : List Lease) → (gs ≡ [] → made ≡ 0) → All (Good (poolsOf t) now) ys → addressesOf ys ≡ addressesOf (present now (t .leases)) + made
+      → Balance t now made 0 (numberFor (present now (t .leases)) gs) (stateFor (state t rows) now ys gs .table)
   unfolding left
-  offers-balance rows os [] e g = refused-balance t now 0 (cond (full (present now (t .leases))) 9 10) (full-number (full (present now (t .leases))))
+  asked-balance rows made [] ys none-made g e =
+      subst (λ (n : ℕ). Balance t now n 0 (cond (full (present now (t .leases))) 9 10) t) (sym (none-made refl))
+      (refused-balance t now 0 (cond (full (present now (t .leases))) 9 10) (full-number (full (present now (t .leases)))))
     where
       full-number : (b : Bool) → eqb (cond b 9 10) 0 ≡ false
       full-number true = refl
       full-number false = refl
-  offers-balance rows os (h ∷ hs) e g =
-      store-balance (addressesOf (h ∷ hs)) 0 (addAll os (present now (t .leases))) g (omega (arith, total-addAll os (present now (t .leases)), ap addressesOf e))
+  asked-balance rows made (h ∷ hs) ys none-made g e = store-balance made 0 ys g (omega (arith, e))
 
--- An ask's balance is with the entries of its reply.
+-- An ask's balance is with the entries of its reply that are newly made.
 abbrev AskBalance : LeaseTable → ℕ → Result State → Type 0
-AskBalance t now r = Balance t now (addressesIn (replyEntries r)) 0 (r .answer .number) (r .state .table)
+AskBalance t now r = Balance t now (addressesIn (newlyMade now t (replyEntries r))) 0 (r .answer .number) (r .state .table)
 
 pub numbered-before : (s : State) (now : ℕ) (c : Call) → Numbered (before 9 (askRows s now c))
 unfolding askRows
@@ -138,19 +178,26 @@ ask-balance t now c = ⊎-elim good bad (bool-cases (wellFormed now t c))
         let k = called now t c e in
         let w = well now t c e in
         let xs : List Lease = present now (t .table .leases) in
-        let os : List (Option Lease) = offers (t .table) now (c .client) xs (asksOf c) in
-        let b : Balance (t .table) now (addressesOf (catMaybes os)) 0 (numberFor xs (catMaybes os)) (stateFor t now os xs (catMaybes os) .table) = offers-balance (t .table) now (w .sound) (w .accepted .0) (t .rows) os (catMaybes os) refl (k .good) in
-        let m : addressesIn (replyEntries (ask t now c)) ≡ addressesOf (catMaybes os) = ap addressesIn (k .told) ∙ total-entries (catMaybes os) in
+        let gs : List (Option Lease) = again (t .table) (c .client) xs (asksOf c) in
+        let os : List (Option Lease) = askOffers (t .table) now (c .client) xs (asksOf c) in
+        let granted : List Lease = catMaybes (givesOn now t c) in
+        let made : ℕ = addressesOf (catMaybes os) in
+        let nothing : granted ≡ [] → made ≡ 0 =
+        λ z. ap addressesOf (turn-none now gs os (rest-fills (t .table) now (c .client) xs (askHeld (t .table) now (c .client) xs (asksOf c)) (asksOf c)) z .1) in
+        let b : Balance (t .table) now made 0 (numberFor xs granted) (stateFor t now (leasesOn now t c) granted .table) =
+        asked-balance (t .table) now (w .sound) (w .accepted .0) (t .rows) made granted (leasesOn now t c) nothing (k .good) (ask-total (t .table) now (w .sound) (w .accepted .0) (c .client) (asksOf c)) in
+        let m : addressesIn (newlyMade now (t .table) (replyEntries (ask t now c))) ≡ made =
+        ap (λ (es : List Entry). addressesIn (newlyMade now (t .table) es)) (k .told) ∙ ap addressesIn (newly-made now (t .table) (c .client) (asksOf c) (w .sound)) ∙ total-entries (catMaybes os) in
         subst (λ (n : ℕ). Balance (t .table) now n 0 (ask t now c .answer .number) (ask t now c .state .table)) (sym m)
-        (subst (λ (n : ℕ). Balance (t .table) now (addressesOf (catMaybes os)) 0 n (ask t now c .state .table)) (sym (k .number))
-        (subst (λ (u : State). Balance (t .table) now (addressesOf (catMaybes os)) 0 (numberFor xs (catMaybes os)) (u .table)) (sym (k .left-state)) b))
+        (subst (λ (n : ℕ). Balance (t .table) now made 0 n (ask t now c .state .table)) (sym (k .number))
+        (subst (λ (u : State). Balance (t .table) now made 0 (numberFor xs granted) (u .table)) (sym (k .left-state)) b))
 
     bad : wellFormed now t c ≡ false → AskBalance (t .table) now (ask t now c)
     bad e =
         let r = run-refused now t c e in
         let z : eqb (r .0) 0 ≡ false = first-number (λ m. eqb m 0 ≡ false) (rowsFor now t c) (numbered-before t now c) (r .0) (r .1) in
         subst (AskBalance (t .table) now) (sym (r .2))
-        (refused-balance (t .table) now 0 (r .0) z ∙ ap (λ (es : List Entry). addressesOf (leasesOf (t .table)) + addressesIn es) (sym (reads-none (r .0) (refusalPlace (c .option) (r .0)) t (c .reply))))
+        (refused-balance (t .table) now 0 (r .0) z ∙ ap (λ (es : List Entry). addressesOf (leasesOf (t .table)) + addressesIn (newlyMade now (t .table) es)) (sym (reads-none (r .0) (refusalPlace (c .option) (r .0)) t (c .reply))))
 
 -- EVERY CALL
 
@@ -197,7 +244,7 @@ one : (s : State) (e : Event) → sound (s .table) ≡ true
 unfolding returnedBy endedBy grantedBy
 one s (asked now c) so =
     let r : Result State = ask s now c in
-    plain (s .table) now (addressesIn (replyEntries r)) (r .answer .number) (r .state .table) (ask-balance s now c)
+    plain (s .table) now (addressesIn (newlyMade now (s .table) (replyEntries r))) (r .answer .number) (r .state .table) (ask-balance s now c)
 one s (taken now c) so =
     let r : Result State = take s now c in
     plain (s .table) now 0 (r .answer .number) (r .state .table) (take-balance s now c so)

@@ -1,4 +1,4 @@
--- THE CONVERSE of demand 3's list: where every well-formed ask of a list is granted, the prefixes could be chosen and there was a slot for each.
+-- THE CONVERSE of demand 3's list: where every well-formed ask of a list of first asks is granted, the prefixes could be chosen and there was a slot for each.
 -- Assumes nothing.
 use Prim.Native.Nat.{ℕ, _+_, _≤_}
 use mathlib.Core.Path.{_≡_, refl, sym, ap, ap₂, subst, _∙_}
@@ -27,13 +27,13 @@ use Rattle.table.proofs.TableLaws.{sound-fewer}
 use Rattle.option.specs.Contents.{Request}
 use Rattle.option_reply.specs.Reply.{entryOf}
 use Rattle.ledger.specs.Ledger.{State, Call, askLength, offer, add, offers, addAll, ask}
-use Rattle.ledger.specs.Demand3.{Received, received, wellFormed, Accepts, asksOf, granted, entryPrefix, inUse, wellFormedCalls, wellFormedAsks, lengthsAsked, prefixesAt, CanBeChosen}
+use Rattle.ledger.specs.Demand3.{Received, received, wellFormed, Accepts, asksOf, granted, entryPrefix, inUse, wellFormedCalls, wellFormedAsks, lengthsAsked, prefixesAt, FirstAsks, CanBeChosen}
 use Rattle.lists.proofs.PartLaws.{split-some}
 use Rattle.ledger.proofs.EmptySlots.{empty-slots}
 use Rattle.ledger.proofs.OfferLaws.{prefixes, prefix?, pools-good, Offer, offer-is, add-perm, offers-length}
 use Rattle.ledger.proofs.AskLaws.{entry?}
-use Rattle.ledger.proofs.CallLaws.{run-not, called, granted-is}
-use Rattle.ledger.proofs.Demand3Holds.{serve-append, addAll-perm, Reached, same, next, start, pools-same, lens-same, prefixes-of, all-granted}
+use Rattle.ledger.proofs.CallLaws.{run-not, called-first, granted-first}
+use Rattle.ledger.proofs.Demand3Holds.{serve-append, all-added, Reached, same, next, start, FirstOn, first-not, first-well, pools-same, lens-same, prefixes-of, all-granted}
 
 -- "every well-formed ask is granted"
 abbrev pub EveryGranted : ℕ → State → List Call → Type 0
@@ -99,49 +99,50 @@ module _ (t : State) (now : ℕ) (st : sound (t .table) ≡ true) (ac : Accepts 
 
   -- From any table that the list goes through.
   abbrev Back : List Call → Type 0
-  Back cs = (u : State) (ls : List Prefix) (given : List Entry) → Reached t now u → List·Permᴰ (inUse now (u .table)) ls → concatMap gives (filter kept? (received (λ s. s) ask now u cs)) ≡ map some given
+  Back cs = (u : State) (ls : List Prefix) (given : List Entry) → Reached t now u → FirstOn t now st ac u cs → List·Permᴰ (inUse now (u .table)) ls → concatMap gives (filter kept? (received (λ s. s) ask now u cs)) ≡ map some given
       → (serve (poolsOf (t .table)) ls (lengthsAsked now t cs) ≡ map some (map entryPrefix given)) × (length (present now (u .table .leases)) + length (wellFormedAsks now t cs) ≤ leaseSlots)
 
   back-none : Back []
   unfolding received
-  back-none u ls [] s p e = (refl, omega (arith, sound-fewer (u .table) (s .sound) now))
-  back-none u ls (g ∷ gs) s p e = absurd (nil≢cons e)
+  back-none u ls [] s a p e = (refl, omega (arith, sound-fewer (u .table) (s .sound) now))
+  back-none u ls (g ∷ gs) s a p e = absurd (nil≢cons e)
 
   back-not : (c : Call) (cs : List Call) → wellFormed now t c ≡ false → Back cs → Back (c ∷ cs)
   unfolding received
-  back-not c cs b k u ls given s p e =
+  back-not c cs b k u ls given s a p e =
       let v : Received State = record { call = c; got = u } in
       let vs : List (Received State) = received (λ s. s) ask now (ask u now c .state) cs in
       let f : filter (wellFormed now t) (c ∷ cs) ≡ filter (wellFormed now t) cs = filter-no (wellFormed now t) c cs b in
       let q : ask u now c .state ≡ u = run-not now u c (same t now st ac u c s ∙ b) .0 in
-      let m = k (ask u now c .state) ls given (next t now st ac u c s) (subst (λ (w : State). List·Permᴰ (inUse now (w .table)) ls) (sym q) p) (ap (concatMap gives) (sym (filter-no kept? v vs b)) ∙ e) in (
+      let m = k (ask u now c .state) ls given (next t now st ac u c s) (first-not t now st ac c cs u s b a) (subst (λ (w : State). List·Permᴰ (inUse now (w .table)) ls) (sym q) p) (ap (concatMap gives) (sym (filter-no kept? v vs b)) ∙ e) in (
         ap (λ (z : List Call). serve (poolsOf (t .table)) ls (map (askLength (t .table)) (concatMap asksOf z))) f ∙ m .0,
         omega (arith, ap (λ (w : State). length (present now (w .table .leases))) q, ap (λ (z : List Call). length (concatMap asksOf z)) f, m .1),
       )
 
   back-well : (c : Call) (cs : List Call) → wellFormed now t c ≡ true → Back cs → Back (c ∷ cs)
   unfolding received
-  back-well c cs b k u ls given s p e =
+  back-well c cs b k u ls given s first p e =
       let xs : List Lease = present now (u .table .leases) in
       let v : Received State = record { call = c; got = u } in
       let vs : List (Received State) = received (λ s. s) ask now (ask u now c .state) cs in
       let js : List ℕ = map (askLength (t .table)) (asksOf c) in
       let good : Pools (poolsOf (u .table)) = pools-good (u .table) (s .sound) in
       let w : wellFormed now u c ≡ true = same t now st ac u c s ∙ b in
+      let later = first-well t now st ac c cs u s b first in
       let f : filter (wellFormed now t) (c ∷ cs) ≡ c ∷ filter (wellFormed now t) cs = filter-yes (wellFormed now t) c cs b in
       let r = split-some (granted (λ s. s) ask now u c) (concatMap gives (filter kept? vs)) given (ap (concatMap gives) (sym (filter-yes kept? v vs b)) ∙ e) in
-      let a = told-leases (offers (u .table) now (c .client) xs (asksOf c)) (r .0) (sym (granted-is now u c w) ∙ r .2) in
+      let a = told-leases (offers (u .table) now (c .client) xs (asksOf c)) (r .0) (sym (granted-first now u c w (later .0)) ∙ r .2) in
       let m = all-offers (u .table) good now (c .client) (asksOf c) xs ls (a .0) p (a .1) in
       let d : serve (poolsOf (t .table)) ls js ≡ map some (prefixes (a .0)) =
       sym (ap₂ (λ (ps : List Prefix) (z : List ℕ). serve ps ls z) (pools-same t now st ac u s) (lens-same t now st ac u (asksOf c) s)) ∙ m .0 in
       let q : List·Permᴰ (inUse now (ask u now c .state .table)) (after (poolsOf (t .table)) ls js) =
-      subst (λ (z : List Lease). List·Permᴰ (prefixes z) (after (poolsOf (t .table)) ls js)) (sym (called now u c w .left))
+      subst (λ (z : List Lease). List·Permᴰ (prefixes z) (after (poolsOf (t .table)) ls js)) (sym (called-first now u c w (later .0) .left))
       (subst (λ (z : List Prefix). List·Permᴰ (prefixes (addAll (offers (u .table) now (c .client) xs (asksOf c)) xs)) z)
       (ap₂ (λ (ps : List Prefix) (z : List ℕ). after ps ls z) (pools-same t now st ac u s) (lens-same t now st ac u (asksOf c) s)) (m .1)) in
       let n : length (present now (ask u now c .state .table .leases)) ≡ length xs + length (asksOf c) =
-      ap length (called now u c w .left) ∙ ap (λ (z : List (Option Lease)). length (addAll z xs)) (a .1) ∙ perm-length (addAll-perm (a .0) xs) ∙ length-append xs (a .0)
+      ap length (called-first now u c w (later .0) .left) ∙ ap (λ (z : List (Option Lease)). length (addAll z xs)) (a .1) ∙ perm-length (all-added (a .0) xs) ∙ length-append xs (a .0)
       ∙ omega (arith, length-map (a .0) some, ap length (a .1), offers-length (u .table) now (c .client) (asksOf c) xs) in
-      let rest = k (ask u now c .state) (after (poolsOf (t .table)) ls js) (r .1) (next t now st ac u c s) q (r .3) in (
+      let rest = k (ask u now c .state) (after (poolsOf (t .table)) ls js) (r .1) (next t now st ac u c s) (later .1) q (r .3) in (
         ap (λ (z : List Call). serve (poolsOf (t .table)) ls (map (askLength (t .table)) (concatMap asksOf z))) f
             ∙ ap (serve (poolsOf (t .table)) ls) (map-append (askLength (t .table)) (asksOf c) (wellFormedAsks now t cs))
             ∙ serve-append (poolsOf (t .table)) ls js (lengthsAsked now t cs)
@@ -162,10 +163,10 @@ placed-back (p ∷ ps) [] e = absurd (nil≢cons (sym e))
 placed-back (p ∷ ps) (l ∷ lens) e =
     ap₂ (λ (n : ℕ) (z : List Prefix). record { network = p .network; length = n } ∷ z) (sym (head-eq-of-cons-eq e)) (placed-back ps lens (tail-eq-of-cons-eq e))
 
-pub converse : (t : State) (now : ℕ) (cs : List Call) → sound (t .table) ≡ true → Accepts (t .table) now → EveryGranted now t cs → CanBeChosen now t cs
-converse t now cs st ac g =
+pub converse : (t : State) (now : ℕ) (cs : List Call) → sound (t .table) ≡ true → Accepts (t .table) now → FirstAsks now t cs → EveryGranted now t cs → CanBeChosen now t cs
+converse t now cs st ac a g =
     let ps : List Prefix = map entryPrefix (g .0) in
-    let b = back t now st ac cs t (inUse now (t .table)) (g .0) (start t now st ac) (Permᴰ·refl (inUse now (t .table))) (g .1) in
+    let b = back t now st ac cs t (inUse now (t .table)) (g .0) (start t now st ac) (a .nothing, a .once) (Permᴰ·refl (inUse now (t .table))) (g .1) in
     let k : Packing (poolsOf (t .table)) (inUse now (t .table)) (lengthsAsked now t cs) ps = serve-packing (poolsOf (t .table)) (pools-good (t .table) st) (lengthsAsked now t cs) (inUse now (t .table)) ps (b .0) in
     let q : prefixesAt (map (λ (p : Prefix). p .network) ps) (lengthsAsked now t cs) ≡ ps = placed-back ps (lengthsAsked now t cs) (k .asked) in
     record {
@@ -176,6 +177,6 @@ converse t now cs st ac g =
       slots = omega (arith, b .1, empty-slots (t .table) now st);
     }
 
--- Every well-formed ask is granted exactly if the prefixes can be chosen and there is a slot for each.
-pub granted⇔choosable : (t : State) (now : ℕ) (cs : List Call) → sound (t .table) ≡ true → Accepts (t .table) now → EveryGranted now t cs ↔ CanBeChosen now t cs
-granted⇔choosable t now cs st ac = (converse t now cs st ac, (λ p. let a = all-granted t now st ac cs p in (a .given, a .all)))
+-- Every well-formed ask of a list of first asks is granted exactly if the prefixes can be chosen and there is a slot for each.
+pub granted⇔choosable : (t : State) (now : ℕ) (cs : List Call) → sound (t .table) ≡ true → Accepts (t .table) now → FirstAsks now t cs → EveryGranted now t cs ↔ CanBeChosen now t cs
+granted⇔choosable t now cs st ac f = (converse t now cs st ac f, (λ p. let a = all-granted t now st ac cs f p in (a .given, a .all)))

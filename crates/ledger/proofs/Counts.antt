@@ -26,8 +26,8 @@ use Rattle.table.proofs.Ascending.{Ascending, ascending-low}
 use Rattle.table.proofs.TableLaws.{sound-fine}
 use Rattle.option.specs.Contents.{Request}
 use Rattle.option_reply.specs.Reply.{entryOf}
-use Rattle.ledger.specs.Ledger.{forAsk, informationFor, offers, names?, found}
-use Rattle.ledger.proofs.OfferLaws.{offers-length}
+use Rattle.ledger.specs.Ledger.{forAsk, informationFor, again, askOffers, askGives, names?, found}
+use Rattle.ledger.proofs.AgainLaws.{again-length, turn-length}
 use Rattle.ledger.proofs.ReplyLaws.{ask-bytes, information-bytes}
 
 pub upTo-all : {A : Type 0} (P : A → Type 0) (n : ℕ) (xs : List A) → All P xs → All P (upTo n xs)
@@ -40,8 +40,9 @@ upTo-all P (suc n) (x ∷ xs) a = (a .0, upTo-all P n xs (a .1))
 pub asks-few : (rs : List Request) → forAsk rs ≡ true → length rs ≤ 25
 asks-few rs e = leb-true (length rs) 25 (and-list-to (leb 1 (length rs) ∷ leb (length rs) 25 ∷ all? (λ r. not (r .i)) rs ∷ []) e .1 .0)
 
-pub granted-few : (t : LeaseTable) (now client : ℕ) (xs : List Lease) (rs : List Request) → forAsk rs ≡ true → length (catMaybes (offers t now client xs rs)) ≤ 25
-granted-few t now client xs rs e = omega (arith, catMaybes-few (offers t now client xs rs), offers-length t now client rs xs, asks-few rs e)
+pub granted-few : (t : LeaseTable) (now client : ℕ) (xs : List Lease) (rs : List Request) → forAsk rs ≡ true → length (catMaybes (askGives t now client xs rs)) ≤ 25
+granted-few t now client xs rs e =
+    omega (arith, catMaybes-few (askGives t now client xs rs), turn-length now (again t client xs rs) (askOffers t now client xs rs), again-length t client rs xs, asks-few rs e)
 
 -- "25 make Len 251": with Code and Len 253 bytes.
 pub ask-fits : (gs : List Lease) → length gs ≤ 25 → length (optionBytes (map informationFor gs)) ≤ 253

@@ -4,15 +4,17 @@ use Prim.Native.Nat.{ℕ, _+_, _-_, _≤_}
 use mathlib.Core.Path.{_≡_, refl, sym, ap, ap₂, subst, _∙_}
 use mathlib.Core.Logic.{_⊎_, ⊎-elim, by-cases}
 use native.Mathlib.Decide.{decLe}
-use mathlib.Core.Bool.{Bool, true, false, cond, true≢false}
-use mathlib.Core.List.{List, [], _∷_, _++_, map, map-append, append-assoc, nil≢cons, head-eq-of-cons-eq, tail-eq-of-cons-eq, List·Permᴰ, Permᴰ·refl, Permᴰ·symm, Permᴰ·append-nil, Permᴰ·append-right, Permᴰ·middle}
+use mathlib.Core.Bool.{Bool, true, false, not, cond, _&&_, true≢false}
+use mathlib.Core.List.{List, [], _∷_, _++_, map, map-append, append-assoc, nil≢cons, head-eq-of-cons-eq, tail-eq-of-cons-eq, List·Permᴰ, Permᴰ·refl, Permᴰ·symm, Permᴰ·append-nil, Permᴰ·append-right}
 use mathlib.Core.Option.{Option, none, some, Option·some-ne-none}
 use native.Mathlib.Omega.{arith}
 use lib.ListN.{length, length-append, length-map}
 use lib.Dec.{eqb}
+use borrow.Author.Tests.{ne-eqb}
 use Rattle.lists.specs.Lists.{All, Pairwise, filter, concatMap, catMaybes}
 use Rattle.lists.proofs.Tests.{bool-cases, cond-true, cond-false}
-use Rattle.lists.proofs.ListLaws.{all-map}
+use Rattle.lists.proofs.ListLaws.{all-map, all-map₂, all-every}
+use Rattle.lists.proofs.FilterLaws.{filter-yes, filter-no}
 use Rattle.lists.proofs.Permutations.{perm-length}
 use Rattle.prefix.specs.declared.Prefix.{Prefix}
 use Rattle.prefix.specs.Prefixes.{Apart}
@@ -27,13 +29,13 @@ use Rattle.table.specs.Table.{leaseSlots, latest, prefixOf, prefixesOf, poolsOf
 use Rattle.figures.specs.Figures.{matches?}
 use Rattle.option.specs.Contents.{Request}
 use Rattle.option_reply.specs.Reply.{entryOf}
-use Rattle.ledger.specs.Ledger.{State, Call, holdTime, askLength, offer, add, offers, addAll, ask}
-use Rattle.ledger.specs.Demand3.{Received, received, afterAll, wellFormed, Accepts, asksOf, granted, entryPrefix, inUse, wellFormedAsks, lengthsAsked, prefixesAt, CanBeChosen, leaseFor, made, AllGranted, Untouched, Demand3}
+use Rattle.ledger.specs.Ledger.{State, Call, holdTime, askLength, offer, add, offers, addAll, heldBy?, ask}
+use Rattle.ledger.specs.Demand3.{Received, received, afterAll, wellFormed, Accepts, asksOf, granted, entryPrefix, inUse, wellFormedAsks, lengthsAsked, prefixesAt, HoldsNothing, FirstAsks, CanBeChosen, leaseFor, made, AllGranted, Untouched, Demand3}
 use Rattle.lists.proofs.PartLaws.{catMaybes-some, split-some}
 use Rattle.ledger.proofs.EmptySlots.{empty-slots}
-use Rattle.ledger.proofs.OfferLaws.{prefixes, prefix?, pools-good, insert-perm, Offer, offer-is, offers-serve, offers-after, offers-length}
+use Rattle.ledger.proofs.OfferLaws.{prefixes, prefix?, pools-good, Offer, offer-is, offers-all, addAll-all, addAll-perm, offers-serve, offers-after, offers-length}
 use Rattle.ledger.proofs.AskLaws.{entry?}
-use Rattle.ledger.proofs.CallLaws.{well, run-not, well-same, called, granted-is}
+use Rattle.ledger.proofs.CallLaws.{well, run-not, well-same, called, called-first, granted-first}
 use Rattle.ledger.proofs.FirstSentence.{first-sentence}
 
 -- LISTS
@@ -80,12 +82,9 @@ pub prefixes-of : (ys : List Lease) → map entryPrefix (map entryOf ys) ≡ pre
 prefixes-of [] = refl
 prefixes-of (y ∷ ys) = ap (λ (l : List Prefix). prefixOf y ∷ l) (prefixes-of ys)
 
-pub addAll-perm : (ys xs : List Lease) → List·Permᴰ (addAll (map some ys) xs) (xs ++ ys)
-unfolding addAll
-addAll-perm [] xs = Permᴰ·symm (Permᴰ·append-nil xs)
-addAll-perm (y ∷ ys) xs =
-    List·Permᴰ.List·Permᴰ·trans (addAll-perm ys _)
-    (List·Permᴰ.List·Permᴰ·trans (Permᴰ·append-right ys (insert-perm y xs)) (Permᴰ·symm (Permᴰ·middle y xs ys)))
+-- Leases with others, none of which is missing.
+pub all-added : (ys xs : List Lease) → List·Permᴰ (addAll (map some ys) xs) (xs ++ ys)
+all-added ys xs = subst (λ (zs : List Lease). List·Permᴰ (addAll (map some ys) xs) (xs ++ zs)) (catMaybes-some ys) (addAll-perm (map some ys) xs)
 
 -- each lease offered is the one that its entry tells
 
@@ -98,7 +97,7 @@ module _ (t : LeaseTable) (good : Pools (poolsOf t)) (now client : ℕ) where
   told-step xs r none os f e = e
   told-step xs r (some x) os f e = ap₂ (λ (y : Lease) (l : List Lease). y ∷ l) (sym (lease-path now client x (f .owner) (f .leased) (f .until))) e
 
-  told : (rs : List Request) (xs : List Lease) → map (leaseFor now client) (map entryOf (catMaybes (offers t now client xs rs))) ≡ catMaybes (offers t now client xs rs)
+  pub told : (rs : List Request) (xs : List Lease) → map (leaseFor now client) (map entryOf (catMaybes (offers t now client xs rs))) ≡ catMaybes (offers t now client xs rs)
   unfolding offers
   told [] xs = refl
   told (r ∷ rs) xs = told-step xs r (offer t now client xs r) (offers t now client (add (offer t now client xs r) xs) rs) (offer-is t now client good xs r) (told rs (add (offer t now client xs r) xs))
@@ -148,6 +147,33 @@ module _ (t : State) (now : ℕ) (st : sound (t .table) ≡ true) (ac : Accepts 
   ill-formed-from [] u s = tt
   ill-formed-from (c ∷ cs) u s = ((λ e. same u c s ∙ e), ill-formed-from cs (ask u now c .state) (next u c s))
 
+  -- The calls to come are the first asks of their clients, each of which asks once.
+  abbrev pub FirstOn : State → List Call → Type 0
+  FirstOn u cs = All (λ c. HoldsNothing now (u .table) (c .client)) (filter (wellFormed now t) cs) × Pairwise (λ c d. c .client ≡ d .client → ⊥) (filter (wellFormed now t) cs)
+
+  pub first-not : (c : Call) (cs : List Call) (u : State) → Reached t now u → wellFormed now t c ≡ false → FirstOn u (c ∷ cs) → FirstOn (ask u now c .state) cs
+  first-not c cs u s b f =
+      subst (λ (w : State). FirstOn w cs) (sym (run-not now u c (same u c s ∙ b) .0))
+      (subst (λ (ds : List Call). All (λ d. HoldsNothing now (u .table) (d .client)) ds × Pairwise (λ d e. d .client ≡ e .client → ⊥) ds) (filter-no (wellFormed now t) c cs b) f)
+
+  -- What is made for one client is no other's.
+  not-theirs : (client other : ℕ) → (client ≡ other → ⊥) → (x : Lease) → x .client ≡ client → heldBy? other x ≡ false
+  not-theirs client other k x e = ap (λ (b : Bool). b && (not (x .leased) && true)) (ne-eqb (x .client) other (λ q. k (sym e ∙ q)))
+
+  pub first-well : (c : Call) (cs : List Call) (u : State) → Reached t now u → wellFormed now t c ≡ true → FirstOn u (c ∷ cs)
+      → HoldsNothing now (u .table) (c .client) × FirstOn (ask u now c .state) cs
+  first-well c cs u s b f =
+      let xs : List Lease = present now (u .table .leases) in
+      let os : List (Option Lease) = offers (u .table) now (c .client) xs (asksOf c) in
+      let good : Pools (poolsOf (u .table)) = pools-good (u .table) (s .sound) in
+      let g : All (λ d. HoldsNothing now (u .table) (d .client)) (c ∷ filter (wellFormed now t) cs) × Pairwise (λ d e. d .client ≡ e .client → ⊥) (c ∷ filter (wellFormed now t) cs) =
+      subst (λ (ds : List Call). All (λ d. HoldsNothing now (u .table) (d .client)) ds × Pairwise (λ d e. d .client ≡ e .client → ⊥) ds) (filter-yes (wellFormed now t) c cs b) f in
+      let still : (d : Call) → (c .client ≡ d .client → ⊥) → HoldsNothing now (u .table) (d .client) → HoldsNothing now (ask u now c .state .table) (d .client) =
+      λ d k n. subst (All (λ x. heldBy? (d .client) x ≡ false)) (sym (called-first now u c (same u c s ∙ b) (g .0 .0) .left))
+      (addAll-all (λ x. heldBy? (d .client) x ≡ false) os xs
+      (offers-all (u .table) now (c .client) good (λ r. Unit {0}) (λ x. heldBy? (d .client) x ≡ false) (λ ys r x _ o. not-theirs (c .client) (d .client) k x (o .owner)) (asksOf c) xs (all-every (λ r. tt) (asksOf c))) n) in
+      (g .0 .0, (all-map₂ still (filter (wellFormed now t) cs) (g .1 .0) (g .0 .1), g .1 .1))
+
   -- the list, from any table that it goes through
 
   abbrev kept? : Received State → Bool
@@ -187,18 +213,18 @@ module _ (t : State) (now : ℕ) (st : sound (t .table) ≡ true) (ac : Accepts 
   pub lens-same : (u : State) (rs : List Request) → Reached t now u → map (askLength (u .table)) rs ≡ map (askLength (t .table)) rs
   lens-same u rs s = ap (λ (n : ℕ). map (λ (r : Request). cond (eqb (r .length) 0) n (r .length)) rs) (s .default)
 
-  goes-well : (c : Call) (cs : List Call) (u : State) (ys : List Lease) (g₁ g₂ : List Prefix) → Reached t now u → wellFormed now t c ≡ true
+  goes-well : (c : Call) (cs : List Call) (u : State) (ys : List Lease) (g₁ g₂ : List Prefix) → Reached t now u → wellFormed now t c ≡ true → HoldsNothing now (u .table) (c .client)
       → offers (u .table) now (c .client) (present now (u .table .leases)) (asksOf c) ≡ map some ys → prefixes ys ≡ g₁
       → Goes cs (ask u now c .state) g₂ → Goes (c ∷ cs) u (g₁ ++ g₂)
   unfolding received afterAll
-  goes-well c cs u ys g₁ g₂ s e o b k =
+  goes-well c cs u ys g₁ g₂ s e n o b k =
       let xs : List Lease = present now (u .table .leases) in
       let w : wellFormed now u c ≡ true = same u c s ∙ e in
       let good : Pools (poolsOf (u .table)) = pools-good (u .table) (s .sound) in
       let v : Received State = record { call = c; got = u } in
       let vs : List (Received State) = received (λ s. s) ask now (ask u now c .state) cs in
       let f : filter kept? (v ∷ vs) ≡ v ∷ filter kept? vs = cond-true (wellFormed now t c) (v ∷ filter kept? vs) (filter kept? vs) e in
-      let h : granted (λ s. s) ask now u c ≡ map some (map entryOf ys) = granted-is now u c w ∙ ap (map entry?) o ∙ entries-some ys in
+      let h : granted (λ s. s) ask now u c ≡ map some (map entryOf ys) = granted-first now u c w n ∙ ap (map entry?) o ∙ entries-some ys in
       let so : catMaybes (offers (u .table) now (c .client) xs (asksOf c)) ≡ ys = ap catMaybes o ∙ catMaybes-some ys in
       let m : made (λ s. s) ask now v ≡ ys =
       ap (λ (l : List (Option Entry)). map (leaseFor now (c .client)) (catMaybes l)) h
@@ -206,7 +232,7 @@ module _ (t : State) (now : ℕ) (st : sound (t .table) ≡ true) (ac : Accepts 
       ∙ ap (λ (l : List Lease). map (leaseFor now (c .client)) (map entryOf l)) (sym so)
       ∙ told (u .table) good now (c .client) (asksOf c) xs ∙ so in
       let p : List·Permᴰ (present now (ask u now c .state .table .leases)) (xs ++ ys) =
-      subst (λ (l : List Lease). List·Permᴰ l (xs ++ ys)) (sym (called now u c w .left ∙ ap (λ (l : List (Option Lease)). addAll l xs) o)) (addAll-perm ys xs) in
+      subst (λ (l : List Lease). List·Permᴰ l (xs ++ ys)) (sym (called-first now u c w n .left ∙ ap (λ (l : List (Option Lease)). addAll l xs) o)) (all-added ys xs) in
       record {
         given = map entryOf ys ++ k .given;
         all = ap (concatMap gives) f ∙ ap₂ (λ (a b : List (Option Entry)). a ++ b) h (k .all) ∙ sym (map-append some (map entryOf ys) (k .given));
@@ -228,10 +254,10 @@ module _ (t : State) (now : ℕ) (st : sound (t .table) ≡ true) (ac : Accepts 
 
   abbrev Claim : List Call → Type 0
   Claim cs = (u : State) (ls gs : List Prefix) → Reached t now u → List·Permᴰ (inUse now (u .table)) ls → serve (poolsOf (t .table)) ls (lengthsAsked now t cs) ≡ map some gs
-      → length (present now (u .table .leases)) + length (wellFormedAsks now t cs) ≤ leaseSlots → Goes cs u gs
+      → length (present now (u .table .leases)) + length (wellFormedAsks now t cs) ≤ leaseSlots → FirstOn u cs → Goes cs u gs
 
   step-not : (c : Call) (cs : List Call) → wellFormed now t c ≡ false → Claim cs → Claim (c ∷ cs)
-  step-not c cs b k u ls gs s p e l =
+  step-not c cs b k u ls gs s p e l a =
       let f : filter (wellFormed now t) (c ∷ cs) ≡ filter (wellFormed now t) cs =
       cond-false (wellFormed now t c) (c ∷ filter (wellFormed now t) cs) (filter (wellFormed now t) cs) b in
       let q : ask u now c .state ≡ u = run-not now u c (same u c s ∙ b) .0 in
@@ -239,14 +265,16 @@ module _ (t : State) (now : ℕ) (st : sound (t .table) ≡ true) (ac : Accepts 
       (k (ask u now c .state) ls gs (next u c s)
       (subst (λ (w : State). List·Permᴰ (inUse now (w .table)) ls) (sym q) p)
       (subst (λ (z : List Call). serve (poolsOf (t .table)) ls (map (askLength (t .table)) (concatMap asksOf z)) ≡ map some gs) f e)
-      (omega (arith, ap (λ (w : State). length (present now (w .table .leases))) q, ap (λ (z : List Call). length (concatMap asksOf z)) f)))
+      (omega (arith, ap (λ (w : State). length (present now (w .table .leases))) q, ap (λ (z : List Call). length (concatMap asksOf z)) f))
+      (first-not c cs u s b a))
 
   step-well : (c : Call) (cs : List Call) → wellFormed now t c ≡ true → Claim cs → Claim (c ∷ cs)
-  step-well c cs b k u ls gs s p e l =
+  step-well c cs b k u ls gs s p e l first =
       let xs : List Lease = present now (u .table .leases) in
       let js : List ℕ = map (askLength (t .table)) (asksOf c) in
       let good : Pools (poolsOf (u .table)) = pools-good (u .table) (s .sound) in
       let w : wellFormed now u c ≡ true = same u c s ∙ b in
+      let later = first-well c cs u s b first in
       let f : filter (wellFormed now t) (c ∷ cs) ≡ c ∷ filter (wellFormed now t) cs =
       cond-true (wellFormed now t c) (c ∷ filter (wellFormed now t) cs) (filter (wellFormed now t) cs) b in
       let room : length xs + (length (asksOf c) + length (wellFormedAsks now t cs)) ≤ leaseSlots =
@@ -258,29 +286,29 @@ module _ (t : State) (now : ℕ) (st : sound (t .table) ≡ true) (ac : Accepts 
       let a = all-catMaybes (offers (u .table) now (c .client) xs (asksOf c)) (r .0)
       (offers-serve (u .table) now (c .client) good (asksOf c) xs ls (omega arith) p ∙ ap₂ (λ (ps : List Prefix) (z : List ℕ). serve ps ls z) (pools-same u s) (lens-same u (asksOf c) s) ∙ r .2) in
       let q : List·Permᴰ (inUse now (ask u now c .state .table)) (after (poolsOf (t .table)) ls js) =
-      subst (λ (z : List Lease). List·Permᴰ (prefixes z) (after (poolsOf (t .table)) ls js)) (sym (called now u c w .left))
+      subst (λ (z : List Lease). List·Permᴰ (prefixes z) (after (poolsOf (t .table)) ls js)) (sym (called-first now u c w (later .0) .left))
       (subst (λ (z : List Prefix). List·Permᴰ (prefixes (addAll (offers (u .table) now (c .client) xs (asksOf c)) xs)) z)
       (ap₂ (λ (ps : List Prefix) (z : List ℕ). after ps ls z) (pools-same u s) (lens-same u (asksOf c) s))
       (offers-after (u .table) now (c .client) good (asksOf c) xs ls (omega arith) p)) in
       let n : length (present now (ask u now c .state .table .leases)) ≡ length xs + length (asksOf c) =
-      ap length (called now u c w .left) ∙ ap (λ (z : List (Option Lease)). length (addAll z xs)) (a .1) ∙ perm-length (addAll-perm (a .0) xs) ∙ length-append xs (a .0)
+      ap length (called-first now u c w (later .0) .left) ∙ ap (λ (z : List (Option Lease)). length (addAll z xs)) (a .1) ∙ perm-length (all-added (a .0) xs) ∙ length-append xs (a .0)
       ∙ omega (arith, length-map (a .0) some, ap length (a .1), offers-length (u .table) now (c .client) (asksOf c) xs) in
       subst (Goes (c ∷ cs) u) (sym (r .4))
-      (goes-well c cs u (a .0) (r .0) (r .1) s b (a .1) (a .2)
-      (k (ask u now c .state) (after (poolsOf (t .table)) ls js) (r .1) (next u c s) q (r .3) (omega arith)))
+      (goes-well c cs u (a .0) (r .0) (r .1) s b (later .0) (a .1) (a .2)
+      (k (ask u now c .state) (after (poolsOf (t .table)) ls js) (r .1) (next u c s) q (r .3) (omega arith) (later .1)))
 
   goes : (cs : List Call) → Claim cs
-  goes [] = λ u ls gs s p e l. goes-none u gs e
+  goes [] = λ u ls gs s p e l a. goes-none u gs e
   goes (c ∷ cs) =
       ⊎-elim (λ (b : wellFormed now t c ≡ true). step-well c cs b (goes cs)) (λ (b : wellFormed now t c ≡ false). step-not c cs b (goes cs)) (bool-cases (wellFormed now t c))
 
   pub start : Reached t now t
   start = record { sound = st; matched = refl; since = ac .0; pools = refl; default = refl }
 
-  pub all-granted : (cs : List Call) → CanBeChosen now t cs → AllGranted (λ s. s) ask now t cs
-  all-granted cs p =
+  pub all-granted : (cs : List Call) → FirstAsks now t cs → CanBeChosen now t cs → AllGranted (λ s. s) ask now t cs
+  all-granted cs a p =
       let m = list-theorem (poolsOf (t .table)) (pools-good (t .table) st) (inUse now (t .table)) (lengthsAsked now t cs) (prefixesAt (p .networks) (lengthsAsked now t cs)) (choice now t cs p) in
-      let g = goes cs t (inUse now (t .table)) (m .0) start (Permᴰ·refl (inUse now (t .table))) (m .1) (omega (arith, p .slots, empty-slots (t .table) now st)) in
+      let g = goes cs t (inUse now (t .table)) (m .0) start (Permᴰ·refl (inUse now (t .table))) (m .1) (omega (arith, p .slots, empty-slots (t .table) now st)) (a .nothing, a .once) in
       record {
         given = g .given;
         all = g .all;
@@ -328,6 +356,6 @@ untouched-always t now cs =
 pub demand3 : Demand3 (λ s. s) ask
 demand3 = record {
   sentence = first-sentence;
-  lists = λ t now cs s a p. all-granted t now s a cs p;
+  lists = λ t now cs s a f p. all-granted t now s a cs f p;
   untouched = untouched-always;
 }

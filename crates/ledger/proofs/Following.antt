@@ -1,6 +1,6 @@
 -- WHATEVER FOLLOWS THE LEDGER KEEPS ITS THEOREMS. Calls on what holds a state follow the ledger if each gives the ledger's answer and reply, leaves what
--- holds the ledger's state, and leaves all as it was where it refuses. Demand 3, conservation, that no address is shared, and what a list depends on are
--- stated of any calls; they hold of those that follow, because they hold of the ledger's own.
+-- holds the ledger's state, and leaves all as it was where it refuses. Demand 3, what a client that asks twice gets, conservation, that no address is shared,
+-- and what a list depends on are stated of any calls; they hold of those that follow, because they hold of the ledger's own.
 -- Assumes nothing.
 use Prim.Native.Nat.{ℕ, _+_}
 use mathlib.Core.Path.{_≡_, refl, sym, ap, ap₂, subst, _∙_}
@@ -13,19 +13,21 @@ use Rattle.lists.specs.Lists.{All, filter, concatMap, catMaybes}
 use Rattle.lists.proofs.ListLaws.{all-map}
 use Rattle.option.specs.Values.{Entry}
 use Rattle.option.specs.Contents.{entriesIn}
-use Rattle.table.specs.declared.Lease.{Lease}
+use Rattle.table.specs.declared.{Lease.Lease, LeaseTable.LeaseTable}
 use Rattle.table.specs.Table.{present, sound}
 use Rattle.ledger.specs.declared.Answer.{Answer}
-use Rattle.ledger.specs.Ledger.{State, Call, call, Result, Calls, ask, ledger, namedBy?}
-use Rattle.ledger.specs.Demand3.{Server, wellFormed, asksOf, pairOff, confirmed, replyEntries, inUse, leaseFor, RefusedRightly, Received, granted, received, afterAll, wellFormedCalls, made, AllGranted, Untouched, Demand3}
+use Rattle.ledger.specs.Ledger.{State, Call, call, Result, Calls, heldAgain, ask, ledger, namedBy?}
+use Rattle.ledger.specs.Demand3.{Server, wellFormed, asksOf, heldBefore, pairOff, confirmed, replyEntries, inUse, leaseFor, RefusedRightly, Received, granted, received, afterAll, wellFormedCalls, made, AllGranted, Untouched, Demand3}
+use Rattle.ledger.specs.AskingTwice.{GivenAgain, grantedToRest, AsksTwice}
 use Rattle.ledger.specs.Histories.{Event, asked, taken, wasListed, returned, marked, saved, next, afterwards, Reachable, begun, called, NeverShared, leasesOf}
-use Rattle.ledger.specs.Conservation.{addressesOf, addressesIn, ifAccepted, endedAt, grantedBy, returnedBy, endedBy, summed, Conserved, FromLoad}
+use Rattle.ledger.specs.Conservation.{addressesOf, addressesIn, newlyMade, ifAccepted, endedAt, grantedBy, returnedBy, endedBy, summed, Conserved, FromLoad}
 use Rattle.ledger.specs.ListDepends.{answered, DependsOnly}
 use Rattle.ledger.proofs.RowLaws.{first-number}
 use Rattle.ledger.proofs.CallLaws.{rowsFor, run-refused}
 use Rattle.ledger.proofs.SoundKept.{no-overlap}
 use Rattle.ledger.proofs.HistoriesHold.{next-sound}
 use Rattle.ledger.proofs.Demand3Holds.{ill-formed-always, demand3}
+use Rattle.ledger.proofs.AsksTwiceHolds.{asks-twice}
 use Rattle.ledger.proofs.ConservationHolds.{numbered-before, conservation}
 use Rattle.ledger.proofs.ListDependsHolds.{list-depends}
 use borrow.Author.Tests.{eqb-false}
@@ -122,9 +124,26 @@ module _ {S : Type 0} (stateOf : S → State) (server : Server S) (follows : (s 
 
   pub demand3-followed : Demand3 stateOf server
   demand3-followed = record {
-    sentence = λ s now c e. subst (RefusedRightly (stateOf s .table) (inUse now (stateOf s .table)) (asksOf c)) (sym (granted-same now s c)) (demand3 .sentence (stateOf s) now c e);
-    lists = λ s now cs so a p. all-granted s now cs (demand3 .lists (stateOf s) now cs so a p);
+    sentence =
+        λ s now c e. let t : LeaseTable = stateOf s .table in
+        subst (RefusedRightly t (inUse now t) (asksOf c) (heldBefore now t c)) (sym (granted-same now s c)) (demand3 .sentence (stateOf s) now c e);
+    lists = λ s now cs so a f p. all-granted s now cs (demand3 .lists (stateOf s) now cs so a f p);
     untouched = untouched;
+  }
+
+  -- WHAT IS GIVEN AGAIN
+
+  pub asks-twice-followed : AsksTwice stateOf server
+  asks-twice-followed = record {
+    given = λ s now c e. subst (GivenAgain (heldBefore now (stateOf s .table) c)) (sym (granted-same now s c)) (asks-twice .given (stateOf s) now c e);
+    once = λ s now c e. asks-twice .once (stateOf s) now c e;
+    left =
+        λ s now c e. let hs : List (Option Lease) = heldBefore now (stateOf s .table) c in
+        let here : List Lease = heldAgain now (catMaybes hs) (present now (stateOf s .table .leases)) in
+        subst (λ (u : State). List·Permᴰ (present now (u .table .leases)) (here ++ map (leaseFor now (c .client)) (grantedToRest hs (granted stateOf server now s c)))) (sym (follows s now c .holds))
+        (subst (λ (es : List (Option Entry)). List·Permᴰ (present now (ask (stateOf s) now c .state .table .leases)) (here ++ map (leaseFor now (c .client)) (grantedToRest hs es))) (sym (granted-same now s c))
+        (asks-twice .left (stateOf s) now c e));
+    accepted = λ s now c e k. ap (λ (a : Answer). a .number) (follows s now c .answer) ∙ asks-twice .accepted (stateOf s) now c e k;
   }
 
 -- HISTORIES
@@ -164,7 +183,7 @@ module _ {S : Type 0} (calls : Calls S) (follows : FollowsAll calls) where
 
   granted-by : (s : S) (e : Event) → grantedBy calls s e ≡ grantedBy ledger (calls .stateOf s) e
   unfolding grantedBy
-  granted-by s (asked now c) = ap addressesIn (entries-same (calls .stateOf) (calls .asks) (follows .asks) s now c)
+  granted-by s (asked now c) = ap (λ (es : List Entry). addressesIn (newlyMade now (calls .stateOf s .table) es)) (entries-same (calls .stateOf) (calls .asks) (follows .asks) s now c)
   granted-by s (taken now c) = refl
   granted-by s (wasListed now c) = refl
   granted-by s (returned now c) = refl

@@ -5,7 +5,7 @@ use Prim.Native.Nat.{ℕ, zero, suc, _+_, _-_, _≤_}
 use mathlib.Core.Path.{_≡_, refl, sym, subst}
 use mathlib.Core.Bool.{Bool, true, false, not, cond}
 use mathlib.Core.List.{List, [], _∷_, _++_, map}
-use mathlib.Core.Option.{Option, none, some}
+use mathlib.Core.Option.{Option, none}
 use native.Mathlib.Omega.{arith}
 use lib.ListN.{length, drop, getD, replicate}
 use lib.ListN.{take as upTo}
@@ -17,7 +17,7 @@ use Rattle.lists.proofs.TakeLaws.{take-short}
 use Rattle.lists.proofs.ListLaws.{all-map, all-append, all-image, all-every, any-all}
 use Rattle.lists.proofs.DropLaws.{all-drop}
 use Rattle.lists.proofs.FilterLaws.{filter-all, filter-fewer, all-replicate}
-use Rattle.lists.proofs.SortingLaws.{insertBy-all, sortBy-all}
+use Rattle.lists.proofs.SortingLaws.{sortBy-all}
 use Rattle.prefix.specs.Prefixes.{longest}
 use Rattle.prefix.proofs.PrefixLaws.{size-positive}
 use Rattle.option.specs.Values.{longestOption, mostRequests, mostEntries, Entry, SuboptionValue, information}
@@ -29,7 +29,7 @@ use Rattle.option_reply.proofs.ReplyLaws.{entries-length}
 use Rattle.table.specs.declared.Pool.{Pool}
 use Rattle.table.specs.declared.Lease.{Lease}
 use Rattle.table.specs.declared.LeaseTable.{LeaseTable}
-use Rattle.table.specs.Table.{poolSlots, leaseSlots, latest, noPool, noLease, blank, networkOf, poolsOf, present, sound, store}
+use Rattle.table.specs.Table.{poolSlots, leaseSlots, latest, noPool, noLease, blank, poolsOf, present, sound, store}
 use Rattle.table.proofs.TableLaws.{Good, sound-term, sound-fine, sound-fewer}
 use Rattle.figures.specs.declared.FigureRow.{FigureRow}
 use Rattle.figures.specs.Figures.{untold, untoldRow, keptRows, rowFor, filed, filedBy, followed, taken as takenRows}
@@ -37,14 +37,15 @@ use Rattle.figures.proofs.RowsFollow.{kept-all, row-all}
 use Rattle.figures.proofs.RowsFile.{figureAt, newest, filed-high-water, filed-in-use, filed-unusable, filed-by}
 use Rattle.option.specs.Answers.{figuresOf}
 use Rattle.table_open.specs.Open.{poolNetwork, given, sortPools, fresh}
-use Rattle.ledger.specs.Ledger.{State, state, filled, left, Call, Result, Row, firstOf, byRows, accept, refusalPlace, openRows, openTable, informationFor, askOffers, add, offer, offers, addAll, forAsk, askRows, ask, namedBy?, names?, found, renew, renewNamed, renewed, takeRows, take, listedIn, listRows, list, releaseRows, release, at?, withD, markRows, mark, Calls, ledger}
+use Rattle.ledger.specs.Ledger.{State, state, filled, left, Call, Result, Row, firstOf, byRows, accept, refusalPlace, openRows, openTable, informationFor, offers, heldBy?, again, restOf, holdAgain, askHeld, askOffers, askGives, askLeases, forAsk, askRows, ask, namedBy?, names?, found, renew, renewNamed, renewed, takeRows, take, listedIn, listRows, list, releaseRows, release, at?, withD, markRows, mark, Calls, ledger}
 use Rattle.ledger.specs.Histories.{Event, asked, taken, wasListed, returned, marked, saved, next, afterwards}
 use Rattle.ledger.specs.Sizes.{Byte, Bytes}
 use Rattle.ledger.specs.InRange.{Word, Figure, highestNumber, PoolInRange, LeaseInRange, TableInRange, RowInRange, StateInRange, CallInRange, ResultInRange, InRange, EventInRange, StaysInRange, OpenInRange, OpensInRange}
 use Rattle.ledger.proofs.RowLaws.{first-none, by-numbers}
 use Rattle.ledger.proofs.ReadLaws.{requests-short, figures-short, entries-few, option-short, place-short}
 use Rattle.ledger.proofs.Counts.{upTo-all, granted-few, ask-fits, found-few, information-fits}
-use Rattle.ledger.proofs.OfferLaws.{pools-good, pools-within, Offered, Offer, offer-is, offers-good, length-bounds}
+use Rattle.ledger.proofs.OfferLaws.{pools-good, pools-within, Offered, offers-all, addAll-all, offers-good, length-bounds}
+use Rattle.ledger.proofs.AgainLaws.{again-all, held-all, rest-all, turn-all}
 
 -- A CALL THAT GOES BY ITS ROWS, on what is in range
 
@@ -221,15 +222,12 @@ module _ (t : LeaseTable) (now client : ℕ) (s : sound t ≡ true) (l : now ≤
         expires = omega (arith, o .until);
       }
 
-  add-in-range : (xs : List Lease) (r : Request) → r .length ≤ longest → (o : Option Lease) → Offer t now client xs r o → All LeaseInRange xs → All LeaseInRange (add o xs)
-  add-in-range xs r k none f a = a
-  add-in-range xs r k (some x) f a = insertBy-all networkOf LeaseInRange x xs (offered-in-range xs r x k f) a
+  offers-in-range : (rs : List Request) (xs : List Lease) → All (λ r. r .length ≤ longest) rs → All LeaseInRange (catMaybes (offers t now client xs rs))
+  offers-in-range = offers-all t now client (pools-good t s) (λ r. r .length ≤ longest) LeaseInRange (λ xs r x k o. offered-in-range xs r x k o)
 
-  offers-in-range : (rs : List Request) (xs : List Lease) → All (λ r. r .length ≤ longest) rs → All LeaseInRange xs → All LeaseInRange (addAll (offers t now client xs rs) xs)
-  unfolding offers addAll
-  offers-in-range [] xs k a = a
-  offers-in-range (r ∷ rs) xs k a =
-      offers-in-range rs (add (offer t now client xs r) xs) (k .1) (add-in-range xs r (k .0) (offer t now client xs r) (offer-is t now client (pools-good t s) xs r) a)
+-- A lease given again.
+held-in-range : (now : ℕ) → now ≤ latest → (x : Lease) → LeaseInRange x → LeaseInRange (holdAgain now x)
+held-in-range now l x v = record { network = v .network; length = v .length; client = v .client; expires = omega arith }
 
 -- THE CALLS
 
@@ -256,13 +254,22 @@ module _ (s : State) (now : ℕ) (c : Call) (f : StateInRange s) (k : CallInRang
       let so : sound t ≡ true = not-false (sound t) (r .1 .0) in
       let named : c .client ≡ 0 → ⊥ = eqb-false (c .client) 0 (r .1 .1 .1 .0) in
       let l : now ≤ latest = ltb-false latest now (r .1 .1 .1 .1 .1 .0) in
-      let os : List (Option Lease) = askOffers t now (c .client) (c .option) in
-      let gs : List Lease = catMaybes os in
-      let few : length gs ≤ mostRequests = granted-few t now (c .client) xs (requestsIn (c .option)) (not-false (forAsk (requestsIn (c .option))) (r .1 .1 .1 .1 .1 .1 .1 .1 .0)) in
-      let told : All Told gs = good-told t now so gs (offers-good t now (c .client) (pools-good t so) so named (requestsIn (c .option)) xs (requests-short (c .option))) in
-      accepted-in-range StateInRange (left s now (addAll os xs)) (optionBytes (map informationFor gs)) (length gs) (c .reply)
-      (left-in-range s now (addAll os xs) f
-      (store-in-range t now (addAll os xs) (f .table) l (offers-in-range t now (c .client) so l (k .client) (requestsIn (c .option)) xs (requests-short (c .option)) (present-in-range t now (f .table)))))
+      let rs : List Request = requestsIn (c .option) in
+      let given : List (Option Lease) = again t (c .client) xs rs in
+      let held : List Lease = askHeld t now (c .client) xs rs in
+      let os : List (Option Lease) = askOffers t now (c .client) xs rs in
+      let gs : List Lease = catMaybes (askGives t now (c .client) xs rs) in
+      let ys : List Lease = askLeases t now (c .client) xs rs in
+      let short : All (λ r. r .length ≤ longest) (restOf given rs) = rest-all (λ r. r .length ≤ longest) given rs (requests-short (c .option)) in
+      let few : length gs ≤ mostRequests = granted-few t now (c .client) xs rs (not-false (forAsk rs) (r .1 .1 .1 .1 .1 .1 .1 .1 .0)) in
+      let told : All Told gs =
+      turn-all now Told given os
+      (all-map (λ x (b : (heldBy? (c .client) x ≡ true) × Told x). b .1) (catMaybes given) (again-all t (c .client) Told rs xs (present-told t now so)))
+      (good-told t now so (catMaybes os) (offers-good t now (c .client) (pools-good t so) so named (restOf given rs) held short)) in
+      let there : All LeaseInRange ys =
+      addAll-all LeaseInRange os held (offers-in-range t now (c .client) so l (k .client) (restOf given rs) held short)
+      (held-all now (catMaybes given) LeaseInRange (held-in-range now l) xs (present-in-range t now (f .table))) in
+      accepted-in-range StateInRange (left s now ys) (optionBytes (map informationFor gs)) (length gs) (c .reply) (left-in-range s now ys f (store-in-range t now ys (f .table) l there))
       (ask-bytes gs few told) (omega (arith, ask-fits gs few)) (omega arith) (k .reply))
 
   found-told : sound t ≡ true → All Told (found (c .client) xs es)

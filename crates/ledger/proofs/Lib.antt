@@ -4,6 +4,8 @@ pub mod LeftLaws
 pub mod CommonRows
 pub mod ReadLaws
 pub mod OfferLaws
+pub mod AgainLaws
+pub mod PassLaws
 pub mod ReplyLaws
 pub mod ReadBack
 pub mod EmptySlots
@@ -12,6 +14,8 @@ pub mod CallLaws
 pub mod FirstSentence
 pub mod Demand3Holds
 pub mod Converse
+pub mod AsksTwiceHolds
+pub mod InOrderHolds
 pub mod SoundKept
 pub mod HistoriesHold
 pub mod MatchedKept

@@ -4,14 +4,14 @@
 -- Assumes nothing.
 use Prim.Native.Nat.{ℕ, _-_}
 use mathlib.Core.Path.{_≡_, refl, sym, ap, ap₂, subst, _∙_}
-use mathlib.Core.Bool.{Bool, true, false, not, cond, _&&_, true≢false}
+use mathlib.Core.Bool.{Bool, true, false, not, cond, _&&_, Bool·beq, true≢false}
 use mathlib.Core.List.{List, [], _∷_, _++_, map}
 use mathlib.Core.Option.{Option, none, some}
 use lib.ListN.{length, drop}
 use lib.ListN.{take as upTo}
 use lib.Dec.{ltb, eqb}
 use borrow.Author.Tests.{eq-eqb, le-ltb}
-use Rattle.lists.specs.Lists.{catMaybes, filter, any?}
+use Rattle.lists.specs.Lists.{and, catMaybes, filter, any?}
 use Rattle.option.specs.Values.{information}
 use Rattle.option.specs.Reading.{readOption}
 use Rattle.option.specs.Writing.{optionBytes}
@@ -25,7 +25,7 @@ use Rattle.figures.specs.declared.FigureRow.{FigureRow}
 use Rattle.figures.specs.Figures.{matches?, rowFor, filedBy, followed, taken}
 use Rattle.option.specs.Contents.{position, requestsIn, entriesIn, suboptions, Request}
 use Rattle.option_reply.specs.Reply.{mostEntries, entryOf}
-use Rattle.ledger.specs.Ledger.{State, state, left, Call, Result, result, acceptance, accept, Row, firstOf, orElse, byRows, refusalPlace, leastReply, tableRows, stateRows, optionRows, clientRows, nothing?, full, offered, offer, offers, add, addAll, askOffers, informationFor, forAsk, askRows, ask, namedBy?, found, renewNamed, renewed, forTake, takeRows, take, forList, listed, listedIn, listRows, list, releaseRows, release, at?, withD, markRows, mark, ledger}
+use Rattle.ledger.specs.Ledger.{State, state, left, Call, Result, result, acceptance, accept, Row, firstOf, orElse, byRows, refusalPlace, leastReply, tableRows, stateRows, optionRows, clientRows, nothing?, full, offered, offer, offers, add, addAll, heldBy?, heldFor?, firstThat, butFirst, again, restOf, heldAgain, inTurn, askHeld, askOffers, askGives, askLeases, informationFor, forAsk, askRows, ask, namedBy?, found, renewNamed, renewed, forTake, takeRows, take, forList, listed, listedIn, listRows, list, releaseRows, release, at?, withD, markRows, mark, ledger}
 use Rattle.ledger.specs.Histories.{leasesOf}
 use Rattle.ledger.specs.NothingBehind.{Alike, Same, Cleared, EndedForgotten, Clears}
 use Rattle.ledger.proofs.RowLaws.{Numbered, first-number, by-rows, numbered-ask, numbered-take, numbered-release, numbered-mark}
@@ -88,9 +88,27 @@ module _ (now : ℕ) (s u : State) (a : Alike now s u) where
       ap (λ (o : Option Lease). o ∷ offers (s .table) now client (add o xs) rs) (offer-same client xs r)
       ∙ ap (λ (l : List (Option Lease)). offer (u .table) now client xs r ∷ l) (offers-same client (add (offer (u .table) now client xs r) xs) rs)
 
-  ask-offers-same : (client : ℕ) (option : List ℕ) → askOffers (s .table) now client option ≡ askOffers (u .table) now client option
-  ask-offers-same client option =
-      offers-same client (present now (s .table .leases)) (requestsIn option) ∙ ap (λ (xs : List Lease). offers (u .table) now client xs (requestsIn option)) (a .leases)
+  again-same : (client : ℕ) (xs : List Lease) (rs : List Request) → again (s .table) client xs rs ≡ again (u .table) client xs rs
+  unfolding again
+  again-same client xs [] = refl
+  again-same client xs (r ∷ rs) =
+      ap (λ (n : ℕ). firstThat (for n) xs ∷ again (s .table) client (butFirst (for n) xs) rs) (a .default)
+      ∙ ap (λ (l : List (Option Lease)). firstThat (heldFor? (u .table) client r) xs ∷ l) (again-same client (butFirst (heldFor? (u .table) client r) xs) rs)
+    where
+      for : ℕ → Lease → Bool
+      for n x = and (heldBy? client x ∷ eqb (cond (eqb (r .length) 0) n (r .length)) (x .length) ∷ Bool·beq (r .h) (x .h) ∷ [])
+
+  module _ (client : ℕ) (xs : List Lease) (rs : List Request) where
+    ask-offers-same : askOffers (s .table) now client xs rs ≡ askOffers (u .table) now client xs rs
+    ask-offers-same =
+        ap (λ (gs : List (Option Lease)). offers (s .table) now client (heldAgain now (catMaybes gs) xs) (restOf gs rs)) (again-same client xs rs)
+        ∙ offers-same client (askHeld (u .table) now client xs rs) (restOf (again (u .table) client xs rs) rs)
+
+    ask-gives-same : askGives (s .table) now client xs rs ≡ askGives (u .table) now client xs rs
+    ask-gives-same = ap₂ (inTurn now) (again-same client xs rs) ask-offers-same
+
+    ask-leases-same : askLeases (s .table) now client xs rs ≡ askLeases (u .table) now client xs rs
+    ask-leases-same = ap₂ (λ (os gs : List (Option Lease)). addAll os (heldAgain now (catMaybes gs) xs)) ask-offers-same (again-same client xs rs)
 
   table-rows-same : tableRows s ≡ tableRows u
   table-rows-same = ap (λ (b : Bool). (5, not b) ∷ []) (a .sound₁ ∙ sym (a .sound₂))
@@ -109,24 +127,32 @@ module _ (now : ℕ) (s u : State) (a : Alike now s u) where
     abbrev first : List Row
     first = (1, ltb (length (c .reply)) leastReply) ∷ []
 
+    abbrev rs : List Request
+    rs = requestsIn (c .option)
+
+    gives-same : askGives (s .table) now (c .client) (present now (s .table .leases)) rs ≡ askGives (u .table) now (c .client) (present now (u .table .leases)) rs
+    gives-same = ask-gives-same (c .client) (present now (s .table .leases)) rs ∙ ap (λ (xs : List Lease). askGives (u .table) now (c .client) xs rs) (a .leases)
+
+    leases-same : askLeases (s .table) now (c .client) (present now (s .table .leases)) rs ≡ askLeases (u .table) now (c .client) (present now (u .table .leases)) rs
+    leases-same = ask-leases-same (c .client) (present now (s .table .leases)) rs ∙ ap (λ (xs : List Lease). askLeases (u .table) now (c .client) xs rs) (a .leases)
+
     ask-rows-same : askRows s now c ≡ askRows u now c
     unfolding askRows
     ask-rows-same =
-        ap₂ (λ (x : List Row) (e : Bool). rowsWith first c x e (own (askOffers (s .table) now (c .client) (c .option)) (present now (s .table .leases)))) state-rows-same time-same
-        ∙ ap₂ (λ (os : List (Option Lease)) (xs : List Lease). rowsWith first c (stateRows u) (ltb now (u .table .last)) (own os xs)) (ask-offers-same (c .client) (c .option)) (a .leases)
+        ap₂ (λ (x : List Row) (e : Bool). rowsWith first c x e (own (askGives (s .table) now (c .client) (present now (s .table .leases)) rs) (present now (s .table .leases)))) state-rows-same time-same
+        ∙ ap₂ (λ (gs : List (Option Lease)) (xs : List Lease). rowsWith first c (stateRows u) (ltb now (u .table .last)) (own gs xs)) gives-same (a .leases)
       where
         own : List (Option Lease) → List Lease → List Row
-        own os xs = (8, not (forAsk (requestsIn (c .option)))) ∷ (9, nothing? (catMaybes os) && full xs) ∷ (10, nothing? (catMaybes os)) ∷ []
+        own gs xs = (8, not (forAsk rs)) ∷ (9, nothing? (catMaybes gs) && full xs) ∷ (10, nothing? (catMaybes gs)) ∷ []
 
     ask-same : SameState (ask s now c) (ask u now c)
     unfolding ask
     ask-same =
-        let os = ask-offers-same (c .client) (c .option) in
         same-rows (askRows s now c) (askRows u now c) (refusalPlace (c .option)) (c .reply) _ _ ask-rows-same (numbered-ask s now c)
         (accept-same (c .reply)
-        (left-same _ _ (ap₂ addAll os (a .leases)))
-        (ap (λ (l : List (Option Lease)). optionBytes (map informationFor (catMaybes l))) os)
-        (ap (λ (l : List (Option Lease)). length (catMaybes l)) os))
+        (left-same _ _ leases-same)
+        (ap (λ (l : List (Option Lease)). optionBytes (map informationFor (catMaybes l))) gives-same)
+        (ap (λ (l : List (Option Lease)). length (catMaybes l)) gives-same))
 
     take-rows-same : takeRows s now c ≡ takeRows u now c
     unfolding takeRows

@@ -4,7 +4,7 @@ use Prim.Native.Nat.{ℕ, zero, suc, _+_, _-_, _≤_, _<_}
 use mathlib.Core.Path.{_≡_, refl, sym, ap, subst, _∙_}
 use mathlib.Core.Logic.{_⊎_, inl, inr, ⊎-elim}
 use mathlib.Core.Bool.{true, false}
-use mathlib.Core.List.{List, [], _∷_, _++_, map, List·Permᴰ}
+use mathlib.Core.List.{List, [], _∷_, _++_, map, List·Permᴰ, Permᴰ·symm, Permᴰ·append-nil, Permᴰ·append-right, Permᴰ·middle}
 use mathlib.Core.Option.{Option, none, some}
 use native.Mathlib.Omega.{arith}
 use lib.ListN.{length}
@@ -13,8 +13,8 @@ use borrow.Author.Tests.{leb-true, leb-false, le-leb, lt-leb, eqb-false}
 use Rattle.lists.specs.Lists.{All, Any, Pairwise, catMaybes}
 use Rattle.lists.proofs.Tests.{bool-cases, cond-true, cond-false}
 use Rattle.lists.proofs.ListLaws.{all-map, all-image, pairwise-image}
-use Rattle.lists.proofs.Permutations.{perm-map, perm-length}
-use Rattle.lists.proofs.SortingLaws.{insertBy-perm}
+use Rattle.lists.proofs.Permutations.{perm-all, perm-map, perm-length}
+use Rattle.lists.proofs.SortingLaws.{insertBy-perm, insertBy-all}
 use Rattle.prefix.specs.declared.Prefix.{Prefix}
 use Rattle.prefix.specs.Prefixes.{longest, end, Aligned, Inside, Apart}
 use Rattle.free_space.specs.Space.{Free, Takes}
@@ -41,6 +41,11 @@ prefix? (some x) = some (prefixOf x)
 
 pub insert-perm : (x : Lease) (ys : List Lease) → List·Permᴰ (insert x ys) (x ∷ ys)
 insert-perm x ys = insertBy-perm networkOf x ys
+
+-- What is so of all prefixes with one more is so of them.
+pub add-fewer : (P : Prefix → Type 0) (xs : List Lease) (o : Option Lease) → All P (prefixes (add o xs)) → All P (prefixes xs)
+add-fewer P xs none a = a
+add-fewer P xs (some x) a = perm-all P (perm-map prefixOf (insert-perm x xs)) a .1
 
 -- THE POOLS OF A SOUND TABLE, as crate `free_space` wants them.
 
@@ -116,6 +121,32 @@ module _ (t : LeaseTable) (now client : ℕ) where
         (offered-is xs r (leb-false leaseSlots (length xs) e) (grant (poolsOf t) (prefixes xs) (askLength t r)) refl))
         (bool-cases (full xs))
 
+    -- What is so of each lease offered, to requests of some kind.
+    module _ (Q : Request → Type 0) (P : Lease → Type 0) (each : (xs : List Lease) (r : Request) (x : Lease) → Q r → Offered xs r x → P x) where
+      first-all : (xs : List Lease) (r : Request) → Q r → (o : Option Lease) → Offer xs r o → (os : List (Option Lease)) → All P (catMaybes os) → All P (catMaybes (o ∷ os))
+      first-all xs r q none f os a = a
+      first-all xs r q (some x) f os a = (each xs r x q f, a)
+
+      pub offers-all : (rs : List Request) (xs : List Lease) → All Q rs → All P (catMaybes (offers t now client xs rs))
+      unfolding offers
+      offers-all [] xs a = tt
+      offers-all (r ∷ rs) xs a =
+          first-all xs r (a .0) (offer t now client xs r) (offer-is xs r) (offers t now client (add (offer t now client xs r) xs) rs) (offers-all rs (add (offer t now client xs r) xs) (a .1))
+
+    -- What is offered shares no address with what was in use before: offers only add to that.
+    new-step : (used : List Prefix) (xs : List Lease) (r : Request) (o : Option Lease) (os : List (Option Lease)) → ((P : Prefix → Type 0) → All P (prefixes xs) → All P used) → Offer xs r o
+        → All (λ x. All (Apart (prefixOf x)) used) (catMaybes os) → All (λ x. All (Apart (prefixOf x)) used) (catMaybes (o ∷ os))
+    new-step used xs r none os k f a = a
+    new-step used xs r (some x) os k f a = (k (Apart (prefixOf x)) (f .free .unused), a)
+
+    pub offers-new : (rs : List Request) (used : List Prefix) (xs : List Lease) → ((P : Prefix → Type 0) → All P (prefixes xs) → All P used)
+        → All (λ x. All (Apart (prefixOf x)) used) (catMaybes (offers t now client xs rs))
+    unfolding offers
+    offers-new [] used xs k = tt
+    offers-new (r ∷ rs) used xs k =
+        let o : Option Lease = offer t now client xs r in
+        new-step used xs r o (offers t now client (add o xs) rs) k (offer-is xs r) (offers-new rs used (add o xs) (λ P a. k P (add-fewer P xs o a)))
+
     -- The leases stay good, ascending, and no more than there are slots.
 
     pub record Inv (xs : List Lease) : Type 0 where
@@ -148,17 +179,8 @@ module _ (t : LeaseTable) (now client : ℕ) where
       offers-inv (r ∷ rs) xs a i =
           offers-inv rs (add (offer t now client xs r) xs) (a .1) (add-inv xs r (a .0) (offer t now client xs r) (offer-is xs r) i)
 
-      some-good : (xs : List Lease) (r : Request) → r .length ≤ longest → (o : Option Lease) → Offer xs r o → (ys : List (Option Lease)) → All (Good (poolsOf t) now) (catMaybes ys)
-          → All (Good (poolsOf t) now) (catMaybes (o ∷ ys))
-      some-good xs r l none f ys a = a
-      some-good xs r l (some x) f ys a = (offered-good xs r x l f, a)
-
       pub offers-good : (rs : List Request) (xs : List Lease) → All (λ r. r .length ≤ longest) rs → All (Good (poolsOf t) now) (catMaybes (offers t now client xs rs))
-      unfolding offers
-      offers-good [] xs a = tt
-      offers-good (r ∷ rs) xs a =
-          some-good xs r (a .0) (offer t now client xs r) (offer-is xs r) (offers t now client (add (offer t now client xs r) xs) rs)
-          (offers-good rs (add (offer t now client xs r) xs) (a .1))
+      offers-good = offers-all (λ r. r .length ≤ longest) (Good (poolsOf t) now) offered-good
 
     -- The offers are the grants of crate `free_space`.
 
@@ -195,6 +217,23 @@ module _ (t : LeaseTable) (now client : ℕ) where
         let e : prefix? o ≡ grant (poolsOf t) ls (askLength t r) = offer-grant xs r (omega arith) o (offer-is xs r) ∙ grant-perm (poolsOf t) p (askLength t r) in
         offers-after rs (add o xs) (withGrant (grant (poolsOf t) ls (askLength t r)) ls) (omega (arith, add-length xs o))
         (subst (λ (g : Option Prefix). List·Permᴰ (prefixes (add o xs)) (withGrant g ls)) e (add-perm xs ls o p))
+
+-- THE LEASES WITH THOSE OFFERED
+
+pub addAll-perm : (os : List (Option Lease)) (xs : List Lease) → List·Permᴰ (addAll os xs) (xs ++ catMaybes os)
+unfolding addAll
+addAll-perm [] xs = Permᴰ·symm (Permᴰ·append-nil xs)
+addAll-perm (none ∷ os) xs = addAll-perm os xs
+addAll-perm (some x ∷ os) xs =
+    List·Permᴰ.List·Permᴰ·trans (addAll-perm os (insert x xs))
+    (List·Permᴰ.List·Permᴰ·trans (Permᴰ·append-right (catMaybes os) (insert-perm x xs)) (Permᴰ·symm (Permᴰ·middle x xs (catMaybes os))))
+
+-- What is so of leases and of those offered is so of all of them.
+pub addAll-all : (P : Lease → Type 0) (os : List (Option Lease)) (xs : List Lease) → All P (catMaybes os) → All P xs → All P (addAll os xs)
+unfolding addAll
+addAll-all P [] xs a b = b
+addAll-all P (none ∷ os) xs a b = addAll-all P os xs a b
+addAll-all P (some x ∷ os) xs a b = addAll-all P os (insert x xs) (a .1) (insertBy-all networkOf P x xs (a .0) b)
 
 -- A request while a slot is empty, and while none is.
 

@@ -12,11 +12,11 @@ use lib.Dec.{eqb}
 use borrow.Author.Tests.{eqb-false}
 use Rattle.lists.specs.Lists.{All, catMaybes}
 use Rattle.lists.proofs.Tests.{bool-cases, cond-true, cond-false}
-use Rattle.option.specs.Reading.{four}
+use Rattle.option.specs.Contents.{requestsIn}
 use Rattle.option.specs.Writing.{optionBytes}
 use Rattle.table.specs.declared.Lease.{Lease}
 use Rattle.table.specs.Table.{present}
-use Rattle.ledger.specs.Ledger.{State, left, Call, byRows, Result, refuse, accept, Row, firstOf, orElse, before, nothing?, refusalPlace, full, informationFor, addAll, askOffers, askRows, ask, takeRows, listRows, releaseRows, markRows}
+use Rattle.ledger.specs.Ledger.{State, left, Call, byRows, Result, refuse, accept, Row, firstOf, orElse, before, nothing?, refusalPlace, full, informationFor, askGives, askLeases, askRows, ask, takeRows, listRows, releaseRows, markRows}
 use Rattle.ledger.specs.Demand3.{none?}
 
 pub first-none : (rows : List Row) → firstOf rows ≡ none → All (λ (r : Row). r .1 ≡ false) rows
@@ -129,50 +129,54 @@ numbered-mark s now network len = (refl, (refl, (refl, (refl, (refl, tt)))))
 
 -- ASK: rows 1 to 8, and rows 9 and 10.
 
--- What an ask answers whose rows before 9 do not apply: `gs` are the leases granted.
-abbrev pub answerAsk : State → ℕ → List ℕ → List Lease → List (Option Lease) → List Lease → Result State
-answerAsk s now reply xs os [] = refuse (cond (full xs) 9 10) 0 s reply
-answerAsk s now reply xs os (g ∷ gs) = accept (left s now (addAll os xs)) (optionBytes (map informationFor (g ∷ gs))) (length (g ∷ gs)) reply
+-- What an ask answers whose rows before 9 do not apply, on the leases xs: `gs` are the leases granted, given again or new, and ys those that it leaves.
+abbrev pub answerAsk : State → ℕ → List ℕ → List Lease → List Lease → List Lease → Result State
+answerAsk s now reply xs ys [] = refuse (cond (full xs) 9 10) 0 s reply
+answerAsk s now reply xs ys (g ∷ gs) = accept (left s now ys) (optionBytes (map informationFor (g ∷ gs))) (length (g ∷ gs)) reply
 
 module _ (s : State) (now : ℕ) (c : Call) where
   xs : List Lease
   xs = present now (s .table .leases)
 
-  os : List (Option Lease)
-  os = askOffers (s .table) now (c .client) (c .option)
+  ys : List Lease
+  ys = askLeases (s .table) now (c .client) (present now (s .table .leases)) (requestsIn (c .option))
+
+  granted : List Lease
+  granted = catMaybes (askGives (s .table) now (c .client) (present now (s .table .leases)) (requestsIn (c .option)))
 
   -- Rows 9 and 10.
   abbrev ownRows : List Lease → List Row
   ownRows gs = (9, nothing? gs && full xs) ∷ (10, nothing? gs) ∷ []
 
-  rows-split : askRows s now c ≡ before 9 (askRows s now c) ++ ownRows (catMaybes os)
-  unfolding askRows xs os
+  rows-split : askRows s now c ≡ before 9 (askRows s now c) ++ ownRows granted
+  unfolding askRows xs granted
   rows-split = refl
 
   own : (gs : List Lease)
       → orElse (firstOf (ownRows gs)) (λ number. refuse number (refusalPlace (c .option) number) s (c .reply))
-      (accept (left s now (addAll os xs)) (optionBytes (map informationFor gs)) (length gs) (c .reply))
-      ≡ answerAsk s now (c .reply) xs os gs
+      (accept (left s now ys) (optionBytes (map informationFor gs)) (length gs) (c .reply))
+      ≡ answerAsk s now (c .reply) xs ys gs
   own (g ∷ gs) = refl
   own [] = go (full xs)
     where
       go : (b : Bool)
           → orElse (cond b (some 9) (some 10)) (λ number. refuse number (refusalPlace (c .option) number) s (c .reply))
-          (accept (left s now (addAll os xs)) (optionBytes (map informationFor [])) (length (map informationFor [])) (c .reply))
+          (accept (left s now ys) (optionBytes (map informationFor [])) (length (map informationFor [])) (c .reply))
           ≡ refuse (cond b 9 10) 0 s (c .reply)
       go true = refl
       go false = refl
 
+  -- An ask by the row that applies to it.
+  abbrev goes : Option ℕ → Result State
+  goes o = orElse o (λ number. refuse number (refusalPlace (c .option) number) s (c .reply)) (accept (left s now ys) (optionBytes (map informationFor granted)) (length granted) (c .reply))
+
   pub ask-served : firstOf (before 9 (askRows s now c)) ≡ none
-      → ask s now c ≡ answerAsk s now (c .reply) (present now (s .table .leases)) (askOffers (s .table) now (c .client) (c .option)) (catMaybes (askOffers (s .table) now (c .client) (c .option)))
-  unfolding ask xs os
-  ask-served e =
-      ap (λ (o : Option ℕ). orElse o (λ number. refuse number (refusalPlace (c .option) number) s (c .reply)) (accept (left s now (addAll os xs)) (optionBytes (map informationFor (catMaybes os))) (length (catMaybes os)) (c .reply)))
-      (ap firstOf rows-split ∙ first-after (before 9 (askRows s now c)) (ownRows (catMaybes os)) e)
-      ∙ own (catMaybes os)
+      → let here = present now (s .table .leases) in
+      let rs = requestsIn (c .option) in
+      ask s now c ≡ answerAsk s now (c .reply) here (askLeases (s .table) now (c .client) here rs) (catMaybes (askGives (s .table) now (c .client) here rs))
+  unfolding ask xs ys granted
+  ask-served e = ap goes (ap firstOf rows-split ∙ first-after (before 9 (askRows s now c)) (ownRows granted) e) ∙ own granted
 
   pub ask-refused : (n : ℕ) → firstOf (before 9 (askRows s now c)) ≡ some n → ask s now c ≡ refuse n (refusalPlace (c .option) n) s (c .reply)
-  unfolding ask xs os
-  ask-refused n e =
-      ap (λ (o : Option ℕ). orElse o (λ number. refuse number (refusalPlace (c .option) number) s (c .reply)) (accept (left s now (addAll os xs)) (optionBytes (map informationFor (catMaybes os))) (length (catMaybes os)) (c .reply)))
-      (ap firstOf rows-split ∙ first-before (before 9 (askRows s now c)) (ownRows (catMaybes os)) n e)
+  unfolding ask xs ys granted
+  ask-refused n e = ap goes (ap firstOf rows-split ∙ first-before (before 9 (askRows s now c)) (ownRows granted) n e)

@@ -1,7 +1,7 @@
 -- CONSERVATION: "The addresses of all lines together equal those granted by accepted asks, less those returned, less those struck as ended, summed over
--- the history from open; after a load, from the loaded lines."
-use Rattle.lists.specs.Basics.{ℕ, _+_, _≡_, true, cond, List, [], _∷_, leb, eqb}
-use Rattle.lists.specs.Lists.{filter}
+-- the history from open; after a load, from the loaded lines." (Document 02, M-101: "The conservation count speaks of lines newly made.")
+use Rattle.lists.specs.Basics.{ℕ, _+_, _≡_, true, not, cond, List, [], _∷_, leb, eqb}
+use Rattle.lists.specs.Lists.{any?, filter}
 use Rattle.prefix.specs.Prefixes.{size}
 use Rattle.option.specs.Values.{Entry}
 use Rattle.table.specs.declared.{Lease.Lease, LeaseTable.LeaseTable}
@@ -9,7 +9,7 @@ use Rattle.table.specs.Table.{present, sound}
 use Rattle.option.specs.Contents.{entriesIn}
 use Rattle.ledger.specs.declared.Answer.{Answer}
 use Rattle.ledger.specs.Ledger.{Calls, openTable, namedBy?, ledger}
-use Rattle.ledger.specs.Demand3.{replyEntries}
+use Rattle.ledger.specs.Demand3.{replyEntries, entryPrefix, inUse, same?}
 use Rattle.ledger.specs.Histories.{Event, asked, taken, wasListed, returned, marked, saved, next, afterwards, leasesOf}
 
 -- The number of addresses of leases, and of entries.
@@ -20,6 +20,10 @@ addressesOf (x ∷ xs) = size (x .length) + addressesOf xs
 abbrev pub addressesIn : List Entry → ℕ
 addressesIn [] = 0
 addressesIn (e ∷ es) = size (e .length) + addressesIn es
+
+-- "lines newly made": an entry whose prefix was in use is none.
+abbrev pub newlyMade : ℕ → LeaseTable → List Entry → List Entry
+newlyMade now t es = filter (λ e. not (any? (same? (entryPrefix e)) (inUse now t))) es
 
 abbrev pub ifAccepted : Answer → ℕ → ℕ
 ifAccepted a n = cond (eqb (a .number) 0) n 0
@@ -33,9 +37,9 @@ module _ {S : Type 0} (calls : Calls S) where
   abbrev tableOf : S → LeaseTable
   tableOf s = calls .stateOf s .table
 
-  -- "those granted by accepted asks": the entries of its reply (a refusal has none).
+  -- "those granted by accepted asks": the entries of its reply (a refusal has none) that tell of leases newly made.
   unfoldable pub grantedBy : S → Event → ℕ
-  grantedBy s (asked now c) = addressesIn (replyEntries (calls .asks s now c))
+  grantedBy s (asked now c) = addressesIn (newlyMade now (tableOf s) (replyEntries (calls .asks s now c)))
   grantedBy s (taken now c) = 0
   grantedBy s (wasListed now c) = 0
   grantedBy s (returned now c) = 0

@@ -1,5 +1,5 @@
--- DEMAND 3, sentence by sentence, in the terms of document 01's paragraph "In demand 3 a call is well-formed if ..", as a claim about any server of ask
--- calls: a call is known by its answer, its reply and the table after it, and nothing here speaks of how an ask is served.
+-- DEMAND 3, sentence by sentence, in the terms of document 01's paragraph "In demand 3 a call is well-formed if ..", and as document 02 reads it from M-101
+-- on, as a claim about any server of ask calls: a call is known by its answer, its reply and the table after it, and nothing here speaks of how an ask is served.
 use Rattle.lists.specs.Basics.{ℕ, _+_, _≤_, _<_, _≡_, _↔_, Bool, true, false, not, cond, Bool·beq, List, [], _∷_, _++_, map, List·Permᴰ, Option, none, some, length, take as upTo, leb, eqb}
 use Rattle.lists.specs.Lists.{All, Pairwise, and, any?, filter, concatMap, catMaybes}
 use Rattle.prefix.specs.declared.Prefix.{Prefix}
@@ -9,7 +9,7 @@ use Rattle.option.specs.Values.{Entry}
 use Rattle.table.specs.declared.{Lease.Lease, LeaseTable.LeaseTable}
 use Rattle.table.specs.Table.{leaseSlots, latest, prefixOf, poolsOf, present, sound}
 use Rattle.option.specs.Contents.{Request, requestsIn, entriesIn}
-use Rattle.ledger.specs.Ledger.{State, Call, Result, firstOf, before, emptySlots, askRows, askLength, holdTime}
+use Rattle.ledger.specs.Ledger.{State, Call, Result, firstOf, before, emptySlots, askRows, askLength, holdTime, heldBy?, again}
 
 -- A CALL, AND WHEN IT IS WELL-FORMED
 
@@ -32,6 +32,11 @@ Accepts t now = (t .last ≤ now) × (now ≤ latest)
 -- "Each of its requests counts as an ask". Its length is the ledger's `askLength`: "the prefix asked for, or the default length for 0".
 abbrev pub asksOf : Call → List Request
 asksOf c = requestsIn (c .option)
+
+-- "a request for which the station, before the message, already held (not leased) a present line of the same length and h gets that line again": the lease
+-- that each of its asks is to get again. Those that get none are "the rest".
+abbrev pub heldBefore : ℕ → LeaseTable → Call → List (Option Lease)
+heldBefore now t c = again t (c .client) (present now (t .leases)) (asksOf c)
 
 -- GRANTED
 
@@ -92,15 +97,22 @@ fate used none = cond (leb leaseSlots (length used)) wantsSlot wantsSpace
 abbrev pub NoneFree : LeaseTable → List Prefix → ℕ → Type 0
 NoneFree t used len = (network : ℕ) → Free (poolsOf t) used (prefix network len) → ⊥
 
--- For each ask of a call, on the prefixes in use that it meets: "While the book has an empty line, a well-formed ask is refused for want of ground
--- exactly when no free aligned block of its length lies inside a root", and for want of lines exactly when it has none.
-abbrev pub RefusedRightly : LeaseTable → List Prefix → List Request → List (Option Entry) → Type 0
-RefusedRightly t used [] gs = Unit {0}
-RefusedRightly t used (r ∷ rs) [] = ⊥
-RefusedRightly t used (r ∷ rs) (g ∷ gs) =
-    (length used < leaseSlots → (fate used g ≡ wantsSpace) ↔ NoneFree t used (askLength t r))
-    × ((fate used g ≡ wantsSlot) ↔ (leaseSlots ≤ length used))
-    × RefusedRightly t (meets g used) rs gs
+-- "Demand 3's first sentence now speaks of the rest": P of each ask of a call that is one of the rest, on the prefixes in use that it meets, with what it is
+-- granted. `hs` has for each ask the lease that it is to get again.
+abbrev pub OfTheRest : (List Prefix → Request → Option Entry → Type 0) → List Prefix → List Request → List (Option Lease) → List (Option Entry) → Type 0
+OfTheRest P used [] hs gs = Unit {0}
+OfTheRest P used (r ∷ rs) [] gs = ⊥
+OfTheRest P used (r ∷ rs) (h ∷ hs) [] = ⊥
+OfTheRest P used (r ∷ rs) (some x ∷ hs) (g ∷ gs) = OfTheRest P (meets g used) rs hs gs
+OfTheRest P used (r ∷ rs) (none ∷ hs) (g ∷ gs) = P used r g × OfTheRest P (meets g used) rs hs gs
+
+-- "While the book has an empty line, a well-formed ask is refused for want of ground exactly when no free aligned block of its length lies inside a root",
+-- and for want of lines exactly when it has none.
+abbrev pub Rightly : LeaseTable → List Prefix → Request → Option Entry → Type 0
+Rightly t used r g = (length used < leaseSlots → (fate used g ≡ wantsSpace) ↔ NoneFree t used (askLength t r)) × ((fate used g ≡ wantsSlot) ↔ (leaseSlots ≤ length used))
+
+abbrev pub RefusedRightly : LeaseTable → List Prefix → List Request → List (Option Lease) → List (Option Entry) → Type 0
+RefusedRightly t used rs hs gs = OfTheRest (Rightly t) used rs hs gs
 
 -- THE ASKS OF A LIST
 
@@ -116,6 +128,15 @@ abbrev pub prefixesAt : List ℕ → List ℕ → List Prefix
 prefixesAt [] lens = []
 prefixesAt (n ∷ ns) [] = []
 prefixesAt (n ∷ ns) (len ∷ lens) = prefix n len ∷ prefixesAt ns lens
+
+-- "the list that follows is one whose stations hold nothing at the start, and where each station's asks come in one message". What they have leased does not
+-- matter, nor do calls that are not well-formed.
+abbrev pub HoldsNothing : ℕ → LeaseTable → ℕ → Type 0
+HoldsNothing now t client = All (λ x. heldBy? client x ≡ false) (present now (t .leases))
+
+pub record FirstAsks (now : ℕ) (s : State) (cs : List Call) : Type 0 where
+  pub nothing : All (λ c. HoldsNothing now (s .table) (c .client)) (filter (wellFormed now s) cs)
+  pub once : Pairwise (λ c d. c .client ≡ d .client → ⊥) (filter (wellFormed now s) cs)
 
 -- "If free aligned blocks can be chosen in the first book, one of its length for each well-formed ask of the list, no two sharing an address, and
 -- that book has an empty line for each"
@@ -182,9 +203,10 @@ module _ {S : Type 0} (stateOf : S → State) (server : Server S) where
   pub record Demand3 : Type 0 where
     -- "While the book has an empty line, a well-formed ask is refused for want of ground exactly when no free aligned block of its length lies inside a
     -- root."
-    pub sentence : (s : S) (now : ℕ) (c : Call) → wellFormed now (stateOf s) c ≡ true → RefusedRightly (tableOf s) (inUse now (tableOf s)) (asksOf c) (granted now s c)
+    pub sentence : (s : S) (now : ℕ) (c : Call) → wellFormed now (stateOf s) c ≡ true
+        → RefusedRightly (tableOf s) (inUse now (tableOf s)) (asksOf c) (heldBefore now (tableOf s) c) (granted now s c)
     -- "take every list of ask calls, in whatever order, refused ones included, from any sound book and all at one time that the desk accepts", and what
-    -- `CanBeChosen` and `AllGranted` quote.
-    pub lists : (s : S) (now : ℕ) (cs : List Call) → sound (tableOf s) ≡ true → Accepts (tableOf s) now → CanBeChosen now (stateOf s) cs → AllGranted now s cs
+    -- `FirstAsks`, `CanBeChosen` and `AllGranted` quote.
+    pub lists : (s : S) (now : ℕ) (cs : List Call) → sound (tableOf s) ≡ true → Accepts (tableOf s) now → FirstAsks now (stateOf s) cs → CanBeChosen now (stateOf s) cs → AllGranted now s cs
     -- "In every case a call not well-formed leaves the book as it was."
     pub untouched : (s : S) (now : ℕ) (cs : List Call) → Untouched now s cs

@@ -1,7 +1,7 @@
 -- THE LEDGER: document 01's sections "Ground, blocks and the book" and "The calls". A call is a function of what it is given (`State`), the time and what
 -- comes with it (`Call`), to its answer, what it leaves, and the reply buffer after it; a refused one gives the first row that applies. Save and load stand
 -- in crate `image`. Numbers may be of any size here; within the code's types they stay within them (`InRange`).
-use Rattle.lists.specs.Basics.{ℕ, _+_, Bool, true, false, not, cond, _&&_, List, [], _∷_, _++_, map, Option, none, some, length, drop, take as upTo, leb, ltb, eqb}
+use Rattle.lists.specs.Basics.{ℕ, _+_, Bool, true, false, not, cond, _&&_, Bool·beq, List, [], _∷_, _++_, map, Option, none, some, length, drop, take as upTo, leb, ltb, eqb}
 use Rattle.lists.specs.Lists.{and, all?, any?, filter, concatMap, catMaybes}
 use Rattle.prefix.specs.declared.Prefix.{Prefix}
 use Rattle.free_space.specs.Grant.{grant}
@@ -196,14 +196,72 @@ unfoldable pub addAll : List (Option Lease) → List Lease → List Lease
 addAll [] xs = xs
 addAll (o ∷ os) xs = addAll os (add o xs)
 
-abbrev pub askOffers : LeaseTable → ℕ → ℕ → List ℕ → List (Option Lease)
-askOffers t now client option = offers t now client (present now (t .leases)) (requestsIn option)
+-- ASKING AGAIN (document 02, M-101): "A box that loses our offer asks again and gets a second block."
 
--- Rows 9 and 10: "If none is granted, the answer is the refusal of the first."
+-- "the station .. already held (not leased)" this lease.
+abbrev pub heldBy? : ℕ → Lease → Bool
+heldBy? client x = and (eqb (x .client) client ∷ not (x .leased) ∷ [])
+
+-- "a present line of the same length and h"; "prefix 0 means the default length here too".
+abbrev pub heldFor? : LeaseTable → ℕ → Request → Lease → Bool
+heldFor? t client r x = and (heldBy? client x ∷ eqb (askLength t r) (x .length) ∷ Bool·beq (r .h) (x .h) ∷ [])
+
+-- The first lease that passes a test, "lowest network first" where leases ascend; and all but that one, for "each line at most once in a message".
+abbrev pub firstThat : (Lease → Bool) → List Lease → Option Lease
+firstThat f [] = none
+firstThat f (x ∷ xs) = let later = firstThat f xs in cond (f x) (some x) later
+
+abbrev pub butFirst : (Lease → Bool) → List Lease → List Lease
+butFirst f [] = []
+butFirst f (x ∷ xs) = let later = butFirst f xs in cond (f x) xs (x ∷ later)
+
+-- The lease that each request gets again, of those held "before the message".
+unfoldable pub again : LeaseTable → ℕ → List Lease → List Request → List (Option Lease)
+again t client xs [] = []
+again t client xs (r ∷ rs) = firstThat (heldFor? t client r) xs ∷ again t client (butFirst (heldFor? t client r) xs) rs
+
+-- "Only the rest take new ground": the requests that get no lease again.
+unfoldable pub restOf : List (Option Lease) → List Request → List Request
+restOf gs [] = []
+restOf [] (r ∷ rs) = r ∷ rs
+restOf (none ∷ gs) (r ∷ rs) = r ∷ restOf gs rs
+restOf (some x ∷ gs) (r ∷ rs) = restOf gs rs
+
+-- "held until now + 120 (its d stays and shows in the reply)", whatever its end was.
+abbrev pub holdAgain : ℕ → Lease → Lease
+holdAgain now x = record { network = x .network; length = x .length; client = x .client; leased = x .leased; h = x .h; d = x .d; expires = now + holdTime }
+
+-- The leases xs, with those of them that are given again held anew: networks tell them apart.
+abbrev pub heldAgain : ℕ → List Lease → List Lease → List Lease
+heldAgain now given xs = map (λ x. cond (any? (λ y. eqb (y .network) (x .network)) given) (holdAgain now x) x) xs
+
+-- What each request gets, in order: its lease again, or what it is offered as one of the rest.
+unfoldable pub inTurn : ℕ → List (Option Lease) → List (Option Lease) → List (Option Lease)
+inTurn now [] os = []
+inTurn now (some x ∷ gs) os = some (holdAgain now x) ∷ inTurn now gs os
+inTurn now (none ∷ gs) [] = none ∷ inTurn now gs []
+inTurn now (none ∷ gs) (o ∷ os) = o ∷ inTurn now gs os
+
+-- AN ASK, on the leases xs that are present. What is given again is held anew before the rest is served: it keeps its network and its length, so it takes
+-- neither ground nor an empty slot. (`InOrder`: served one by one, each request on the leases that the one before left, the same comes of it.)
+abbrev pub askHeld : LeaseTable → ℕ → ℕ → List Lease → List Request → List Lease
+askHeld t now client xs rs = heldAgain now (catMaybes (again t client xs rs)) xs
+
+abbrev pub askOffers : LeaseTable → ℕ → ℕ → List Lease → List Request → List (Option Lease)
+askOffers t now client xs rs = offers t now client (askHeld t now client xs rs) (restOf (again t client xs rs) rs)
+
+abbrev pub askGives : LeaseTable → ℕ → ℕ → List Lease → List Request → List (Option Lease)
+askGives t now client xs rs = inTurn now (again t client xs rs) (askOffers t now client xs rs)
+
+abbrev pub askLeases : LeaseTable → ℕ → ℕ → List Lease → List Request → List Lease
+askLeases t now client xs rs = addAll (askOffers t now client xs rs) (askHeld t now client xs rs)
+
+-- Rows 9 and 10: "If none is granted, the answer is the refusal of the first." "A re-given line needs no empty line, so 9 and 10 apply only to the rest."
 abbrev pub grantRows : State → ℕ → Call → List Row
 grantRows s now c =
-    let granted = catMaybes (askOffers (s .table) now (c .client) (c .option)) in
-    (9, nothing? granted && full (present now (s .table .leases)))
+    let xs = present now (s .table .leases) in
+    let granted = catMaybes (askGives (s .table) now (c .client) xs (requestsIn (c .option))) in
+    (9, nothing? granted && full xs)
     ∷ (10, nothing? granted)
     ∷ []
 
@@ -212,9 +270,11 @@ askRows s now c = replyRows leastReply c ++ (commonRows (stateRows s) s now c ++
 
 unfoldable pub ask : State → ℕ → Call → Result State
 ask s now c =
-    let os = askOffers (s .table) now (c .client) (c .option) in
+    let xs = present now (s .table .leases) in
+    let rs = requestsIn (c .option) in
+    let granted = catMaybes (askGives (s .table) now (c .client) xs rs) in
     byRows (askRows s now c) (refusalPlace (c .option)) s (c .reply)
-    (accept (left s now (addAll os (present now (s .table .leases)))) (optionBytes (map informationFor (catMaybes os))) (length (catMaybes os)) (c .reply))
+    (accept (left s now (askLeases (s .table) now (c .client) xs rs)) (optionBytes (map informationFor granted)) (length granted) (c .reply))
 
 -- TAKE
 

@@ -2,6 +2,9 @@ pub mod Ledger
 pub mod Answers
 pub mod Demand3
 pub mod Choice
+pub mod AskingTwice
+pub mod InnerAgain
+pub mod InOrder
 pub mod Histories
 pub mod Conservation
 pub mod ListDepends

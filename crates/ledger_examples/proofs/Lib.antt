@@ -1,5 +1,7 @@
 -- What the examples come to.
 pub mod ExamplesHold
 pub mod FigureExamplesHold
+pub mod AgainExamplesHold
 pub mod Premises
 pub mod WrongServersRefuted
+pub mod AskingTwiceRefuted

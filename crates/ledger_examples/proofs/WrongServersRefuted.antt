@@ -1,82 +1,69 @@
 -- Document 01: "Try these against it". The wrong servers do not meet demand 3.
 -- Assumes nothing.
-use Prim.Native.Nat.{ℕ, suc, _<_}
-use mathlib.Core.Path.{_≡_, refl, sym, ap, subst, _∙_}
-use mathlib.Core.Logic.{_↔_}
+use Prim.Native.Nat.{ℕ, _<_}
+use mathlib.Core.Path.{_≡_, refl, subst}
+use mathlib.Core.Logic.{_↔_, ⊎-elim}
 use mathlib.Core.Bool.{true, false}
 use mathlib.Core.List.{List, [], _∷_, map, nil≢cons, head-eq-of-cons-eq, tail-eq-of-cons-eq}
 use mathlib.Core.Option.{Option, none, some}
 use native.Mathlib.Omega.{arith}
 use lib.ListN.{length}
-use Rattle.lists.specs.Lists.{Pairwise, catMaybes, concatMap, insertBy}
+use Rattle.lists.specs.Lists.{Pairwise, catMaybes, insertBy}
 use Rattle.lists.specs.Walk.{walk}
 use Rattle.prefix.specs.declared.Prefix.{Prefix}
-use Rattle.prefix.specs.Prefixes.{prefix, Apart}
+use Rattle.prefix.specs.Prefixes.{prefix, Inside, Apart}
 use Rattle.prefix.proofs.Nesting.{inside-refl, apart-absurd}
 use Rattle.free_space.specs.Space.{Free}
 use Rattle.option.specs.Values.{Entry}
 use Rattle.option.specs.Rules.{entryFields?, fields?}
 use Rattle.option.specs.Reading.{option?, subInside?, whenGood, readRequest, figuresAt, entryAt, entryFramed?, readEntry, readEntries, readInformation, readName, readBody, readSuboption, readSuboptions, readOption}
 use Rattle.option.specs.Writing.{twoBytes, fourBytes, requestBytes, entryHead, entryBytes, entriesBytes, informationHead, suboptionBytes, suboptionsBytes, optionHead, optionBytes}
-use Rattle.table.specs.declared.LeaseTable.{LeaseTable}
+use Rattle.table.specs.declared.{Lease.Lease, LeaseTable.LeaseTable}
 use Rattle.table.specs.Table.{leaseSlots, poolsOf, unused?, empty?, prefixesOf, present, headOk, poolOk, leaseOk, ascends?, sound, store}
 use Rattle.option.specs.Contents.{Request}
 use Rattle.figures.specs.Figures.{ofLease?, untold?, fits?, rowFor, followed}
-use Rattle.ledger.specs.Ledger.{State, left, askLength, emptySlots, offer, offers, addAll, askRows, ask}
-use Rattle.ledger.specs.Demand3.{Server, wellFormed, asksOf, entryPrefix, inUse, meets, wantsSpace, fate, NoneFree, RefusedRightly, granted, received, wellFormedCalls, AllGranted, Demand3}
+use Rattle.ledger.specs.Ledger.{State, Call, left, askLength, emptySlots, offer, offers, addAll, again, restOf, inTurn, askRows, ask}
+use Rattle.ledger.specs.Demand3.{Server, wellFormed, asksOf, heldBefore, entryPrefix, inUse, meets, isGranted, wantsSpace, fate, NoneFree, RefusedRightly, granted, received, AllGranted, Demand3}
 use Rattle.ledger_examples.specs.Examples.{buffer}
-use Rattle.ledger_examples.specs.SampleLists.{tableWith, lease, leasesFrom, callBy, two, three, Sample, crowded}
-use Rattle.ledger_examples.specs.WrongServers.{refusesAll, samePrefix, leavesTable, firstOnly, answersTen, writesTwice}
-use Rattle.lists.proofs.PartLaws.{catMaybes-some}
-use Rattle.ledger_examples.proofs.Premises.{free-to, chosen}
+use Rattle.ledger_examples.specs.SampleLists.{tableWith, lease, leasesFrom, held, callBy, two, three, Sample, leasedBefore, crowded}
+use Rattle.ledger_examples.specs.WrongServers.{refusesAll, samePrefix, leavesTable, firstOnly, answersTen, writesTwice, regivesLeased, regivesTwice}
+use Rattle.ledger_examples.proofs.Premises.{free-to, meets?, served, whatOf, granted-all, granted-free, granted-apart}
 
 -- Pool 10.0.1.0/24, and one call with two requests for 26.
 unfoldable pair : Sample
 pair = record { start = tableWith 0x0a000100 24 []; now = 1000; calls = callBy 7 (two 26 26) ∷ []; networks = 0x0a000100 ∷ 0x0a000140 ∷ [] }
 
--- What a server that meets demand 3 grants there.
-unfoldable what : Server State → List (Option Entry)
-what server = concatMap (λ v. granted (λ s. s) server 1000 (v .got) (v .call)) (wellFormedCalls (λ s. s) server 1000 (pair .start) (pair .calls))
-
 all-given : (server : Server State) → Demand3 (λ s. s) server → AllGranted (λ s. s) server 1000 (pair .start) (pair .calls)
 unfolding pair tableWith callBy buffer walk entryFields? fields? option? subInside? whenGood readRequest readInformation readName readBody readSuboption readSuboptions readOption unused? empty? prefixesOf present headOk poolOk leaseOk ascends? sound ofLease? untold? fits? emptySlots askRows wellFormed
-all-given server d = let c = chosen pair refl in d .lists (pair .start) 1000 (pair .calls) (c .0) (c .1) (c .2)
+all-given server d = served server d pair refl
 
-complete : (server : Server State) → Demand3 (λ s. s) server → length (catMaybes (what server)) ≡ length (what server)
-unfolding what
-complete server d = let a = all-given server d in all-some (what server) (a .given) (a .all)
-  where
-    count : {A : Type 0} (ys : List A) → length (catMaybes (map some ys)) ≡ length (map some ys)
-    count [] = refl
-    count (y ∷ ys) = ap suc (count ys)
+-- What a server that meets demand 3 grants there: both requests, and no address twice.
+complete : (server : Server State) → Demand3 (λ s. s) server → length (catMaybes (whatOf server pair)) ≡ length (whatOf server pair)
+unfolding pair
+complete server d = granted-all server pair (all-given server d)
 
-    all-some : {A : Type 0} (xs : List (Option A)) (ys : List A) → xs ≡ map some ys → length (catMaybes xs) ≡ length xs
-    all-some xs ys e = ap (λ l. length (catMaybes l)) e ∙ count ys ∙ ap length (sym e)
-
-apart : (server : Server State) → Demand3 (λ s. s) server → Pairwise Apart (map entryPrefix (catMaybes (what server)))
-unfolding what
-apart server d =
-    let a = all-given server d in
-    subst (λ (l : List Entry). Pairwise Apart (map entryPrefix l)) (sym (ap catMaybes (a .all) ∙ catMaybes-some (a .given))) (a .apart)
+apart : (server : Server State) → Demand3 (λ s. s) server → Pairwise Apart (map entryPrefix (catMaybes (whatOf server pair)))
+unfolding pair
+apart server d = granted-apart server pair (all-given server d)
 
 pub not-refusesAll : Demand3 (λ s. s) refusesAll → ⊥
-unfolding what pair refusesAll tableWith callBy buffer walk entryFields? fields? option? subInside? whenGood readRequest readInformation readName readBody readSuboption readSuboptions readOption unused? empty? prefixesOf present headOk poolOk leaseOk ascends? sound ofLease? untold? fits? askRows wellFormed granted received
+unfolding whatOf pair refusesAll tableWith callBy buffer walk entryFields? fields? option? subInside? whenGood readRequest readInformation readName readBody readSuboption readSuboptions readOption unused? empty? prefixesOf present headOk poolOk leaseOk ascends? sound ofLease? untold? fits? askRows wellFormed granted received
 not-refusesAll d = let z : _≡_ {A = ℕ} 0 2 = complete refusesAll d in absurd (omega arith)
 
 pub not-leavesTable : Demand3 (λ s. s) leavesTable → ⊥
-unfolding what pair leavesTable tableWith callBy buffer walk insertBy entryFields? fields? option? subInside? whenGood readRequest figuresAt entryAt entryFramed? readEntry readEntries readInformation readName readBody readSuboption readSuboptions readOption twoBytes fourBytes requestBytes entryHead entryBytes entriesBytes informationHead suboptionBytes suboptionsBytes optionHead optionBytes unused? empty? prefixesOf present headOk poolOk leaseOk ascends? sound ofLease? untold? fits? store rowFor followed left offer offers addAll askRows ask wellFormed granted received
+unfolding whatOf pair leavesTable tableWith callBy buffer walk insertBy entryFields? fields? option? subInside? whenGood readRequest figuresAt entryAt entryFramed? readEntry readEntries readInformation readName readBody readSuboption readSuboptions readOption twoBytes fourBytes requestBytes entryHead entryBytes entriesBytes informationHead suboptionBytes suboptionsBytes optionHead optionBytes unused? empty? prefixesOf present headOk poolOk leaseOk ascends? sound ofLease? untold? fits? store rowFor followed left offer offers addAll again restOf inTurn askRows ask wellFormed granted received
 not-leavesTable d = let z : _≡_ {A = ℕ} 0 2 = complete leavesTable d in absurd (omega arith)
 
 pub not-firstOnly : Demand3 (λ s. s) firstOnly → ⊥
-unfolding what pair firstOnly tableWith callBy buffer walk insertBy entryFields? fields? option? subInside? whenGood readRequest figuresAt entryAt entryFramed? readEntry readEntries readInformation readName readBody readSuboption readSuboptions readOption twoBytes fourBytes requestBytes entryHead entryBytes entriesBytes informationHead suboptionBytes suboptionsBytes optionHead optionBytes unused? empty? prefixesOf present headOk poolOk leaseOk ascends? sound ofLease? untold? fits? store rowFor followed left offer offers addAll askRows ask wellFormed granted received
+unfolding whatOf pair firstOnly tableWith callBy buffer walk insertBy entryFields? fields? option? subInside? whenGood readRequest figuresAt entryAt entryFramed? readEntry readEntries readInformation readName readBody readSuboption readSuboptions readOption twoBytes fourBytes requestBytes entryHead entryBytes entriesBytes informationHead suboptionBytes suboptionsBytes optionHead optionBytes unused? empty? prefixesOf present headOk poolOk leaseOk ascends? sound ofLease? untold? fits? store rowFor followed left offer offers addAll again restOf inTurn askRows ask wellFormed granted received
 not-firstOnly d = let z : _≡_ {A = ℕ} 1 2 = complete firstOnly d in absurd (omega arith)
 
 pub not-answersTen : Demand3 (λ s. s) answersTen → ⊥
-unfolding what pair answersTen tableWith callBy buffer walk insertBy entryFields? fields? option? subInside? whenGood readRequest figuresAt entryAt entryFramed? readEntry readEntries readInformation readName readBody readSuboption readSuboptions readOption twoBytes fourBytes requestBytes entryHead entryBytes entriesBytes informationHead suboptionBytes suboptionsBytes optionHead optionBytes unused? empty? prefixesOf present headOk poolOk leaseOk ascends? sound ofLease? untold? fits? store rowFor followed left offer offers addAll askRows ask wellFormed granted received
+unfolding whatOf pair answersTen tableWith callBy buffer walk insertBy entryFields? fields? option? subInside? whenGood readRequest figuresAt entryAt entryFramed? readEntry readEntries readInformation readName readBody readSuboption readSuboptions readOption twoBytes fourBytes requestBytes entryHead entryBytes entriesBytes informationHead suboptionBytes suboptionsBytes optionHead optionBytes unused? empty? prefixesOf present headOk poolOk leaseOk ascends? sound ofLease? untold? fits? store rowFor followed left offer offers addAll again restOf inTurn askRows ask wellFormed granted received
 not-answersTen d = let z : _≡_ {A = ℕ} 0 2 = complete answersTen d in absurd (omega arith)
 
 pub not-samePrefix : Demand3 (λ s. s) samePrefix → ⊥
-unfolding what pair samePrefix tableWith callBy buffer walk insertBy entryFields? fields? option? subInside? whenGood readRequest figuresAt entryAt entryFramed? readEntry readEntries readInformation readName readBody readSuboption readSuboptions readOption twoBytes fourBytes requestBytes entryHead entryBytes entriesBytes informationHead suboptionBytes suboptionsBytes optionHead optionBytes unused? empty? prefixesOf present headOk poolOk leaseOk ascends? sound ofLease? untold? fits? store rowFor followed left offer offers addAll askRows ask wellFormed granted received
+unfolding whatOf pair samePrefix tableWith callBy buffer walk insertBy entryFields? fields? option? subInside? whenGood readRequest figuresAt entryAt entryFramed? readEntry readEntries readInformation readName readBody readSuboption readSuboptions readOption twoBytes fourBytes requestBytes entryHead entryBytes entriesBytes informationHead suboptionBytes suboptionsBytes optionHead optionBytes unused? empty? prefixesOf present headOk poolOk leaseOk ascends? sound ofLease? untold? fits? store rowFor followed left offer offers addAll again restOf inTurn askRows ask wellFormed granted received
 not-samePrefix d =
     let p : Prefix = prefix 0x0a000100 26 in
     let z : Apart p p = apart samePrefix d .0 .0 in
@@ -93,7 +80,7 @@ twice : Entry
 twice = record { network = 0x0a0003f8; length = 30; h = false; d = false; figures = [] }
 
 twice-granted : granted (λ s. s) writesTwice 1000 (crowded 254) (callBy 7 (three 30 30 30)) ≡ some twice ∷ some twice ∷ none ∷ []
-unfolding twice writesTwice crowded tableWith lease leasesFrom callBy buffer walk insertBy entryFields? fields? option? subInside? whenGood readRequest figuresAt entryAt entryFramed? readEntry readEntries readInformation readName readBody readSuboption readSuboptions readOption twoBytes fourBytes requestBytes entryHead entryBytes entriesBytes informationHead suboptionBytes suboptionsBytes optionHead optionBytes unused? empty? prefixesOf present headOk poolOk leaseOk ascends? sound ofLease? untold? fits? store rowFor followed left offer offers addAll askRows ask granted
+unfolding twice writesTwice crowded tableWith lease leasesFrom callBy buffer walk insertBy entryFields? fields? option? subInside? whenGood readRequest figuresAt entryAt entryFramed? readEntry readEntries readInformation readName readBody readSuboption readSuboptions readOption twoBytes fourBytes requestBytes entryHead entryBytes entriesBytes informationHead suboptionBytes suboptionsBytes optionHead optionBytes unused? empty? prefixesOf present headOk poolOk leaseOk ascends? sound ofLease? untold? fits? store rowFor followed left offer offers addAll again restOf inTurn askRows ask granted
 twice-granted = refl
 
 -- The prefixes in use that the third request meets: one more than at the start.
@@ -120,22 +107,101 @@ three-asks : map (askLength (crowded 254 .table)) (asksOf (callBy 7 (three 30 30
 unfolding crowded tableWith callBy walk fields? option? subInside? whenGood readRequest readInformation readName readBody readSuboption readSuboptions readOption
 three-asks = refl
 
+-- Client 7 holds nothing, so all three are the rest.
+none-again : heldBefore 1000 (crowded 254 .table) (callBy 7 (three 30 30 30)) ≡ none ∷ none ∷ none ∷ []
+unfolding crowded tableWith lease leasesFrom callBy walk fields? option? subInside? whenGood readRequest readInformation readName readBody readSuboption readSuboptions readOption present again
+none-again = refl
+
 -- The first sentence of the third of three asks.
-third : (t : LeaseTable) (used : List Prefix) (rs : List Request) (g h k : Option Entry) (a b c : ℕ) → map (askLength t) rs ≡ a ∷ b ∷ c ∷ [] → RefusedRightly t used rs (g ∷ h ∷ k ∷ [])
+third : (t : LeaseTable) (used : List Prefix) (rs : List Request) (g h k : Option Entry) (a b c : ℕ) → map (askLength t) rs ≡ a ∷ b ∷ c ∷ []
+    → RefusedRightly t used rs (none ∷ none ∷ none ∷ []) (g ∷ h ∷ k ∷ [])
     → length (meets h (meets g used)) < leaseSlots → (fate (meets h (meets g used)) k ≡ wantsSpace) ↔ NoneFree t (meets h (meets g used)) c
 third t used [] g h k a b c e f = absurd (nil≢cons e)
 third t used (q ∷ []) g h k a b c e f = absurd (nil≢cons (tail-eq-of-cons-eq e))
 third t used (q ∷ r ∷ []) g h k a b c e f = absurd (nil≢cons (tail-eq-of-cons-eq (tail-eq-of-cons-eq e)))
 third t used (q ∷ r ∷ s ∷ rs) g h k a b c e f =
     subst (λ (n : ℕ). length (meets h (meets g used)) < leaseSlots → (fate (meets h (meets g used)) k ≡ wantsSpace) ↔ NoneFree t (meets h (meets g used)) n)
-    (head-eq-of-cons-eq (tail-eq-of-cons-eq (tail-eq-of-cons-eq e))) (f .2 .2 .0)
+    (head-eq-of-cons-eq (tail-eq-of-cons-eq (tail-eq-of-cons-eq e))) (f .1 .1 .0 .0)
 
 pub not-writesTwice : Demand3 (λ s. s) writesTwice → ⊥
 not-writesTwice d =
-    let rs : List Request = asksOf (callBy 7 (three 30 30 30)) in
-    let f : RefusedRightly (crowded 254 .table) (inUse 1000 (crowded 254 .table)) rs (some twice ∷ some twice ∷ none ∷ []) =
-    subst (RefusedRightly (crowded 254 .table) (inUse 1000 (crowded 254 .table)) rs) twice-granted (d .sentence (crowded 254) 1000 (callBy 7 (three 30 30 30)) three-well) in
-    let g : length met < leaseSlots → (fate met none ≡ wantsSpace) ↔ NoneFree (crowded 254 .table) met 30 =
-    subst (λ (used : List Prefix). length used < leaseSlots → (fate used none ≡ wantsSpace) ↔ NoneFree (crowded 254 .table) used 30) twice-met
-    (third (crowded 254 .table) (inUse 1000 (crowded 254 .table)) rs (some twice) (some twice) none 30 30 30 three-asks f) in
+    let t : LeaseTable = crowded 254 .table in
+    let c : Call = callBy 7 (three 30 30 30) in
+    let f : RefusedRightly t (inUse 1000 t) (asksOf c) (none ∷ none ∷ none ∷ []) (some twice ∷ some twice ∷ none ∷ []) =
+    subst (λ (gs : List (Option Entry)). RefusedRightly t (inUse 1000 t) (asksOf c) (none ∷ none ∷ none ∷ []) gs) twice-granted
+    (subst (λ (hs : List (Option Lease)). RefusedRightly t (inUse 1000 t) (asksOf c) hs (granted (λ s. s) writesTwice 1000 (crowded 254) c)) none-again (d .sentence (crowded 254) 1000 c three-well)) in
+    let g : length met < leaseSlots → (fate met none ≡ wantsSpace) ↔ NoneFree t met 30 =
+    subst (λ (used : List Prefix). length used < leaseSlots → (fate used none ≡ wantsSpace) ↔ NoneFree t used 30) twice-met
+    (third t (inUse 1000 t) (asksOf c) (some twice) (some twice) none 30 30 30 three-asks f) in
     g (omega (arith, met-length)) .0 met-fate 0x0a0003fc still-free
+
+-- ASKING TWICE
+
+-- A leased lease that is given again was not free in the first table: the client held nothing, so its request is one of the rest.
+leased-met : meets? leasedBefore ≡ true
+unfolding leasedBefore tableWith lease held callBy buffer walk entryFields? fields? option? subInside? whenGood readRequest figuresAt entryAt entryFramed? readEntry readEntries readInformation readName readBody readSuboption readSuboptions readOption unused? empty? prefixesOf present headOk poolOk leaseOk ascends? sound ofLease? untold? fits? emptySlots askRows wellFormed
+leased-met = refl
+
+pub not-regivesLeased : Demand3 (λ s. s) regivesLeased → ⊥
+unfolding whatOf leasedBefore regivesLeased held tableWith lease leasesFrom callBy buffer walk insertBy entryFields? fields? option? subInside? whenGood readRequest figuresAt entryAt entryFramed? readEntry readEntries readInformation readName readBody readSuboption readSuboptions readOption twoBytes fourBytes requestBytes entryHead entryBytes entriesBytes informationHead suboptionBytes suboptionsBytes optionHead optionBytes unused? empty? prefixesOf present headOk poolOk leaseOk ascends? sound ofLease? untold? fits? store rowFor followed left offer offers addAll again restOf inTurn askRows ask wellFormed granted received
+not-regivesLeased d =
+    let p : Prefix = prefix 0x0a000100 26 in
+    let f : Free (poolsOf (leasedBefore .start .table)) (inUse 1120 (leasedBefore .start .table)) p = granted-free regivesLeased leasedBefore (served regivesLeased d leasedBefore leased-met) .0 in
+    apart-absurd p p (inside-refl p) (f .unused .0)
+
+-- A held lease that is given to two requests: the second is one of the rest, and there is no ground for it.
+unfoldable whole : State
+whole = tableWith 0x0a000100 24 (held 7 0x0a000100 24 false false 1100 ∷ [])
+
+unfoldable asksTwo : Call
+asksTwo = callBy 7 (two 24 24)
+
+two-well : wellFormed 1050 whole asksTwo ≡ true
+unfolding whole asksTwo held tableWith callBy buffer walk entryFields? fields? option? subInside? whenGood readRequest readInformation readName readBody readSuboption readSuboptions readOption unused? empty? prefixesOf present headOk poolOk leaseOk ascends? sound ofLease? untold? fits? askRows wellFormed
+two-well = refl
+
+unfoldable its : Entry
+its = record { network = 0x0a000100; length = 24; h = false; d = false; figures = [] }
+
+both-granted : granted (λ s. s) regivesTwice 1050 whole asksTwo ≡ some its ∷ some its ∷ []
+unfolding its regivesTwice whole asksTwo held tableWith lease leasesFrom callBy buffer walk insertBy entryFields? fields? option? subInside? whenGood readRequest figuresAt entryAt entryFramed? readEntry readEntries readInformation readName readBody readSuboption readSuboptions readOption twoBytes fourBytes requestBytes entryHead entryBytes entriesBytes informationHead suboptionBytes suboptionsBytes optionHead optionBytes unused? empty? prefixesOf present headOk poolOk leaseOk ascends? sound ofLease? untold? fits? store rowFor followed left offer offers addAll again restOf inTurn askRows ask granted
+both-granted = refl
+
+one-again : heldBefore 1050 (whole .table) asksTwo ≡ some (held 7 0x0a000100 24 false false 1100) ∷ none ∷ []
+unfolding whole asksTwo held tableWith callBy walk fields? option? subInside? whenGood readRequest readInformation readName readBody readSuboption readSuboptions readOption present again
+one-again = refl
+
+two-asks : map (askLength (whole .table)) (asksOf asksTwo) ≡ 24 ∷ 24 ∷ []
+unfolding whole asksTwo tableWith callBy walk fields? option? subInside? whenGood readRequest readInformation readName readBody readSuboption readSuboptions readOption
+two-asks = refl
+
+nothing-free : NoneFree (whole .table) (prefix 0x0a000100 24 ∷ []) 24
+unfolding whole tableWith prefixesOf unused?
+nothing-free network f =
+    let p : Prefix = prefix network 24 in
+    ⊎-elim (λ (i : Inside p (prefix 0x0a000100 24)). apart-absurd p (prefix 0x0a000100 24) i (f .unused .0)) (λ z. absurd z) (f .pooled)
+
+-- The first sentence of the second of two asks, of which the first gets its lease again.
+second : (t : LeaseTable) (used : List Prefix) (rs : List Request) (x : Lease) (g h : Option Entry) (a b : ℕ) → map (askLength t) rs ≡ a ∷ b ∷ []
+    → RefusedRightly t used rs (some x ∷ none ∷ []) (g ∷ h ∷ []) → length (meets g used) < leaseSlots → (fate (meets g used) h ≡ wantsSpace) ↔ NoneFree t (meets g used) b
+second t used [] x g h a b e f = absurd (nil≢cons e)
+second t used (q ∷ []) x g h a b e f = absurd (nil≢cons (tail-eq-of-cons-eq e))
+second t used (q ∷ r ∷ rs) x g h a b e f =
+    subst (λ (n : ℕ). length (meets g used) < leaseSlots → (fate (meets g used) h ≡ wantsSpace) ↔ NoneFree t (meets g used) n) (head-eq-of-cons-eq (tail-eq-of-cons-eq e)) (f .0 .0)
+
+its-met : meets (some its) (inUse 1050 (whole .table)) ≡ prefix 0x0a000100 24 ∷ []
+unfolding its whole held tableWith present
+its-met = refl
+
+pub not-regivesTwice : Demand3 (λ s. s) regivesTwice → ⊥
+not-regivesTwice d =
+    let t : LeaseTable = whole .table in
+    let x : Lease = held 7 0x0a000100 24 false false 1100 in
+    let f : RefusedRightly t (inUse 1050 t) (asksOf asksTwo) (some x ∷ none ∷ []) (some its ∷ some its ∷ []) =
+    subst (λ (gs : List (Option Entry)). RefusedRightly t (inUse 1050 t) (asksOf asksTwo) (some x ∷ none ∷ []) gs) both-granted
+    (subst (λ (hs : List (Option Lease)). RefusedRightly t (inUse 1050 t) (asksOf asksTwo) hs (granted (λ s. s) regivesTwice 1050 whole asksTwo)) one-again (d .sentence whole 1050 asksTwo two-well)) in
+    let g : length (prefix 0x0a000100 24 ∷ []) < leaseSlots → (isGranted ≡ wantsSpace) ↔ NoneFree t (prefix 0x0a000100 24 ∷ []) 24 =
+    subst (λ (used : List Prefix). length used < leaseSlots → (isGranted ≡ wantsSpace) ↔ NoneFree t used 24) its-met (second t (inUse 1050 t) (asksOf asksTwo) x (some its) (some its) 24 24 two-asks f) in
+    let w : isGranted ≡ wantsSpace = g (omega arith) .1 nothing-free in
+    let z : _≡_ {A = ℕ} 0 1 = cc in
+    absurd (omega arith)

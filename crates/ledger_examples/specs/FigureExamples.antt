@@ -12,7 +12,7 @@ use Rattle.figures.specs.declared.FigureRow.{FigureRow}
 use Rattle.figures.specs.Figures.{untold, emptyRow}
 use Rattle.ledger.specs.Ledger.{State, state, call, ask, take, list, release, mark}
 use Rattle.ledger_examples.specs.Examples.{buffer, requesting, entry}
-use Rattle.ledger_examples.specs.SampleLists.{tableWith, lease}
+use Rattle.ledger_examples.specs.SampleLists.{tableWith, lease, held, two}
 use Rattle.ledger_examples.specs.FurtherExamples.{numbers, listing}
 
 -- The first two rows of a sheet: network, length, high water, in use, unusable.
@@ -126,6 +126,25 @@ made =
 abbrev pub madeExpected : List (List (List ℕ))
 madeExpected =
     (row 0x0a000100 9 7 1 ∷ row 0x0a000104 untold untold untold ∷ [])
+    ∷ (row 0x0a000100 untold untold untold ∷ row 0x0a000104 9 7 1 ∷ [])
+    ∷ (row 0x0a000100 untold untold untold ∷ noRow ∷ [])
+    ∷ []
+
+-- A lease of which something was told, that client 7 holds until this time.
+unfoldable pub heldTold : ℕ → ℕ → State
+heldTold network expires = state (tableWith 0x0a000100 24 (held 7 network 30 false false expires ∷ []) .table) (toldRow network 9 7 1 ∷ replicate 255 emptyRow)
+
+-- Given again it keeps its figures, also with a new lease before it (M-101); once it has ended nothing of them is left.
+unfoldable pub regiven : List (List (List ℕ))
+regiven =
+    rowsShown (ask (heldTold 0x0a000100 1100) 1050 (call 7 (requesting 30) buffer) .state)
+    ∷ rowsShown (ask (heldTold 0x0a000104 1100) 1050 (call 7 (two 30 30) buffer) .state)
+    ∷ rowsShown (ask (heldTold 0x0a000100 1050) 1050 (call 7 (requesting 30) buffer) .state)
+    ∷ []
+
+abbrev pub regivenExpected : List (List (List ℕ))
+regivenExpected =
+    (row 0x0a000100 9 7 1 ∷ noRow ∷ [])
     ∷ (row 0x0a000100 untold untold untold ∷ row 0x0a000104 9 7 1 ∷ [])
     ∷ (row 0x0a000100 untold untold untold ∷ noRow ∷ [])
     ∷ []

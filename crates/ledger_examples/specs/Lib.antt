@@ -2,4 +2,5 @@ pub mod Examples
 pub mod SampleLists
 pub mod FurtherExamples
 pub mod FigureExamples
+pub mod AgainExamples
 pub mod WrongServers

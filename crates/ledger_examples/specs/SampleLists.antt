@@ -1,6 +1,6 @@
 -- Lists of ask calls that meet the premise of demand 3, and asks that are refused: the tables and the calls.
 use Prim.Native.Nat.{ℕ, zero, suc, _+_}
-use mathlib.Core.Bool.{true, false}
+use mathlib.Core.Bool.{Bool, true, false}
 use mathlib.Core.List.{List, [], _∷_}
 use mathlib.Core.Option.{Option}
 use lib.ListN.{replicate}
@@ -29,6 +29,10 @@ lease network len expires = record { network = network; length = len; client = 5
 unfoldable pub leasesFrom : ℕ → ℕ → List Lease
 leasesFrom network zero = []
 leasesFrom network (suc n) = lease network 30 9000 ∷ leasesFrom (network + 4) n
+
+-- A lease that a client holds: offered to it, and not yet taken.
+unfoldable pub held : ℕ → ℕ → ℕ → Bool → Bool → ℕ → Lease
+held client network len h d expires = record { network = network; length = len; client = client; leased = false; h = h; d = d; expires = expires }
 
 -- A call by a client with these bytes, with room for a reply.
 unfoldable pub callBy : ℕ → List ℕ → Call
@@ -96,8 +100,34 @@ filledExactly = record {
   networks = 0x0a000100 ∷ 0x0a000180 ∷ 0x0a000140 ∷ [];
 }
 
+-- A client with a lease of the length asked for that is leased, and one that it held until the time of the ask: it holds nothing.
+unfoldable pub leasedBefore : Sample
+leasedBefore = record {
+  start = tableWith 0x0a000100 24 (lease 0x0a000100 26 9000 ∷ held 5 0x0a000140 26 false false 1120 ∷ []);
+  now = 1120;
+  calls = callBy 5 (requesting 26) ∷ [];
+  networks = 0x0a000180 ∷ [];
+}
+
 unfoldable pub samples : List Sample
-samples = malformedBetween ∷ endedGround ∷ prefixZero ∷ lastSlots ∷ filledExactly ∷ []
+samples = malformedBetween ∷ endedGround ∷ prefixZero ∷ lastSlots ∷ filledExactly ∷ leasedBefore ∷ []
+
+-- Lists that break the claim: they meet the premise but for "stations hold nothing at the start", and but for "each station's asks come in one message".
+unfoldable pub heldAtStart : Sample
+heldAtStart = record {
+  start = tableWith 0x0a000100 24 (held 7 0x0a000100 26 false false 1100 ∷ []);
+  now = 1050;
+  calls = callBy 7 (requesting 26) ∷ [];
+  networks = 0x0a000140 ∷ [];
+}
+
+unfoldable pub inTwoMessages : Sample
+inTwoMessages = record {
+  start = tableWith 0x0a000100 24 [];
+  now = 1000;
+  calls = callBy 7 (requesting 26) ∷ callBy 7 (requesting 26) ∷ [];
+  networks = 0x0a000100 ∷ 0x0a000140 ∷ [];
+}
 
 -- The fates of a call's asks, each on what it meets.
 abbrev pub fates : List Prefix → List (Option Entry) → List Fate

@@ -1,14 +1,18 @@
--- Servers of ask calls that are wrong: document 01's "Try these against it", and two more. Demand 3 is refuted of each. (Of an invented count demand 3
--- says nothing: the equation of the code with the ledger rules it out.)
-use mathlib.Core.List.{[], _++_, map}
-use mathlib.Core.Option.{some}
+-- Servers of ask calls that are wrong: document 01's "Try these against it", and others. Demand 3 is refuted of each, or what M-101 says of a client that asks
+-- twice. (Of an invented count demand 3 says nothing: the equation of the code with the ledger rules it out.)
+use Prim.Native.Nat.{ℕ, _+_}
+use mathlib.Core.Bool.{false, cond}
+use mathlib.Core.List.{List, [], _++_, map}
+use mathlib.Core.Option.{Option, none, some}
 use lib.ListN.{length}
 use lib.ListN.{take as upTo}
-use Rattle.lists.specs.Lists.{catMaybes}
+use lib.Dec.{ltb, eqb}
+use Rattle.lists.specs.Lists.{any?, catMaybes}
 use Rattle.option.specs.Writing.{optionBytes}
+use Rattle.table.specs.declared.Lease.{Lease}
 use Rattle.table.specs.Table.{present}
 use Rattle.option.specs.Contents.{requestsIn}
-use Rattle.ledger.specs.Ledger.{State, left, result, refuse, accept, offer, offers, addAll, informationFor, ask}
+use Rattle.ledger.specs.Ledger.{State, left, Call, Result, result, refuse, accept, full, holdTime, offer, offers, addAll, heldFor?, firstThat, again, restOf, holdAgain, heldAgain, inTurn, informationFor, ask}
 use Rattle.ledger.specs.Demand3.{Server}
 
 -- "a desk that refuses everything"
@@ -44,3 +48,47 @@ writesTwice s now c =
     let xs = present now (s .table .leases) in
     let gs = catMaybes (map (offer (s .table) now (c .client) xs) (upTo 1 (requestsIn (c .option)))) in
     accept (left s now (addAll (map some gs) xs)) (optionBytes (map informationFor (gs ++ gs))) 2 (c .reply)
+
+-- ASKING TWICE
+
+-- A server that gives again `gs`, of leases that then stand as `xs`, and serves the rest as it should.
+abbrev givingAgain : State → ℕ → Call → List (Option Lease) → List Lease → Result State
+givingAgain s now c gs xs =
+    let os = offers (s .table) now (c .client) xs (restOf gs (requestsIn (c .option))) in
+    let granted = catMaybes (inTurn now gs os) in
+    accept (left s now (addAll os xs)) (optionBytes (map informationFor granted)) (length granted) (c .reply)
+
+-- One that gives leased leases again, and holds them.
+abbrev unleased : Lease → Lease
+unleased x = record { network = x .network; length = x .length; client = x .client; leased = false; h = x .h; d = x .d; expires = x .expires }
+
+unfoldable pub regivesLeased : Server State
+regivesLeased s now c =
+    let xs = present now (s .table .leases) in
+    let gs = again (s .table) (c .client) (map unleased xs) (requestsIn (c .option)) in
+    givingAgain s now c gs (map (λ x. cond (any? (λ y. eqb (y .network) (x .network)) (catMaybes gs)) (holdAgain now (unleased x)) x) xs)
+
+-- One that gives a lease to every request that it is for.
+unfoldable pub regivesTwice : Server State
+regivesTwice s now c =
+    let xs = present now (s .table .leases) in
+    let gs = map (λ r. firstThat (heldFor? (s .table) (c .client) r) xs) (requestsIn (c .option)) in
+    givingAgain s now c gs (heldAgain now (catMaybes gs) xs)
+
+-- One that gives none again, as document 01 had it.
+unfoldable pub neverAgain : Server State
+neverAgain s now c = givingAgain s now c (map (λ r. none) (requestsIn (c .option))) (present now (s .table .leases))
+
+-- One that tests for an empty slot first.
+unfoldable pub nineFirst : Server State
+nineFirst s now c = cond (full (present now (s .table .leases))) (refuse 9 0 s (c .reply)) (ask s now c)
+
+-- One that leaves an end that was later.
+abbrev laterEnd : ℕ → Lease → Lease
+laterEnd now x = cond (ltb (now + holdTime) (x .expires)) x (holdAgain now x)
+
+unfoldable pub keepsEnd : Server State
+keepsEnd s now c =
+    let xs = present now (s .table .leases) in
+    let gs = again (s .table) (c .client) xs (requestsIn (c .option)) in
+    givingAgain s now c gs (map (λ x. cond (any? (λ y. eqb (y .network) (x .network)) (catMaybes gs)) (laterEnd now x) x) xs)

@@ -289,7 +289,8 @@ impl Book {
         Ok(saved)
     }
 
-    /// Offers free prefixes for the option's requests, and holds them for 120 seconds.
+    /// Offers prefixes for the option's requests, and holds them for 120 seconds. What the client holds already it is
+    /// offered again, where length and h are those of a request; only the other requests get free prefixes.
     pub fn ask(&mut self, client: u32, now: u32, option: &[u8]) -> Result<Reply, Refusal> {
         Reply::of(|reply| unsafe {
             raw::flockdrift_ask(

@@ -69,6 +69,27 @@ fn a_lease_from_ask_to_release() {
 }
 
 #[test]
+fn a_client_that_asks_again_is_offered_the_same() {
+    let mut book = opened();
+    let first = book.ask(7, 1000, ASK_26_H).unwrap();
+    book.mark(0x0a000800, 26, true, 1010).unwrap();
+    let again = book.ask(7, 1060, ASK_26_H).unwrap();
+    // The same but for d, which is the entry's flag 1.
+    assert_eq!(first.option()[..11], again.option()[..11]);
+    assert_eq!((first.option()[11], again.option()[11]), (2, 3));
+    let held = book.lease(0).unwrap();
+    assert_eq!(
+        (held.state, held.d, held.expires),
+        (State::Held, true, 1180)
+    );
+    assert_eq!(book.leases().count(), 1);
+    // Taken, it is no offer any more.
+    book.take(7, 1070, NAME_26).unwrap();
+    book.ask(7, 1070, ASK_26_H).unwrap();
+    assert_eq!(book.leases().count(), 2);
+}
+
+#[test]
 fn the_head_and_the_pools_ascend() {
     let book = opened();
     let head = Head {

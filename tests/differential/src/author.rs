@@ -5,12 +5,13 @@ use reference::numbers::Numbers;
 use reference::prefix::{prefix, Prefix};
 use reference::table::LATEST;
 
-use crate::bytes::{from_hex, hex, image, option, request, LONGEST_OPTION};
+use crate::bytes::{hex, image, option, reply_of, request, LONGEST_OPTION};
 use crate::damage::{damage_image, damage_line};
 use crate::script::Script;
 use options::REQUEST_I;
 use tables::aligned;
 
+mod again;
 mod figures;
 mod options;
 mod tables;
@@ -214,7 +215,8 @@ impl Author {
             self.good_sheet();
         }
         match self.numbers.below(100) {
-            0..=31 => self.ask(profile),
+            0..=23 => self.ask(profile),
+            24..=31 => self.ask_again(profile),
             32..=52 => self.take(profile),
             53..=65 => self.release(profile),
             66..=78 => self.list(profile),
@@ -303,11 +305,7 @@ impl Author {
 
     /// Keeps the entries that an accepted list answered: 7 bytes each from byte 6 on.
     fn keep_page(&mut self, client: u32, answer: &str) {
-        let reply = answer.strip_prefix("ok bytes=").and_then(|rest| {
-            let reply = rest.trim_end().rsplit(' ').next()?;
-            from_hex(reply.as_bytes())
-        });
-        if let Some(reply) = reply {
+        if let Some(reply) = reply_of(answer) {
             self.page_client = client;
             self.page = reply[6..]
                 .chunks_exact(7)
@@ -363,6 +361,7 @@ mod tests {
         }
         for _ in 0..100 {
             assert!(author.any_table(&PROFILE).sound());
+            assert!(author.table_of_held(&PROFILE).sound());
         }
     }
 

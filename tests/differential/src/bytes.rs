@@ -1,6 +1,8 @@
-//! Bytes as they go into a script: options from raw pieces, images, hexadecimal text.
-//! Nothing here keeps to the rules, so that bad options can be made as well.
+//! Bytes as they go into a script: options from raw pieces, images, hexadecimal text; and
+//! the replies that come back. What is made here does not keep to the rules, so that bad
+//! options can be made as well.
 
+use reference::option::{read220, Entry, Suboption};
 use reference::prefix::Prefix;
 pub use reference::samples::image;
 pub use reference::words::hex_text as hex;
@@ -99,6 +101,23 @@ pub fn record_places(image: &[u8]) -> Vec<usize> {
 /// The bytes of a word of hexadecimal digits, at least two of them.
 pub fn from_hex(word: &[u8]) -> Option<Vec<u8>> {
     reference::words::hex(word).filter(|bytes| !bytes.is_empty())
+}
+
+/// The reply of an accepted ask, take or list, which its answer ends with.
+pub fn reply_of(answer: &str) -> Option<Vec<u8>> {
+    let rest = answer.strip_prefix("ok bytes=")?.trim_end();
+    from_hex(rest.rsplit(' ').next()?.as_bytes())
+}
+
+/// The entries of all informations of an option; none if it is a bad one.
+pub fn entries_of(option: &[u8]) -> Vec<Entry> {
+    let mut entries = Vec::new();
+    for suboption in read220(option).unwrap_or_default() {
+        if let Suboption::Information(information) = suboption {
+            entries.extend(information.entries);
+        }
+    }
+    entries
 }
 
 #[cfg(test)]

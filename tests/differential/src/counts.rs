@@ -4,9 +4,10 @@ use std::collections::BTreeMap;
 use std::fmt::{self, Display, Formatter};
 
 use reference::figures::UNTOLD;
-use reference::option::{read220, Entry, Suboption};
-use reference::words::hex;
+use reference::option::Entry;
 
+use crate::again::Again;
+use crate::bytes::{entries_of, from_hex, reply_of};
 use crate::rounds::Rounds;
 use crate::script::{Script, Step};
 
@@ -48,6 +49,8 @@ pub struct Counts {
     filed: usize,
     /// Sheets that were given, `figures HEX`.
     sheets: usize,
+    /// Asks that gave a line again.
+    again: Again,
 }
 
 impl Counts {
@@ -65,6 +68,9 @@ impl Counts {
         self.errors += usize::from(error);
         self.filed += usize::from(files_figures(step));
         self.sheets += usize::from(gives_sheet(step));
+        if let Some(given) = &step.given {
+            self.again.add(given);
+        }
         if let Some(command) = command(step) {
             let number = match refused_with(&step.answer) {
                 _ if error => ERROR,
@@ -98,6 +104,7 @@ impl Counts {
     /// The answers that a command can give and that never came, such as `ask 9`.
     pub fn missing(&self) -> Vec<String> {
         let mut missing = self.rounds.missing();
+        missing.extend(self.again.missing(self.calls()));
         if self.filed == 0 {
             missing.push("take with figures".to_string());
         }
@@ -136,30 +143,17 @@ fn files_figures(step: &Step) -> bool {
     let [b"take", _, _, option] = step.words()[..] else {
         return false;
     };
-    let reply = step.answer.strip_prefix("ok bytes=");
-    let reply = reply.and_then(|rest| rest.trim_end().rsplit(' ').next());
-    let (Some(option), Some(reply)) = (hex(option), reply.and_then(|word| hex(word.as_bytes())))
-    else {
+    let (Some(option), Some(reply)) = (from_hex(option), reply_of(&step.answer)) else {
         return false;
     };
-    let found = entries(&reply);
+    let found = entries_of(&reply);
     let is_found = |entry: &Entry| {
         let same = |found: &Entry| (found.network, found.prefix) == (entry.network, entry.prefix);
         found.iter().any(same)
     };
-    entries(&option)
+    entries_of(&option)
         .iter()
         .any(|entry| entry.figures.iter().any(|figure| *figure != UNTOLD) && is_found(entry))
-}
-
-fn entries(option: &[u8]) -> Vec<Entry> {
-    let mut entries = Vec::new();
-    for suboption in read220(option).unwrap_or_default() {
-        if let Suboption::Information(information) = suboption {
-            entries.extend(information.entries);
-        }
-    }
-    entries
 }
 
 fn refused_with(answer: &str) -> Option<u8> {
@@ -181,12 +175,13 @@ impl Display for Counts {
         }
         write!(
             out,
-            "error lines {}, {}, {} sheets given, {} calls refused with 15, {} takes filed figures",
+            "error lines {}, {}, {} sheets given, {} calls refused with 15, {} takes filed figures, {}",
             self.errors,
             self.rounds,
             self.sheets,
             self.not_matching(),
-            self.filed
+            self.filed,
+            self.again
         )
     }
 }
@@ -200,7 +195,7 @@ mod tests {
     fn answers_are_counted_by_command_and_number() {
         let mut counts = Counts::default();
         let script = Script::of_lines(&lines_of(
-            b"save\nopen 60 28 0 10.0.0.0/30\n ask 1 0 dc05000102001e\r\nask 1 0 dc05000102001e\n\
+            b"save\nopen 60 28 0 10.0.0.0/30\n ask 1 0 dc05000102001e\r\nask 2 0 dc05000102001e\n\
               # ask\nask\nsheet\nbuffer 3\nread dc05000102001f\nsave\nx\n\
               write\nwrite name 61\nwrite x\nbuffer 6\nwrite name 61\n",
         ));
@@ -241,8 +236,8 @@ mod tests {
         let script = Script::of_lines(&lines_of(text.as_bytes()));
         assert_eq!(counts.add(&script), Ok(()));
         let text = counts.to_string();
-        let end = "1 sheets given, 2 calls refused with 15, 2 takes filed figures";
-        assert!(text.ends_with(end), "{text}");
+        let part = "1 sheets given, 2 calls refused with 15, 2 takes filed figures, 0 asks gave";
+        assert!(text.contains(part), "{text}");
         assert!(text.contains("figures 3 (2 ok, 1 error)"), "{text}");
         assert!(text.contains("mark 1 (0 ok, 0 x 5, 1 x 15,"), "{text}");
         assert!(Counts::default()

@@ -3,21 +3,29 @@
 use reference::console::Console;
 use reference::table::Table;
 
+use crate::again::{given, Given};
+
 pub struct Step {
     /// With its newline, which only the last line of a script may lack.
     pub line: Vec<u8>,
     /// What the reference answers: no line, one, or several, each with its newline.
     pub answer: String,
+    /// Of an accepted ask, how its requests fared.
+    pub given: Option<Given>,
 }
 
 impl Step {
     /// The words of the line, as the console parts them.
     pub fn words(&self) -> Vec<&[u8]> {
-        let line = self.line.strip_suffix(b"\n").unwrap_or(&self.line);
-        let line = line.strip_suffix(b"\r").unwrap_or(line);
-        let words = line.split(|byte| *byte == b' ');
-        words.filter(|word| !word.is_empty()).collect()
+        words_of(&self.line)
     }
+}
+
+fn words_of(line: &[u8]) -> Vec<&[u8]> {
+    let line = line.strip_suffix(b"\n").unwrap_or(line);
+    let line = line.strip_suffix(b"\r").unwrap_or(line);
+    let words = line.split(|byte| *byte == b' ');
+    words.filter(|word| !word.is_empty()).collect()
 }
 
 /// The reference answers each line as it is added, so that the next one can be chosen
@@ -45,8 +53,14 @@ impl Script {
 
     /// Adds a line as it is and returns its answer.
     pub fn add(&mut self, line: Vec<u8>) -> &str {
+        let before = self.console.table.clone();
         let answer = self.console.line(&line);
-        self.steps.push(Step { line, answer });
+        let given = given(&before, &words_of(&line), &answer);
+        self.steps.push(Step {
+            line,
+            answer,
+            given,
+        });
         &self.steps[self.steps.len() - 1].answer
     }
 

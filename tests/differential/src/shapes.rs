@@ -14,7 +14,7 @@ use crate::script::Script;
 type Shape = (&'static str, fn(&mut Author));
 
 /// Taken in turn, so that every run has all of them.
-const SHAPES: [Shape; 19] = [
+const SHAPES: [Shape; 20] = [
     ("one pool", |author| walk(author, &ONE_POOL)),
     ("small pools", |author| walk(author, &SMALL_POOLS)),
     ("many pools", |author| walk(author, &MANY_POOLS)),
@@ -26,6 +26,7 @@ const SHAPES: [Shape; 19] = [
     ("latest time", latest_time),
     ("pages", pages),
     ("figures", figures),
+    ("asks again", asks_again),
     ("faults", |author| walk(author, &FAULTS)),
     ("short", short),
     ("openings", openings),
@@ -154,7 +155,8 @@ fn filled_up(author: &mut Author) {
         let pieces: Vec<Vec<u8>> = (0..25)
             .map(|_| request(author.numbers.below(2) as u8, author.one_of(&lengths)))
             .collect();
-        let client = 1 + author.numbers.below(3);
+        // Many stations: one that asks again gets what it holds.
+        let client = 1 + author.numbers.below(40);
         author.call(format!("ask {client} {now} {}", hex(&option(0, &pieces))));
     }
     for _ in 0..author.numbers.between(10, 30) {
@@ -248,6 +250,36 @@ fn figures(author: &mut Author) {
             4 | 5 => author.ask(&profile),
             6 => author.mark(&profile),
             7 => author.any_sheet(&profile),
+            _ => author.any_call(&profile),
+        }
+    }
+}
+
+/// Stations that ask again before they take: for what they hold, for less and for more than
+/// that, after marks, at the ends of what is held, on full tables too.
+fn asks_again(author: &mut Author) {
+    let profile = Profile {
+        pools: 2,
+        pool_lengths: (23, 26),
+        lengths: (26, 30),
+        requests: 25,
+        clients: 3,
+        ends: 6,
+        faults: author.one_of(&[10, 60]),
+        leases: 16,
+        ..ONE_POOL
+    };
+    if author.numbers.once_in(2) {
+        let table = author.table_of_held(&profile);
+        author.call(format!("load {}", hex(&image(&table))));
+    } else {
+        author.start(&profile);
+    }
+    for _ in 0..author.numbers.between(20, 80) {
+        match author.numbers.below(12) {
+            0..=5 => author.ask_again(&profile),
+            6 => author.ask(&profile),
+            7 | 8 => author.mark_held(&profile),
             _ => author.any_call(&profile),
         }
     }

@@ -1,6 +1,7 @@
 //! The calls: open, ask, take, list, return (here `release`) and mark. "Ask, take, return
 //! and mark take the sheet; open and load fill it" (M-100 in document 02): it is lent as
-//! its bytes, which is what `figures` is in each of them.
+//! its bytes, which is what `figures` is in each of them. Ask re-gives what is held already
+//! (M-101 in document 02).
 
 use crate::figures::{fill, matches, present_rows, put_rows, rows_after, rows_of, Row};
 use crate::option::{read220, write220, Entry, Information, Request, Suboption};
@@ -150,8 +151,9 @@ fn struck_at(table: &Table, now: u32) -> Table {
     next
 }
 
-/// Ask: every request not granted has no entry; "If none is granted, the answer is
-/// the refusal of the first."
+/// Ask: a request for which the client holds a lease already gets that one again, the
+/// rest get new ones. Every request not granted has no entry; "If none is granted, the
+/// answer is the refusal of the first."
 pub fn ask(
     table: &mut Table,
     figures: &mut [u8],
@@ -170,10 +172,16 @@ pub fn ask(
     }
     // "They are served in order, each on the book that the one before left."
     let mut next = struck_at(table, now);
+    let mut held = held_by(&next, client);
     let mut reply = Vec::new();
     let mut first_refusal = None;
     for request in requests {
-        match serve(&mut next, client, now, request) {
+        let served = match give_again(&mut next, &mut held, now, request) {
+            Some(lease) => Ok(lease),
+            // M-101: "Only the rest take new ground."
+            None => serve(&mut next, client, now, request),
+        };
+        match served {
             Ok(lease) => reply.push(Suboption::Information(Information {
                 c: false,
                 s: false,
@@ -197,21 +205,59 @@ pub fn ask(
     })
 }
 
-/// One request of an ask: a new lease in the table, or 9 or 10.
+/// "An ask's length is the prefix asked for, or the default length for 0." M-101: "prefix
+/// 0 means the default length here too."
+fn length_of(request: Request, table: &Table) -> u8 {
+    if request.prefix == 0 {
+        table.default_length
+    } else {
+        request.prefix
+    }
+}
+
+/// M-101: what "the station, before the message, already held (not leased)", of a table
+/// whose ended leases are struck; ascending.
+fn held_by(table: &Table, client: u32) -> Vec<Lease> {
+    let mut held = Vec::new();
+    for lease in table.used_leases() {
+        if lease.client == client && lease.state == State::Offered {
+            held.push(*lease);
+        }
+    }
+    held
+}
+
+/// M-101: one request, if a lease "of the same length and h" is left in `held`: it "gets
+/// that line again, held until now + 120 (its d stays ...), lowest network first, each line
+/// at most once in a message".
+fn give_again(
+    table: &mut Table,
+    held: &mut Vec<Lease>,
+    now: u32,
+    request: Request,
+) -> Option<Lease> {
+    let length = length_of(request, table);
+    let same = |lease: &Lease| lease.prefix.length == length && lease.h == request.h;
+    let lowest = held.iter().position(same)?;
+    let mut again = held.remove(lowest);
+    again.expires = now + OFFER_TIME;
+    for lease in &mut table.leases {
+        if lease.state != State::None && lease.prefix == again.prefix {
+            *lease = again;
+        }
+    }
+    Some(again)
+}
+
+/// One request of the rest: a new lease in the table, or 9 or 10.
 fn serve(table: &mut Table, client: u32, now: u32, request: Request) -> Result<Lease, Refusal> {
     // Row 9: "ask: no empty line".
     let mut leases = table.used_leases().to_vec();
     if leases.len() == LEASES {
         return Err(refusal(9));
     }
-    // "An ask's length is the prefix asked for, or the default length for 0."
-    let length = if request.prefix == 0 {
-        table.default_length
-    } else {
-        request.prefix
-    };
     // Row 10: "ask: no free block of the length".
-    let Some(chosen) = table.choose(now, length) else {
+    let Some(chosen) = table.choose(now, length_of(request, table)) else {
         return Err(refusal(10));
     };
     // "in line and entry h is the request's and d 0".

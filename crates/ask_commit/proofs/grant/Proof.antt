@@ -1,174 +1,260 @@
--- `grant` meets its contract: rows 9 and 10, or what is granted.
+-- `grant` meets its contract: rows 9 and 10, or what the requests get.
 -- Assumes nothing.
 use Prim.Native.Nat.{ℕ, _+_, _-_, _*_, _≤_}
-use mathlib.Core.Path.{_≡_, sym, ap, _∙_}
+use mathlib.Core.Path.{_≡_, sym, ap, subst, _∙_}
 use mathlib.Core.List.{List}
 use native.Mathlib.Omega.{arith}
 use lib.ListN.{length, take}
 use lib.Seq.{length-take-le}
 use borrow.Author.Needs.{needs}
+use Rattle.lists.specs.Lists.{All}
+use Rattle.lists.proofs.ListLaws.{all-map}
+use Rattle.lists.proofs.TakeLaws.{take-short}
 use Rattle.table.specs.Table.{present}
-use Rattle.image.specs.Image.{leaseSize}
+use Rattle.image.specs.Image.{leaseSize, usedLeases}
 use Rattle.option.specs.Values.{mostRequests}
 use Rattle.option.specs.Contents.{requestsIn}
 use Rattle.ledger.specs.declared.Answer.{Answer}
-use Rattle.ledger.specs.Ledger.{call, result, holdTime}
-use Rattle.ask_serve.specs.Granting.{Granted}
-use Rattle.call_spec.specs.ImageCalls.{lent, tableIn, stateIn}
+use Rattle.ledger.specs.Ledger.{call, result, holdTime, again}
+use Rattle.ledger.proofs.ReadLaws.{requests-short}
+use Rattle.ask_again.specs.Places.{noPlace, Within, InBuffer, givenIn, othersIn}
+use Rattle.ask_again.proofs.Counting.{others-none, others-few, others-first}
+use Rattle.ask_serve.specs.Granting.{leasesIn, Granted}
+use Rattle.call_spec.specs.ImageCalls.{Lent, lent, tableIn, stateIn}
 use Rattle.call_rows.specs.Admission.{leasesFrom}
 use Rattle.ask_commit.specs.Asking.{Asking}
-use Rattle.ask_commit.proofs.GrantLaws.{fewer, pools-end, fits, rows-fit, standing, ask-full, gaps-few, ask-ready, ask-none, ask-fresh, ask-granted}
+use Rattle.ask_commit.proofs.AdmittedLaws.{fewer, records-fit, fits, rows-fit}
+use Rattle.ask_commit.proofs.GrantLaws.{admitted-image, asks-are, ask-full, ask-none, anew, ask-fresh, standing, ask-granted}
 use Rattle.ask_commit.proofs.grant.Statement.{statement}
 use Rattle.ask_commit.proofs.grant.Tie as tie
 
--- Places further back in the code: where it begins, where there is an empty slot, where the gaps are known, where the requests are served, and where something is granted.
+-- Places further back in the code: where it begins, where what is given again is known, where the rest is served, and where something is written.
 abbrev start-of : tie.After-struct-known → tie.Start
 start-of c = c .before .before .before .before .before .before
 
-abbrev slot-of : tie.After-gaps-in → tie.Else1
-slot-of c = c .before .before .before .before
+abbrev begun : tie.After-find-held → tie.Start
+begun c = start-of (c .before .before .before)
 
-abbrev gaps-of : tie.After-serve → tie.After-gaps-in
-gaps-of c = c .before .before .before .before .before .before .before .before
+abbrev found-of : tie.After-serve-rest → tie.After-find-held
+found-of c = c .before .before .before .before .before .before
 
-abbrev served-of : tie.After-flags2 → tie.After-serve
-served-of c = c .before .before .before .before .before
+abbrev served-of : tie.After-lengths2 → tie.After-serve-rest
+served-of c = c .before .before
 
-abbrev else-of : tie.After-commit-grants → tie.Else2
+abbrev else-of : tie.After-put-offers → tie.Else1
 else-of c = c .before .before .before .before .before .before
 
-sub-present : tie.Need-sub-present
-sub-present c = fewer _ _ _ _ _ _ _ (start-of c .pre)
+abbrev shown-of : tie.After-hold-again → tie.After-put-offers
+shown-of c = c .before .before .before .before .before
+
+abbrev held-of : tie.After-commit-grants → tie.After-hold-again
+held-of c = c .before .before .before .before .before .before .before
+
+-- What is lent.
+abbrev lent-of : tie.After-find-held → Lent
+lent-of c = let a = begun c .args in lent (a .image .now) (a .image-bytes .now) (a .figures .now)
+
+-- THE PLACES of what is given again.
+abbrev column-of : tie.After-find-held → List ℕ
+column-of c = c .find-held .last .1 .1 .1 .1 .1 .1 .1 .0
+
+abbrev places-of : tie.After-find-held → List ℕ
+places-of c = take (length (begun c .args .ask-lengths .now)) (column-of c)
+
+places-many : (c : tie.After-find-held) → length (places-of c) ≡ length (begun c .args .ask-lengths .now)
+places-many c = length-take-le _ (column-of c) (omega (arith, begun c .pre .few, c .find-held .kept .1 .1 .1 .1 .1 .1 .1 .0))
+
+places-count : (c : tie.After-find-held) → c .find-held .result ≡ othersIn noPlace (places-of c) (length (begun c .args .ask-lengths .now))
+places-count c =
+    c .find-held .ensures .0 ∙ sym (others-first noPlace (column-of c) (length (begun c .args .ask-lengths .now)))
+
+within : (c : tie.After-find-held) → All (Within (begun c .args .summary .leases)) (places-of c)
+within c = c .find-held .ensures .1 .0
+
+fit-in : (c : tie.After-find-held) → let a = begun c .args in All (InBuffer (leasesFrom (a .summary)) (length (a .image .now))) (places-of c)
+fit-in c =
+    let room = records-fit _ _ _ _ (admitted-image _ _ _ _ _ _ _ (begun c .pre)) in
+    all-map (λ p w some-place. omega (arith, room, w some-place)) (places-of c) (within c)
+
+given-is : (c : tie.After-find-held) → let a = begun c .args in let h = lent-of c in (option : List ℕ) → Asking h (a .asker .time) (call (a .asker .client) option (a .reply .now)) (a .ask-lengths .now) (a .ask-h .now)
+    → givenIn (usedLeases (tableIn h)) (places-of c) ≡ again (tableIn h) (a .asker .client) (present (a .asker .time) (usedLeases (tableIn h))) (requestsIn option)
+given-is c option k =
+    let s = begun c in
+    let h = lent-of c in
+    c .find-held .ensures .1 .1 (tableIn h) (usedLeases (tableIn h)) (requestsIn option) (s .pre .admitted .records) (s .pre .admitted .leases) (asks-are _ _ _ _ _ _ _ (s .pre) option k)
+
+-- THE COLUMNS of what the rest is offered.
+abbrev networks-of : tie.After-serve-rest → List ℕ
+networks-of c = c .serve-rest .last .1 .1 .1 .1 .1 .1 .0
+
+abbrev lengths-of : tie.After-serve-rest → List ℕ
+lengths-of c = c .serve-rest .last .1 .1 .1 .1 .1 .1 .1 .0
+
+long-enough : (c : tie.After-serve-rest) → let n = length (begun (found-of c) .args .ask-lengths .now) in (n ≤ length (networks-of c)) × (n ≤ length (lengths-of c))
+long-enough c =
+    let few = begun (found-of c) .pre .few in
+    (omega (arith, few, c .serve-rest .kept .1 .1 .1 .1 .1 .1 .0), omega (arith, few, c .serve-rest .kept .1 .1 .1 .1 .1 .1 .1 .0))
+
+granted : (c : tie.After-serve-rest) → let a = begun (found-of c) .args in let h = lent-of (found-of c) in
+    (option : List ℕ) → Asking h (a .asker .time) (call (a .asker .client) option (a .reply .now)) (a .ask-lengths .now) (a .ask-h .now)
+    → Granted (tableIn h) (a .asker .time) (a .asker .client) (present (a .asker .time) (tableIn h .leases)) (givenIn (usedLeases (tableIn h)) (places-of (found-of c))) (requestsIn option) (networks-of c) (lengths-of c)
+granted c option k =
+    let s = begun (found-of c) in
+    c .serve-rest .ensures .1 (admitted-image _ _ _ _ _ _ _ (s .pre)) (usedLeases (tableIn (lent-of (found-of c)))) (requestsIn option) (k .lengths) (requests-short option)
+
+-- HOW MANY get something: each of the two numbers is small.
+few-count : (c : tie.After-serve-rest) → (found-of c .find-held .result ≤ mostRequests) × (c .serve-rest .result ≤ mostRequests)
+few-count c =
+    let found = found-of c in
+    let few = begun found .pre .few in
+    (omega (arith, few, places-count found, others-few noPlace (places-of found) (length (begun found .args .ask-lengths .now)), take-short (length (begun found .args .ask-lengths .now)) (places-of found)), omega (arith, few, c .serve-rest .ensures .0 .0))
+
+slice-aggregate-serve-rest : tie.Need-slice-aggregate-serve-rest
+slice-aggregate-serve-rest c = sym (places-many (c .before .before .before))
+
+serve-rest-requires : tie.Need-serve-rest-requires
+serve-rest-requires c κs =
+    let found = c .before .before .before .before .before in
+    let s = begun found in
+    let n = length (s .args .ask-lengths .now) in
+    (admitted-image _ _ _ _ _ _ _ (s .pre), places-many found, places-count found, omega (arith, s .pre .few), omega (arith, s .pre .few), others-none 0 mostRequests n)
+
+add-count : tie.Need-add-count
+add-count c = let few = few-count (served-of c) in omega (arith, few .0, few .1)
+
+sub-if2 : tie.Need-sub-if2
+sub-if2 c = fewer _ _ _ _ (admitted-image _ _ _ _ _ _ _ (begun (found-of (served-of (c .before .before))) .pre))
 
 returns : tie.Need-returns
 returns c =
     λ option k.
-    let s = start-of (c .before .before) in
-    let a = s .args in
-    ap (λ (r : Answer). result r (lent (a .image .now) (a .image-bytes .now) (a .figures .now)) (a .reply .now)) (c .refused .ensures)
-    ∙ ask-full _ _ _ _ _ _ _ (s .pre) option k (c .before .if1 .taken)
-
-gaps-in-requires : tie.Need-gaps-in-requires
-gaps-in-requires c κs =
-    let k = start-of (c .before .before .before .before) .pre in
-    let o = k .admitted in
-    (omega (arith, o .size, o .within), omega (arith, o .few-pools, o .few-leases), omega (arith, o .few-pools, o .few-leases), pools-end _ _ _ _ _ _ _ k)
-
-serve-requires : tie.Need-serve-requires
-serve-requires c κs =
-    let found = c .before .before .before .before .before .before .before in
-    let k = start-of (slot-of found .before) .pre in
-    let o = k .admitted in
-    let few = gaps-few _ _ _ _ _ _ _ k (found .gaps-in .last .1 .1 .1 .1 .0) (found .gaps-in .last .1 .1 .1 .1 .1 .0) (found .gaps-in .result) (found .gaps-in .ensures .1)
-    (omega (arith, o .few-pools, o .few-leases, found .gaps-in .ensures .0, found .gaps-in .kept .1 .1 .1 .1 .0)) (omega (arith, o .few-pools, o .few-leases, found .gaps-in .ensures .0, found .gaps-in .kept .1 .1 .1 .1 .1 .0)) (slot-of found .if1 .left) in
-    (k .same, omega (arith, few, found .gaps-in .kept .1 .1 .1 .1 .0), omega (arith, few, found .gaps-in .kept .1 .1 .1 .1 .1 .0), omega (arith, k .few), omega (arith, k .few), omega (arith, k .few))
-
--- What is granted, in the ledger's terms.
-granted : (served : tie.After-serve) → let a = start-of (slot-of (gaps-of served) .before) .args in let h = lent (a .image .now) (a .image-bytes .now) (a .figures .now) in
-    (option : List ℕ) → Asking h (a .asker .time) (call (a .asker .client) option (a .reply .now)) (a .ask-lengths .now) (a .ask-h .now)
-    → Granted (tableIn h) (a .asker .time) (a .asker .client) (present (a .asker .time) (tableIn h .leases)) (requestsIn option) (served .serve .result) (served .serve .last .1 .1 .1 .1 .1 .0) (served .serve .last .1 .1 .1 .1 .1 .1 .0) (served .serve .last .1 .1 .1 .1 .1 .1 .1 .0)
-granted served option k =
-    let found = gaps-of served in
-    let s = start-of (slot-of found .before) in
-    let a = s .args in
-    let h = lent (a .image .now) (a .image-bytes .now) (a .figures .now) in
-    served .serve .ensures .1 .1 (tableIn h) (a .asker .time) (a .asker .client) (present (a .asker .time) (tableIn h .leases)) (requestsIn option)
-    (ask-ready _ _ _ _ _ _ _ (s .pre) option k (found .gaps-in .last .1 .1 .1 .1 .0) (found .gaps-in .last .1 .1 .1 .1 .1 .0) (found .gaps-in .result) (found .gaps-in .ensures .1))
-
--- No more is granted than an option may ask for.
-few-granted : (served : tie.After-serve) → served .serve .result ≤ mostRequests
-few-granted served = omega (arith, start-of (slot-of (gaps-of served) .before) .pre .few, served .serve .ensures .0)
-
--- The columns that are lent have as many places.
-taken-many : (served : tie.After-serve) → let n = served .serve .result in
-    (length (take n (served .serve .last .1 .1 .1 .1 .1 .0)) ≡ n) × (length (take n (served .serve .last .1 .1 .1 .1 .1 .1 .0)) ≡ n) × (length (take n (served .serve .last .1 .1 .1 .1 .1 .1 .1 .0)) ≡ n)
-taken-many served =
-    let few = few-granted served in
-    (length-take-le _ _ (omega (arith, few, served .serve .kept .1 .1 .1 .1 .1 .0)), length-take-le _ _ (omega (arith, few, served .serve .kept .1 .1 .1 .1 .1 .1 .0)), length-take-le _ _ (omega (arith, few, served .serve .kept .1 .1 .1 .1 .1 .1 .1 .0)))
-
--- Where it begins, from where something is granted.
-abbrev pre-of : tie.Else2 → tie.Start
-pre-of c = start-of (slot-of (gaps-of (served-of (c .before))) .before)
+    let then = c .before in
+    let none = then .before .before in
+    let served = served-of (none .before) in
+    let found = found-of served in
+    let s = begun found in
+    let long = long-enough served in
+    ap (λ (r : Answer). result r (lent-of found) (s .args .reply .now)) (c .refused .ensures)
+    ∙ ask-full _ _ _ _ _ _ _ (s .pre) option k (places-of found) (places-many found) (given-is found option k) (networks-of served) (lengths-of served) (long .0) (long .1) (granted served option k)
+    (found .find-held .result) (served .serve-rest .result) (places-count found) (served .serve-rest .ensures .0 .2) (none .if1 .taken) (then .if2 .taken)
 
 returns-2 : tie.Need-returns-2
 returns-2 c =
     λ option k.
-    let then = c .before in
-    let served = served-of (then .before) in
-    let slot = slot-of (gaps-of served) in
-    let s = start-of (slot .before) in
-    let a = s .args in
-    ap (λ (r : Answer). result r (lent (a .image .now) (a .image-bytes .now) (a .figures .now)) (a .reply .now)) (c .refused2 .ensures)
-    ∙ ask-none _ _ _ _ _ _ _ (s .pre) option k (served .serve .result) _ _ _ (granted served option k) (slot .if1 .left) (then .if2 .taken)
+    let else = c .before in
+    let none = else .before .before in
+    let served = served-of (none .before) in
+    let found = found-of served in
+    let s = begun found in
+    let long = long-enough served in
+    ap (λ (r : Answer). result r (lent-of found) (s .args .reply .now)) (c .refused2 .ensures)
+    ∙ ask-none _ _ _ _ _ _ _ (s .pre) option k (places-of found) (places-many found) (given-is found option k) (networks-of served) (lengths-of served) (long .0) (long .1) (granted served option k)
+    (found .find-held .result) (served .serve-rest .result) (places-count found) (served .serve-rest .ensures .0 .2) (none .if1 .taken) (else .if2 .left)
 
-slice-aggregate-commit-grants : tie.Need-slice-aggregate-commit-grants
-slice-aggregate-commit-grants c =
-    let served = served-of (c .before .before .before .before) in
-    sym (length-take-le _ _ (omega (arith, few-granted served, served .serve .kept .1 .1 .1 .1 .1 .0)))
-
-slice-aggregate-commit-grants-2 : tie.Need-slice-aggregate-commit-grants-2
-slice-aggregate-commit-grants-2 c =
-    let served = served-of (c .before .before .before .before .before) in
-    sym (length-take-le _ _ (omega (arith, few-granted served, served .serve .kept .1 .1 .1 .1 .1 .1 .0)))
-
-slice-aggregate-commit-grants-3 : tie.Need-slice-aggregate-commit-grants-3
-slice-aggregate-commit-grants-3 c =
-    let served = served-of (c .before .before .before .before .before .before) in
-    sym (length-take-le _ _ (omega (arith, few-granted served, served .serve .kept .1 .1 .1 .1 .1 .1 .1 .0)))
-
-commit-grants-requires : tie.Need-commit-grants-requires
-commit-grants-requires c κs =
-    let else = c .before .before .before .before .before in
-    let served = served-of (else .before) in
-    let s = pre-of else in
-    let k = s .pre in
-    let o = k .admitted in
-    let many = taken-many served in
-    let fit = fits _ _ _ _ _ _ _ k (served .serve .result) (served .serve .ensures .1 .0) (slot-of (gaps-of served) .if1 .left) in (
-      fewer _ _ _ _ _ _ _ k,
-      omega (arith, o .size, o .within),
-      omega (arith, many .0, fit .0),
-      rows-fit _ _ _ _ _ _ _ k,
-      omega (arith, many .0, fit .1),
-      o .early,
-      omega (arith, many .0, few-granted served),
-      many .1 ∙ sym (many .0),
-      many .2 ∙ sym (many .0),
-    )
+slice-aggregate-put-offers : tie.Need-slice-aggregate-put-offers
+slice-aggregate-put-offers c = sym (places-many (found-of (served-of (c .before .before .before .before))))
 
 put-offers-requires : tie.Need-put-offers-requires
 put-offers-requires c κs =
-    let else = else-of (c .before .before .before .before .before .before .before .before) in
+    let else = c .before .before .before .before .before in
     let served = served-of (else .before) in
-    let k = pre-of else .pre in
-    let few = few-granted served in
-    (few, omega (arith, few, k .room), omega (arith, few, served .serve .kept .1 .1 .1 .1 .1 .0), omega (arith, few, served .serve .kept .1 .1 .1 .1 .1 .1 .0), omega (arith, few, served .serve .kept .1 .1 .1 .1 .1 .1 .1 .0))
+    let found = found-of served in
+    let k = begun found .pre in
+    let long = long-enough served in
+    (omega (arith, k .same, k .few), omega (arith, k .same, k .few, k .room), omega (arith, k .same, places-many found), omega (arith, k .same, long .0), omega (arith, k .same, long .1), fit-in found)
+
+array-share-prefix-places-3 : tie.Need-array-share-prefix-places-3
+array-share-prefix-places-3 c =
+    let found = found-of (served-of (else-of (c .before .before .before) .before)) in
+    omega (arith, begun found .pre .few, found .find-held .kept .1 .1 .1 .1 .1 .1 .1 .0)
+
+slice-aggregate-hold-again : tie.Need-slice-aggregate-hold-again
+slice-aggregate-hold-again c = sym (places-many (found-of (served-of (else-of (c .before .before .before .before) .before))))
+
+hold-again-requires : tie.Need-hold-again-requires
+hold-again-requires c κs =
+    let found = found-of (served-of (else-of (c .before .before .before .before) .before)) in
+    (fit-in found, begun found .pre .admitted .early)
+
+-- As many as places of the columns have a lease.
+counted : (served : tie.After-serve-rest) → served .serve-rest .result ≡ leasesIn (lengths-of served) (length (begun (found-of served) .args .ask-h .now))
+counted served = served .serve-rest .ensures .0 .2 ∙ ap (leasesIn (lengths-of served)) (sym (begun (found-of served) .pre .same))
+
+commit-grants-requires : tie.Need-commit-grants-requires
+commit-grants-requires c κs =
+    let held = c .before .before .before .before .before .before in
+    let served = served-of (else-of (shown-of held) .before) in
+    let k = begun (found-of served) .pre in
+    let q = admitted-image _ _ _ _ _ _ _ k in
+    let many = counted served in
+    let fit = fits _ _ _ _ q (served .serve-rest .result) (served .serve-rest .ensures .0 .1) in
+    let long = long-enough served in
+    let kept = held .hold-again .kept .0 in (
+      fewer _ _ _ _ q,
+      omega (arith, records-fit _ _ _ _ q, kept),
+      omega (arith, many, fit .0, kept),
+      rows-fit _ _ _ _ q,
+      omega (arith, many, fit .1),
+      k .admitted .early,
+      omega (arith, k .same, k .few),
+      omega (arith, k .same, long .0),
+      omega (arith, k .same, long .1),
+    )
+
+-- How many get something, where the answer is given.
+few-of : (c : tie.After-slice-known7) → let served = served-of (else-of (shown-of (held-of (c .before .before .before .before))) .before) in found-of served .find-held .result + served .serve-rest .result ≤ mostRequests + mostRequests
+few-of c = let few = few-count (served-of (else-of (shown-of (held-of (c .before .before .before .before))) .before)) in omega (arith, few .0, few .1)
+
+mul-accepted : tie.Need-mul-accepted
+mul-accepted c = omega (arith, few-of c)
+
+add-accepted : tie.Need-add-accepted
+add-accepted c = omega (arith, few-of c)
+
+cast-accepted : tie.Need-cast-accepted
+cast-accepted c = omega (arith, few-of c)
+
+cast-accepted-2 : tie.Need-cast-accepted-2
+cast-accepted-2 c = omega (arith, few-of c)
 
 returns-3 : tie.Need-returns-3
 returns-3 c =
     λ option k.
-    let put = c .before .before .before in
-    let committed = put .before .before .before .before .before .before .before .before .before in
-    let else = else-of committed in
+    let committed = c .before .before .before .before .before in
+    let held = held-of committed in
+    let shown = shown-of held in
+    let else = else-of shown in
     let served = served-of (else .before) in
-    let s = pre-of else in
+    let found = found-of served in
+    let s = begun found in
     let a = s .args in
-    let n = served .serve .result in
+    let h = lent-of found in
+    let m = found .find-held .result in
+    let n = served .serve-rest .result in
+    let m-is = places-count found in
+    let n-is = served .serve-rest .ensures .0 .2 in
+    let long = long-enough served in
+    let gave = given-is found option k in
     let is-granted = granted served option k in
-    let h = lent (a .image .now) (a .image-bytes .now) (a .figures .now) in
+    let o = s .pre .admitted in
+    let us = usedLeases (tableIn h) in
+    let inside = subst (λ (w : ℕ). All (Within w) (places-of found)) (o .leases) (within found) in
+    let edited = held .hold-again .ensures us (o .records) (o .ascending) inside in
     let image = committed .commit-grants .last .0 in
     let sheet = committed .commit-grants .last .1 .0 in
-    let is-grown = committed .commit-grants .ensures .1 (tableIn h) (stateIn h .rows) (standing _ _ _ _ _ _ _ (s .pre)) (ask-fresh _ _ _ _ _ _ _ (s .pre) option k n _ _ _ is-granted) in
-    ap (λ (r : Answer). result r (lent image (committed .commit-grants .result) sheet) (put .put-offers .last .0)) (c .accepted .ensures)
-    ∙ ask-granted _ _ _ _ _ _ _ (s .pre) option k n _ _ _ is-granted (else .if2 .left) (served .serve .ensures .0) image sheet (put .put-offers .last .0) is-grown (put .put-offers .ensures (a .asker .client) (a .asker .time + holdTime))
-    (committed .commit-grants .result) (committed .commit-grants .ensures .0 ∙ ap (λ (m : ℕ). leasesFrom (a .summary) + leaseSize * (a .summary .leases - a .summary .expired + m)) (taken-many served .0))
+    let is-grown =
+    committed .commit-grants .ensures .1 (anew _ _ _ _ _ _ _ (s .pre) option k (places-of found) (places-many found) gave (networks-of served) (lengths-of served) (long .0) (long .1) is-granted m n m-is n-is) (stateIn h .rows)
+    (standing _ _ _ _ _ _ _ (s .pre) option k (places-of found) (places-many found) gave (networks-of served) (lengths-of served) (long .0) (long .1) is-granted m n m-is n-is (held .hold-again .last .0) edited)
+    (ask-fresh _ _ _ _ _ _ _ (s .pre) option k (places-of found) (places-many found) gave (networks-of served) (lengths-of served) (long .0) (long .1) is-granted m n m-is n-is) in
+    ap (λ (r : Answer). result r (lent image (committed .commit-grants .result) sheet) (shown .put-offers .last .0)) (c .accepted .ensures)
+    ∙ ask-granted _ _ _ _ _ _ _ (s .pre) option k (places-of found) (places-many found) gave (networks-of served) (lengths-of served) (long .0) (long .1) is-granted m n m-is n-is (held .hold-again .last .0) edited
+    (else .if1 .left) image sheet (shown .put-offers .last .0) is-grown (shown .put-offers .ensures (a .asker .client) (a .asker .time + holdTime) us (o .records) inside)
+    (committed .commit-grants .result) (committed .commit-grants .ensures .0 ∙ ap (λ (w : ℕ). leasesFrom (a .summary) + leaseSize * (a .summary .leases - a .summary .expired + w)) (sym (counted served)))
 
 pub grant-spec : {M : Type 1} → statement M
 grant-spec =
     tie.close
-    (tie.spec sub-present (λ c κs. search needs) returns (λ c. search needs) (λ c. search needs) gaps-in-requires (λ c. search needs)
-    (λ c. search needs) (λ c. search needs) (λ c. search needs) (λ c. search needs) (λ c. search needs) serve-requires
-    (λ c κs. search needs) (λ c. search needs) returns-2 (λ c. search needs) slice-aggregate-commit-grants (λ c. search needs)
-    slice-aggregate-commit-grants-2 (λ c. search needs) slice-aggregate-commit-grants-3 commit-grants-requires (λ c. search needs)
-    (λ c. search needs) (λ c. search needs) put-offers-requires (λ c. search needs) (λ c. search needs) (λ c. search needs)
-    (λ c. search needs) (λ c κs. search needs) (λ c. search needs) (λ c. search needs) (λ c. search needs) returns-3)
+    (tie.spec (λ c. search needs) (λ c. search needs) (λ c. search needs) (λ c κs. search needs) (λ c. search needs) slice-aggregate-serve-rest (λ c. search needs) (λ c. search needs) serve-rest-requires
+    add-count sub-if2 (λ c κs. search needs) (λ c. search needs) returns (λ c κs. search needs) (λ c. search needs) returns-2 (λ c. search needs) slice-aggregate-put-offers (λ c. search needs) (λ c. search needs)
+    put-offers-requires array-share-prefix-places-3 slice-aggregate-hold-again hold-again-requires (λ c. search needs) (λ c. search needs) commit-grants-requires mul-accepted add-accepted cast-accepted
+    cast-accepted-2 (λ c κs. search needs) (λ c. search needs) (λ c. search needs) (λ c. search needs) returns-3)

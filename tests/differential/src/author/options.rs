@@ -8,6 +8,7 @@ use super::{Author, Profile};
 use crate::bytes::{entry, information, option, request, suboption, LONGEST_OPTION};
 use crate::damage::damage_option;
 
+pub const REQUEST_H: u8 = 1;
 pub const REQUEST_I: u8 = 2;
 const INFORMATION_CS: u8 = 3;
 

@@ -6,7 +6,7 @@ use reference::table::{Lease, State, Table, LATEST, LONGEST_TERM};
 use super::{Author, Profile};
 use crate::bytes::{hex, image};
 
-const TEN: u32 = 0x0a00_0000;
+pub(super) const TEN: u32 = 0x0a00_0000;
 
 impl Author {
     pub(super) fn leases(&self) -> Vec<Lease> {

@@ -621,7 +621,7 @@ fn the_sheet_goes_from_call_to_call() {
     for index in 0..256 {
         assert_eq!(desk.ask(1 + index, 1000, &[30]), Ok(1));
     }
-    assert_eq!(desk.ask(7, 1000, &[30]), Err(9));
+    assert_eq!(desk.ask(300, 1000, &[30]), Err(9));
     let told: [(&str, &[u16]); 1] = [("10.0.0.0/30", &[1, 2, 3])];
     assert_eq!(desk.take(1, 1000, &told), Ok(1));
     let told: [(&str, &[u16]); 1] = [("10.0.3.252/30", &[4, 5, 6])];
@@ -633,7 +633,7 @@ fn the_sheet_goes_from_call_to_call() {
     );
     assert!(rows[1..255].iter().all(|row| row.1 == NEVER));
     // The offers end, and new lines take all their places.
-    assert_eq!(desk.ask(9, 1120, &[30; 25]), Ok(25));
+    assert_eq!(desk.ask(300, 1120, &[30; 25]), Ok(25));
     let rows = desk.rows();
     assert_eq!(
         (rows.len(), rows[0].1, rows[26].1),

@@ -2,7 +2,7 @@
 
 use reference::calls::{self, Answer};
 use reference::option::{read220, Suboption};
-use reference::prefix::Prefix;
+use reference::prefix::{prefix, Prefix};
 use reference::refusal::Refusal;
 use reference::table::{Lease, State, Table};
 
@@ -10,6 +10,19 @@ use crate::common::*;
 
 fn addresses<'a>(leases: impl Iterator<Item = &'a Lease>) -> u64 {
     leases.map(|lease| lease.prefix.size()).sum()
+}
+
+/// The prefixes of an ask's reply, in order.
+fn entries_of(reply: &[u8]) -> Vec<Prefix> {
+    let mut prefixes = Vec::new();
+    for suboption in read220(reply).unwrap() {
+        let Suboption::Information(information) = suboption else {
+            panic!("{suboption:?}")
+        };
+        let entries = information.entries.iter();
+        prefixes.extend(entries.map(|entry| prefix(entry.network, entry.prefix)));
+    }
+    prefixes
 }
 
 fn some_prefixes(numbers: &mut Numbers, table: &Table) -> Vec<Prefix> {
@@ -28,7 +41,7 @@ fn some_prefixes(numbers: &mut Numbers, table: &Table) -> Vec<Prefix> {
 #[test]
 fn the_ledger_balances_over_random_histories() {
     let mut numbers = Numbers::new(9);
-    let mut accepted = [0; 5];
+    let (mut accepted, mut re_given) = ([0; 5], 0);
     for _ in 0..30 {
         let texts = [
             &["10.0.0.0/24"][..],
@@ -36,7 +49,7 @@ fn the_ledger_balances_over_random_histories() {
             &["10.0.0.0/8", "0.0.0.0/8", "255.0.0.0/8"],
         ][numbers.below(3)];
         let mut table = open(&pools(texts), 300, 29, 1000).unwrap();
-        // Granted less returned less struck as ended, from open.
+        // Newly made less returned less struck as ended, from open.
         let mut ledger: u64 = 0;
         let mut now = 1000;
         for _ in 0..300 {
@@ -84,17 +97,17 @@ fn the_ledger_balances_over_random_histories() {
                 .iter()
                 .filter(|lease| lease.expires <= now);
             ledger -= addresses(ended);
+            // M-101: "The conservation count speaks of lines newly made."
             if kind == 0 {
-                for suboption in read220(&buffer[..bytes]).unwrap() {
-                    let Suboption::Information(information) = suboption else {
-                        panic!()
-                    };
-                    ledger += information
-                        .entries
-                        .iter()
-                        .map(|entry| 1u64 << (32 - entry.prefix))
-                        .sum::<u64>();
-                }
+                let entries = entries_of(&buffer[..bytes]);
+                let again = |at: &Prefix| {
+                    let present = before.used_leases().iter();
+                    let mut present = present.filter(|lease| lease.expires > now);
+                    present.any(|lease| lease.prefix == *at)
+                };
+                re_given += entries.iter().filter(|at| again(at)).count();
+                let made = entries.into_iter().filter(|at| !again(at));
+                ledger += made.map(Prefix::size).sum::<u64>();
             }
             if kind == 2 {
                 let present = before
@@ -117,6 +130,7 @@ fn the_ledger_balances_over_random_histories() {
         }
     }
     assert!(accepted.iter().all(|count| *count > 200), "{accepted:?}");
+    assert!(re_given > 500, "{re_given}");
 }
 
 #[test]

@@ -1,6 +1,7 @@
 //! Tests of the reference program, one module for each part of document 01, and one for
 //! each request of document 02.
 
+mod again;
 mod common;
 mod console;
 mod examples;

@@ -1,6 +1,7 @@
 //! Demand 3 against a brute-force packing on small pools: if the asks can be packed
 //! at all, all are granted, in any order; one is refused exactly for want of lines or
-//! of a free block.
+//! of a free block. M-101: this "speaks of the rest", and the list is one "whose stations
+//! hold nothing at the start, and where each station's asks come in one message".
 
 use reference::option::{read220, Information, Suboption};
 use reference::prefix::{prefix, Prefix};
@@ -128,7 +129,9 @@ fn random_table(numbers: &mut Numbers) -> Table {
             } else {
                 State::Leased
             };
-            leases.push(lease(at, numbers.between(1, 9) as u32, state, expires));
+            let mut lease = lease(at, numbers.between(1, 9) as u32, state, expires);
+            lease.h = numbers.once_in(2);
+            leases.push(lease);
         }
     }
     if crowded {
@@ -162,8 +165,25 @@ fn empty_lines(table: &Table) -> usize {
             .count()
 }
 
-/// One call of these lengths. Pairs the entries with the asks as document 01 says and
-/// returns which are granted.
+/// The present lines that a station holds.
+fn held_by(table: &Table, client: u32) -> Vec<Lease> {
+    let present = table.present_leases(NOW).into_iter();
+    let held = present.filter(|lease| (lease.client, lease.state) == (client, State::Offered));
+    held.collect()
+}
+
+/// Stations that hold nothing, each once, in any order; some of them have leased lines.
+fn stations(numbers: &mut Numbers, table: &Table) -> Vec<u32> {
+    let all = (1..=9).chain(101..=106);
+    let mut stations: Vec<u32> = all
+        .filter(|client| held_by(table, *client).is_empty())
+        .collect();
+    numbers.shuffle(&mut stations);
+    stations
+}
+
+/// One call of these lengths by a station that holds nothing. Pairs the entries with the
+/// asks as document 01 says and returns which are granted.
 fn granted(table: &mut Table, client: u32, asks: &[(u8, bool)]) -> Vec<bool> {
     let pieces: Vec<Suboption> = asks
         .iter()
@@ -176,6 +196,7 @@ fn granted(table: &mut Table, client: u32, asks: &[(u8, bool)]) -> Vec<bool> {
         })
         .collect();
     let before = table.clone();
+    assert_eq!(held_by(table, client), []);
     let mut granted = vec![false; asks.len()];
     let reply = match ask(table, client, NOW, &option(&pieces)) {
         Ok((count, reply)) => {
@@ -269,7 +290,7 @@ fn whole_free_blocks_are_those_of_the_definition() {
 #[test]
 fn one_ask_is_refused_exactly_for_want_of_lines_or_of_a_free_block() {
     let mut numbers = Numbers::new(6);
-    let (mut nine, mut ten, mut given) = (0, 0, 0);
+    let (mut nine, mut ten, mut given, mut again) = (0, 0, 0, 0);
     for _ in 0..3_000 {
         let mut table = random_table(&mut numbers);
         let before = table.clone();
@@ -278,31 +299,40 @@ fn one_ask_is_refused_exactly_for_want_of_lines_or_of_a_free_block() {
         } else {
             numbers.between(22, 30) as u8
         };
+        // Now and then for what a station has already.
+        let (client, length) = match table.used_leases() {
+            [first, ..] if numbers.once_in(4) => (first.client, first.prefix.length),
+            _ => (5, length),
+        };
         let meant = if length == 0 { 28 } else { length };
         let (lines, ground) = (empty_lines(&table), free_blocks(&table, meant));
-        match ask(&mut table, 5, NOW, &asking(&[length])) {
-            Ok((1, reply)) => {
-                given += 1;
-                let network = u32::from_be_bytes([reply[6], reply[7], reply[8], reply[9]]);
-                assert!(lines > 0 && ground.contains(&prefix(network, meant)));
-            }
-            Ok(other) => panic!("{other:?}"),
-            Err(refusal) => {
-                let number = if lines == 0 { 9 } else { 10 };
-                assert!(lines == 0 || ground.is_empty());
-                assert_eq!(refusal, no(number, 0));
-                assert_eq!(table, before);
-                if number == 9 {
-                    nine += 1;
-                } else {
-                    ten += 1;
-                }
-            }
+        let held = held_by(&table, client).into_iter();
+        let held = held.filter(|lease| lease.prefix.length == meant && !lease.h);
+        let held = held.min_by_key(|lease| lease.prefix.network);
+        let answer = ask(&mut table, client, NOW, &asking(&[length]));
+        let Ok((count, reply)) = answer else {
+            let number = if lines == 0 { 9 } else { 10 };
+            assert!(held.is_none() && (lines == 0 || ground.is_empty()));
+            assert_eq!(answer, Err(no(number, 0)));
+            assert_eq!(table, before);
+            *(if number == 9 { &mut nine } else { &mut ten }) += 1;
+            continue;
+        };
+        assert_eq!(count, 1);
+        let network = u32::from_be_bytes([reply[6], reply[7], reply[8], reply[9]]);
+        // "Demand 3's first sentence now speaks of the rest": a held line is given again,
+        // whatever lines and ground there are.
+        if let Some(held) = held {
+            again += 1;
+            assert_eq!(held.prefix, prefix(network, meant));
+        } else {
+            given += 1;
+            assert!(lines > 0 && ground.contains(&prefix(network, meant)));
         }
     }
     assert!(
-        nine > 50 && ten > 300 && given > 1_000,
-        "{nine} {ten} {given}"
+        nine > 50 && ten > 300 && given > 1_000 && again > 50,
+        "{nine} {ten} {given} {again}"
     );
 }
 
@@ -338,21 +368,24 @@ fn packable_asks_are_all_granted_in_any_order() {
             let mut book = table.clone();
             let mut every = true;
             let mut rest = &asks[..];
-            while !rest.is_empty() {
+            for client in stations(&mut numbers, &table) {
+                if rest.is_empty() {
+                    break;
+                }
                 // A call with some of them; malformed calls between do no harm.
                 let (call, after) = rest.split_at(numbers.between(1, rest.len()));
                 rest = after;
-                let client = numbers.between(1, 9) as u32;
                 every &= granted(&mut book, client, call)
                     .iter()
                     .all(|granted| *granted);
                 if numbers.once_in(4) {
                     let kept = book.clone();
                     assert!(ask(&mut book, 0, NOW, &asking(&[30])).is_err());
-                    assert!(ask(&mut book, 1, NOW, &asking(&[30; 26])).is_err());
+                    assert!(ask(&mut book, client, NOW, &asking(&[30; 26])).is_err());
                     assert_eq!(book, kept);
                 }
             }
+            assert!(rest.is_empty());
             assert_eq!(every, premise, "{asks:?}");
         }
     }
@@ -368,9 +401,9 @@ fn every_order_of_five_asks() {
         let premise = asks.len() <= empty_lines(&table) && can_pack(&table, &asks);
         every_order(&mut asks, 0, &mut |order| {
             let mut book = table.clone();
-            let served = order
-                .iter()
-                .filter(|length| ask(&mut book, 3, NOW, &asking(&[**length])).is_ok());
+            let served = (101..).zip(order).filter(|(client, length)| {
+                ask(&mut book, *client, NOW, &asking(&[**length])).is_ok()
+            });
             assert_eq!(served.count() == 5, premise);
         });
     }
@@ -385,6 +418,35 @@ fn every_order(items: &mut [u8], from: usize, check: &mut dyn FnMut(&[u8])) {
         every_order(items, from + 1, check);
         items.swap(from, index);
     }
+}
+
+/// Each of these calls is one ask, and all are granted; how many lines were newly made.
+fn made_by(table: &mut Table, asks: &[(u32, u8)]) -> usize {
+    let before = table.used_leases().len();
+    for (client, length) in asks {
+        assert_eq!(ask(table, *client, NOW, &asking(&[*length])).unwrap().0, 1);
+    }
+    table.used_leases().len() - before
+}
+
+#[test]
+fn the_list_needs_both_of_its_premises() {
+    // Two asks that can be packed, of two stations that hold nothing: a line for each.
+    let fresh = table_with(&["10.0.0.0/26"], NOW, &[]);
+    assert!(can_pack(&fresh, &[27, 27]));
+    assert_eq!(made_by(&mut fresh.clone(), &[(7, 27), (8, 27)]), 2);
+    // Leased lines do no harm.
+    let leased = [lease(p("10.0.0.0/28"), 7, State::Leased, u32::MAX)];
+    let with_leased = table_with(&["10.0.0.0/26"], NOW, &leased);
+    assert_eq!(made_by(&mut with_leased.clone(), &[(7, 28), (8, 28)]), 2);
+    // A station's asks in two messages: the second gets the line of the first.
+    assert_eq!(made_by(&mut fresh.clone(), &[(7, 27), (7, 27)]), 1);
+    // A station that holds: what can be packed makes no line, what can't is granted.
+    let held = [lease(p("10.0.0.0/27"), 7, State::Offered, u32::MAX)];
+    let mut held = table_with(&["10.0.0.0/26"], NOW, &held);
+    assert!(can_pack(&held, &[27]) && !can_pack(&held, &[27, 27]));
+    assert_eq!(made_by(&mut held.clone(), &[(7, 27)]), 0);
+    assert_eq!(made_by(&mut held, &[(8, 27), (7, 27)]), 1);
 }
 
 #[test]

@@ -10,12 +10,12 @@ use reference::table::{State, Table};
 use crate::{asking, combinations, entries, hex, image, option_for, Script};
 
 /// The rows as they now are.
-fn rows(script: &Script) -> Vec<Row> {
+pub fn rows(script: &Script) -> Vec<Row> {
     rows_of(&script.console.figures).unwrap_or_default()
 }
 
 /// The line that makes these the rows.
-fn line_of(rows: &[Row]) -> String {
+pub fn line_of(rows: &[Row]) -> String {
     let mut sheet = vec![0; SHEET];
     put_rows(rows, &mut sheet);
     format!("figures {}", hex(&sheet))
@@ -256,6 +256,20 @@ fn told(at: Prefix, place: usize) -> Row {
     }
 }
 
+/// The rows with figures that tell their places, empty lines' rows as they are.
+pub fn with_places(rows: &[Row]) -> Vec<Row> {
+    let empty = Row::untold(Prefix::default());
+    let rows = rows.iter().enumerate();
+    rows.map(|(place, row)| {
+        if *row == empty {
+            empty
+        } else {
+            told(row.prefix, place)
+        }
+    })
+    .collect()
+}
+
 /// 256 leases and their figures: rows move up and down at every place.
 pub fn full() -> String {
     let mut script = Script::new(
@@ -270,12 +284,7 @@ pub fn full() -> String {
         "load {}",
         image(&table(&[prefix(TEN, 21)], 1000, leases))
     ));
-    let with_places: Vec<Row> = rows(&script)
-        .iter()
-        .enumerate()
-        .map(|(place, row)| told(row.prefix, place))
-        .collect();
-    script.say(&line_of(&with_places));
+    script.say(&line_of(&with_places(&rows(&script))));
     script.say("figures");
     script.remark("Full: 9, and the sheet stays.");
     script.say(&format!("ask 8 1499 {}", asking(&[30; 25])));
@@ -284,7 +293,7 @@ pub fn full() -> String {
     script.say(&format!("ask 8 1500 {}", asking(&[30; 25])));
     script.say("figures");
     script.remark("Ground before, between and after the others, and the last of the ended.");
-    script.say(&format!("ask 8 1501 {}", asking(&[29, 26, 30, 22, 30])));
+    script.say(&format!("ask 9 1501 {}", asking(&[29, 26, 30, 22, 30])));
     script.say("figures");
     script.remark("The first line, the last and one between are returned.");
     let used = script.console.table.used_leases().to_vec();

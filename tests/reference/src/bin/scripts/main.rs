@@ -2,6 +2,7 @@
 //! script there: `cargo run --release --bin scripts -- FOLDER`. The other scripts are
 //! left as they are.
 
+mod again;
 mod figures;
 mod writing;
 
@@ -55,6 +56,8 @@ fn main() -> io::Result<()> {
         ("figures-full-256-leases", figures::full()),
         ("random-calls-figures", figures::random_calls()),
         ("console-figures", figures::console()),
+        ("again-full-256-leases", again::full()),
+        ("random-calls-again", again::random_calls()),
         ("rfc6656-options-written", writing::rfc6656_options(&fs::read_to_string(folder.join("rfc6656.options"))?)),
         ("write-lengths", writing::lengths()),
         ("write-buffer", writing::buffers()),
@@ -234,7 +237,12 @@ fn table_full_at_256() -> String {
     );
     script.say("open 3600 30 1000 10.0.0.0/16");
     for call in 0..10 {
-        script.say(&format!("ask 7 {} {}", 1000 + call, asking(&[30; 25])));
+        script.say(&format!(
+            "ask {} {} {}",
+            11 + call,
+            1000 + call,
+            asking(&[30; 25])
+        ));
     }
     script.remark("250 now; ten more asks, six are granted.");
     script.say(&format!("ask 8 1010 {}", asking(&[29; 10])));
@@ -262,7 +270,7 @@ fn table_full_at_256() -> String {
         "A lease returned makes an empty line, and its ground is ordinary ground again at once.",
     );
     script.say(&format!(
-        "return 7 1120 {}",
+        "return 13 1120 {}",
         entries(&[prefix(TEN + 4 * 60, 30), prefix(TEN + 4 * 61, 30)])
     ));
     script.say(&format!("ask 7 1120 {}", asking(&[29, 30, 30])));
@@ -295,13 +303,16 @@ fn pools_at_both_ends() -> String {
     ] {
         script.say(&format!("open 3600 30 0 {pools}"));
         script.say("sheet");
-        for length in [8, 9, 29, 30, 24, 25, 30, 30, 30, 8, 0] {
-            script.say(&format!("ask 4294967295 0 {}", asking(&[length])));
+        let lengths = [8, 9, 29, 30, 24, 25, 30, 30, 30, 8, 0];
+        script.say(&format!("ask 4294967295 0 {}", asking(&lengths)));
+        for length in [8, 30] {
+            script.say(&format!("ask 1 0 {}", asking(&[length])));
         }
         script.say("sheet");
         script.say("save");
         let leases = script.console.table.used_leases().to_vec();
-        let prefixes: Vec<Prefix> = leases.iter().map(|lease| lease.prefix).collect();
+        let own = leases.iter().filter(|lease| lease.client == u32::MAX);
+        let prefixes: Vec<Prefix> = own.map(|lease| lease.prefix).collect();
         script.say(&format!("take 4294967295 119 {}", entries(&prefixes)));
         script.say("list 4294967295 119 dc050001020200");
         script.remark("Position 0.0.0.0 passes over a lease at 0.0.0.0, no position does not.");
@@ -437,6 +448,14 @@ fn numbers_ask() -> String {
         ))
     ));
     combinations(&mut script, &options, 9, &call);
+    script.remark("The same, but the client holds a line of that length: it is given again.");
+    let mut held = row_of_leases(256, 7, u32::MAX);
+    held[200].state = State::Offered;
+    script.say(&format!(
+        "load {}",
+        image(&table(&[prefix(TEN, 22)], 1000, held))
+    ));
+    combinations(&mut script, &options, 0, &call);
     script.text
 }
 
@@ -920,12 +939,13 @@ fn sheet_over_long() -> String {
 
 // Random calls.
 
-/// A crowded table has long asks and little time between the calls, so that it is
-/// full at times.
+/// A crowded table has long asks of many clients and little time between the calls, so
+/// that it is full at times.
 fn random_calls(start: u64, pools: &str, shortest: usize, crowded: bool) -> String {
     let mut numbers = Numbers::new(start);
     let mut script = Script::new(&format!("Random calls on {pools}"));
     let (calls, between_saves) = if crowded { (400, 50) } else { (500, 25) };
+    let clients = if crowded { 60 } else { 6 };
     script.say(&format!(
         "open 600 {} 1000 {pools}",
         numbers.between(shortest, 30)
@@ -952,7 +972,7 @@ fn random_calls(start: u64, pools: &str, shortest: usize, crowded: bool) -> Stri
             .map(|lease| lease.client);
         let client = match owner {
             Some(owner) if !numbers.once_in(5) => owner,
-            _ => numbers.between(1, 6) as u32,
+            _ => numbers.between(1, clients) as u32,
         };
         if numbers.once_in(2) {
             named.retain(|at| {
@@ -982,7 +1002,7 @@ fn random_calls(start: u64, pools: &str, shortest: usize, crowded: bool) -> Stri
                     .collect();
                 script.say(&format!(
                     "ask {} {time} {}",
-                    numbers.between(1, 6),
+                    numbers.between(1, clients),
                     hex(&option(&list))
                 ));
             }

@@ -1,8 +1,8 @@
 -- `ask_length` meets its contract.
 -- Assumes nothing.
 use borrow.Author.Tests.{eq-eqb, ne-eqb}
-use Rattle.ask_serve.proofs.ask_length.Statement.{statement}
-use Rattle.ask_serve.proofs.ask_length.Tie as tie
+use Rattle.ask_again.proofs.ask_length.Statement.{statement}
+use Rattle.ask_again.proofs.ask_length.Tie as tie
 
 returns : tie.Need-returns
 returns c = simp (eq-eqb _ _ (c .if1 .taken))
