@@ -1,10 +1,10 @@
 /*
  * Flockdrift: leases of subnets over DHCP option 220 (RFC 6656), embedded in a server.
  *
- * The server holds the lease table as a book: its image, at the front of a buffer, the image's length, and the figures
- * sheet with what clients told of the use of their leases. They are lent to each call: one that accepts leaves the new
- * ones in them, one that refuses has changed none. The image is also the saved form, which the server writes to a file
- * and loads from it; figures are not saved.
+ * The server holds the lease table as a book: its image, at the front of a buffer, the image's length, the figures
+ * sheet with what clients told of the use of their leases, and the counts of what is left. They are lent to each call:
+ * one that accepts leaves the new ones in them, one that refuses has changed none. The image is also the saved form,
+ * which the server writes to a file and loads from it; figures and counts are not saved.
  *
  *     static struct flockdrift_book book;            all zeros: no table yet, open or load makes one
  *     struct flockdrift_answer a = flockdrift_book_load(&book, saved, saved_bytes);
@@ -20,12 +20,12 @@
  * a caller:
  *
  * - A pointer points to as many elements as the size after it says (`networks` to n, `lengths` to m); where the size is
- *   0 it may be null. Where `image_bytes` is a pointer it is never null, nor is a book. What a call writes overlaps no
- *   other argument.
+ *   0 it may be null. `counts` has no size: it points to all 184 counts. Where `image_bytes` is a pointer it is never
+ *   null, nor are counts or a book. What a call writes overlaps no other argument.
  * - Nothing is kept between two calls: no pointer, no allocation, no global. Any number of threads may call at once,
  *   each with buffers of its own; two calls on one book need a lock around them, unless both only read it (list, save,
- *   sheet, check, head, pool, lease, figures). A call takes up to 6 KiB of stack (measured on x86-64; a proof says
- *   nothing of the stack).
+ *   sheet, check, whole, head, pool, lease, figures). A call takes up to 6 KiB of stack (measured on x86-64; a proof
+ *   says nothing of the stack).
  *
  * Networks are IPv4 addresses as numbers, 10.0.1.0 being 0x0a000100, and lengths are prefix lengths. Times are seconds
  * of the server's clock, which does not run backwards. A client is a number that the server gives it, not 0. Options
@@ -60,6 +60,16 @@
  * its row is removed, whether it ended or was released; a take files the figures of the entries that it finds, in
  * order, where 0xffff or a missing one keeps what was told before; nothing else changes a figure.
  * flockdrift_book_figures answers a row as numbers.
+ *
+ * THE COUNTS say how much is left: 8 rows of 23 numbers, a row for each place of a pool, in the pools' order, and in it
+ * one number for each length from 8 to 30: how many whole free prefixes of that length the pool has. A free prefix is
+ * whole if the prefix of twice its size around it is not free, or not in the pool: every free address is in exactly
+ * one. A lease that stands in the table is not free, whether it has ended or not. The rows of places without a pool are
+ * all 0. The numbers are 16 bits in the machine's own order; they are not saved.
+ *
+ * Counts that are not the table's make a book unsound: every call but open and load, which work them out, finds that
+ * out and refuses with 5. A call that accepts leaves the counts of the table as it then is. flockdrift_whole answers
+ * the sum over the pools for a length.
  */
 #ifndef FLOCKDRIFT_H
 #define FLOCKDRIFT_H
@@ -72,7 +82,7 @@ extern "C" {
 #endif
 
 /* Of this header and of the library that belongs to it. */
-#define FLOCKDRIFT_VERSION "0.11.0"
+#define FLOCKDRIFT_VERSION "0.12.0"
 
 /*
  * The image of a full table: 8 pools and 256 leases. No image is longer, and an image buffer must not be smaller. After
@@ -85,6 +95,10 @@ extern "C" {
 #define FLOCKDRIFT_FIGURES_ROW 11
 #define FLOCKDRIFT_FIGURES_CAPACITY 2816
 
+/* The counts: a row for each of so many pools, of so many lengths, the first of which is 8. */
+#define FLOCKDRIFT_COUNTS_ROWS 8
+#define FLOCKDRIFT_COUNTS_LENGTHS 23
+
 /* What the smallest reply buffer has. No reply is longer. */
 #define FLOCKDRIFT_REPLY_CAPACITY 257
 
@@ -96,13 +110,14 @@ extern "C" {
 
 /*
  * The answer of every call. After a refusal all but `number` and `place` are 0, and nothing that was lent has changed:
- * no byte of image, figures, reply, buffer or text, and not the image's length.
+ * no byte of image, figures, reply, buffer or text, no count, and not the image's length.
  */
 struct flockdrift_answer {
     uint32_t number; /* 0: accepted; otherwise why not, see below */
     uint32_t place;  /* of FLOCKDRIFT_BAD_SUBOPTION: where in the option it begins, the code byte being at 0 */
     uint32_t bytes;  /* how many bytes of reply, buffer or text were written; those after them are as they were */
-    uint32_t count;  /* ask, take, list: entries in the reply; release: leases removed by the option's entries */
+    uint32_t count;  /* ask, take, list: entries in the reply; release: leases removed by the option's entries; whole:
+                        whole free prefixes of the length */
 };
 
 /*
@@ -116,7 +131,8 @@ enum {
     FLOCKDRIFT_TOO_EARLY = 3,         /* now is before the time of the last accepted call that changed the table */
     FLOCKDRIFT_TOO_LATE = 4,          /* now is above 4,292,375,295 */
     FLOCKDRIFT_NOT_AN_IMAGE = 5,      /* the bytes are not the image of a table, whole and sound; or their buffer is
-                                         below FLOCKDRIFT_IMAGE_CAPACITY or below image_bytes */
+                                         below FLOCKDRIFT_IMAGE_CAPACITY or below image_bytes; or, where counts are
+                                         lent to be read, one of them is not the table's */
     FLOCKDRIFT_NOT_THE_OPTION = 6,    /* the input is not exactly one option 220; read_selection: one option 118 */
     FLOCKDRIFT_BAD_SUBOPTION = 7,     /* a suboption breaks the format: `place` says which */
     FLOCKDRIFT_WRONG_SUBOPTIONS = 8,  /* requests or entries are not those that this call takes */
@@ -140,7 +156,7 @@ static inline const char *flockdrift_text(uint32_t number)
     case FLOCKDRIFT_NO_CLIENT: return "there is no client 0";
     case FLOCKDRIFT_TOO_EARLY: return "the time is before the last time of the table";
     case FLOCKDRIFT_TOO_LATE: return "the time is too late";
-    case FLOCKDRIFT_NOT_AN_IMAGE: return "not the image of a sound table";
+    case FLOCKDRIFT_NOT_AN_IMAGE: return "not the image of a sound table, or not its counts";
     case FLOCKDRIFT_NOT_THE_OPTION: return "not exactly the option";
     case FLOCKDRIFT_BAD_SUBOPTION: return "a bad suboption";
     case FLOCKDRIFT_WRONG_SUBOPTIONS: return "the suboptions are not those that the call takes";
@@ -154,16 +170,19 @@ static inline const char *flockdrift_text(uint32_t number)
     }
 }
 
-/* THE CALLS. Those that change the table are lent the figures sheet with it; the others do not look at it. */
+/*
+ * THE CALLS. Those that change the table are lent the figures sheet with it; the others do not look at it. All but
+ * sheet, which is for saved bytes, are lent the counts.
+ */
 
 /*
- * Makes the image of a table without leases, and its figures sheet, whatever both held before. There are 1 to 8 pools,
- * in any order: networks[i] with lengths[i], n and m being equal; each of length 8 to 30, aligned to its size, none
- * overlapping another. A lease is for `term` seconds, 60 to 2,592,000; a request that suggests no length asks for
- * `default_length`, 1 to 30; `start` is the time, at most 4,292,375,295. Numbers: 12, 14.
+ * Makes the image of a table without leases, its figures sheet and its counts, whatever they held before. There are 1
+ * to 8 pools, in any order: networks[i] with lengths[i], n and m being equal; each of length 8 to 30, aligned to its
+ * size, none overlapping another. A lease is for `term` seconds, 60 to 2,592,000; a request that suggests no length
+ * asks for `default_length`, 1 to 30; `start` is the time, at most 4,292,375,295. Numbers: 12, 14.
  */
 struct flockdrift_answer flockdrift_open(uint8_t *image, size_t capacity, size_t *image_bytes, uint8_t *figures,
-                                         size_t figures_capacity, const uint32_t *networks, size_t n,
+                                         size_t figures_capacity, uint16_t *counts, const uint32_t *networks, size_t n,
                                          const uint8_t *lengths, size_t m, uint32_t term, uint32_t default_length,
                                          uint32_t start);
 
@@ -178,8 +197,9 @@ struct flockdrift_answer flockdrift_open(uint8_t *image, size_t capacity, size_t
  * client whose answer was lost, and who asks again, gets the same prefixes. Numbers: 1, 5, 15, 2, 3, 4, 6, 7, 8, 9, 10.
  */
 struct flockdrift_answer flockdrift_ask(uint8_t *image, size_t capacity, size_t *image_bytes, uint8_t *figures,
-                                        size_t figures_capacity, uint32_t client, uint32_t now, const uint8_t *option,
-                                        size_t option_bytes, uint8_t *reply, size_t reply_capacity);
+                                        size_t figures_capacity, uint16_t *counts, uint32_t client, uint32_t now,
+                                        const uint8_t *option, size_t option_bytes, uint8_t *reply,
+                                        size_t reply_capacity);
 
 /*
  * Confirms or renews, for the table's term, the client's leases that the option's entries name, and files the figures
@@ -187,21 +207,22 @@ struct flockdrift_answer flockdrift_ask(uint8_t *image, size_t capacity, size_t 
  * Numbers: 1, 5, 15, 2, 3, 4, 6, 7, 8, 11.
  */
 struct flockdrift_answer flockdrift_take(uint8_t *image, size_t capacity, size_t *image_bytes, uint8_t *figures,
-                                         size_t figures_capacity, uint32_t client, uint32_t now, const uint8_t *option,
-                                         size_t option_bytes, uint8_t *reply, size_t reply_capacity);
+                                         size_t figures_capacity, uint16_t *counts, uint32_t client, uint32_t now,
+                                         const uint8_t *option, size_t option_bytes, uint8_t *reply,
+                                         size_t reply_capacity);
 
 /*
  * Lists the client's leases, ascending, at most 35 in a reply; whose s bit says that more remain, and an option with
  * that reply's information then gets the next ones. Every request of the option has its i bit set. Changes nothing.
  * Numbers: 1, 5, 2, 3, 4, 6, 7, 8, 11.
  */
-struct flockdrift_answer flockdrift_list(const uint8_t *image, size_t capacity, size_t image_bytes, uint32_t client,
-                                         uint32_t now, const uint8_t *option, size_t option_bytes, uint8_t *reply,
-                                         size_t reply_capacity);
+struct flockdrift_answer flockdrift_list(const uint8_t *image, size_t capacity, size_t image_bytes,
+                                         const uint16_t *counts, uint32_t client, uint32_t now, const uint8_t *option,
+                                         size_t option_bytes, uint8_t *reply, size_t reply_capacity);
 
 /* Removes the client's leases that the option's entries name. Numbers: 5, 15, 2, 3, 4, 6, 7, 8, 11. */
 struct flockdrift_answer flockdrift_release(uint8_t *image, size_t capacity, size_t *image_bytes, uint8_t *figures,
-                                            size_t figures_capacity, uint32_t client, uint32_t now,
+                                            size_t figures_capacity, uint16_t *counts, uint32_t client, uint32_t now,
                                             const uint8_t *option, size_t option_bytes);
 
 /*
@@ -209,30 +230,31 @@ struct flockdrift_answer flockdrift_release(uint8_t *image, size_t capacity, siz
  * it from its next take or list. Numbers: 5, 15, 3, 4, 11.
  */
 struct flockdrift_answer flockdrift_mark(uint8_t *image, size_t capacity, size_t *image_bytes, uint8_t *figures,
-                                         size_t figures_capacity, uint32_t network, uint32_t length,
+                                         size_t figures_capacity, uint16_t *counts, uint32_t network, uint32_t length,
                                          uint32_t deprecated, uint32_t now);
 
 /*
- * Makes saved bytes the table's image, and makes its figures sheet, nothing told, whatever both held before. They must
- * be an image exactly, with nothing missing and nothing after it; but an image has no checksum, so bytes that were
- * changed may be the image of another table: keep a checksum beside a file that may be. Numbers, 5 being for the saved
- * bytes: 5, 14.
+ * Makes saved bytes the table's image, makes its figures sheet, nothing told, and works out its counts, whatever these
+ * held before. They must be an image exactly, with nothing missing and nothing after it; but an image has no checksum,
+ * so bytes that were changed may be the image of another table: keep a checksum beside a file that may be. Numbers, 5
+ * being for the saved bytes: 5, 14.
  */
 struct flockdrift_answer flockdrift_load(uint8_t *image, size_t capacity, size_t *image_bytes, uint8_t *figures,
-                                         size_t figures_capacity, const uint8_t *saved, size_t saved_bytes);
+                                         size_t figures_capacity, uint16_t *counts, const uint8_t *saved,
+                                         size_t saved_bytes);
 
 /*
  * Checks the image and copies it into a buffer, from which it can be written while other calls go on. Changes nothing
  * else. Numbers: 5, 14.
  */
-struct flockdrift_answer flockdrift_save(const uint8_t *image, size_t capacity, size_t image_bytes, uint8_t *buffer,
-                                         size_t buffer_capacity);
+struct flockdrift_answer flockdrift_save(const uint8_t *image, size_t capacity, size_t image_bytes,
+                                         const uint16_t *counts, uint8_t *buffer, size_t buffer_capacity);
 
 /*
  * Writes the table as text for an operator: a line `sheet lines=LEASES free=ROWS`, then a line for each lease and each
  * free prefix, ascending, each ended by a newline, with no 0 after the last. The image may stand anywhere: it needs no
- * room after it. Changes nothing else, and refuses with 5 exactly what is no image, so that it also tells whether a
- * file is one. Numbers: 5, 14.
+ * room after it. Saved bytes have no counts, so it takes none. Changes nothing else, and refuses with 5 exactly what is
+ * no image, so that it also tells whether a file is one. Numbers: 5, 14.
  */
 struct flockdrift_answer flockdrift_sheet(const uint8_t *image, size_t image_bytes, char *text, size_t text_capacity);
 
@@ -242,8 +264,16 @@ struct flockdrift_answer flockdrift_sheet(const uint8_t *image, size_t image_byt
  * after a refusal.
  */
 
-/* Whether what is lent is a sound book: what every call but open and load finds out first. Numbers: 5. */
-struct flockdrift_answer flockdrift_check(const uint8_t *image, size_t capacity, size_t image_bytes);
+/* Whether what is lent is a sound book with its counts: what every call but open and load finds out first. Numbers: 5. */
+struct flockdrift_answer flockdrift_check(const uint8_t *image, size_t capacity, size_t image_bytes,
+                                          const uint16_t *counts);
+
+/*
+ * How much is left: the count of the answer is that of the whole free prefixes of this length, summed over the pools,
+ * of the table as it stands, with leases that have ended; 0 for every length outside 8 to 30. Numbers: 5.
+ */
+struct flockdrift_answer flockdrift_whole(const uint8_t *image, size_t capacity, size_t image_bytes,
+                                          const uint16_t *counts, uint32_t length);
 
 struct flockdrift_head_answer {
     uint32_t number;
@@ -255,7 +285,8 @@ struct flockdrift_head_answer {
 };
 
 /* The head of the table, and how many pools and leases it has. Numbers: 5. */
-struct flockdrift_head_answer flockdrift_head(const uint8_t *image, size_t capacity, size_t image_bytes);
+struct flockdrift_head_answer flockdrift_head(const uint8_t *image, size_t capacity, size_t image_bytes,
+                                              const uint16_t *counts);
 
 struct flockdrift_pool_answer {
     uint32_t number;
@@ -264,7 +295,8 @@ struct flockdrift_pool_answer {
 };
 
 /* The pool with this index, which counts from 0; they ascend by network. Numbers: 5, 11. */
-struct flockdrift_pool_answer flockdrift_pool(const uint8_t *image, size_t capacity, size_t image_bytes, size_t index);
+struct flockdrift_pool_answer flockdrift_pool(const uint8_t *image, size_t capacity, size_t image_bytes,
+                                              const uint16_t *counts, size_t index);
 
 enum {
     FLOCKDRIFT_HELD = 1,  /* offered, until it is taken or 120 seconds have passed since it was offered last */
@@ -284,7 +316,7 @@ struct flockdrift_lease_answer {
 
 /* The lease with this index, which counts from 0; they ascend by network. Numbers: 5, 11. */
 struct flockdrift_lease_answer flockdrift_lease(const uint8_t *image, size_t capacity, size_t image_bytes,
-                                                size_t index);
+                                                const uint16_t *counts, size_t index);
 
 /* OPTIONS, with no book. */
 
@@ -310,92 +342,100 @@ struct flockdrift_book {
     size_t bytes; /* the image's length */
     uint8_t image[FLOCKDRIFT_IMAGE_CAPACITY];
     uint8_t figures[FLOCKDRIFT_FIGURES_CAPACITY];
+    uint16_t counts[FLOCKDRIFT_COUNTS_ROWS][FLOCKDRIFT_COUNTS_LENGTHS];
 };
 
 static inline struct flockdrift_answer flockdrift_book_open(struct flockdrift_book *book, const uint32_t *networks,
                                                             size_t n, const uint8_t *lengths, size_t m, uint32_t term,
                                                             uint32_t default_length, uint32_t start)
 {
-    return flockdrift_open(book->image, sizeof book->image, &book->bytes, book->figures, sizeof book->figures, networks,
-                           n, lengths, m, term, default_length, start);
+    return flockdrift_open(book->image, sizeof book->image, &book->bytes, book->figures, sizeof book->figures,
+                           book->counts[0], networks, n, lengths, m, term, default_length, start);
 }
 
 static inline struct flockdrift_answer flockdrift_book_ask(struct flockdrift_book *book, uint32_t client, uint32_t now,
                                                            const uint8_t *option, size_t option_bytes, uint8_t *reply,
                                                            size_t reply_capacity)
 {
-    return flockdrift_ask(book->image, sizeof book->image, &book->bytes, book->figures, sizeof book->figures, client,
-                          now, option, option_bytes, reply, reply_capacity);
+    return flockdrift_ask(book->image, sizeof book->image, &book->bytes, book->figures, sizeof book->figures,
+                          book->counts[0], client, now, option, option_bytes, reply, reply_capacity);
 }
 
 static inline struct flockdrift_answer flockdrift_book_take(struct flockdrift_book *book, uint32_t client, uint32_t now,
                                                             const uint8_t *option, size_t option_bytes, uint8_t *reply,
                                                             size_t reply_capacity)
 {
-    return flockdrift_take(book->image, sizeof book->image, &book->bytes, book->figures, sizeof book->figures, client,
-                           now, option, option_bytes, reply, reply_capacity);
+    return flockdrift_take(book->image, sizeof book->image, &book->bytes, book->figures, sizeof book->figures,
+                           book->counts[0], client, now, option, option_bytes, reply, reply_capacity);
 }
 
 static inline struct flockdrift_answer flockdrift_book_list(const struct flockdrift_book *book, uint32_t client,
                                                             uint32_t now, const uint8_t *option, size_t option_bytes,
                                                             uint8_t *reply, size_t reply_capacity)
 {
-    return flockdrift_list(book->image, sizeof book->image, book->bytes, client, now, option, option_bytes, reply,
-                           reply_capacity);
+    return flockdrift_list(book->image, sizeof book->image, book->bytes, book->counts[0], client, now, option,
+                           option_bytes, reply, reply_capacity);
 }
 
 static inline struct flockdrift_answer flockdrift_book_release(struct flockdrift_book *book, uint32_t client,
                                                                uint32_t now, const uint8_t *option, size_t option_bytes)
 {
     return flockdrift_release(book->image, sizeof book->image, &book->bytes, book->figures, sizeof book->figures,
-                              client, now, option, option_bytes);
+                              book->counts[0], client, now, option, option_bytes);
 }
 
 static inline struct flockdrift_answer flockdrift_book_mark(struct flockdrift_book *book, uint32_t network,
                                                             uint32_t length, uint32_t deprecated, uint32_t now)
 {
-    return flockdrift_mark(book->image, sizeof book->image, &book->bytes, book->figures, sizeof book->figures, network,
-                           length, deprecated, now);
+    return flockdrift_mark(book->image, sizeof book->image, &book->bytes, book->figures, sizeof book->figures,
+                           book->counts[0], network, length, deprecated, now);
 }
 
 static inline struct flockdrift_answer flockdrift_book_load(struct flockdrift_book *book, const uint8_t *saved,
                                                             size_t saved_bytes)
 {
-    return flockdrift_load(book->image, sizeof book->image, &book->bytes, book->figures, sizeof book->figures, saved,
-                           saved_bytes);
+    return flockdrift_load(book->image, sizeof book->image, &book->bytes, book->figures, sizeof book->figures,
+                           book->counts[0], saved, saved_bytes);
 }
 
 static inline struct flockdrift_answer flockdrift_book_save(const struct flockdrift_book *book, uint8_t *buffer,
                                                             size_t buffer_capacity)
 {
-    return flockdrift_save(book->image, sizeof book->image, book->bytes, buffer, buffer_capacity);
-}
-
-/* A length that is past the buffer is no image's: none of it is read. */
-static inline struct flockdrift_answer flockdrift_book_sheet(const struct flockdrift_book *book, char *text,
-                                                             size_t text_capacity)
-{
-    return flockdrift_sheet(book->image, book->bytes <= sizeof book->image ? book->bytes : 0, text, text_capacity);
+    return flockdrift_save(book->image, sizeof book->image, book->bytes, book->counts[0], buffer, buffer_capacity);
 }
 
 static inline struct flockdrift_answer flockdrift_book_check(const struct flockdrift_book *book)
 {
-    return flockdrift_check(book->image, sizeof book->image, book->bytes);
+    return flockdrift_check(book->image, sizeof book->image, book->bytes, book->counts[0]);
+}
+
+/* The sheet takes saved bytes; of a book whose counts are not its own there is none. */
+static inline struct flockdrift_answer flockdrift_book_sheet(const struct flockdrift_book *book, char *text,
+                                                             size_t text_capacity)
+{
+    struct flockdrift_answer a = flockdrift_book_check(book);
+
+    return a.number != 0 ? a : flockdrift_sheet(book->image, book->bytes, text, text_capacity);
+}
+
+static inline struct flockdrift_answer flockdrift_book_whole(const struct flockdrift_book *book, uint32_t length)
+{
+    return flockdrift_whole(book->image, sizeof book->image, book->bytes, book->counts[0], length);
 }
 
 static inline struct flockdrift_head_answer flockdrift_book_head(const struct flockdrift_book *book)
 {
-    return flockdrift_head(book->image, sizeof book->image, book->bytes);
+    return flockdrift_head(book->image, sizeof book->image, book->bytes, book->counts[0]);
 }
 
 static inline struct flockdrift_pool_answer flockdrift_book_pool(const struct flockdrift_book *book, size_t index)
 {
-    return flockdrift_pool(book->image, sizeof book->image, book->bytes, index);
+    return flockdrift_pool(book->image, sizeof book->image, book->bytes, book->counts[0], index);
 }
 
 static inline struct flockdrift_lease_answer flockdrift_book_lease(const struct flockdrift_book *book, size_t index)
 {
-    return flockdrift_lease(book->image, sizeof book->image, book->bytes, index);
+    return flockdrift_lease(book->image, sizeof book->image, book->bytes, book->counts[0], index);
 }
 
 /* A figure that no client told. */

@@ -5,6 +5,10 @@
 pub const IMAGE_CAPACITY: usize = 4949;
 /// A figures sheet has exactly this size.
 pub const FIGURES_CAPACITY: usize = 2816;
+/// The counts have a row for each of so many pools.
+pub const COUNTS_ROWS: usize = 8;
+/// A row of the counts has so many lengths, from 8 on.
+pub const COUNTS_LENGTHS: usize = 23;
 /// What the smallest reply buffer has.
 pub const REPLY_CAPACITY: usize = 257;
 /// An option 118 has this size.
@@ -72,6 +76,7 @@ unsafe extern "C" {
         image_bytes: *mut usize,
         figures: *mut u8,
         figures_capacity: usize,
+        counts: *mut u16,
         networks: *const u32,
         n: usize,
         lengths: *const u8,
@@ -86,6 +91,7 @@ unsafe extern "C" {
         image_bytes: *mut usize,
         figures: *mut u8,
         figures_capacity: usize,
+        counts: *mut u16,
         client: u32,
         now: u32,
         option: *const u8,
@@ -99,6 +105,7 @@ unsafe extern "C" {
         image_bytes: *mut usize,
         figures: *mut u8,
         figures_capacity: usize,
+        counts: *mut u16,
         client: u32,
         now: u32,
         option: *const u8,
@@ -110,6 +117,7 @@ unsafe extern "C" {
         image: *const u8,
         capacity: usize,
         image_bytes: usize,
+        counts: *const u16,
         client: u32,
         now: u32,
         option: *const u8,
@@ -123,6 +131,7 @@ unsafe extern "C" {
         image_bytes: *mut usize,
         figures: *mut u8,
         figures_capacity: usize,
+        counts: *mut u16,
         client: u32,
         now: u32,
         option: *const u8,
@@ -134,6 +143,7 @@ unsafe extern "C" {
         image_bytes: *mut usize,
         figures: *mut u8,
         figures_capacity: usize,
+        counts: *mut u16,
         network: u32,
         length: u32,
         deprecated: u32,
@@ -145,6 +155,7 @@ unsafe extern "C" {
         image_bytes: *mut usize,
         figures: *mut u8,
         figures_capacity: usize,
+        counts: *mut u16,
         saved: *const u8,
         saved_bytes: usize,
     ) -> Answer;
@@ -152,6 +163,7 @@ unsafe extern "C" {
         image: *const u8,
         capacity: usize,
         image_bytes: usize,
+        counts: *const u16,
         buffer: *mut u8,
         buffer_capacity: usize,
     ) -> Answer;
@@ -161,18 +173,37 @@ unsafe extern "C" {
         text: *mut u8,
         text_capacity: usize,
     ) -> Answer;
-    pub fn flockdrift_check(image: *const u8, capacity: usize, image_bytes: usize) -> Answer;
-    pub fn flockdrift_head(image: *const u8, capacity: usize, image_bytes: usize) -> HeadAnswer;
+    pub fn flockdrift_check(
+        image: *const u8,
+        capacity: usize,
+        image_bytes: usize,
+        counts: *const u16,
+    ) -> Answer;
+    pub fn flockdrift_whole(
+        image: *const u8,
+        capacity: usize,
+        image_bytes: usize,
+        counts: *const u16,
+        length: u32,
+    ) -> Answer;
+    pub fn flockdrift_head(
+        image: *const u8,
+        capacity: usize,
+        image_bytes: usize,
+        counts: *const u16,
+    ) -> HeadAnswer;
     pub fn flockdrift_pool(
         image: *const u8,
         capacity: usize,
         image_bytes: usize,
+        counts: *const u16,
         index: usize,
     ) -> PoolAnswer;
     pub fn flockdrift_lease(
         image: *const u8,
         capacity: usize,
         image_bytes: usize,
+        counts: *const u16,
         index: usize,
     ) -> LeaseAnswer;
     pub fn flockdrift_check_option(option: *const u8, option_bytes: usize) -> Answer;

@@ -16,29 +16,39 @@ impl Answer {
     }
 }
 
-/// What is lent to a call that changes the table: the buffer with the image at its front, the image's length, and the
-/// figures sheet.
+/// The lengths of prefixes that are counted, 8 to 30.
+pub const SHORTEST: usize = 8;
+pub const LENGTHS: usize = 23;
+
+/// How many whole free prefixes there are: a row for each place of a pool, in it a count for each length.
+pub type Counts = [[u16; LENGTHS]; 8];
+
+/// What is lent to a call that changes the table: the buffer with the image at its front, the image's length, the figures
+/// sheet, and the counts.
 pub struct Lent<'a> {
     pub image: &'a mut [u8],
     pub bytes: &'a mut usize,
     pub figures: &'a mut [u8],
+    pub counts: &'a mut Counts,
 }
 
 /// What is lent, networks, lengths, term, default length, start.
 pub type Open = fn(Lent, &[u32], &[u8], u32, u32, u32) -> Answer;
 /// What is lent, client, now, option, reply.
 pub type CallWithReply = fn(Lent, u32, u32, &[u8], &mut [u8]) -> Answer;
-/// Image, image bytes, client, now, option, reply.
-pub type List = fn(&[u8], usize, u32, u32, &[u8], &mut [u8]) -> Answer;
+/// Image, image bytes, counts, client, now, option, reply.
+pub type List = fn(&[u8], usize, &Counts, u32, u32, &[u8], &mut [u8]) -> Answer;
 /// What is lent, client, now, option.
 pub type Call = fn(Lent, u32, u32, &[u8]) -> Answer;
 /// What is lent, network, length, deprecated, now.
 pub type Mark = fn(Lent, u32, u32, u32, u32) -> Answer;
 /// What is lent, saved.
 pub type Load = fn(Lent, &[u8]) -> Answer;
-/// Image, image bytes, buffer.
-pub type Save = fn(&[u8], usize, &mut [u8]) -> Answer;
-/// Image, text.
+/// Image, image bytes, counts, buffer.
+pub type Save = fn(&[u8], usize, &Counts, &mut [u8]) -> Answer;
+/// Image, image bytes, counts, length.
+pub type Whole = fn(&[u8], usize, &Counts, u32) -> Answer;
+/// Saved bytes, which have no counts, text.
 pub type Sheet = fn(&[u8], &mut [u8]) -> Answer;
 
 /// The calls of one implementation. An image is the front of its buffer; sheet is given the image alone.
@@ -52,5 +62,6 @@ pub struct Desk {
     pub mark: Mark,
     pub load: Load,
     pub save: Save,
+    pub whole: Whole,
     pub sheet: Sheet,
 }

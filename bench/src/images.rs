@@ -1,4 +1,6 @@
-//! Images and figures sheets made by hand, sound or not.
+//! Images, figures sheets and counts made by hand, sound or not.
+
+use crate::desk::{Counts, LENGTHS, SHORTEST};
 
 /// A lease's record.
 pub const LEASE: usize = 19;
@@ -69,6 +71,23 @@ impl Table {
         sheet
     }
 
+    /// The whole free prefixes of a sound table: what is free between two leases, or beside one, cut from below into the
+    /// largest prefixes that there are.
+    pub fn counts(&self) -> Counts {
+        let mut counts = [[0; LENGTHS]; 8];
+        for (row, &(network, length)) in counts.iter_mut().zip(&self.pools) {
+            let to = u64::from(network) + (1 << (32 - length));
+            let inside = self.leases.iter().filter(|lease| (network.into()..to).contains(&lease.network.into()));
+            let mut at = u64::from(network);
+            for lease in inside {
+                cut(row, at, lease.network.into());
+                at = u64::from(lease.network) + (1 << (32 - lease.length));
+            }
+            cut(row, at, to);
+        }
+        counts
+    }
+
     /// Reads a sound image back; what is not sound makes no sense here.
     pub fn of_image(image: &[u8]) -> Table {
         let word = |at: usize| u32::from_le_bytes(image[at..at + 4].try_into().unwrap());
@@ -92,5 +111,14 @@ impl Table {
             }
         }
         table
+    }
+}
+
+/// Counts the prefixes that a free range is made of.
+fn cut(row: &mut [u16; LENGTHS], mut at: u64, to: u64) {
+    while at < to {
+        let order = at.trailing_zeros().min((to - at).ilog2());
+        row[32 - order as usize - SHORTEST] += 1;
+        at += 1 << order;
     }
 }

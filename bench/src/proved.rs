@@ -1,11 +1,12 @@
 //! The proved library, through its C interface (include/flockdrift.h).
 
-use crate::desk::{Answer, Desk, Lent};
+use crate::desk::{Answer, Counts, Desk, Lent};
 use crate::flockdrift::*;
 
-pub const PROVED: Desk = Desk { name: "proved", open, ask, take, list, release, mark, load, save, sheet };
+pub const PROVED: Desk = Desk { name: "proved", open, ask, take, list, release, mark, load, save, whole, sheet };
 
-// Each pointer below comes from a slice, with that slice's length, or from a reference; the library keeps none of them.
+// Each pointer below comes from a slice, with that slice's length, from a reference, or from the counts, all of them; the
+// library keeps none of them.
 
 fn open(lent: Lent, networks: &[u32], lengths: &[u8], term: u32, default_length: u32, start: u32) -> Answer {
     unsafe {
@@ -15,6 +16,7 @@ fn open(lent: Lent, networks: &[u32], lengths: &[u8], term: u32, default_length:
             lent.bytes,
             lent.figures.as_mut_ptr(),
             lent.figures.len(),
+            lent.counts.as_flattened_mut().as_mut_ptr(),
             networks.as_ptr(),
             networks.len(),
             lengths.as_ptr(),
@@ -34,6 +36,7 @@ fn ask(lent: Lent, client: u32, now: u32, option: &[u8], reply: &mut [u8]) -> An
             lent.bytes,
             lent.figures.as_mut_ptr(),
             lent.figures.len(),
+            lent.counts.as_flattened_mut().as_mut_ptr(),
             client,
             now,
             option.as_ptr(),
@@ -52,6 +55,7 @@ fn take(lent: Lent, client: u32, now: u32, option: &[u8], reply: &mut [u8]) -> A
             lent.bytes,
             lent.figures.as_mut_ptr(),
             lent.figures.len(),
+            lent.counts.as_flattened_mut().as_mut_ptr(),
             client,
             now,
             option.as_ptr(),
@@ -62,12 +66,13 @@ fn take(lent: Lent, client: u32, now: u32, option: &[u8], reply: &mut [u8]) -> A
     }
 }
 
-fn list(image: &[u8], bytes: usize, client: u32, now: u32, option: &[u8], reply: &mut [u8]) -> Answer {
+fn list(image: &[u8], bytes: usize, counts: &Counts, client: u32, now: u32, option: &[u8], reply: &mut [u8]) -> Answer {
     unsafe {
         flockdrift_list(
             image.as_ptr(),
             image.len(),
             bytes,
+            counts.as_flattened().as_ptr(),
             client,
             now,
             option.as_ptr(),
@@ -86,6 +91,7 @@ fn release(lent: Lent, client: u32, now: u32, option: &[u8]) -> Answer {
             lent.bytes,
             lent.figures.as_mut_ptr(),
             lent.figures.len(),
+            lent.counts.as_flattened_mut().as_mut_ptr(),
             client,
             now,
             option.as_ptr(),
@@ -102,6 +108,7 @@ fn mark(lent: Lent, network: u32, length: u32, deprecated: u32, now: u32) -> Ans
             lent.bytes,
             lent.figures.as_mut_ptr(),
             lent.figures.len(),
+            lent.counts.as_flattened_mut().as_mut_ptr(),
             network,
             length,
             deprecated,
@@ -118,14 +125,20 @@ fn load(lent: Lent, saved: &[u8]) -> Answer {
             lent.bytes,
             lent.figures.as_mut_ptr(),
             lent.figures.len(),
+            lent.counts.as_flattened_mut().as_mut_ptr(),
             saved.as_ptr(),
             saved.len(),
         )
     }
 }
 
-fn save(image: &[u8], bytes: usize, buffer: &mut [u8]) -> Answer {
-    unsafe { flockdrift_save(image.as_ptr(), image.len(), bytes, buffer.as_mut_ptr(), buffer.len()) }
+fn save(image: &[u8], bytes: usize, counts: &Counts, buffer: &mut [u8]) -> Answer {
+    let counts = counts.as_flattened().as_ptr();
+    unsafe { flockdrift_save(image.as_ptr(), image.len(), bytes, counts, buffer.as_mut_ptr(), buffer.len()) }
+}
+
+fn whole(image: &[u8], bytes: usize, counts: &Counts, length: u32) -> Answer {
+    unsafe { flockdrift_whole(image.as_ptr(), image.len(), bytes, counts.as_flattened().as_ptr(), length) }
 }
 
 fn sheet(image: &[u8], text: &mut [u8]) -> Answer {

@@ -1,15 +1,16 @@
 //! The independent reference behind the same interface: load, the call on its table, save.
 
 use ::reference::calls;
+use ::reference::counts;
 use ::reference::image;
 use ::reference::prefix::Prefix;
 use ::reference::refusal::{Refusal, refusal};
 use ::reference::sheet::sheet as rows_of;
 use ::reference::table::Table;
 
-use crate::desk::{Answer, Desk, FULL, Lent};
+use crate::desk::{Answer, Counts, Desk, FULL, Lent};
 
-pub const REFERENCE: Desk = Desk { name: "reference", open, ask, take, list, release, mark, load, save, sheet };
+pub const REFERENCE: Desk = Desk { name: "reference", open, ask, take, list, release, mark, load, save, whole, sheet };
 
 fn refused(refusal: Refusal) -> Answer {
     Answer { place: refusal.place.into(), ..Answer::refusal(refusal.number.into()) }
@@ -32,9 +33,11 @@ fn table_of(image: &[u8]) -> Table {
     image::loaded(image).unwrap_or_else(|_| Table::zero())
 }
 
-/// The table of the image in a buffer; one that is too small for every image, or for this one, has none.
-fn table_in(image: &[u8], bytes: usize) -> Table {
-    table_of(if image.len() < FULL { &[] } else { image.get(..bytes).unwrap_or(&[]) })
+/// The table of the image in a buffer, with these counts, whatever they say; one that is too small for every image, or for
+/// this one, has none.
+fn table_in(image: &[u8], bytes: usize, counts: &Counts) -> Table {
+    let image = if image.len() < FULL { &[] } else { image.get(..bytes).unwrap_or(&[]) };
+    Table { counts: *counts, ..table_of(image) }
 }
 
 /// Saves the table over an image of `old` bytes, and zeroes what is left of that.
@@ -48,10 +51,11 @@ fn store(table: &Table, image: &mut [u8], old: usize) -> usize {
 
 /// A call on the table of the image in a buffer, and on the figures sheet.
 fn settle(lent: Lent, call: impl FnOnce(&mut Table, &mut [u8]) -> Result<calls::Answer, Refusal>) -> Answer {
-    let mut table = table_in(lent.image, *lent.bytes);
+    let mut table = table_in(lent.image, *lent.bytes, lent.counts);
     let result = call(&mut table, lent.figures);
     if result.is_ok() {
         *lent.bytes = store(&table, lent.image, *lent.bytes);
+        *lent.counts = table.counts;
     }
     answer(result)
 }
@@ -62,6 +66,7 @@ fn fill(lent: Lent, table: impl FnOnce(&mut [u8]) -> Result<Table, Refusal>) -> 
     let figures = if lent.image.len() < FULL { &mut [] } else { lent.figures };
     let filled = table(figures).map(|table| {
         *lent.bytes = store(&table, lent.image, FULL);
+        *lent.counts = table.counts;
         calls::Answer::default()
     });
     answer(filled)
@@ -86,8 +91,8 @@ fn take(lent: Lent, client: u32, now: u32, option: &[u8], reply: &mut [u8]) -> A
     settle(lent, |table, figures| calls::take(table, figures, client, now, option, reply))
 }
 
-fn list(image: &[u8], bytes: usize, client: u32, now: u32, option: &[u8], reply: &mut [u8]) -> Answer {
-    answer(calls::list(&table_in(image, bytes), client, now, option, reply))
+fn list(image: &[u8], bytes: usize, counts: &Counts, client: u32, now: u32, option: &[u8], reply: &mut [u8]) -> Answer {
+    answer(calls::list(&table_in(image, bytes, counts), client, now, option, reply))
 }
 
 fn release(lent: Lent, client: u32, now: u32, option: &[u8]) -> Answer {
@@ -107,8 +112,15 @@ fn load(lent: Lent, saved: &[u8]) -> Answer {
     })
 }
 
-fn save(image: &[u8], bytes: usize, buffer: &mut [u8]) -> Answer {
-    match image::save(&table_in(image, bytes), buffer) {
+fn whole(image: &[u8], bytes: usize, counts: &Counts, length: u32) -> Answer {
+    match counts::whole(&table_in(image, bytes, counts), length) {
+        Ok(count) => Answer::accepted(0, count),
+        Err(refusal) => refused(refusal),
+    }
+}
+
+fn save(image: &[u8], bytes: usize, counts: &Counts, buffer: &mut [u8]) -> Answer {
+    match image::save(&table_in(image, bytes, counts), buffer) {
         Ok(written) => Answer::accepted(written, 0),
         Err(refusal) => refused(refusal),
     }

@@ -1,6 +1,6 @@
 //! The calls that are measured, each on eight different tables, so that no branch is learnt by heart.
 
-use crate::desk::{Answer, Desk, FIGURES, FULL, Lent, REPLY, SHEET};
+use crate::desk::{Answer, Counts, Desk, FIGURES, FULL, LENGTHS, Lent, REPLY, SHEET};
 use crate::images::{EMPTY_ROW, LEASE, Lease, ROW, Table};
 use crate::options;
 use crate::random::Random;
@@ -46,6 +46,8 @@ pub struct Case {
     pub bytes: usize,
     /// A sheet that matches, with something told in every row of a lease.
     pub figures: Vec<u8>,
+    /// Those of the table, but where a row is about others.
+    pub counts: Counts,
     pub client: u32,
     pub option: Vec<u8>,
     pub prefix: (u32, u8),
@@ -57,6 +59,7 @@ pub struct Buffers {
     pub image: Vec<u8>,
     pub bytes: usize,
     pub figures: Vec<u8>,
+    pub counts: Counts,
     pub reply: Vec<u8>,
     pub saved: Vec<u8>,
     pub text: Vec<u8>,
@@ -68,6 +71,7 @@ impl Buffers {
             image: vec![0; FULL],
             bytes: 0,
             figures: EMPTY_ROW.repeat(FIGURES / ROW),
+            counts: [[0; LENGTHS]; 8],
             reply: vec![0; REPLY],
             saved: vec![0; FULL],
             text: vec![0; SHEET],
@@ -76,7 +80,13 @@ impl Buffers {
 
     /// As a case has them.
     pub fn of(case: &Case) -> Buffers {
-        Buffers { image: case.image.clone(), bytes: case.bytes, figures: case.figures.clone(), ..Buffers::new() }
+        Buffers {
+            image: case.image.clone(),
+            bytes: case.bytes,
+            figures: case.figures.clone(),
+            counts: case.counts,
+            ..Buffers::new()
+        }
     }
 
     /// Clears the rows of the figures sheet that are a lease's in no case of the row.
@@ -84,16 +94,18 @@ impl Buffers {
         self.figures.copy_from_slice(&row.cases[0].figures);
     }
 
-    /// The case's image and figures sheet, and the bytes after them that a call of the row can have changed.
+    /// The case's image, figures sheet and counts, and the bytes after the first two that a call of the row can have
+    /// changed.
     pub fn restore(&mut self, row: &Row, case: &Case) {
         self.image[..row.restored].copy_from_slice(&case.image[..row.restored]);
         self.bytes = case.bytes;
         self.figures[..row.restored_figures].copy_from_slice(&case.figures[..row.restored_figures]);
+        self.counts = case.counts;
     }
 
     fn lent(&mut self) -> (Lent<'_>, &mut [u8]) {
-        let Buffers { image, bytes, figures, reply, .. } = self;
-        (Lent { image, bytes, figures }, reply)
+        let Buffers { image, bytes, figures, counts, reply, .. } = self;
+        (Lent { image, bytes, figures, counts }, reply)
     }
 }
 
@@ -135,7 +147,8 @@ fn take(desk: &Desk, case: &Case, buffers: &mut Buffers) -> Answer {
 }
 
 fn list(desk: &Desk, case: &Case, buffers: &mut Buffers) -> Answer {
-    (desk.list)(&buffers.image, buffers.bytes, case.client, NOW, &case.option, &mut buffers.reply)
+    let Buffers { image, bytes, counts, reply, .. } = buffers;
+    (desk.list)(image, *bytes, counts, case.client, NOW, &case.option, reply)
 }
 
 fn release(desk: &Desk, case: &Case, buffers: &mut Buffers) -> Answer {
@@ -152,7 +165,11 @@ fn load(desk: &Desk, case: &Case, buffers: &mut Buffers) -> Answer {
 }
 
 fn save(desk: &Desk, _: &Case, buffers: &mut Buffers) -> Answer {
-    (desk.save)(&buffers.image, buffers.bytes, &mut buffers.saved)
+    (desk.save)(&buffers.image, buffers.bytes, &buffers.counts, &mut buffers.saved)
+}
+
+fn whole(desk: &Desk, case: &Case, buffers: &mut Buffers) -> Answer {
+    (desk.whole)(&buffers.image, buffers.bytes, &buffers.counts, case.prefix.1.into())
 }
 
 fn sheet(desk: &Desk, _: &Case, buffers: &mut Buffers) -> Answer {
@@ -304,7 +321,11 @@ fn row(plan: &Plan, shape: Shape, scale: usize, leases: usize) -> Row {
         if plan.number == 15 {
             figures[FIGURES - ROW] ^= 1;
         }
-        cases.push(Case { image, bytes, figures, client: plan.client, option, prefix });
+        let mut counts = table.counts();
+        if plan.number == 5 {
+            counts[7][LENGTHS - 1] ^= 1;
+        }
+        cases.push(Case { image, bytes, figures, counts, client: plan.client, option, prefix });
     }
     Row {
         call: plan.call,
@@ -418,14 +439,21 @@ pub fn rows(desks: &[&Desk]) -> Vec<Row> {
     let some = [(Packed, 64, 64), (Packed, 256, 256), (Fragmented, 64, 64), (Fragmented, 256, 256)];
     let refused = |plan, number| Plan { number, ..plan };
 
-    // Refused with 2, right after row 5: the image was checked and nothing else was done. In a take row 15 stands between
-    // them: the sheet was looked at too; where 15 is given its last row did not match.
+    // Refused with 2, right after row 5: the image was checked and counted, and nothing else was done; where 5 is given the
+    // last count was another. In a take row 15 stands between them: the sheet was looked at too; where 15 is given its last
+    // row did not match.
     let checked = Plan { client: 0, number: 2, ..plan("list", "list", list, listing) };
     let matched = Plan { client: 0, number: 2, ..plan("take 1", "take", take, entries_1) };
     let unmatched = refused(plan("take 1", "take", take, entries_1), 15);
-    for plan in
-        [&checked, &matched, &unmatched, &plan("load", "load", load, listing), &plan("save", "save", save, listing)]
-    {
+    for plan in [
+        &checked,
+        &refused(plan("list", "list", list, listing), 5),
+        &matched,
+        &unmatched,
+        &plan("whole", "whole", whole, listing),
+        &plan("load", "load", load, listing),
+        &plan("save", "save", save, listing),
+    ] {
         add(plan, &zero);
         add(plan, &some);
     }

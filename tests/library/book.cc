@@ -29,6 +29,7 @@ int main()
     good = good && flockdrift_book_mark(&book, network, 26, 1, 1030).number == 0;
     good = good && flockdrift_book_head(&book).leases == 1 && flockdrift_book_pool(&book, 0).network == network;
     good = good && flockdrift_book_lease(&book, 0).state == FLOCKDRIFT_LEASED;
+    good = good && flockdrift_book_whole(&before, 24).count == 1 && flockdrift_book_whole(&book, 26).count == 1;
     const uint32_t bytes = flockdrift_book_save(&book, saved, sizeof saved).bytes;
     good = good && flockdrift_book_sheet(&book, text, sizeof text).number == 0;
     good = good && flockdrift_book_release(&book, 7, 1040, name, sizeof name).count == 1;

@@ -1,8 +1,8 @@
 /*
  * What include/flockdrift.h says, tried from C: the layout of the answers, sizes at their limits, null pointers, the
- * order of the refusals, what a refusal leaves, what an accepted call leaves behind the image, the figures sheet, load
- * and save, what a book holds, options with no book, the struct of a book, and several threads. Prints a line for each
- * difference.
+ * order of the refusals, what a refusal leaves, what an accepted call leaves behind the image, the figures sheet, the
+ * counts, load and save, what a book holds, options with no book, the struct of a book, and several threads. Prints a
+ * line for each difference.
  */
 #define _POSIX_C_SOURCE 200809L
 
@@ -18,13 +18,22 @@ enum {
     BUFFER = FULL + 64, /* the last bytes stand outside of every image */
     FIGURES = FLOCKDRIFT_FIGURES_CAPACITY,
     ROW = FLOCKDRIFT_FIGURES_ROW,
+    LENGTHS = FLOCKDRIFT_COUNTS_LENGTHS,
+    COUNTS = FLOCKDRIFT_COUNTS_ROWS * LENGTHS,
     REPLY = FLOCKDRIFT_REPLY_CAPACITY,
     THREADS = 4,
     STACK = 32 * 1024 /* what the header says of a call's stack, and the rest for the thread itself */
 };
 
 /* What the buffers hold where no call has written. */
-enum { IMAGE_FILL = 0xa5, FIGURES_FILL = 0x96, REPLY_FILL = 0x5a, SAVED_FILL = 0x69, TEXT_FILL = 0x3c };
+enum {
+    IMAGE_FILL = 0xa5,
+    FIGURES_FILL = 0x96,
+    COUNTS_FILL = 0xc3,
+    REPLY_FILL = 0x5a,
+    SAVED_FILL = 0x69,
+    TEXT_FILL = 0x3c
+};
 
 static int differences;
 
@@ -57,6 +66,7 @@ struct lent {
     uint8_t image[BUFFER];
     size_t bytes;
     uint8_t figures[FIGURES + 8]; /* the last bytes stand outside of the sheet */
+    uint16_t counts[COUNTS + 8];  /* the last stand outside of the counts */
     uint8_t reply[REPLY + 8];
     uint8_t saved[BUFFER];
     char text[FLOCKDRIFT_TEXT_CAPACITY];
@@ -88,6 +98,7 @@ static void fill(struct lent *s)
     memset(s, 0, sizeof *s);
     memset(s->image, IMAGE_FILL, sizeof s->image);
     memset(s->figures, FIGURES_FILL, sizeof s->figures);
+    memset(s->counts, COUNTS_FILL, sizeof s->counts);
     memset(s->reply, REPLY_FILL, sizeof s->reply);
     memset(s->saved, SAVED_FILL, sizeof s->saved);
     memset(s->text, TEXT_FILL, sizeof s->text);
@@ -121,14 +132,16 @@ static void accepted(int line, struct lent *s, struct flockdrift_answer a, size_
     same(line, "the image's length", s->bytes, image_bytes);
     same(line, "what changed past every image", memcmp(s->image + FULL, s[1].image + FULL, BUFFER - FULL) != 0, 0);
     same(line, "what changed past the figures", memcmp(s->figures + FIGURES, s[1].figures + FIGURES, 8) != 0, 0);
+    same(line, "what changed past the counts", memcmp(s->counts + COUNTS, s[1].counts + COUNTS, 16) != 0, 0);
     keep(s);
 }
 
-/* For list, save and sheet. */
+/* For list, save, whole and sheet. */
 static void accepted_reading(int line, struct lent *s, struct flockdrift_answer a, size_t bytes, uint32_t count)
 {
     same(line, "what a call that reads changed", memcmp(s->image, s[1].image, BUFFER) != 0, 0);
     same(line, "figures that a call that reads changed", memcmp(s->figures, s[1].figures, FIGURES) != 0, 0);
+    same(line, "counts that a call that reads changed", memcmp(s->counts, s[1].counts, sizeof s->counts) != 0, 0);
     accepted(line, s, a, bytes, count, s[1].bytes);
 }
 
@@ -190,62 +203,77 @@ static void selection_is(int line, struct flockdrift_selection_answer a, const u
 
 static struct flockdrift_answer open_at(struct lent *s, size_t capacity)
 {
-    return flockdrift_open(s->image, capacity, &s->bytes, s->figures, FIGURES, network, 2, length, 2, 3600, 28, 1000);
+    return flockdrift_open(s->image, capacity, &s->bytes, s->figures, FIGURES, s->counts, network, 2, length, 2,
+                           3600, 28, 1000);
 }
 
 static struct flockdrift_answer ask(struct lent *s, uint32_t client, uint32_t now, const uint8_t *option, size_t n)
 {
-    return flockdrift_ask(s->image, BUFFER, &s->bytes, s->figures, FIGURES, client, now, option, n, s->reply, REPLY);
+    return flockdrift_ask(s->image, BUFFER, &s->bytes, s->figures, FIGURES, s->counts, client, now, option, n,
+                          s->reply, REPLY);
 }
 
 static struct flockdrift_answer take(struct lent *s, uint32_t client, uint32_t now, const uint8_t *option, size_t n)
 {
-    return flockdrift_take(s->image, BUFFER, &s->bytes, s->figures, FIGURES, client, now, option, n, s->reply, REPLY);
+    return flockdrift_take(s->image, BUFFER, &s->bytes, s->figures, FIGURES, s->counts, client, now, option, n,
+                           s->reply, REPLY);
 }
 
 static struct flockdrift_answer list(struct lent *s, uint32_t client, uint32_t now, const uint8_t *option, size_t n)
 {
-    return flockdrift_list(s->image, BUFFER, s->bytes, client, now, option, n, s->reply, REPLY);
+    return flockdrift_list(s->image, BUFFER, s->bytes, s->counts, client, now, option, n, s->reply, REPLY);
 }
 
 static struct flockdrift_answer release(struct lent *s, uint32_t client, uint32_t now, const uint8_t *option, size_t n)
 {
-    return flockdrift_release(s->image, BUFFER, &s->bytes, s->figures, FIGURES, client, now, option, n);
+    return flockdrift_release(s->image, BUFFER, &s->bytes, s->figures, FIGURES, s->counts, client, now, option, n);
 }
 
 static struct flockdrift_answer mark(struct lent *s, uint32_t of, uint32_t prefix, uint32_t deprecated, uint32_t now)
 {
-    return flockdrift_mark(s->image, BUFFER, &s->bytes, s->figures, FIGURES, of, prefix, deprecated, now);
+    return flockdrift_mark(s->image, BUFFER, &s->bytes, s->figures, FIGURES, s->counts, of, prefix, deprecated, now);
 }
 
 static struct flockdrift_answer load(struct lent *s, size_t capacity, size_t saved_bytes)
 {
-    return flockdrift_load(s->image, capacity, &s->bytes, s->figures, FIGURES, s->saved, saved_bytes);
+    return flockdrift_load(s->image, capacity, &s->bytes, s->figures, FIGURES, s->counts, s->saved, saved_bytes);
 }
 
 static struct flockdrift_answer save(struct lent *s, size_t buffer_capacity)
 {
-    return flockdrift_save(s->image, BUFFER, s->bytes, s->saved, buffer_capacity);
+    return flockdrift_save(s->image, BUFFER, s->bytes, s->counts, s->saved, buffer_capacity);
 }
 
 static struct flockdrift_answer check(const struct lent *s)
 {
-    return flockdrift_check(s->image, BUFFER, s->bytes);
+    return flockdrift_check(s->image, BUFFER, s->bytes, s->counts);
 }
 
 static struct flockdrift_head_answer head(const struct lent *s, size_t capacity)
 {
-    return flockdrift_head(s->image, capacity, s->bytes);
+    return flockdrift_head(s->image, capacity, s->bytes, s->counts);
 }
 
 static struct flockdrift_pool_answer pool(const struct lent *s, size_t capacity, size_t index)
 {
-    return flockdrift_pool(s->image, capacity, s->bytes, index);
+    return flockdrift_pool(s->image, capacity, s->bytes, s->counts, index);
 }
 
 static struct flockdrift_lease_answer lease(const struct lent *s, size_t capacity, size_t index)
 {
-    return flockdrift_lease(s->image, capacity, s->bytes, index);
+    return flockdrift_lease(s->image, capacity, s->bytes, s->counts, index);
+}
+
+static struct flockdrift_answer whole(const struct lent *s, uint32_t prefix)
+{
+    return flockdrift_whole(s->image, BUFFER, s->bytes, s->counts, prefix);
+}
+
+/* The image, taken for saved bytes. */
+static struct flockdrift_answer load_of_own(struct lent *s)
+{
+    memcpy(s->saved, s->image, s->bytes);
+    return load(s, BUFFER, s->bytes);
 }
 
 /* The table that most trials begin with: one lease, at 10.0.8.0/26, an image of 50 bytes. */
@@ -256,12 +284,13 @@ static void begin(struct lent *s)
     ACCEPTED(s, ask(s, 7, 1000, ask_26, sizeof ask_26), 13, 1, 50);
 }
 
-/* An image that the caller puts into the buffer, with other bytes after it, and its figures. */
-static void put(struct lent *s, const uint8_t *image, size_t bytes, const uint8_t *figures)
+/* An image that the caller puts into the buffer, with other bytes after it, its figures and its counts. */
+static void put(struct lent *s, const uint8_t *image, size_t bytes, const uint8_t *figures, const uint16_t *counts)
 {
     memset(s->image, IMAGE_FILL, sizeof s->image);
     memcpy(s->image, image, bytes);
     memcpy(s->figures, figures, FIGURES);
+    memcpy(s->counts, counts, COUNTS * sizeof counts[0]);
     set_bytes(s, bytes);
 }
 
@@ -282,6 +311,7 @@ static void layout(void)
     SAME("the offset of state", offsetof(struct flockdrift_lease_answer, state), 16);
     SAME("the offset of expires", offsetof(struct flockdrift_lease_answer, expires), 28);
     SAME("the figures sheet's size", FIGURES, 256 * ROW);
+    SAME("the counts' size", sizeof(((struct flockdrift_book *)NULL)->counts), 368);
     SAME("the selection's size", sizeof(struct flockdrift_selection_answer), 8);
     SAME("the offset of address", offsetof(struct flockdrift_selection_answer, address), 4);
 }
@@ -292,32 +322,33 @@ static void nulls(struct lent *s)
     size_t *b = &s->bytes;
 
     begin(s);
-    REFUSED(s, flockdrift_open(NULL, 0, b, NULL, 0, NULL, 0, NULL, 0, 3600, 28, 1000), 12, 0);
-    REFUSED(s, flockdrift_open(NULL, 0, b, NULL, 0, network, 2, length, 2, 3600, 28, 1000), 14, 0);
-    REFUSED(s, flockdrift_ask(NULL, 0, b, NULL, 0, 0, 0, NULL, 0, NULL, 0), 1, 0);
-    REFUSED(s, flockdrift_ask(NULL, 0, b, NULL, 0, 0, 0, NULL, 0, s->reply, REPLY), 5, 0);
-    REFUSED(s, flockdrift_take(NULL, 0, b, NULL, 0, 0, 0, NULL, 0, NULL, 0), 1, 0);
-    REFUSED(s, flockdrift_take(NULL, 0, b, NULL, 0, 0, 0, NULL, 0, s->reply, REPLY), 5, 0);
-    REFUSED(s, flockdrift_list(NULL, 0, 0, 0, 0, NULL, 0, NULL, 0), 1, 0);
-    REFUSED(s, flockdrift_list(NULL, 0, 0, 0, 0, NULL, 0, s->reply, REPLY), 5, 0);
-    REFUSED(s, flockdrift_release(NULL, 0, b, NULL, 0, 0, 0, NULL, 0), 5, 0);
-    REFUSED(s, flockdrift_mark(NULL, 0, b, NULL, 0, 0, 0, 0, 0), 5, 0);
-    REFUSED(s, flockdrift_load(NULL, 0, b, NULL, 0, NULL, 0), 5, 0);
-    REFUSED(s, flockdrift_load(NULL, 0, b, NULL, 0, s->image, 50), 14, 0);
-    REFUSED(s, flockdrift_open(s->image, BUFFER, b, NULL, 0, network, 2, length, 2, 3600, 28, 1000), 14, 0);
-    REFUSED(s, flockdrift_ask(s->image, BUFFER, b, NULL, 0, 0, 0, NULL, 0, s->reply, REPLY), 15, 0);
-    REFUSED(s, flockdrift_take(s->image, BUFFER, b, NULL, 0, 0, 0, NULL, 0, s->reply, REPLY), 15, 0);
-    REFUSED(s, flockdrift_release(s->image, BUFFER, b, NULL, 0, 0, 0, NULL, 0), 15, 0);
-    REFUSED(s, flockdrift_mark(s->image, BUFFER, b, NULL, 0, 0, 0, 0, 0), 15, 0);
-    REFUSED(s, flockdrift_save(NULL, 0, 0, NULL, 0), 5, 0);
+    REFUSED(s, flockdrift_open(NULL, 0, b, NULL, 0, s->counts, NULL, 0, NULL, 0, 3600, 28, 1000), 12, 0);
+    REFUSED(s, flockdrift_open(NULL, 0, b, NULL, 0, s->counts, network, 2, length, 2, 3600, 28, 1000), 14, 0);
+    REFUSED(s, flockdrift_ask(NULL, 0, b, NULL, 0, s->counts, 0, 0, NULL, 0, NULL, 0), 1, 0);
+    REFUSED(s, flockdrift_ask(NULL, 0, b, NULL, 0, s->counts, 0, 0, NULL, 0, s->reply, REPLY), 5, 0);
+    REFUSED(s, flockdrift_take(NULL, 0, b, NULL, 0, s->counts, 0, 0, NULL, 0, NULL, 0), 1, 0);
+    REFUSED(s, flockdrift_take(NULL, 0, b, NULL, 0, s->counts, 0, 0, NULL, 0, s->reply, REPLY), 5, 0);
+    REFUSED(s, flockdrift_list(NULL, 0, 0, s->counts, 0, 0, NULL, 0, NULL, 0), 1, 0);
+    REFUSED(s, flockdrift_list(NULL, 0, 0, s->counts, 0, 0, NULL, 0, s->reply, REPLY), 5, 0);
+    REFUSED(s, flockdrift_release(NULL, 0, b, NULL, 0, s->counts, 0, 0, NULL, 0), 5, 0);
+    REFUSED(s, flockdrift_mark(NULL, 0, b, NULL, 0, s->counts, 0, 0, 0, 0), 5, 0);
+    REFUSED(s, flockdrift_load(NULL, 0, b, NULL, 0, s->counts, NULL, 0), 5, 0);
+    REFUSED(s, flockdrift_load(NULL, 0, b, NULL, 0, s->counts, s->image, 50), 14, 0);
+    REFUSED(s, flockdrift_open(s->image, BUFFER, b, NULL, 0, s->counts, network, 2, length, 2, 3600, 28, 1000), 14, 0);
+    REFUSED(s, flockdrift_ask(s->image, BUFFER, b, NULL, 0, s->counts, 0, 0, NULL, 0, s->reply, REPLY), 15, 0);
+    REFUSED(s, flockdrift_take(s->image, BUFFER, b, NULL, 0, s->counts, 0, 0, NULL, 0, s->reply, REPLY), 15, 0);
+    REFUSED(s, flockdrift_release(s->image, BUFFER, b, NULL, 0, s->counts, 0, 0, NULL, 0), 15, 0);
+    REFUSED(s, flockdrift_mark(s->image, BUFFER, b, NULL, 0, s->counts, 0, 0, 0, 0), 15, 0);
+    REFUSED(s, flockdrift_save(NULL, 0, 0, s->counts, NULL, 0), 5, 0);
     REFUSED(s, save(s, 0), 14, 0);
-    REFUSED(s, flockdrift_save(s->image, BUFFER, 50, NULL, 0), 14, 0);
+    REFUSED(s, flockdrift_save(s->image, BUFFER, 50, s->counts, NULL, 0), 14, 0);
     REFUSED(s, flockdrift_sheet(NULL, 0, NULL, 0), 5, 0);
     REFUSED(s, flockdrift_sheet(s->image, 50, NULL, 0), 14, 0);
-    REFUSED(s, flockdrift_check(NULL, 0, 0), 5, 0);
-    SAME("the head of nothing", flockdrift_head(NULL, 0, 0).number, 5);
-    SAME("a pool of nothing", flockdrift_pool(NULL, 0, 0, 0).number, 5);
-    SAME("a lease of nothing", flockdrift_lease(NULL, 0, 0, 0).number, 5);
+    REFUSED(s, flockdrift_check(NULL, 0, 0, s->counts), 5, 0);
+    SAME("the head of nothing", flockdrift_head(NULL, 0, 0, s->counts).number, 5);
+    SAME("a pool of nothing", flockdrift_pool(NULL, 0, 0, s->counts, 0).number, 5);
+    REFUSED(s, flockdrift_whole(NULL, 0, 0, s->counts, 24), 5, 0);
+    SAME("a lease of nothing", flockdrift_lease(NULL, 0, 0, s->counts, 0).number, 5);
     REFUSED(s, flockdrift_check_option(NULL, 0), 6, 0);
     SELECTION(flockdrift_read_selection(NULL, 0), 6, 0);
     REFUSED(s, flockdrift_write_selection(1, NULL, 0), 14, 0);
@@ -331,15 +362,19 @@ static void sizes(struct lent *s)
     uint8_t *f = s->figures;
 
     begin(s);
-    REFUSED(s, flockdrift_ask(s->image, FULL - 1, b, f, FIGURES, 7, 1000, ask_26, sizeof ask_26, s->reply, REPLY), 5,
+    REFUSED(s, flockdrift_ask(s->image, FULL - 1, b, f, FIGURES, s->counts, 7, 1000, ask_26, sizeof ask_26, s->reply,
+            REPLY), 5,
             0);
-    REFUSED(s, flockdrift_take(s->image, FULL - 1, b, f, FIGURES, 7, 1000, name_26, sizeof name_26, s->reply, REPLY), 5,
+    REFUSED(s, flockdrift_take(s->image, FULL - 1, b, f, FIGURES, s->counts, 7, 1000, name_26, sizeof name_26,
+            s->reply, REPLY), 5,
             0);
-    REFUSED(s, flockdrift_list(s->image, FULL - 1, 50, 7, 1000, list_all, sizeof list_all, s->reply, REPLY), 5, 0);
-    REFUSED(s, flockdrift_release(s->image, FULL - 1, b, f, FIGURES, 7, 1000, name_26, sizeof name_26), 5, 0);
-    REFUSED(s, flockdrift_mark(s->image, FULL - 1, b, f, FIGURES, network[0], 26, 1, 1000), 5, 0);
-    REFUSED(s, flockdrift_save(s->image, FULL - 1, 50, s->saved, BUFFER), 5, 0);
-    REFUSED(s, flockdrift_check(s->image, FULL - 1, 50), 5, 0);
+    REFUSED(s, flockdrift_list(s->image, FULL - 1, 50, s->counts, 7, 1000, list_all, sizeof list_all, s->reply,
+            REPLY), 5, 0);
+    REFUSED(s, flockdrift_release(s->image, FULL - 1, b, f, FIGURES, s->counts, 7, 1000, name_26, sizeof name_26), 5,
+            0);
+    REFUSED(s, flockdrift_mark(s->image, FULL - 1, b, f, FIGURES, s->counts, network[0], 26, 1, 1000), 5, 0);
+    REFUSED(s, flockdrift_save(s->image, FULL - 1, 50, s->counts, s->saved, BUFFER), 5, 0);
+    REFUSED(s, flockdrift_check(s->image, FULL - 1, 50, s->counts), 5, 0);
     HEAD(head(s, FULL - 1), 5, 0, 0, 0, 0, 0);
     POOL(pool(s, FULL - 1, 0), 5, 0, 0);
     LEASE(lease(s, FULL - 1, 0), 5, 0, 0, 0, 0, 0, 0, 0);
@@ -359,18 +394,21 @@ static void sizes(struct lent *s)
 
     /* in a buffer of a full image's size and no more all of them work */
     set_bytes(s, 50);
-    READ(s, flockdrift_check(s->image, FULL, 50), 0, 0);
+    READ(s, flockdrift_check(s->image, FULL, 50, s->counts), 0, 0);
     HEAD(head(s, FULL), 0, 3600, 28, 1000, 2, 1);
     POOL(pool(s, FULL, 1), 0, 0x0a000800, 26);
     LEASE(lease(s, FULL, 0), 0, 0x0a000800, 26, 7, 1, 0, 0, 1120);
-    ACCEPTED(s, flockdrift_mark(s->image, FULL, b, f, FIGURES, network[0], 26, 1, 1000), 0, 0, 50);
-    ACCEPTED(s, flockdrift_ask(s->image, FULL, b, f, FIGURES, 8, 1000, ask_two, sizeof ask_two, s->reply, REPLY), 23, 2,
+    ACCEPTED(s, flockdrift_mark(s->image, FULL, b, f, FIGURES, s->counts, network[0], 26, 1, 1000), 0, 0, 50);
+    ACCEPTED(s, flockdrift_ask(s->image, FULL, b, f, FIGURES, s->counts, 8, 1000, ask_two, sizeof ask_two, s->reply,
+             REPLY), 23, 2,
              88);
-    ACCEPTED(s, flockdrift_take(s->image, FULL, b, f, FIGURES, 7, 1000, name_26, sizeof name_26, s->reply, REPLY), 13,
+    ACCEPTED(s, flockdrift_take(s->image, FULL, b, f, FIGURES, s->counts, 7, 1000, name_26, sizeof name_26, s->reply,
+             REPLY), 13,
              1, 88);
-    READ(s, flockdrift_list(s->image, FULL, 88, 7, 1000, list_all, sizeof list_all, s->reply, REPLY), 13, 1);
-    READ(s, flockdrift_save(s->image, FULL, 88, s->saved, 88), 88, 0);
-    ACCEPTED(s, flockdrift_release(s->image, FULL, b, f, FIGURES, 7, 1000, name_26, sizeof name_26), 0, 1, 69);
+    READ(s, flockdrift_list(s->image, FULL, 88, s->counts, 7, 1000, list_all, sizeof list_all, s->reply, REPLY), 13, 1);
+    READ(s, flockdrift_save(s->image, FULL, 88, s->counts, s->saved, 88), 88, 0);
+    ACCEPTED(s, flockdrift_release(s->image, FULL, b, f, FIGURES, s->counts, 7, 1000, name_26, sizeof name_26), 0, 1,
+             69);
     ACCEPTED(s, load(s, FULL, 88), 0, 0, 88);
     ACCEPTED(s, open_at(s, FULL), 0, 0, 31);
 }
@@ -383,21 +421,26 @@ static void order(struct lent *s)
     uint32_t late = 4292375296u;
 
     fill(s);
-    REFUSED(s, flockdrift_open(s->image, FULL - 1, b, f, FIGURES, network, 2, length, 2, 59, 28, 1000), 12, 0);
+    REFUSED(s, flockdrift_open(s->image, FULL - 1, b, f, FIGURES, s->counts, network, 2, length, 2, 59, 28, 1000),
+            12, 0);
     REFUSED(s, open_at(s, FULL - 1), 14, 0);
-    REFUSED(s, flockdrift_open(s->image, BUFFER, b, f, FIGURES, network, 2, length, 1, 3600, 28, 1000), 12, 0);
-    REFUSED(s, flockdrift_open(s->image, BUFFER, b, f, FIGURES, network, 1, length, 2, 3600, 28, 1000), 12, 0);
-    REFUSED(s, flockdrift_open(s->image, BUFFER, b, f, FIGURES, network, 2, length, 2, 3600, 256 + 28, 1000), 12, 0);
-    REFUSED(s, flockdrift_open(s->image, BUFFER, b, f, FIGURES, network, 2, length, 2, 3600, 28, late), 12, 0);
+    REFUSED(s, flockdrift_open(s->image, BUFFER, b, f, FIGURES, s->counts, network, 2, length, 1, 3600, 28, 1000),
+            12, 0);
+    REFUSED(s, flockdrift_open(s->image, BUFFER, b, f, FIGURES, s->counts, network, 1, length, 2, 3600, 28, 1000),
+            12, 0);
+    REFUSED(s, flockdrift_open(s->image, BUFFER, b, f, FIGURES, s->counts, network, 2, length, 2, 3600, 256 + 28,
+            1000), 12, 0);
+    REFUSED(s, flockdrift_open(s->image, BUFFER, b, f, FIGURES, s->counts, network, 2, length, 2, 3600, 28, late),
+            12, 0);
     REFUSED(s, load(s, FULL - 1, 50), 5, 0);
 
     begin(s);
     set_bytes(s, 49);
-    REFUSED(s, flockdrift_ask(s->image, BUFFER, b, f, FIGURES, 0, 999, NULL, 0, s->reply, REPLY - 1), 1, 0);
+    REFUSED(s, flockdrift_ask(s->image, BUFFER, b, f, FIGURES, s->counts, 0, 999, NULL, 0, s->reply, REPLY - 1), 1, 0);
     REFUSED(s, ask(s, 0, 999, NULL, 0), 5, 0);
-    REFUSED(s, flockdrift_take(s->image, BUFFER, b, f, FIGURES, 0, 999, NULL, 0, s->reply, REPLY - 1), 1, 0);
+    REFUSED(s, flockdrift_take(s->image, BUFFER, b, f, FIGURES, s->counts, 0, 999, NULL, 0, s->reply, REPLY - 1), 1, 0);
     REFUSED(s, take(s, 0, 999, NULL, 0), 5, 0);
-    REFUSED(s, flockdrift_list(s->image, BUFFER, 49, 0, 999, NULL, 0, s->reply, REPLY - 1), 1, 0);
+    REFUSED(s, flockdrift_list(s->image, BUFFER, 49, s->counts, 0, 999, NULL, 0, s->reply, REPLY - 1), 1, 0);
     REFUSED(s, list(s, 0, 999, NULL, 0), 5, 0);
     REFUSED(s, release(s, 0, 999, NULL, 0), 5, 0);
     REFUSED(s, mark(s, 0, 0, 0, 999), 5, 0);
@@ -473,33 +516,35 @@ static void calls(struct lent *s)
 static void removed(struct lent *s)
 {
     uint8_t image[88], figures[FIGURES];
+    uint16_t counts[COUNTS];
 
     begin(s);
     ACCEPTED(s, take(s, 7, 1010, name_26, sizeof name_26), 13, 1, 50);
     ACCEPTED(s, ask(s, 8, 1010, ask_two, sizeof ask_two), 23, 2, 88);
     memcpy(image, s->image, sizeof image);
     memcpy(figures, s->figures, sizeof figures);
+    memcpy(counts, s->counts, sizeof counts);
 
-    put(s, image, sizeof image, figures);
+    put(s, image, sizeof image, figures, counts);
     ACCEPTED(s, ask(s, 9, 1130, ask_25, sizeof ask_25), 13, 1, 69);
     FILLED(s->image + 69, 88 - 69, 0);
     FILLED(s->image + 88, BUFFER - 88, IMAGE_FILL);
-    put(s, image, sizeof image, figures);
+    put(s, image, sizeof image, figures, counts);
     ACCEPTED(s, take(s, 7, 1130, name_26, sizeof name_26), 13, 1, 50);
     FILLED(s->image + 50, 88 - 50, 0);
     FILLED(s->image + 88, BUFFER - 88, IMAGE_FILL);
-    put(s, image, sizeof image, figures);
+    put(s, image, sizeof image, figures, counts);
     ACCEPTED(s, mark(s, network[0], 26, 1, 1130), 0, 0, 50);
     FILLED(s->image + 50, 88 - 50, 0);
     FILLED(s->image + 88, BUFFER - 88, IMAGE_FILL);
     /* removes three and counts the one that its entry names */
-    put(s, image, sizeof image, figures);
+    put(s, image, sizeof image, figures, counts);
     ACCEPTED(s, release(s, 7, 1130, name_26, sizeof name_26), 0, 1, 31);
     FILLED(s->image + 31, 88 - 31, 0);
     FILLED(s->image + 88, BUFFER - 88, IMAGE_FILL);
 
     /* of an older image, and of what is past it, open leaves nothing up to a full image's size */
-    put(s, image, sizeof image, figures);
+    put(s, image, sizeof image, figures, counts);
     ACCEPTED(s, open_at(s, BUFFER), 0, 0, 31);
     FILLED(s->image + 31, FULL - 31, 0);
     FILLED(s->image + FULL, BUFFER - FULL, IMAGE_FILL);
@@ -554,23 +599,24 @@ static void not_the_sheet(struct lent *s, size_t size)
     uint8_t *f = s->figures;
 
     keep(s);
-    REFUSED(s, flockdrift_ask(s->image, BUFFER, b, f, size, 0, 999, NULL, 0, s->reply, REPLY - 1), 1, 0);
-    REFUSED(s, flockdrift_ask(s->image, BUFFER, b, f, size, 0, 999, NULL, 0, s->reply, REPLY), 15, 0);
-    REFUSED(s, flockdrift_take(s->image, BUFFER, b, f, size, 0, 999, NULL, 0, s->reply, REPLY - 1), 1, 0);
-    REFUSED(s, flockdrift_take(s->image, BUFFER, b, f, size, 0, 999, NULL, 0, s->reply, REPLY), 15, 0);
-    REFUSED(s, flockdrift_release(s->image, BUFFER, b, f, size, 0, 999, NULL, 0), 15, 0);
-    REFUSED(s, flockdrift_mark(s->image, BUFFER, b, f, size, 0, 0, 0, 999), 15, 0);
-    REFUSED(s, flockdrift_open(s->image, BUFFER, b, f, size, network, 2, length, 2, 59, 28, 1000), 12, 0);
-    REFUSED(s, flockdrift_load(s->image, BUFFER, b, f, size, s->saved, 0), 5, 0);
+    REFUSED(s, flockdrift_ask(s->image, BUFFER, b, f, size, s->counts, 0, 999, NULL, 0, s->reply, REPLY - 1), 1, 0);
+    REFUSED(s, flockdrift_ask(s->image, BUFFER, b, f, size, s->counts, 0, 999, NULL, 0, s->reply, REPLY), 15, 0);
+    REFUSED(s, flockdrift_take(s->image, BUFFER, b, f, size, s->counts, 0, 999, NULL, 0, s->reply, REPLY - 1), 1, 0);
+    REFUSED(s, flockdrift_take(s->image, BUFFER, b, f, size, s->counts, 0, 999, NULL, 0, s->reply, REPLY), 15, 0);
+    REFUSED(s, flockdrift_release(s->image, BUFFER, b, f, size, s->counts, 0, 999, NULL, 0), 15, 0);
+    REFUSED(s, flockdrift_mark(s->image, BUFFER, b, f, size, s->counts, 0, 0, 0, 999), 15, 0);
+    REFUSED(s, flockdrift_open(s->image, BUFFER, b, f, size, s->counts, network, 2, length, 2, 59, 28, 1000), 12, 0);
+    REFUSED(s, flockdrift_load(s->image, BUFFER, b, f, size, s->counts, s->saved, 0), 5, 0);
     if (size != FIGURES) {
-        REFUSED(s, flockdrift_open(s->image, BUFFER, b, f, size, network, 2, length, 2, 3600, 28, 1000), 14, 0);
-        REFUSED(s, flockdrift_load(s->image, BUFFER, b, f, size, s->saved, 50), 14, 0);
+        REFUSED(s, flockdrift_open(s->image, BUFFER, b, f, size, s->counts, network, 2, length, 2, 3600, 28, 1000),
+                14, 0);
+        REFUSED(s, flockdrift_load(s->image, BUFFER, b, f, size, s->counts, s->saved, 50), 14, 0);
     }
     set_bytes(s, bytes - 1);
-    REFUSED(s, flockdrift_ask(s->image, BUFFER, b, f, size, 0, 999, NULL, 0, s->reply, REPLY), 5, 0);
-    REFUSED(s, flockdrift_take(s->image, BUFFER, b, f, size, 0, 999, NULL, 0, s->reply, REPLY), 5, 0);
-    REFUSED(s, flockdrift_release(s->image, BUFFER, b, f, size, 0, 999, NULL, 0), 5, 0);
-    REFUSED(s, flockdrift_mark(s->image, BUFFER, b, f, size, 0, 0, 0, 999), 5, 0);
+    REFUSED(s, flockdrift_ask(s->image, BUFFER, b, f, size, s->counts, 0, 999, NULL, 0, s->reply, REPLY), 5, 0);
+    REFUSED(s, flockdrift_take(s->image, BUFFER, b, f, size, s->counts, 0, 999, NULL, 0, s->reply, REPLY), 5, 0);
+    REFUSED(s, flockdrift_release(s->image, BUFFER, b, f, size, s->counts, 0, 999, NULL, 0), 5, 0);
+    REFUSED(s, flockdrift_mark(s->image, BUFFER, b, f, size, s->counts, 0, 0, 0, 999), 5, 0);
     set_bytes(s, bytes);
     READ(s, list(s, 7, 1010, list_all, sizeof list_all), 13, 1);
     READ(s, save(s, BUFFER), bytes, 0);
@@ -598,6 +644,65 @@ static void unsound_figures(struct lent *s)
     memset(s->figures + 5, 0, 6);
     keep(s);
     ACCEPTED(s, take(s, 7, 1010, name_26, sizeof name_26), 13, 1, 50);
+}
+
+/* Every call that takes the book, with rows that would apply after 5. */
+static void not_the_counts(struct lent *s)
+{
+    size_t *b = &s->bytes;
+    uint8_t *f = s->figures;
+
+    keep(s);
+    REFUSED(s, flockdrift_ask(s->image, BUFFER, b, f, 0, s->counts, 0, 999, NULL, 0, s->reply, REPLY - 1), 1, 0);
+    REFUSED(s, flockdrift_ask(s->image, BUFFER, b, f, 0, s->counts, 0, 999, NULL, 0, s->reply, REPLY), 5, 0);
+    REFUSED(s, flockdrift_take(s->image, BUFFER, b, f, 0, s->counts, 0, 999, NULL, 0, s->reply, REPLY), 5, 0);
+    REFUSED(s, flockdrift_release(s->image, BUFFER, b, f, 0, s->counts, 0, 999, NULL, 0), 5, 0);
+    REFUSED(s, flockdrift_mark(s->image, BUFFER, b, f, 0, s->counts, 0, 0, 0, 999), 5, 0);
+    REFUSED(s, list(s, 0, 999, NULL, 0), 5, 0);
+    REFUSED(s, save(s, 0), 5, 0);
+    REFUSED(s, check(s), 5, 0);
+    REFUSED(s, whole(s, 24), 5, 0);
+    REFUSED(s, whole(s, 7), 5, 0);
+    HEAD(head(s, BUFFER), 5, 0, 0, 0, 0, 0);
+    POOL(pool(s, BUFFER, 9), 5, 0, 0);
+    LEASE(lease(s, BUFFER, 9), 5, 0, 0, 0, 0, 0, 0, 0);
+}
+
+/* How much is left, and counts that are another's. */
+static void counts(struct lent *s)
+{
+    static const uint32_t outside[] = {0, 1, 7, 31, 32, 256 + 24, 65536 + 24, UINT32_MAX};
+    uint16_t swapped;
+    size_t i;
+
+    begin(s);
+    READ(s, whole(s, 24), 0, 1);
+    READ(s, whole(s, 26), 0, 0);
+    for (i = 0; i < sizeof outside / sizeof outside[0]; i++)
+        READ(s, whole(s, outside[i]), 0, 0);
+    /* one more in each place: of both pools, and of the six that there are not */
+    for (i = 0; i < COUNTS; i++) {
+        s->counts[i]++;
+        not_the_counts(s);
+        s->counts[i]--;
+    }
+    /* the two rows exchanged */
+    swapped = s->counts[24 - 8];
+    s->counts[24 - 8] = 0;
+    s->counts[LENGTHS + 24 - 8] = swapped;
+    not_the_counts(s);
+    ACCEPTED(s, load_of_own(s), 0, 0, 50);
+    READ(s, whole(s, 24), 0, 1);
+
+    ACCEPTED(s, ask(s, 8, 1010, ask_two, sizeof ask_two), 23, 2, 88);
+    READ(s, whole(s, 24), 0, 0);
+    READ(s, whole(s, 26), 0, 1);
+    READ(s, whole(s, 28), 0, 1);
+    /* at 1130 all have ended, and are counted when they are removed */
+    READ(s, whole(s, 25), 0, 0);
+    ACCEPTED(s, ask(s, 9, 1130, ask_25, sizeof ask_25), 13, 1, 50);
+    READ(s, whole(s, 25), 0, 1);
+    READ(s, whole(s, 26), 0, 1);
 }
 
 /* What each call does to the rows. */
@@ -791,6 +896,8 @@ static void book(struct lent *s)
     SAME("the length", held.bytes, s->bytes);
     SAME("the image", memcmp(held.image, s->image, FULL) != 0, 0);
     SAME("the figures", memcmp(held.figures, s->figures, FIGURES) != 0, 0);
+    SAME("the counts", memcmp(held.counts, s->counts, sizeof held.counts) != 0, 0);
+    SAME("whole", flockdrift_book_whole(&held, 24).count, 1);
 
     HEAD(flockdrift_book_head(&held), 0, 3600, 28, 1030, 2, 1);
     POOL(flockdrift_book_pool(&held, 1), 0, 0x0a000800, 26);
@@ -808,13 +915,18 @@ static void book(struct lent *s)
     FIGURES_OF(flockdrift_book_figures(&held, 0), 0x0a000800, 26, 65535, 65535, 65535);
     held.figures[4] = 25;
     SAME("other figures", flockdrift_book_mark(&held, 0x0a000800, 26, 1, 1030).number, FLOCKDRIFT_FIGURES_UNSOUND);
+    held.counts[7][22]++;
+    SAME("other counts", flockdrift_book_whole(&held, 24).number, FLOCKDRIFT_NOT_AN_IMAGE);
+    SAME("other counts", flockdrift_book_sheet(&held, s->text, sizeof s->text).number, FLOCKDRIFT_NOT_AN_IMAGE);
+    held.counts[7][22]--;
+    SAME("the counts again", flockdrift_book_whole(&held, 24).number, 0);
     held.bytes = SIZE_MAX;
     SAME("a length past the buffer", flockdrift_book_sheet(&held, s->text, sizeof s->text).number, 5);
     SAME("a length past the buffer", flockdrift_book_check(&held).number, 5);
 
     for (i = 0; i <= 16; i++)
         SAME("no words", flockdrift_text(i)[0] == '\0', 0);
-    SAME("words", strcmp(flockdrift_text(5), "not the image of a sound table") != 0, 0);
+    SAME("words", strcmp(flockdrift_text(5), "not the image of a sound table, or not its counts") != 0, 0);
 }
 
 /* A full table: 256 leases, an image of 4,949 bytes in a buffer that has no byte more. */
@@ -828,9 +940,9 @@ static void full(struct lent *s)
     uint32_t i;
 
     fill(s);
-    ACCEPTED(s, flockdrift_open(s->image, FULL, b, f, FIGURES, pools, 8, eights, 8, 60, 30, 0), 0, 0, 85);
+    ACCEPTED(s, flockdrift_open(s->image, FULL, b, f, FIGURES, s->counts, pools, 8, eights, 8, 60, 30, 0), 0, 0, 85);
     for (i = 1; i <= 256; i++) {
-        a = flockdrift_ask(s->image, FULL, b, f, FIGURES, i, 0, ask_26, sizeof ask_26, s->reply, REPLY);
+        a = flockdrift_ask(s->image, FULL, b, f, FIGURES, s->counts, i, 0, ask_26, sizeof ask_26, s->reply, REPLY);
         ACCEPTED(s, a, 13, 1, 85 + 19 * i);
     }
     SAME("the length of a full image", s->bytes, FULL);
@@ -839,9 +951,11 @@ static void full(struct lent *s)
     LEASE(lease(s, FULL, 255), 0, 255u << 6, 26, 256, FLOCKDRIFT_HELD, 0, 0, 120);
     LEASE(lease(s, FULL, 256), 11, 0, 0, 0, 0, 0, 0, 0);
     /* neither a lease more nor a prefix of this length; what is offered again needs none */
-    REFUSED(s, flockdrift_ask(s->image, FULL, b, f, FIGURES, 7, 0, ask_8, sizeof ask_8, s->reply, REPLY), 9, 0);
-    REFUSED(s, flockdrift_ask(s->image, FULL, b, f, FIGURES, 257, 0, ask_26, sizeof ask_26, s->reply, REPLY), 9, 0);
-    a = flockdrift_ask(s->image, FULL, b, f, FIGURES, 256, 0, ask_26, sizeof ask_26, s->reply, REPLY);
+    REFUSED(s, flockdrift_ask(s->image, FULL, b, f, FIGURES, s->counts, 7, 0, ask_8, sizeof ask_8, s->reply, REPLY),
+            9, 0);
+    REFUSED(s, flockdrift_ask(s->image, FULL, b, f, FIGURES, s->counts, 257, 0, ask_26, sizeof ask_26, s->reply,
+            REPLY), 9, 0);
+    a = flockdrift_ask(s->image, FULL, b, f, FIGURES, s->counts, 256, 0, ask_26, sizeof ask_26, s->reply, REPLY);
     ACCEPTED(s, a, 13, 1, FULL);
 
     REFUSED(s, save(s, FULL - 1), 14, 0);
@@ -855,7 +969,7 @@ static void full(struct lent *s)
     READ(s, a, a.bytes, 0);
 
     /* all of them end at 120 */
-    a = flockdrift_ask(s->image, FULL, b, f, FIGURES, 7, 120, ask_26, sizeof ask_26, s->reply, REPLY);
+    a = flockdrift_ask(s->image, FULL, b, f, FIGURES, s->counts, 7, 120, ask_26, sizeof ask_26, s->reply, REPLY);
     ACCEPTED(s, a, 13, 1, 104);
     FILLED(s->image + 104, FULL - 104, 0);
     ACCEPTED(s, load(s, FULL, FULL), 0, 0, FULL);
@@ -905,6 +1019,7 @@ int main(void)
     removed(s);
     again(s);
     unsound_figures(s);
+    counts(s);
     figures(s);
     load_and_save(s);
     sheet(s);

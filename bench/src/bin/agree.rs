@@ -1,6 +1,6 @@
 //! Runs the same random and damaged calls through the peer, the reference and, if it was linked, the proved library, and
 //! compares every field of every answer, every byte of the image's buffer, the image's length, every byte of the figures
-//! sheet and every byte of the buffer that a call writes to.
+//! sheet, every count and every byte of the buffer that a call writes to.
 //!
 //!     agree [CALLS [SEED]]
 //!
@@ -9,7 +9,7 @@
 use std::collections::BTreeMap;
 use std::process::exit;
 
-use bench::desk::{Answer, Desk, FIGURES, FULL, Lent, REPLY, SHEET};
+use bench::desk::{Answer, Counts, Desk, FIGURES, FULL, LENGTHS, Lent, REPLY, SHEET};
 use bench::images::{EMPTY_ROW, Lease, ROW, ROWS, Table};
 use bench::options::{information, option, request};
 use bench::peer::PEER;
@@ -33,6 +33,7 @@ enum Call {
     Mark { network: u32, length: u32, deprecated: u32, now: u32 },
     Load { saved: Vec<u8> },
     Save,
+    Whole { length: u32 },
     Sheet,
 }
 
@@ -47,21 +48,23 @@ impl Call {
             Call::Mark { .. } => "mark",
             Call::Load { .. } => "load",
             Call::Save => "save",
+            Call::Whole { .. } => "whole",
             Call::Sheet => "sheet",
         }
     }
 
     fn run(&self, desk: &Desk, buffers: &mut Buffers) -> Answer {
-        let Buffers { image, bytes, figures, out } = buffers;
+        let Buffers { image, bytes, figures, counts, out } = buffers;
         let size = *bytes;
         match self {
-            Call::List { client, now, option } => return (desk.list)(image, size, *client, *now, option, out),
-            Call::Save => return (desk.save)(image, size, out),
+            Call::List { client, now, option } => return (desk.list)(image, size, counts, *client, *now, option, out),
+            Call::Save => return (desk.save)(image, size, counts, out),
+            Call::Whole { length } => return (desk.whole)(image, size, counts, *length),
             // The sheet has no capacity of the image: what is lent is the image.
             Call::Sheet => return (desk.sheet)(image.get(..size).unwrap_or(image), out),
             _ => {}
         }
-        let lent = Lent { image, bytes, figures };
+        let lent = Lent { image, bytes, figures, counts };
         match self {
             Call::Open { networks, lengths, term, default_length, start } => {
                 (desk.open)(lent, networks, lengths, *term, *default_length, *start)
@@ -71,18 +74,24 @@ impl Call {
             Call::Release { client, now, option } => (desk.release)(lent, *client, *now, option),
             Call::Mark { network, length, deprecated, now } => (desk.mark)(lent, *network, *length, *deprecated, *now),
             Call::Load { saved } => (desk.load)(lent, saved),
-            Call::List { .. } | Call::Save | Call::Sheet => unreachable!("they are above"),
+            Call::List { .. } | Call::Save | Call::Whole { .. } | Call::Sheet => unreachable!("they are above"),
         }
+    }
+
+    /// It changes nothing of the table.
+    fn only_reads(&self) -> bool {
+        matches!(self, Call::List { .. } | Call::Save | Call::Whole { .. } | Call::Sheet)
     }
 }
 
-/// What a call may change: the image's buffer, the image's length, the figures sheet, and the buffer for a reply, an image
-/// or a text.
+/// What a call may change: the image's buffer, the image's length, the figures sheet, the counts, and the buffer for a
+/// reply, an image or a text.
 #[derive(Clone, PartialEq, Eq)]
 struct Buffers {
     image: Vec<u8>,
     bytes: usize,
     figures: Vec<u8>,
+    counts: Counts,
     out: Vec<u8>,
 }
 
@@ -106,6 +115,9 @@ fn agreed(desks: &[Desk], call: &Call, given: &Buffers) -> Result<(Answer, Buffe
         }
         if first_left.bytes != left.bytes {
             return Err(format!("{names}: images of {} and {} bytes", first_left.bytes, left.bytes));
+        }
+        if first_left.counts != left.counts {
+            return Err(format!("{names}: counts {:?} and {:?}", first_left.counts, left.counts));
         }
         for (what, one, other) in [
             ("image", &first_left.image, &left.image),
@@ -166,14 +178,15 @@ fn plausible(call: &Call, given: &Buffers, answer: &Answer, left: &Buffers) -> R
     if left.out[answer.bytes as usize..] != given.out[answer.bytes as usize..] {
         return Err("bytes after those written have changed".into());
     }
+    if call.only_reads() {
+        let same = left.counts == given.counts && left.figures == given.figures;
+        return if same && (left.bytes, &left.image) == (given.bytes, &given.image) {
+            Ok(())
+        } else {
+            Err("a call that only reads changed the image, the figures or the counts".into())
+        };
+    }
     let zeroed = match call {
-        Call::List { .. } | Call::Save | Call::Sheet => {
-            return if (left.bytes, &left.image, &left.figures) == (given.bytes, &given.image, &given.figures) {
-                Ok(())
-            } else {
-                Err("a call that only reads changed the image or the figures".into())
-            };
-        }
         Call::Open { .. } | Call::Load { .. } => FULL,
         _ => given.bytes.max(left.bytes),
     };
@@ -186,6 +199,10 @@ fn plausible(call: &Call, given: &Buffers, answer: &Answer, left: &Buffers) -> R
     let table = Table::of_image(&left.image[..left.bytes]);
     if let Call::Ask { client, now, .. } = call {
         offers_are_there(*client, *now, &left.out[..answer.bytes as usize], &table)?;
+    }
+    // "Every call that changes lines keeps it equal to what a fresh walk would find".
+    if left.counts != table.counts() {
+        return Err("the counts are not those of the table".into());
     }
     // "Rows match lines, place for place, after every accepted call that has the sheet".
     for (place, row) in left.figures.chunks(ROW).enumerate() {
@@ -675,10 +692,21 @@ fn random_call(random: &mut Random, table: &Table) -> Call {
             let length = u32::from(length) + if random.once_in(20) { 256 } else { 0 };
             Call::Mark { network, length, deprecated: random.pick(&[0, 1, 1, 2, 256, u32::MAX]), now }
         }
-        88..=91 => Call::Sheet,
+        88..=89 => Call::Sheet,
+        90..=91 => Call::Whole { length: random_length(random) },
         92..=93 => Call::Save,
         94..=96 => random_load(random, table),
         _ => random_open(random),
+    }
+}
+
+/// One that is counted, one near it, one whose low bits are such a length's, or any.
+fn random_length(random: &mut Random) -> u32 {
+    match random.below(8) {
+        0 => random.word() as u32,
+        1 => random.below(40) as u32,
+        2 => (random.word() as u32) << 8 | 8 + random.below(23) as u32,
+        _ => 8 + random.below(23) as u32,
     }
 }
 
@@ -734,6 +762,46 @@ fn damage_figures(random: &mut Random, table: &Table, figures: &mut Vec<u8>) {
     }
 }
 
+/// One change to counts; some leave them as they are.
+fn damage_counts(random: &mut Random, table: &Table, counts: &mut Counts) {
+    let row = |random: &mut Random| {
+        let pools = table.pools.len() as u64;
+        if random.once_in(2) { random.below(8) as usize } else { random.below(pools) as usize }
+    };
+    let (one, other) = (row(random), row(random));
+    let column = random.below(LENGTHS as u64) as usize;
+    let count = counts[one][column];
+    match random.below(10) {
+        0..=2 => counts[one][column] = count.wrapping_add(1),
+        3 => counts[one][column] = count.wrapping_sub(1),
+        4 => counts[one][column] ^= 1 << random.below(16),
+        5 => counts.swap(one, other),
+        6 => {
+            counts[one][column] = 0;
+            counts[other][column] = counts[other][column].wrapping_add(count);
+        }
+        // Without those that end next: the counts of another time.
+        7 | 8 => {
+            let end = table.leases.iter().map(|lease| lease.expires).min();
+            let present = table.leases.iter().filter(|lease| Some(lease.expires) != end).copied().collect();
+            *counts = Table { leases: present, ..table.clone() }.counts();
+        }
+        _ => *counts = [[0; LENGTHS]; 8],
+    }
+}
+
+/// Whether a call was refused because of the counts alone: the image loads, with others.
+fn by_counts(call: &Call, given: &Buffers, answer: &Answer) -> bool {
+    let saves = matches!(call, Call::Open { .. } | Call::Load { .. } | Call::Sheet);
+    if answer.number != 5 || saves || given.image.len() < FULL || given.bytes > given.image.len() {
+        return false;
+    }
+    let mut right = given.clone();
+    right.figures.resize(FIGURES, 0);
+    let loaded = Call::Load { saved: given.image[..given.bytes].to_vec() }.run(&REFERENCE, &mut right);
+    loaded.number == 0 && right.counts != given.counts
+}
+
 fn random_given(random: &mut Random, image: &[u8], figures: &[u8]) -> (Call, Buffers) {
     let table = Table::of_image(image);
     let call = random_call(random, &table);
@@ -741,6 +809,10 @@ fn random_given(random: &mut Random, image: &[u8], figures: &[u8]) -> (Call, Buf
     let mut figures = figures.to_vec();
     if random.once_in(10) {
         damage_figures(random, &table, &mut figures);
+    }
+    let mut counts = table.counts();
+    if random.once_in(12) {
+        damage_counts(random, &table, &mut counts);
     }
     if random.once_in(8) {
         damage_image(random, &mut image);
@@ -778,7 +850,7 @@ fn random_given(random: &mut Random, image: &[u8], figures: &[u8]) -> (Call, Buf
     buffer.truncate(capacity);
     let mut out = vec![0; room];
     random.fill(&mut out);
-    (call, Buffers { image: buffer, bytes, figures, out })
+    (call, Buffers { image: buffer, bytes, figures, counts, out })
 }
 
 fn desks() -> Vec<Desk> {
@@ -808,6 +880,7 @@ fn main() {
     let mut random = Random(seed);
     let mut answers: BTreeMap<(&str, u32), u64> = BTreeMap::new();
     let (mut most, mut full, mut filing, mut again, mut again_full) = (0, 0, 0, 0, 0);
+    let (mut differing, mut counted) = (0u64, 0u64);
     let (mut image, mut figures) = (Vec::new(), Vec::new());
     for index in 0..calls {
         if index % HISTORY == 0 {
@@ -823,7 +896,10 @@ fn main() {
         match result {
             Ok((answer, left)) => {
                 *answers.entry((call.name(), answer.number)).or_default() += 1;
-                most = most.max(answer.count);
+                if !matches!(call, Call::Whole { .. }) {
+                    most = most.max(answer.count);
+                }
+                differing += u64::from(by_counts(&call, &given, &answer));
                 if answer.number == 0 {
                     full += u64::from(left.bytes == FULL);
                     filing += u64::from(matches!(call, Call::Take { .. }) && filed(&given, &left));
@@ -834,7 +910,8 @@ fn main() {
                         again_full += u64::from(gave && before.leases.len() == ROWS);
                     }
                     // A call that only reads may have been given the image of another sound table, or another's figures.
-                    if !matches!(call, Call::List { .. } | Call::Save | Call::Sheet) {
+                    if !call.only_reads() {
+                        counted += u64::from(left.counts != given.counts);
                         image = left.image[..left.bytes].to_vec();
                         figures = left.figures;
                     }
@@ -845,6 +922,7 @@ fn main() {
                 println!("{call:?}");
                 println!("image of {} bytes in {}: {}", given.bytes, given.image.len(), hex(&given.image));
                 println!("figures of {} bytes: {}", given.figures.len(), hex(&given.figures));
+                println!("counts: {:?}", given.counts);
                 println!("output buffer of {}", given.out.len());
                 exit(1);
             }
@@ -862,5 +940,6 @@ fn main() {
     println!("\nmost entries in an answer: {most}; full images: {full}");
     println!("figures sheets refused with 15: {unsound}; takes that filed a figure: {filing}");
     println!("asks that gave an offer again: {again}, on a table of 256: {again_full}");
-    println!("agree: {calls} calls, the same answer, image, figures and output by all {}", names.len());
+    println!("calls refused because of counts: {differing}; calls that changed counts: {counted}");
+    println!("agree: {calls} calls, the same answer, image, figures, counts and output by all {}", names.len());
 }

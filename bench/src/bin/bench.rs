@@ -190,7 +190,7 @@ fn print_stack(rows: &[Row], desks: &[&Desk]) {
     }
     println!();
     let mut stack = Stack::new();
-    for command in ["open", "ask", "take", "list", "return", "mark", "load", "save", "sheet"] {
+    for command in ["open", "ask", "take", "list", "return", "mark", "load", "save", "whole", "sheet"] {
         print!("{command:<20}");
         for desk in desks {
             let mut most = 0;

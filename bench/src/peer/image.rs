@@ -2,8 +2,9 @@
 //!
 //! A sound image is one head, 1 to 8 pools and up to 256 leases, records of fixed sizes, so the place of each is known.
 
+use super::counts::Levels;
 use super::figures::{self, Row};
-use crate::desk::FULL;
+use crate::desk::{Counts, FULL};
 
 const HEAD: usize = 13;
 const POOL: usize = 9;
@@ -84,12 +85,13 @@ pub fn offer(network: u32, length: u8, h: bool, client: u32, expires: u32) -> Re
     lease
 }
 
-/// The pools as address ranges, in 64 bits, since the last one can end at 2^32.
+/// The pools as address ranges, in 64 bits, since the last one can end at 2^32, and their lengths.
 #[derive(Clone, Copy, Default)]
 pub struct Pools {
     pub count: usize,
     pub from: [u64; POOLS],
     pub to: [u64; POOLS],
+    pub length: [u8; POOLS],
 }
 
 /// What the pass over a sound image found.
@@ -97,13 +99,15 @@ pub struct Summary {
     pub term: u32,
     pub default_length: u8,
     pub last: u32,
-    pub pools: usize,
+    pub pools: Pools,
     pub leases: usize,
+    /// The whole free prefixes of each length in each pool, expired leases included.
+    pub counts: Counts,
 }
 
 impl Summary {
     pub fn leases_at(&self) -> usize {
-        HEAD + POOL * self.pools
+        HEAD + POOL * self.pools.count
     }
 
     pub fn bytes(&self) -> usize {
@@ -201,7 +205,7 @@ pub fn check(image: &[u8], notes: &mut impl Notes) -> Option<Summary> {
             return None;
         }
         free_from = from + size;
-        (pools.from[n], pools.to[n]) = (from, free_from);
+        (pools.from[n], pools.to[n], pools.length[n]) = (from, free_from, record[8]);
         pools.count += 1;
         rest = after;
     }
@@ -211,6 +215,7 @@ pub fn check(image: &[u8], notes: &mut impl Notes) -> Option<Summary> {
     }
     // Pools and leases both ascend, so the pool that a lease lies in moves only forward.
     let (mut pool, mut pool_from, mut pool_to) = (0, pools.from[0], pools.to[0]);
+    let mut levels = Levels::new();
     let mut free_from = 0;
     for (place, record) in leases.iter().enumerate() {
         let from = u64::from(network(record));
@@ -239,10 +244,12 @@ pub fn check(image: &[u8], notes: &mut impl Notes) -> Option<Summary> {
             return None;
         }
         free_from = to;
+        levels.lease(&pools, pool, from as u32, length);
         notes.lease(Met { record, place, pool, from, to, expires }, &pools);
     }
     notes.end(&pools);
-    Some(Summary { term, default_length, last, pools: pools.count, leases: leases.len() })
+    let counts = levels.counts(&pools);
+    Some(Summary { term, default_length, last, pools, leases: leases.len(), counts })
 }
 
 /// The lease records of a sound image.

@@ -1,15 +1,17 @@
 // Ask as a call on an image, in place.
 use ask_again::Asker;
+use counts::Counts;
 use ledger::Answer;
 use option_scan::MOST_ENTRIES;
 use option_scan::MOST_REQUESTS;
 ghost use mathlib.Core.Path.{_≡_};
+ghost use mathlib.Core.Bool.{not, _&&_};
 ghost use mathlib.Core.List.{[], _∷_};
 ghost use lib.Dec.{leb, eqb};
 ghost use Rattle.lists.specs.Lists.{and};
 ghost use Rattle.option.specs.Values.{mostRequests};
 ghost use Rattle.ledger.specs.Ledger.{call, result};
-ghost use Rattle.call_spec.specs.ImageCalls.{lent, askImage};
+ghost use Rattle.call_spec.specs.Books.{bookOf, askBook};
 
 // Row 8: "the option has 1 to 25 requests, none with i".
 fn for_ask(requests: usize, listing: usize) -> bool
@@ -24,20 +26,40 @@ fn for_ask(requests: usize, listing: usize) -> bool
     listing == 0
 }
 
+// Whether leases came or went: some had expired, or there are more than there were.
+fn moved(expired: usize, before: usize, after: usize) -> bool
+    ensures { λ r. ⌜ r ≡ not (eqb expired 0 && eqb before after) ⌝ }
+{
+    if expired != 0 {
+        return true;
+    }
+    before != after
+}
+
 pub fn ask(
     image: &mut [u8],
     image_bytes: &mut usize,
     figures: &mut [u8],
+    counts: &mut Counts,
     client: u32,
     time: u32,
     option: &[u8],
     reply: &mut [u8],
 ) -> Answer
-    ensures { λ r. ⌜ result r (lent (now (image .exit)) (now («image_bytes» .exit)) (now (figures .exit))) (now (reply .exit))
-        ≡ askImage (lent (now (image .entry)) (now («image_bytes» .entry)) (now (figures .entry))) time (call client (now (option .entry)) (now (reply .entry))) ⌝ }
+    ensures { λ r. ⌜ result r (bookOf (now (image .exit)) (now («image_bytes» .exit)) (now (figures .exit)) (now (counts .exit))) (now (reply .exit))
+        ≡ askBook (bookOf (now (image .entry)) (now («image_bytes» .entry)) (now (figures .entry)) (now (counts .entry))) time (call client (now (option .entry)) (now (reply .entry))) ⌝ }
 {
     let bytes = *image_bytes;
-    let admission = call_rows::admit(image, bytes, figures, true, reply.len(), client, time);
+    let admission = call_rows::admit(
+        image,
+        bytes,
+        figures,
+        true,
+        counts,
+        reply.len(),
+        client,
+        time,
+    );
     if admission.number != 0 {
         return call_spec::refused(admission.number, 0);
     }
@@ -62,7 +84,7 @@ pub fn ask(
         return call_spec::refused(8, 0);
     }
     let summary = admission.summary;
-    ask_commit::grant(
+    let answer = ask_commit::grant(
         image,
         image_bytes,
         figures,
@@ -71,5 +93,9 @@ pub fn ask(
         summary,
         &ask_lengths[..n],
         &ask_h[..n],
-    )
+    );
+    let after = *image_bytes;
+    let moved = moved(summary.expired, bytes, after);
+    call_rows::settle(answer.number, moved, image, after, summary.pools, counts);
+    answer
 }

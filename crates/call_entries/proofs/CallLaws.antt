@@ -2,7 +2,7 @@
 -- Assumes nothing.
 use Prim.Native.Nat.{ℕ}
 use native.Mathlib.Omega.{arith}
-use mathlib.Core.Path.{_≡_, refl, sym, ap, _∙_}
+use mathlib.Core.Path.{_≡_, refl, sym, ap, subst, _∙_}
 use mathlib.Core.Bool.{true}
 use mathlib.Core.List.{List, _++_, map}
 use lib.ListN.{length, take, length-map}
@@ -19,11 +19,13 @@ use Rattle.image_figures.specs.Sheets.{sheetOf}
 use Rattle.ledger.specs.Ledger.{State, state, Call, Result, result, Row, firstOf, byRows, refusalPlace}
 use Rattle.ledger.proofs.RowLaws.{first-before}
 use Rattle.call_spec.specs.ImageCalls.{Lent, lent, tableIn, stateIn, storedIn, settled}
+use Rattle.call_spec.specs.Books.{Book, lentIn}
 use Rattle.call_spec.proofs.StoreLaws.{row-refuses}
 use Rattle.call_rows.specs.declared.Admission.{Admission}
 use Rattle.call_rows.specs.Admission.{admissionRows, leasesFrom, Admitted, Admits, Finished}
 use Rattle.call_rows.proofs.RowLaws.{admitted-rows}
 use Rattle.call_rows.proofs.FinishLaws.{finished-in-place}
+use Rattle.call_rows.proofs.SettleLaws.{admitted-lent}
 use Rattle.call_entries.specs.declared.EntriesRead.{EntriesRead}
 use Rattle.call_entries.specs.EntryLeases.{changedBy, changedIn}
 use Rattle.call_entries.specs.EntryRows.{entryRows, ReadsEntries}
@@ -74,6 +76,23 @@ module _ (room : ℕ) (h : Lent) (now : ℕ) (c : Call) (own : List Row) (s : En
           columns = networks-many ∙ sym lengths-many;
           few = omega (arith, networks-many, hold .1, s .reads .few);
         }
+
+-- ON THE OPEN BOOK: a call that is admitted is the one on what is lent.
+
+module _ (room : ℕ) (b : Book) (now : ℕ) (c : Call) (s : EntriesCall room (lentIn b) now c) where
+  pub as-lent : lentIn b ≡ b .lent
+  as-lent = admitted-lent true b now (c .client) (s .admission .summary) (s .admits .admitted (s .admitted))
+
+  abbrev pub on-lent : EntriesCall room (b .lent) now c
+  on-lent = record {
+    admission = s .admission;
+    admits = subst (λ (h : Lent). Admits true room h now (c .client) (s .admission)) as-lent (s .admits);
+    admitted = s .admitted;
+    read = s .read;
+    networks = s .networks;
+    lengths = s .lengths;
+    reads = s .reads;
+  }
 
 -- LEASES CHANGED IN PLACE: those that the entries name get this end.
 

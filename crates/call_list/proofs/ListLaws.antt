@@ -21,6 +21,7 @@ use Rattle.table.specs.declared.Lease.{Lease}
 use Rattle.table.specs.Table.{present}
 use Rattle.image.specs.Image.{usedLeases}
 use Rattle.option.specs.Contents.{Request, requests, requestsIn}
+use Rattle.ledger.specs.declared.Answer.{Answer}
 use Rattle.ledger.specs.Ledger.{State, Call, Result, result, refusal, acceptance, accept, refusalPlace, leastReply, nothing?, forList, listed, listRows, list}
 use Rattle.option_reply.specs.Reply.{mostEntries, replyBytes, entryOf}
 use Rattle.option_reply.proofs.ReplyLaws.{entries-none, heads-last, reply-length}
@@ -28,10 +29,12 @@ use Rattle.option_scan.specs.declared.Contents.{Contents}
 use Rattle.option_scan.specs.Scanned.{positionOf}
 use Rattle.image_check.specs.declared.ImageSummary.{ImageSummary}
 use Rattle.call_spec.specs.ImageCalls.{Lent, tableIn, stateIn, listImage}
+use Rattle.call_spec.specs.Books.{Book, lentIn, listBook}
 use Rattle.call_spec.proofs.StoreLaws.{list-row-refuses, list-no-row}
 use Rattle.call_rows.specs.declared.Admission.{Admission}
 use Rattle.call_rows.specs.Admission.{Admits}
 use Rattle.call_rows.proofs.RowLaws.{ReadCall, RefusedBy, rowsWith8, scan-of, admitted-room, refused-admission, refused-option, refused-8, own-left, nothing-found, none-left}
+use Rattle.call_rows.proofs.SettleLaws.{admitted-lent}
 use Rattle.call_list.specs.declared.Page.{Page}
 use Rattle.call_list.specs.InnerPage.{shown?, startOf, PageOf}
 use Rattle.call_list.specs.InnerListing.{listedBy, eleven, Listing}
@@ -171,3 +174,19 @@ module _ (h : Lent) (now : ℕ) (c : Call) (summary : ImageSummary) (m : Content
   list-empty k =
       let xs : List Lease = usedLeases (tableIn h) in
       list-nothing (startOf (positionOf m) xs) refl (record { count = 0; more = false }) (c .reply) (page-none now (c .client) (c .reply) xs (sym (listing-is .admitted .leases) ∙ k) (startOf (positionOf m) xs)) refl
+
+-- ON AN OPEN BOOK, which a list leaves as it was.
+
+module _ (b : Book) (now : ℕ) (c : Call) where
+  pub list-book : (a : Answer) (reply : List ℕ) → result a (lentIn b) reply ≡ listImage (lentIn b) now c → result a b reply ≡ listBook b now c
+  list-book a reply is = ap (λ (w : Result Lent). result (w .answer) b (w .reply)) is
+
+  module _ (summary : ImageSummary) (m : Contents) (passed : Listing (lentIn b) now c summary m) where
+    same : lentIn b ≡ b .lent
+    same = admitted-lent false b now (c .client) summary (passed .admitted)
+
+    pub listing-lent : Listing (b .lent) now c summary m
+    listing-lent = subst (λ (h : Lent). Listing h now c summary m) same passed
+
+    pub listed-book : (a : Answer) (reply : List ℕ) → result a (b .lent) reply ≡ listImage (b .lent) now c → result a b reply ≡ listBook b now c
+    listed-book a reply is = list-book a reply (subst (λ (h : Lent). result a h reply ≡ listImage h now c) (sym same) is)

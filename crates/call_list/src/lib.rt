@@ -1,4 +1,5 @@
 // List as a call on an image: a client's leases above a position, at most 35 of them, shown from where they stand.
+use counts::Counts;
 use image::HEAD;
 use image::LEASE;
 use image::POOL;
@@ -19,6 +20,7 @@ ghost use Rattle.image_records.specs.Records.{Records, Ascending};
 ghost use Rattle.image.specs.Image.{leaseSize};
 ghost use Rattle.ledger.specs.Ledger.{call, result, leastReply};
 ghost use Rattle.call_spec.specs.ImageCalls.{lent, listImage};
+ghost use Rattle.call_spec.specs.Books.{bookOf, listBook};
 ghost use Rattle.call_list.specs.InnerListing.{Listing};
 ghost use Rattle.call_list.specs.InnerPage.{shown?, startOf, PageOf};
 
@@ -128,19 +130,21 @@ fn show_listed(
 pub fn list(
     image: &[u8],
     image_bytes: usize,
+    counts: &Counts,
     client: u32,
     time: u32,
     option: &[u8],
     reply: &mut [u8],
 ) -> Answer
-    ensures { λ r. ⌜ result r (lent (now (image .entry)) «image_bytes» []) (now (reply .exit))
-        ≡ listImage (lent (now (image .entry)) «image_bytes» []) time (call client (now (option .entry)) (now (reply .entry))) ⌝ }
+    ensures { λ r. ⌜ result r (bookOf (now (image .entry)) «image_bytes» [] (now (counts .entry))) (now (reply .exit))
+        ≡ listBook (bookOf (now (image .entry)) «image_bytes» [] (now (counts .entry))) time (call client (now (option .entry)) (now (reply .entry))) ⌝ }
 {
     let admission = call_rows::admit(
         image,
         image_bytes,
         &image[..0],
         false,
+        counts,
         reply.len(),
         client,
         time,

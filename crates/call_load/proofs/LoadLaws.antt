@@ -1,7 +1,7 @@
 -- Laws of load as a call: its rows, and that what is copied is the image of the table that was read, with zeros after it.
 -- Assumes nothing.
 use Prim.Native.Nat.{ℕ, _+_, _-_, _*_, _≤_, _<_}
-use mathlib.Core.Path.{_≡_, sym, ap, ap₂, subst, _∙_}
+use mathlib.Core.Path.{_≡_, refl, sym, ap, ap₂, subst, _∙_}
 use mathlib.Core.List.{List, [], _++_, map}
 use mathlib.Core.Option.{none, some}
 use native.Mathlib.Omega.{arith}
@@ -15,7 +15,7 @@ use Rattle.table.specs.declared.Lease.{Lease}
 use Rattle.table.specs.declared.LeaseTable.{LeaseTable}
 use Rattle.table.specs.Table.{leaseSlots, padded}
 use Rattle.figures.specs.Figures.{untoldRow}
-use Rattle.image.specs.Image.{fullImage, headSize, poolSize, leaseSize, usedPools, usedLeases, imageOf}
+use Rattle.image.specs.Image.{fullImage, headSize, poolSize, leaseSize, usedPools, usedLeases, imageOf, loadedTable}
 use Rattle.image.specs.Reading.{loadImage}
 use Rattle.image.proofs.ImageLaws.{image-loaded, length-image, longest-image, table-whole}
 use Rattle.image_check.specs.declared.ImageSummary.{ImageSummary}
@@ -23,9 +23,14 @@ use Rattle.image_check.specs.ImageSummary.{summaryOf}
 use Rattle.image_records.specs.Records.{Records}
 use Rattle.image_records.proofs.SoundLaws.{used-few, image-records}
 use Rattle.image_figures.specs.Sheets.{figuresSize, sheetOf}
-use Rattle.ledger.specs.Ledger.{result, refusal, acceptance}
-use Rattle.call_spec.specs.ImageCalls.{Lent, lent, stored, loadInto}
+use Rattle.ledger.specs.Ledger.{State, Result, result, refusal, acceptance}
+use Rattle.counts.specs.Counts.{countsOf}
+use Rattle.image_counts.specs.Standing.{Stands, SomeTable}
+use Rattle.call_spec.specs.ImageCalls.{Lent, lent, tableIn, stored, loadInto}
+use Rattle.call_spec.specs.Books.{Book, loadBook}
 use Rattle.call_spec.proofs.StoreLaws.{stores}
+use Rattle.call_spec.proofs.OnImages.{loaded-holds}
+use Rattle.call_spec.proofs.BookLaws.{refuses-book, accepts-book}
 
 module _ (h : Lent) (saved : List ℕ) where
   pub load-unsound : loadImage saved ≡ none → result (refusal 5 0) h [] ≡ loadInto h saved
@@ -64,6 +69,20 @@ module _ (h : Lent) (saved : List ℕ) where
             let r = image-loaded saved t bytes e in
             (omega (arith, counted, used-few t (r .0) .1), omega (arith, counted, pools-are, length-image t, ap length (r .1)))
 
+        -- So the table can be counted in them.
+        pub saved-stands : Stands t saved (summary .pools) (summary .leases)
+        saved-stands =
+            let r = image-loaded saved t bytes e in
+            record {
+              sound-table = r .0;
+              image-is = r .1 ∙ sym (take-all (length (imageOf t)) saved (omega (arith, ap length (r .1))));
+              pools-are = pools-are;
+              leases-are = counted;
+            }
+
+        pub saved-some : SomeTable saved (summary .pools) (summary .leases)
+        saved-some = record { table = t; stands = saved-stands }
+
         saved-records : Records saved (headSize + poolSize * summary .pools) (usedLeases t)
         saved-records =
             let r = image-loaded saved t bytes e in
@@ -85,3 +104,17 @@ module _ (h : Lent) (saved : List ℕ) where
           ap₂ (λ (l : List ℕ) (k : ℕ). result (acceptance 0 0) (lent l k f) []) (stores t (r .0) (h .image) room fullImage n room long l₁ l₂ written e₂) long
           ∙ ap (λ (s : List ℕ). result (acceptance 0 0) (lent (stored t fullImage (h .image)) (length (imageOf t)) s) []) filled
           ∙ load-made room sheet
+
+-- ON AN OPEN BOOK
+
+module _ (b : Book) (saved : List ℕ) where
+  pub load-refuses : (number : ℕ) → (number ≡ 0 → ⊥) → result (refusal number 0) (b .lent) [] ≡ loadInto (b .lent) saved → result (refusal number 0) b [] ≡ loadBook b saved
+  load-refuses number k is = refuses-book b (loadInto (b .lent) saved) (refusal number 0) (b .lent) [] is k
+
+  -- What is left holds the table that was read, and these are its counts.
+  pub load-accepts : All (λ x. x < 256) saved → (g : Lent) → result (acceptance 0 0) g [] ≡ loadInto (b .lent) saved → (counts : List (List ℕ)) → counts ≡ countsOf (loadedTable (loadImage saved))
+      → result (acceptance 0 0) (record { lent = g; counts = counts }) [] ≡ loadBook b saved
+  load-accepts bytes g is counts e =
+      let accepted : loadInto (b .lent) saved .answer .number ≡ 0 = ap (λ (w : Result Lent). w .answer .number) (sym is) in
+      let holds : tableIn g ≡ loadedTable (loadImage saved) = ap (λ (w : Result Lent). tableIn (w .state)) is ∙ ap (λ (s : State). s .table) (loaded-holds (b .lent) saved bytes accepted) in
+      accepts-book b (loadInto (b .lent) saved) (acceptance 0 0) g [] is refl counts (e ∙ ap countsOf (sym holds))

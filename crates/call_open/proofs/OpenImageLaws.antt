@@ -1,9 +1,9 @@
 -- Laws of open as a call: its rows, and that what is written is the image of the table that open makes, with zeros after it.
 -- Assumes nothing.
 use Prim.Native.Nat.{ℕ, _+_, _-_, _*_, _≤_, _<_}
-use mathlib.Core.Path.{_≡_, sym, ap, ap₂, _∙_}
+use mathlib.Core.Path.{_≡_, refl, sym, ap, ap₂, _∙_}
 use mathlib.Core.Bool.{true, false, cond}
-use mathlib.Core.List.{List, [], _++_, map, append-nil}
+use mathlib.Core.List.{List, [], _++_, map, append-nil, append-assoc}
 use native.Mathlib.Omega.{arith}
 use lib.ListN.{length, take, drop, replicate}
 use lib.Seq.{take-at}
@@ -27,10 +27,15 @@ use Rattle.table_open.proofs.OpenLaws.{OpenRules, given-length, openOk-to, open
 use Rattle.image_records.specs.Records.{Records}
 use Rattle.figures.specs.Figures.{untoldRow}
 use Rattle.image_figures.specs.Sheets.{figuresSize, sheetOf}
-use Rattle.ledger.specs.Ledger.{result, refusal, acceptance}
-use Rattle.call_spec.specs.ImageCalls.{Lent, lent, stored, openImage}
+use Rattle.counts.specs.Counts.{countsOf}
+use Rattle.image_counts.specs.Standing.{Stands}
+use Rattle.ledger.specs.Ledger.{State, Result, result, refusal, acceptance}
+use Rattle.call_spec.specs.ImageCalls.{Lent, lent, tableIn, over, stored, openImage}
+use Rattle.call_spec.specs.Books.{Book, openBook}
 use Rattle.call_spec.proofs.StoreLaws.{stores}
 use Rattle.call_spec.proofs.OpenLength.{open-length}
+use Rattle.call_spec.proofs.OnImages.{opened-holds}
+use Rattle.call_spec.proofs.BookLaws.{refuses-book, accepts-book}
 
 -- A TABLE WITH NO LEASE
 
@@ -83,6 +88,20 @@ module _ (ns ls : List ℕ) (term len start : ℕ) (ok : openOk ns ls term len s
       image-stored (fresh (given ns ls) term len start) sorted its-pools (fresh-none (given ns ls) term len start) buffer (open-sound ns ls term len start ok) room (length ns) (sym many) l₁ l₂ l₃ e₁
       (e₂ ∙ ap (λ (ps : List Pool). put l₁ headSize (concatMap poolRecord ps)) first) e₃
 
+  -- It can be counted where it is written.
+  its-standing : (buffer l : List ℕ) → l ≡ stored (fresh (given ns ls) term len start) fullImage buffer → Stands (fresh (given ns ls) term len start) l (length ns) 0
+  unfolding stored
+  its-standing buffer l e =
+      let xs : List ℕ = imageOf (fresh (given ns ls) term len start) in
+      let zeros : List ℕ = replicate (fullImage - length xs) 0 in
+      let rest : List ℕ = drop (length (over xs fullImage)) buffer in
+      record {
+        sound-table = open-sound ns ls term len start ok;
+        image-is = sym (ap (take (length xs)) (e ∙ append-assoc xs zeros rest) ∙ take-at xs (zeros ++ rest) (length xs) refl);
+        pools-are = sym (ap length its-pools ∙ many);
+        leases-are = sym (ap length (fresh-none (given ns ls) term len start));
+      }
+
   -- Every slot of it is empty.
   its-rows : sheetOf (map untoldRow (padded [])) ≡ sheetOf (map untoldRow (fresh (given ns ls) term len start .leases))
   its-rows =
@@ -126,13 +145,34 @@ module _ (h : Lent) (ns ls : List ℕ) (term len start : ℕ) where
     short-is : cond (ltb 255 len) 0 len ≡ len
     short-is = cond-false (ltb 255 len) 0 len (le-ltb 255 len (omega (arith, sound-default (fresh (given ns ls) term len start) (open-sound ns ls term len start is-ok) .1)))
 
-    pub open-accepted : fullImage ≤ length (h .image) → length (h .figures) ≡ figuresSize → (l₁ l₂ l₃ : List ℕ) → l₁ ≡ put (h .image) 0 (headRecord (record { term = term; «default_length» = cond (ltb 255 len) 0 len; last = start }))
-        → l₂ ≡ put l₁ headSize (concatMap poolRecord (take (length ns) (paddedPools (sortPools (given ns ls)))))
-        → l₃ ≡ put l₂ (headSize + poolSize * length ns) (replicate (fullImage - (headSize + poolSize * length ns)) 0)
-        → (f : List ℕ) → f ≡ sheetOf (map untoldRow (padded [])) → result (acceptance 0 0) (lent l₃ (headSize + poolSize * length ns) f) [] ≡ openImage h ns ls term len start
-    open-accepted room sheet l₁ l₂ l₃ e₁ e₂ e₃ f filled =
-        let kept = its-image ns ls term short start ok (h .image) room l₁ l₂ l₃ e₁ e₂ e₃ ∙ ap (λ (n : ℕ). stored (fresh (given ns ls) term n start) fullImage (h .image)) short-is in
-        ap₂ (λ (l : List ℕ) (n : ℕ). result (acceptance 0 0) (lent l n f) []) kept (sym (its-size ns ls term len start is-ok))
-        ∙ ap (λ (s : List ℕ). result (acceptance 0 0) (lent (stored (fresh (given ns ls) term len start) fullImage (h .image)) (length (imageOf (fresh (given ns ls) term len start))) s) [])
-        (filled ∙ its-rows ns ls term len start is-ok)
-        ∙ open-made room sheet
+    -- What is written.
+    module _ (room : fullImage ≤ length (h .image)) (l₁ l₂ l₃ : List ℕ) (e₁ : l₁ ≡ put (h .image) 0 (headRecord (record { term = term; «default_length» = cond (ltb 255 len) 0 len; last = start })))
+        (e₂ : l₂ ≡ put l₁ headSize (concatMap poolRecord (take (length ns) (paddedPools (sortPools (given ns ls))))))
+        (e₃ : l₃ ≡ put l₂ (headSize + poolSize * length ns) (replicate (fullImage - (headSize + poolSize * length ns)) 0)) where
+      written : l₃ ≡ stored (fresh (given ns ls) term len start) fullImage (h .image)
+      written = its-image ns ls term short start ok (h .image) room l₁ l₂ l₃ e₁ e₂ e₃ ∙ ap (λ (n : ℕ). stored (fresh (given ns ls) term n start) fullImage (h .image)) short-is
+
+      pub open-stands : Stands (fresh (given ns ls) term len start) l₃ (length ns) 0
+      open-stands = its-standing ns ls term len start is-ok (h .image) l₃ written
+
+      pub open-accepted : length (h .figures) ≡ figuresSize → (f : List ℕ) → f ≡ sheetOf (map untoldRow (padded []))
+          → result (acceptance 0 0) (lent l₃ (headSize + poolSize * length ns) f) [] ≡ openImage h ns ls term len start
+      open-accepted sheet f filled =
+          ap₂ (λ (l : List ℕ) (n : ℕ). result (acceptance 0 0) (lent l n f) []) written (sym (its-size ns ls term len start is-ok))
+          ∙ ap (λ (s : List ℕ). result (acceptance 0 0) (lent (stored (fresh (given ns ls) term len start) fullImage (h .image)) (length (imageOf (fresh (given ns ls) term len start))) s) [])
+          (filled ∙ its-rows ns ls term len start is-ok)
+          ∙ open-made room sheet
+
+-- ON AN OPEN BOOK
+
+module _ (b : Book) (ns ls : List ℕ) (term len start : ℕ) where
+  pub open-refuses : (number : ℕ) → (number ≡ 0 → ⊥) → result (refusal number 0) (b .lent) [] ≡ openImage (b .lent) ns ls term len start → result (refusal number 0) b [] ≡ openBook b ns ls term len start
+  open-refuses number k is = refuses-book b (openImage (b .lent) ns ls term len start) (refusal number 0) (b .lent) [] is k
+
+  -- What is left holds the fresh table, and these are its counts.
+  pub open-accepts : (g : Lent) → result (acceptance 0 0) g [] ≡ openImage (b .lent) ns ls term len start → (counts : List (List ℕ)) → counts ≡ countsOf (fresh (given ns ls) term len start)
+      → result (acceptance 0 0) (record { lent = g; counts = counts }) [] ≡ openBook b ns ls term len start
+  open-accepts g is counts e =
+      let accepted : openImage (b .lent) ns ls term len start .answer .number ≡ 0 = ap (λ (w : Result Lent). w .answer .number) (sym is) in
+      let holds : tableIn g ≡ fresh (given ns ls) term len start = ap (λ (w : Result Lent). tableIn (w .state)) is ∙ ap (λ (s : State). s .table) (opened-holds (b .lent) ns ls term len start accepted) in
+      accepts-book b (openImage (b .lent) ns ls term len start) (acceptance 0 0) g [] is refl counts (e ∙ ap countsOf (sym holds))

@@ -1,5 +1,6 @@
 // Open as a call: the table that pools, a term, a default length and a start time make, as an image in a lent buffer,
-// and its figures sheet.
+// its figures sheet, and the counts of its whole free blocks.
+use counts::Counts;
 use image::FULL_IMAGE;
 use image::HEAD;
 use image::Head;
@@ -17,7 +18,14 @@ ghost use Rattle.lists.specs.Put.{put};
 ghost use Rattle.table.specs.Table.{poolSlots};
 ghost use Rattle.image.specs.Image.{headSize, poolSize, poolRecord};
 ghost use Rattle.ledger.specs.Ledger.{result};
-ghost use Rattle.call_spec.specs.ImageCalls.{lent, openImage};
+ghost use Rattle.call_spec.specs.Books.{bookOf, openBook};
+
+// What the head of a table is opened with.
+pub struct Terms {
+    pub term: u32,
+    pub default_length: u32,
+    pub start: u32,
+}
 
 // The records of the first n pools, after the head.
 fn put_pools(image: &mut [u8], pools: [Pool; POOLS], n: usize)
@@ -38,16 +46,17 @@ pub fn open(
     image: &mut [u8],
     image_bytes: &mut usize,
     figures: &mut [u8],
+    counts: &mut Counts,
     networks: &[u32],
     lengths: &[u8],
-    term: u32,
-    default_length: u32,
-    start: u32,
+    terms: Terms,
 ) -> Answer
-    ensures { λ r. ⌜ result r (lent (now (image .exit)) (now («image_bytes» .exit)) (now (figures .exit))) []
-        ≡ openImage (lent (now (image .entry)) (now («image_bytes» .entry)) (now (figures .entry))) (now (networks .entry)) (now (lengths .entry)) term «default_length» start ⌝ }
+    ensures { λ r. ⌜ result r (bookOf (now (image .exit)) (now («image_bytes» .exit)) (now (figures .exit)) (now (counts .exit))) []
+        ≡ openBook (bookOf (now (image .entry)) (now («image_bytes» .entry)) (now (figures .entry)) (now (counts .entry))) (now (networks .entry)) (now (lengths .entry)) (terms .term) (terms .«default_length») (terms .start) ⌝ }
 {
-    let length = call_spec::length_of(default_length);
+    let term = terms.term;
+    let start = terms.start;
+    let length = call_spec::length_of(terms.default_length);
     let mut keys = [0u64; POOLS];
     if !table_open::admits(&mut keys, networks, lengths, term, length, start) {
         return call_spec::refused(12, 0);
@@ -70,6 +79,7 @@ pub fn open(
     put_pools(image, pools, n);
     image_records::clear(image, HEAD + POOL * n, FULL_IMAGE);
     image_figures::fill(figures, image, HEAD + POOL * n, 0);
+    image_counts::recount(image, n, 0, counts);
     *image_bytes = HEAD + POOL * n;
     call_spec::accepted(0, 0)
 }

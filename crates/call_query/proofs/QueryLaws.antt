@@ -2,54 +2,38 @@
 -- Assumes nothing.
 use Prim.Native.Nat.{ℕ, zero, suc, _+_, _*_, _≤_, _<_}
 use native.Mathlib.Omega.{arith}
-use mathlib.Core.Path.{_≡_, refl, sym, ap, _∙_}
-use mathlib.Core.Bool.{Bool, true, false, cond, _&&_, true≢false}
+use mathlib.Core.Path.{_≡_, refl, sym, ap, ap₂, subst, _∙_}
+use mathlib.Core.Bool.{Bool, true, false, cond, true≢false}
 use mathlib.Core.List.{List, [], _∷_, _++_, append-assoc}
 use mathlib.Core.Option.{Option, none, some}
 use lib.ListN.{length, getD, take, drop, take-append-drop}
 use lib.Seq.{drop-drop, drop-at}
-use lib.Dec.{leb}
 use borrow.Author.Tests.{lt-leb, le-leb}
 use Rattle.lists.specs.Lists.{concatMap}
-use Rattle.lists.proofs.Tests.{cond-true, cond-false}
 use Rattle.table.specs.declared.Pool.{Pool}
 use Rattle.table.specs.declared.Lease.{Lease}
 use Rattle.table.specs.declared.LeaseTable.{LeaseTable}
 use Rattle.table.specs.Table.{poolSlots, leaseSlots, noPool, noLease, sound}
 use Rattle.image.specs.Fields.{number32}
-use Rattle.image.specs.Image.{le16, le32, fullImage, headSize, poolSize, leaseSize, headRecord, poolRecord, leaseRecord, usedPools, usedLeases, headOf, imageOf, loadedTable}
+use Rattle.image.specs.Image.{le16, le32, headSize, poolSize, leaseSize, headRecord, poolRecord, leaseRecord, usedPools, usedLeases, headOf, imageOf}
 use Rattle.image.specs.Reading.{poolIn, leaseIn, loadImage}
 use Rattle.image.proofs.FieldLaws.{spell32}
-use Rattle.image.proofs.ImageLaws.{image-loaded, length-image, length-head, length-pool}
+use Rattle.image.proofs.ImageLaws.{length-image, length-head, length-pool}
 use Rattle.image_check.specs.declared.ImageSummary.{ImageSummary}
 use Rattle.image_check.specs.ImageSummary.{unsound, summaryOf}
 use Rattle.image_records.proofs.RecordLaws.{lease-in-place}
 use Rattle.image_records.proofs.SoundLaws.{used-few, image-records}
-use Rattle.ledger.specs.Sizes.{Byte, Bytes}
+use Rattle.counts.specs.Counts.{sumAt}
+use Rattle.ledger.specs.Sizes.{Bytes}
 use Rattle.ledger.specs.Ledger.{refusal, acceptance}
-use Rattle.ledger.proofs.Counts.{upTo-all}
-use Rattle.call_spec.specs.ImageCalls.{Lent, holds?, imageIn, tableIn}
-use Rattle.call_spec.proofs.TableLaws.{blank-unsound, holds-of, held-loads, held-within, held-image, held-length}
+use Rattle.call_spec.specs.ImageCalls.{Lent, imageIn, tableIn}
+use Rattle.call_spec.specs.Books.{Book, lentIn, wholeBook}
+use Rattle.call_spec.proofs.TableLaws.{held-loads, held-within, held-image, held-length}
+use Rattle.call_spec.proofs.BookLaws.{same-buffers}
+use Rattle.call_rows.specs.InnerSummary.{SummaryIn}
 use Rattle.call_query.specs.declared.HeadAnswer.{HeadAnswer}
 use Rattle.call_query.specs.Queries.{checkImage, headRefusal, headImage, poolAnswer, poolImage, leaseAnswer, leaseOf, leaseImage}
 use Rattle.call_query.specs.Queries.{headOf as headAnswer}
-
--- WHAT IS CHECKED: the image, or no bytes.
-
-module _ (h : Lent) (summary : ImageSummary) where
-  of-nothing : holds? h ≡ false → summary ≡ summaryOf 0 (loadImage (take 0 (h .image))) → summary ≡ summaryOf 0 (loadImage (imageIn h))
-  of-nothing k e = e ∙ ap (λ (n : ℕ). summaryOf 0 (loadImage (take n (h .image)))) (sym (cond-false (holds? h) (h .bytes) 0 k))
-
-  pub summary-short : length (h .image) < fullImage → summary ≡ summaryOf 0 (loadImage (take 0 (h .image))) → summary ≡ summaryOf 0 (loadImage (imageIn h))
-  summary-short short = of-nothing (ap (λ (x : Bool). x && leb (h .bytes) (length (h .image))) (lt-leb fullImage (length (h .image)) short))
-
-  module _ (room : fullImage ≤ length (h .image)) where
-    pub summary-outside : length (h .image) < h .bytes → summary ≡ summaryOf 0 (loadImage (take 0 (h .image))) → summary ≡ summaryOf 0 (loadImage (imageIn h))
-    summary-outside far =
-        of-nothing (ap (λ (x : Bool). x && leb (h .bytes) (length (h .image))) (le-leb fullImage (length (h .image)) room) ∙ lt-leb (h .bytes) (length (h .image)) far)
-
-    pub summary-image : h .bytes ≤ length (h .image) → summary ≡ summaryOf 0 (loadImage (take (h .bytes) (h .image))) → summary ≡ summaryOf 0 (loadImage (imageIn h))
-    summary-image within e = e ∙ ap (λ (n : ℕ). summaryOf 0 (loadImage (take n (h .image)))) (sym (cond-true (holds? h) (h .bytes) 0 (holds-of h room within)))
 
 -- POOLS IN PLACE, at the front of the bytes after the head.
 
@@ -87,10 +71,6 @@ image-pools t l bytes e k h =
 
 -- WHAT THE CHECK SAYS
 
-says-sound : (o : Option LeaseTable) → ((t : LeaseTable) → o ≡ some t → sound t ≡ true) → summaryOf 0 o .sound ≡ sound (loadedTable o)
-says-sound none s = sym blank-unsound
-says-sound (some t) s = sym (s t refl)
-
 says-unsound : (o : Option LeaseTable) → summaryOf 0 o .sound ≡ false → summaryOf 0 o ≡ unsound
 says-unsound none e = refl
 says-unsound (some t) e = absurd (true≢false e)
@@ -99,24 +79,28 @@ says-unsound (some t) e = absurd (true≢false e)
 abbrev pub headFrom : ℕ → ImageSummary → HeadAnswer
 headFrom number s = record { number = number; term = s .term; «default_length» = s .«default_length»; «last_time» = s .last; pools = s .pools; leases = s .leases }
 
-module _ (h : Lent) (b : Bytes (h .image)) (summary : ImageSummary) (e : summary ≡ summaryOf 0 (loadImage (imageIn h))) where
-  tells : summary .sound ≡ sound (tableIn h)
-  unfolding tableIn
-  tells =
-      ap (λ (x : ImageSummary). x .sound) e
-      ∙ says-sound (loadImage (imageIn h)) (λ t f. image-loaded (imageIn h) t (upTo-all Byte (cond (holds? h) (h .bytes) 0) (h .image) b) f .0)
+module _ (book : Book) (bytes : Bytes (book .lent .image)) (summary : ImageSummary) (i : SummaryIn (lentIn book) 0 summary) where
+  abbrev h : Lent
+  h = lentIn book
+
+  -- Its buffer is the one that is lent.
+  its : h .image ≡ book .lent .image
+  its = same-buffers book .0
+
+  b : Bytes (h .image)
+  b = subst Bytes (sym its) bytes
 
   -- ROW 5
   module _ (no : summary .sound ≡ false) where
     unsound-is : sound (tableIn h) ≡ false
-    unsound-is = sym tells ∙ no
+    unsound-is = sym (i .sound) ∙ no
 
     pub check-refused : refusal 5 0 ≡ checkImage h
     unfolding checkImage
     check-refused = rw unsound-is
 
     nothing-is : summary ≡ unsound
-    nothing-is = e ∙ says-unsound (loadImage (imageIn h)) (sym (ap (λ (x : ImageSummary). x .sound) e) ∙ no)
+    nothing-is = i .is ∙ says-unsound (loadImage (imageIn h)) (sym (ap (λ (x : ImageSummary). x .sound) (i .is)) ∙ no)
 
     pub pool-refused : (index : ℕ) → poolAnswer 5 noPool ≡ poolImage h index
     unfolding poolImage
@@ -129,14 +113,14 @@ module _ (h : Lent) (b : Bytes (h .image)) (summary : ImageSummary) (e : summary
   -- A TABLE
   module _ (yes : summary .sound ≡ true) where
     sound-is : sound (tableIn h) ≡ true
-    sound-is = sym tells ∙ yes
+    sound-is = sym (i .sound) ∙ yes
 
     pub check-accepted : acceptance 0 0 ≡ checkImage h
     unfolding checkImage
     check-accepted = rw sound-is
 
     summary-is : summary ≡ summaryOf 0 (some (tableIn h))
-    summary-is = e ∙ ap (summaryOf 0) (held-loads h sound-is)
+    summary-is = i .is ∙ ap (summaryOf 0) (held-loads h sound-is)
 
     pools-are : summary .pools ≡ length (usedPools (tableIn h))
     pools-are = ap (λ (x : ImageSummary). x .pools) summary-is
@@ -148,8 +132,8 @@ module _ (h : Lent) (b : Bytes (h .image)) (summary : ImageSummary) (e : summary
     few = let few-used = used-few (tableIn h) sound-is in (omega (arith, pools-are, few-used .0), omega (arith, leases-are, few-used .1))
 
     -- Every record lies in the buffer.
-    pub inside : headSize + poolSize * summary .pools + leaseSize * summary .leases ≤ length (h .image)
-    inside = omega (arith, pools-are, leases-are, length-image (tableIn h), held-length h sound-is b, held-within h sound-is)
+    pub inside : headSize + poolSize * summary .pools + leaseSize * summary .leases ≤ length (book .lent .image)
+    inside = omega (arith, pools-are, leases-are, length-image (tableIn h), held-length h sound-is b, held-within h sound-is, ap length its)
 
     module _ (index : ℕ) where
       pub pool-none : summary .pools ≤ index → poolAnswer 11 noPool ≡ poolImage h index
@@ -160,10 +144,14 @@ module _ (h : Lent) (b : Bytes (h .image)) (summary : ImageSummary) (e : summary
       unfolding poolImage
       pool-accepted lt = rw (sound-is, lt-leb (length (usedPools (tableIn h))) index lt)
 
-      pub pool-found : index < summary .pools → (p : Pool) → p ≡ poolIn (drop (headSize + poolSize * index) (h .image)) → poolAnswer 0 p ≡ poolImage h index
+      pub pool-found : index < summary .pools → (p : Pool) → p ≡ poolIn (drop (headSize + poolSize * index) (book .lent .image)) → poolAnswer 0 p ≡ poolImage h index
       pool-found here p f =
           let lt : index < length (usedPools (tableIn h)) = omega (arith, pools-are) in
-          ap (poolAnswer 0) (f ∙ image-pools (tableIn h) (h .image) (h .bytes) (held-image h sound-is b) index lt) ∙ pool-accepted lt
+          ap (poolAnswer 0)
+          (f
+          ∙ ap (λ (l : List ℕ). poolIn (drop (headSize + poolSize * index) l)) (sym its)
+          ∙ image-pools (tableIn h) (h .image) (h .bytes) (held-image h sound-is b) index lt)
+          ∙ pool-accepted lt
 
       pub lease-none : summary .leases ≤ index → leaseAnswer 11 0 noLease ≡ leaseImage h index
       unfolding leaseImage
@@ -173,14 +161,14 @@ module _ (h : Lent) (b : Bytes (h .image)) (summary : ImageSummary) (e : summary
       unfolding leaseImage
       lease-accepted lt = rw (sound-is, lt-leb (length (usedLeases (tableIn h))) index lt)
 
-      pub lease-found : index < summary .leases → (x : Lease) → x ≡ leaseIn (drop (headSize + poolSize * summary .pools + leaseSize * index) (h .image)) → leaseOf x ≡ leaseImage h index
+      pub lease-found : index < summary .leases → (x : Lease) → x ≡ leaseIn (drop (headSize + poolSize * summary .pools + leaseSize * index) (book .lent .image)) → leaseOf x ≡ leaseImage h index
       lease-found here x f =
           let xs : List Lease = usedLeases (tableIn h) in
           let lt : index < length xs = omega (arith, leases-are) in
           let from : headSize + poolSize * summary .pools ≡ headSize + poolSize * length (usedPools (tableIn h)) = omega (arith, pools-are) in
           ap leaseOf
           (f
-          ∙ ap (λ (k : ℕ). leaseIn (drop (k + leaseSize * index) (h .image))) from
+          ∙ ap₂ (λ (k : ℕ) (l : List ℕ). leaseIn (drop (k + leaseSize * index) l)) from (sym its)
           ∙ lease-in-place (h .image) (headSize + poolSize * length (usedPools (tableIn h))) xs (image-records (tableIn h) (h .image) (h .bytes) (held-image h sound-is b)) index lt)
           ∙ lease-accepted lt
 
@@ -206,3 +194,22 @@ module _ (h : Lent) (b : Bytes (h .image)) (summary : ImageSummary) (e : summary
       by-sound : (s : Bool) → summary .sound ≡ s → headFrom (cond s 0 5) summary ≡ headImage h
       by-sound true f = ap (headFrom 0) (summary-is f) ∙ head-accepted (sound-is f)
       by-sound false f = ap (headFrom 5) (nothing-is f) ∙ head-refused (unsound-is f)
+
+-- HOW MUCH IS LEFT: refused where the check is.
+
+module _ (book : Book) (len : ℕ) where
+  pub whole-refused : (checkImage (lentIn book) .number ≡ 0 → ⊥) → checkImage (lentIn book) ≡ wholeBook book len
+  unfolding checkImage wholeBook
+  whole-refused k = by-sound (sound (tableIn (lentIn book))) refl
+    where
+      by-sound : (s : Bool) → sound (tableIn (lentIn book)) ≡ s → checkImage (lentIn book) ≡ wholeBook book len
+      by-sound true f = absurd (k (rw f refl))
+      by-sound false f = rw f
+
+  pub whole-accepted : checkImage (lentIn book) .number ≡ 0 → acceptance 0 (sumAt (book .counts) len) ≡ wholeBook book len
+  unfolding checkImage wholeBook
+  whole-accepted z = by-sound (sound (tableIn (lentIn book))) refl
+    where
+      by-sound : (s : Bool) → sound (tableIn (lentIn book)) ≡ s → acceptance 0 (sumAt (book .counts) len) ≡ wholeBook book len
+      by-sound true f = rw f
+      by-sound false f = let five : checkImage (lentIn book) .number ≡ 5 = rw f refl in absurd (omega (arith, z, five))

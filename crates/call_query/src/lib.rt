@@ -1,9 +1,9 @@
-// Queries on a lent image: whether it is one, its head, and a pool or a lease by its index. Each checks the image in one pass
-// and reads what it is asked for where it stands.
+// Queries on an open book: whether it is sound, its head, a pool or a lease by its index, and how many whole free blocks of a
+// length it has. Each checks the book and reads what it is asked for where it stands.
+use counts::Counts;
 use image::HEAD;
 use image::LEASE;
 use image::POOL;
-use image_check::ImageSummary;
 use ledger::Answer;
 use table::Lease;
 use table::Pool;
@@ -11,9 +11,7 @@ ghost use mathlib.Core.Path.{_≡_};
 ghost use mathlib.Core.Bool.{cond};
 ghost use mathlib.Core.List.{[]};
 ghost use Rattle.image.specs.Image.{bit};
-ghost use Rattle.image.specs.Reading.{loadImage};
-ghost use Rattle.image_check.specs.ImageSummary.{summaryOf};
-ghost use Rattle.call_spec.specs.ImageCalls.{lent, imageIn};
+ghost use Rattle.call_spec.specs.Books.{bookOf, lentIn, wholeBook};
 ghost use Rattle.call_query.specs.Queries.{
   checkImage,
   headImage,
@@ -54,24 +52,11 @@ pub struct LeaseAnswer {
     pub expires: u32,
 }
 
-// What the check says of the image; of no bytes, where the buffer has fewer than the image is said to have or cannot hold a full
-// table. No query looks at which leases have expired.
-fn summary_in(image: &[u8], image_bytes: usize) -> ImageSummary
-    ensures { λ r. ⌜ r ≡ summaryOf 0 (loadImage (imageIn (lent (now (image .entry)) «image_bytes» []))) ⌝ }
+// No query looks at which leases have expired, so the time of the summary is 0, here and below.
+pub fn check(image: &[u8], image_bytes: usize, counts: &Counts) -> Answer
+    ensures { λ r. ⌜ r ≡ checkImage (lentIn (bookOf (now (image .entry)) «image_bytes» [] (now (counts .entry)))) ⌝ }
 {
-    if image.len() < image::FULL_IMAGE {
-        return image_check::check(&image[..0], 0);
-    }
-    if image.len() < image_bytes {
-        return image_check::check(&image[..0], 0);
-    }
-    image_check::check(&image[..image_bytes], 0)
-}
-
-pub fn check(image: &[u8], image_bytes: usize) -> Answer
-    ensures { λ r. ⌜ r ≡ checkImage (lent (now (image .entry)) «image_bytes» []) ⌝ }
-{
-    let summary = summary_in(image, image_bytes);
+    let summary = call_rows::summary_in(image, image_bytes, counts, 0);
     if !summary.sound {
         return call_spec::refused(5, 0);
     }
@@ -86,10 +71,10 @@ fn row_5(sound: bool) -> u32
 }
 
 // Where there is no table the summary is all 0.
-pub fn head(image: &[u8], image_bytes: usize) -> HeadAnswer
-    ensures { λ r. ⌜ r ≡ headImage (lent (now (image .entry)) «image_bytes» []) ⌝ }
+pub fn head(image: &[u8], image_bytes: usize, counts: &Counts) -> HeadAnswer
+    ensures { λ r. ⌜ r ≡ headImage (lentIn (bookOf (now (image .entry)) «image_bytes» [] (now (counts .entry)))) ⌝ }
 {
-    let summary = summary_in(image, image_bytes);
+    let summary = call_rows::summary_in(image, image_bytes, counts, 0);
     HeadAnswer {
         number: row_5(summary.sound),
         term: summary.term,
@@ -112,10 +97,10 @@ fn pool_answer(number: u32, p: Pool) -> PoolAnswer
     }
 }
 
-pub fn pool(image: &[u8], image_bytes: usize, index: usize) -> PoolAnswer
-    ensures { λ r. ⌜ r ≡ poolImage (lent (now (image .entry)) «image_bytes» []) index ⌝ }
+pub fn pool(image: &[u8], image_bytes: usize, counts: &Counts, index: usize) -> PoolAnswer
+    ensures { λ r. ⌜ r ≡ poolImage (lentIn (bookOf (now (image .entry)) «image_bytes» [] (now (counts .entry)))) index ⌝ }
 {
-    let summary = summary_in(image, image_bytes);
+    let summary = call_rows::summary_in(image, image_bytes, counts, 0);
     if !summary.sound {
         return pool_answer(5, table::no_pool());
     }
@@ -149,10 +134,10 @@ fn lease_answer(number: u32, state: u8, x: Lease) -> LeaseAnswer
     }
 }
 
-pub fn lease(image: &[u8], image_bytes: usize, index: usize) -> LeaseAnswer
-    ensures { λ r. ⌜ r ≡ leaseImage (lent (now (image .entry)) «image_bytes» []) index ⌝ }
+pub fn lease(image: &[u8], image_bytes: usize, counts: &Counts, index: usize) -> LeaseAnswer
+    ensures { λ r. ⌜ r ≡ leaseImage (lentIn (bookOf (now (image .entry)) «image_bytes» [] (now (counts .entry)))) index ⌝ }
 {
-    let summary = summary_in(image, image_bytes);
+    let summary = call_rows::summary_in(image, image_bytes, counts, 0);
     if !summary.sound {
         return lease_answer(5, 0, table::no_lease());
     }
@@ -161,4 +146,17 @@ pub fn lease(image: &[u8], image_bytes: usize, index: usize) -> LeaseAnswer
     }
     let x = image_records::lease_at(image, HEAD + POOL * summary.pools + LEASE * index);
     lease_answer(0, image_records::state_byte(x.leased), x)
+}
+
+// HOW MUCH IS LEFT
+
+// How many whole free blocks of a length there are, as last written; 0 outside 8 to 30.
+pub fn whole(image: &[u8], image_bytes: usize, counts: &Counts, length: u32) -> Answer
+    ensures { λ r. ⌜ r ≡ wholeBook (bookOf (now (image .entry)) «image_bytes» [] (now (counts .entry))) length ⌝ }
+{
+    let checked = check(image, image_bytes, counts);
+    if checked.number != 0 {
+        return checked;
+    }
+    call_spec::accepted(0, counts::sum(*counts, length))
 }

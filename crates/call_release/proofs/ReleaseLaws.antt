@@ -3,10 +3,11 @@
 use Prim.Native.Nat.{ℕ}
 use native.Mathlib.Omega.{arith}
 use mathlib.Core.Path.{_≡_, refl, sym, ap, ap₂, _∙_}
-use mathlib.Core.Bool.{true, false, not}
+use mathlib.Core.Bool.{true, false, not, cond, _&&_, true≢false}
 use mathlib.Core.List.{List, [], map}
 use lib.ListN.{length}
 use lib.ListN.{take as upTo}
+use lib.Dec.{eqb}
 use Rattle.lists.specs.Lists.{All, filter}
 use Rattle.option.specs.Values.{Entry}
 use Rattle.option.specs.Contents.{entriesIn}
@@ -19,16 +20,24 @@ use Rattle.image_check.specs.declared.ImageSummary.{ImageSummary}
 use Rattle.figures.specs.declared.FigureRow.{FigureRow}
 use Rattle.image_figures.specs.Sheets.{sheetOf}
 use Rattle.image_figures.proofs.AcceptedLaws.{strike-changed, stays-follow}
+use Rattle.counts.specs.Counts.{countsOf}
+use Rattle.ledger.specs.declared.Answer.{Answer}
 use Rattle.ledger.specs.Ledger.{State, left, Call, Result, result, refusal, acceptance, accept, refusalPlace, leastReply, forTake, namedBy?, releaseRows, release}
+use Rattle.ledger.proofs.SoundKept.{release-sound}
 use Rattle.call_spec.specs.ImageCalls.{Lent, lent, tableIn, stateIn, releaseImage}
+use Rattle.call_spec.specs.Books.{Book, lentIn, releaseBook}
 use Rattle.call_rows.specs.declared.Admission.{Admission}
 use Rattle.call_spec.proofs.StoreLaws.{row-refuses}
-use Rattle.call_rows.specs.Admission.{leasesFrom, Admitted, Admits}
+use Rattle.call_spec.proofs.OnImages.{follows-all}
+use Rattle.call_spec.proofs.BookLaws.{refuses-book}
+use Rattle.call_spec.proofs.PoolsKept.{release-pools}
+use Rattle.call_rows.specs.Admission.{leasesFrom, Admitted, Admits, LeftIfAccepted}
+use Rattle.call_rows.proofs.SettleLaws.{countable, settles}
 use Rattle.call_rows.proofs.RowLaws.{RefusedBy, refused-admission, nothing-found, none-left, accepts}
 use Rattle.call_entries.specs.EntryLeases.{Hold, changedBy}
 use Rattle.call_entries.proofs.ManyLaws.{namedByPresent?, none-of, struck-all, struck-left}
 use Rattle.call_entries.proofs.EntriesLaws.{unchanged, changed-prefix, changed-fewer}
-use Rattle.call_entries.proofs.CallLaws.{EntriesCall, refused-entries, entries-passed, changed-many, changed-stand, changed-in-place}
+use Rattle.call_entries.proofs.CallLaws.{EntriesCall, refused-entries, entries-passed, as-lent, on-lent, changed-many, changed-stand, changed-in-place}
 use Rattle.call_release.specs.declared.Strikes.{Strikes}
 use Rattle.call_release.specs.InnerStruck.{Struck, Removed}
 use Rattle.call_release.specs.InnerReleasing.{foundBy, eleven, Releasing}
@@ -135,3 +144,29 @@ module _ (h : Lent) (now : ℕ) (c : Call) (summary : ImageSummary) (networks le
           accepts h (releaseRows (stateIn h) now c) (refusalPlace (c .option)) (c .reply) (outcome h now c)
           (none-left h c (releaseRows (stateIn h) now c) (releaseImage h now c) (by-row h now c) (foundBy h now c) (t .left-rows) (λ w. k (struck-is ∙ w))) after refl after-is (lent l₂ n sheet)
           (changed-in-place h now c summary o 0 es l₁ (done .after-is) l₂ n (removed .finished) (left (stateIn h) now (present now ys) .rows) sheet rows-left)
+
+-- ON THE OPEN BOOK
+
+module _ (b : Book) (now : ℕ) (c : Call) where
+  pub book-refused : (a : Admission) → Admits true leastReply (lentIn b) now (c .client) a → (a .number ≡ 0 → ⊥) → (r : Answer) → r ≡ refusal (a .number) 0
+      → result r b (c .reply) ≡ releaseBook b now c
+  book-refused a ad k r is =
+      refuses-book b (releaseImage (lentIn b) now c) r (lentIn b) (c .reply) (ap (λ (y : Answer). result y (lentIn b) (c .reply)) is ∙ release-refused (lentIn b) now c a ad k)
+      (λ z. k (sym (ap (λ (y : Answer). y .number) is) ∙ z))
+
+  module _ (s : EntriesCall leastReply (lentIn b) now c) where
+    pub book-unread : (s .read .answer .number ≡ 0 → ⊥) → result (s .read .answer) b (c .reply) ≡ releaseBook b now c
+    book-unread k = refuses-book b (releaseImage (lentIn b) now c) (s .read .answer) (lentIn b) (c .reply) (release-unread (lentIn b) now c s k) k
+
+    -- What it leaves, and the counts.
+    module _ (a : Answer) (g : Lent) (is : result a g (c .reply) ≡ releaseImage (b .lent) now c) where
+      pub release-countable : LeftIfAccepted (a .number) (lent (g .image) (g .bytes) []) (s .admission .summary .pools)
+      release-countable =
+          countable (b .lent) (release (stateIn (b .lent)) now c) (follows-all .releases (b .lent) now c) (release-sound (stateIn (b .lent)) now c)
+          (release-pools (stateIn (b .lent)) now c) a g (c .reply) is (s .admission .summary .pools) (on-lent leastReply b now c s .admits .admitted (s .admitted) .pools)
+
+      pub release-settles : (counts : List (List ℕ)) → counts ≡ cond (eqb (a .number) 0 && true) (countsOf (tableIn (lent (g .image) (g .bytes) []))) (b .counts)
+          → result a (record { lent = g; counts = counts }) (c .reply) ≡ releaseBook b now c
+      release-settles counts left =
+          settles b (as-lent leastReply b now c s) (release (stateIn (b .lent)) now c) (λ (h : Lent). releaseImage h now c) (follows-all .releases (b .lent) now c) a g (c .reply) is true counts left
+          (λ z e. absurd (true≢false e))

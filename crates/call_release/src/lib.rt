@@ -1,5 +1,6 @@
-// Return as a call on an image, in place; `return` is a keyword.
+// Return as a call on an open book, in place; `return` is a keyword.
 use call_entries::Expiry;
+use counts::Counts;
 use image::HEAD;
 use image::POOL;
 use image_check::ImageSummary;
@@ -16,6 +17,7 @@ ghost use Rattle.image_records.specs.Records.{Records, Ascending, ExpiredIn};
 ghost use Rattle.call_entries.specs.EntryLeases.{Hold};
 ghost use Rattle.call_entries.specs.EntryCalls.{Sized};
 ghost use Rattle.call_spec.specs.ImageCalls.{lent, releaseImage};
+ghost use Rattle.call_spec.specs.Books.{bookOf, releaseBook};
 ghost use Rattle.image_figures.specs.Sheets.{rowSize};
 ghost use Rattle.call_release.specs.InnerReleasing.{Releasing};
 ghost use Rattle.call_release.specs.InnerStruck.{Struck, Removed};
@@ -139,12 +141,13 @@ pub fn release(
     image: &mut [u8],
     image_bytes: &mut usize,
     figures: &mut [u8],
+    counts: &mut Counts,
     client: u32,
     time: u32,
     option: &[u8],
 ) -> Answer
-    ensures { λ r. ⌜ result r (lent (now (image .exit)) (now («image_bytes» .exit)) (now (figures .exit))) []
-        ≡ releaseImage (lent (now (image .entry)) (now («image_bytes» .entry)) (now (figures .entry))) time (call client (now (option .entry)) []) ⌝ }
+    ensures { λ r. ⌜ result r (bookOf (now (image .exit)) (now («image_bytes» .exit)) (now (figures .exit)) (now (counts .exit))) []
+        ≡ releaseBook (bookOf (now (image .entry)) (now («image_bytes» .entry)) (now (figures .entry)) (now (counts .entry))) time (call client (now (option .entry)) []) ⌝ }
 {
     let bytes = *image_bytes;
     let admission = call_rows::admit(
@@ -152,6 +155,7 @@ pub fn release(
         bytes,
         figures,
         true,
+        counts,
         call_rows::SHORTEST_REPLY,
         client,
         time,
@@ -162,13 +166,13 @@ pub fn release(
     let mut networks = [0u32; option_scan::MOST_ENTRIES];
     let mut lengths = [0u8; option_scan::MOST_ENTRIES];
     let read = call_entries::read_entries(option, &mut networks, &mut lengths);
-    let answer = read.answer;
-    if answer.number != 0 {
-        return answer;
+    let refusal = read.answer;
+    if refusal.number != 0 {
+        return refusal;
     }
     let n = read.count;
     let summary = admission.summary;
-    strike_found(
+    let answer = strike_found(
         image,
         image_bytes,
         figures,
@@ -177,5 +181,16 @@ pub fn release(
         summary,
         &networks[..n],
         &lengths[..n],
-    )
+    );
+    // An accepted return removes leases.
+    let moved = true;
+    call_rows::settle(
+        answer.number,
+        moved,
+        image,
+        *image_bytes,
+        summary.pools,
+        counts,
+    );
+    answer
 }

@@ -2,7 +2,7 @@
 -- Assumes nothing.
 use Prim.Native.Nat.{ℕ, _≤_, _<_}
 use native.Mathlib.Omega.{arith}
-use mathlib.Core.Path.{_≡_, refl, sym, ap, _∙_}
+use mathlib.Core.Path.{_≡_, refl, sym, ap, subst, _∙_}
 use mathlib.Core.Bool.{Bool, true, false, not, cond, _||_}
 use mathlib.Core.List.{List, [], _∷_, _++_}
 use mathlib.Core.Option.{some}
@@ -15,12 +15,15 @@ use Rattle.ledger.specs.Sizes.{Bytes}
 use Rattle.ledger.specs.Ledger.{Row, firstOf, leastReply, timeRows}
 use Rattle.ledger.specs.FiguresKept.{Matched}
 use Rattle.ledger.proofs.RowLaws.{first-none}
+use Rattle.image_check.specs.declared.ImageSummary.{ImageSummary}
 use Rattle.call_spec.specs.ImageCalls.{Lent, tableIn, stateIn}
+use Rattle.call_spec.specs.Books.{Book, lentIn}
+use Rattle.call_spec.proofs.BookLaws.{same-buffers}
 use Rattle.call_spec.proofs.TableLaws.{held-size, held-sheet}
 use Rattle.call_rows.specs.declared.Admission.{Admission}
 use Rattle.call_rows.specs.Admission.{numberOf, SheetIn, Admits}
-use Rattle.call_rows.specs.InnerSummary.{SummaryIn, SheetPasses}
-use Rattle.call_rows.proofs.SummaryLaws.{passes-is, admits}
+use Rattle.call_rows.specs.InnerSummary.{SummaryIn, Measured, SheetPasses}
+use Rattle.call_rows.proofs.SummaryLaws.{passes-is, admits, measured}
 use Rattle.call_rows.proofs.RowLaws.{number-none}
 
 -- ROW 15: what the code tests in every call is one row more for those that have the sheet, and none for the others.
@@ -62,3 +65,22 @@ module _ (sheet : Bool) (room : ℕ) (h : Lent) (now client : ℕ) (a : Admissio
             admits h now b (a .summary) i s sheet client (r .1 .1 .0) (ltb-false now (tableIn h .last) (r .1 .1 .1 .0)) (ltb-false latest now (r .1 .1 .1 .1 .0))
             (λ c. sheet-of h s k (matched c));
       }
+
+-- AN OPEN BOOK: its buffers are those of what is given in its place.
+module _ (b : Book) (now : ℕ) (image : Bytes (b .lent .image)) (summary : ImageSummary) (i : SummaryIn (lentIn b) now summary) where
+  given-bytes : Bytes (lentIn b .image)
+  given-bytes = subst Bytes (sym (same-buffers b .0)) image
+
+  pub book-measured : Measured summary (b .lent .image)
+  book-measured = subst (Measured summary) (same-buffers b .0) (measured (lentIn b) now given-bytes summary i)
+
+module _ (sheet : Bool) (room : ℕ) (b : Book) (now client : ℕ) (a : Admission) where
+  pub admit-book : leastReply ≤ room → Bytes (b .lent .image) → Bytes (b .lent .figures) → SummaryIn (lentIn b) now (a .summary) → (passes : Bool)
+      → SheetPasses sheet (a .summary) (b .lent .image) (b .lent .figures) passes
+      → a .number ≡ numberOf (firstOf ((5, not (a .summary .sound)) ∷ (15, not passes) ∷ (2, eqb client 0) ∷ (3, ltb now (a .summary .last)) ∷ (4, ltb latest now) ∷ []))
+      → Admits sheet room (lentIn b) now client a
+  admit-book long image figures i passes p e =
+      let same = same-buffers b in
+      admit-rest sheet room (lentIn b) now client a long (subst Bytes (sym (same .0)) image) (subst Bytes (sym (same .1)) figures) i passes
+      (subst (λ (f : List ℕ). SheetPasses sheet (a .summary) (lentIn b .image) f passes) (sym (same .1))
+      (subst (λ (l : List ℕ). SheetPasses sheet (a .summary) l (b .lent .figures) passes) (sym (same .0)) p)) e

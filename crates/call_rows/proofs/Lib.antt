@@ -1,5 +1,7 @@
 pub mod SummaryLaws
+pub mod BookSummary
 pub mod RowLaws
 pub mod AdmitLaws
 pub mod FinishLaws
+pub mod SettleLaws
 pub mod StruckLaws

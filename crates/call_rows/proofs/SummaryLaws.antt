@@ -63,7 +63,7 @@ module _ (h : Lent) (now : ℕ) (b : Bytes (h .image)) (summary : ImageSummary) 
   in-bytes : Bytes (imageIn h)
   in-bytes = upTo-all Byte (cond (holds? h) (h .bytes) 0) (h .image) b
 
-  summary-in : SummaryIn h now summary
+  pub summary-in : SummaryIn h now summary
   unfolding tableIn
   summary-in = record {
     is = is;

@@ -82,3 +82,13 @@ left buffer from n xs now = put (put buffer from (concatMap leaseRecord xs ++ re
 pub record Finished (buffer : List ℕ) (from : ℕ) (xs : List Lease) (now : ℕ) (after : List ℕ) (bytes : ℕ) : Type 0 where
   pub bytes-are : bytes ≡ from + leaseSize * length (present now xs)
   pub after-is : after ≡ left buffer from (length xs) (present now xs) now
+
+-- What is lent after it holds a sound table with so many pools, so its leases can be counted again.
+pub record LeftSound (g : Lent) (pools : ℕ) : Type 0 where
+  pub sound : soundOf (tableIn g) ≡ true
+  pub image : imageOf (tableIn g) ≡ take (g .bytes) (g .image)
+  pub size : length (imageOf (tableIn g)) ≡ g .bytes
+  pub pools-are : pools ≡ length (usedPools (tableIn g))
+
+abbrev pub LeftIfAccepted : ℕ → Lent → ℕ → Type 0
+LeftIfAccepted number g pools = number ≡ 0 → LeftSound g pools

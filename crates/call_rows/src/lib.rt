@@ -1,5 +1,6 @@
 // What the calls have in common that work on an image in place: the rows that come before a call's own, and the end of an
 // accepted call.
+use counts::Counts;
 use image::HEAD;
 use image::LAST;
 use image::LEASE;
@@ -8,7 +9,7 @@ use image_check::ImageSummary;
 use ledger::Answer;
 use option::Checked;
 ghost use mathlib.Core.Path.{_≡_};
-ghost use mathlib.Core.Bool.{not};
+ghost use mathlib.Core.Bool.{not, cond, _&&_};
 ghost use mathlib.Core.List.{List, [], _∷_};
 ghost use Prim.Native.Nat.{ℕ, _+_, _*_, _≤_};
 ghost use lib.ListN.{length};
@@ -23,8 +24,10 @@ ghost use Rattle.figures.specs.declared.FigureRow.{FigureRow};
 ghost use Rattle.image_figures.specs.Sheets.{rowSize, sheetOf};
 ghost use Rattle.ledger.specs.Ledger.{firstOf};
 ghost use Rattle.ledger.specs.Answers.{checkedAnswer};
-ghost use Rattle.call_spec.specs.ImageCalls.{lent};
-ghost use Rattle.call_rows.specs.Admission.{numberOf, Admits, Finished};
+ghost use Rattle.counts.specs.Counts.{countsOf};
+ghost use Rattle.call_spec.specs.ImageCalls.{lent, tableIn};
+ghost use Rattle.call_spec.specs.Books.{bookOf, lentIn};
+ghost use Rattle.call_rows.specs.Admission.{numberOf, Admits, Finished, LeftIfAccepted};
 ghost use Rattle.call_rows.specs.StruckRows.{struckIf};
 ghost use Rattle.call_rows.specs.InnerSummary.{SummaryIn, Measured, SheetPasses};
 
@@ -40,7 +43,7 @@ pub struct Admission {
 }
 
 // What the check says of the first `bytes` of the buffer; of none of them, if it has fewer or cannot hold a full table.
-fn summary_in(image: &[u8], bytes: usize, time: u32) -> ImageSummary
+fn image_summary(image: &[u8], bytes: usize, time: u32) -> ImageSummary
     ensures { λ r. ⌜ ((figures : List ℕ) → SummaryIn (lent (now (image .entry)) bytes figures) time r) ⌝ }
 {
     if image.len() < image::FULL_IMAGE {
@@ -50,6 +53,20 @@ fn summary_in(image: &[u8], bytes: usize, time: u32) -> ImageSummary
         return image_check::check(&image[..0], time);
     }
     image_check::check(&image[..bytes], time)
+}
+
+// What it says of the open book: where the counts are not the table's, as if there were no bytes.
+pub fn summary_in(image: &[u8], bytes: usize, counts: &Counts, time: u32) -> ImageSummary
+    ensures { λ r. ⌜ ((figures : List ℕ) → SummaryIn (lentIn (bookOf (now (image .entry)) bytes figures (now (counts .entry)))) time r) ⌝ }
+{
+    let summary = image_summary(image, bytes, time);
+    if !summary.sound {
+        return summary;
+    }
+    if image_counts::counted(image, summary.pools, summary.leases, counts) {
+        return summary;
+    }
+    image_check::check(&image[..0], time)
 }
 
 // Row 15: whether the figures sheet matches the leases, of a call that has one. Where the bytes are no image the call is
@@ -97,17 +114,18 @@ pub fn admit(
     image_bytes: usize,
     figures: &[u8],
     has_sheet: bool,
+    counts: &Counts,
     room: usize,
     client: u32,
     time: u32,
 ) -> Admission
-    ensures { λ r. ⌜ Admits «has_sheet» room (lent (now (image .entry)) «image_bytes» (now (figures .entry))) time client r ⌝ }
+    ensures { λ r. ⌜ Admits «has_sheet» room (lentIn (bookOf (now (image .entry)) «image_bytes» (now (figures .entry)) (now (counts .entry)))) time client r ⌝ }
 {
     if room < SHORTEST_REPLY {
         let summary = image_check::check(&image[..0], time);
         return Admission { number: 1, summary };
     }
-    let summary = summary_in(image, image_bytes, time);
+    let summary = summary_in(image, image_bytes, counts, time);
     let matched = sheet_passes(summary, image, figures, has_sheet);
     let number = first_row(summary, matched, client, time);
     Admission { number, summary }
@@ -176,4 +194,27 @@ pub fn strike_expired(
         return;
     }
     image_figures::strike(figures, image, from, n, 0, n, time);
+}
+
+// The end of a call on an open book. Where it is accepted and leases came or went, the counts are those of the table that is
+// left; otherwise they stay.
+pub fn settle(
+    number: u32,
+    moved: bool,
+    image: &[u8],
+    image_bytes: usize,
+    pools: usize,
+    counts: &mut Counts,
+)
+    requires { ⌜ LeftIfAccepted number (lent (now image) «image_bytes» []) pools ⌝ }
+    ensures { λ _. ⌜ now (counts .exit) ≡ cond (eqb number 0 && moved) (countsOf (tableIn (lent (now (image .entry)) «image_bytes» []))) (now (counts .entry)) ⌝ }
+{
+    if number != 0 {
+        return;
+    }
+    if !moved {
+        return;
+    }
+    let leases = (image_bytes - (HEAD + POOL * pools)) / LEASE;
+    image_counts::recount(image, pools, leases, counts);
 }

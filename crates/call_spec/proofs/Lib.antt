@@ -1,8 +1,12 @@
 pub mod StoreLaws
 pub mod TableLaws
+pub mod BookLaws
 pub mod InPlace
 pub mod Images
 pub mod OpenLength
 pub mod OnImages
-pub mod RepliesOnImages
-pub mod InRangeOnImages
+pub mod PoolsKept
+pub mod OnBooks
+pub mod RepliesOnBooks
+pub mod InRangeOnBooks
+pub mod CountsHold

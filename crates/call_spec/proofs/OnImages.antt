@@ -1,6 +1,4 @@
--- THE THEOREMS ON WHAT THE CODE IS LENT. The calls on images follow the ledger's, from every start, sound or not; so demand 3, what a client that asks twice
--- gets, conservation, that no address is shared and what a list depends on hold of histories of calls in which the buffer, the length and the figures sheet go
--- from call to call.
+-- The calls on what is lent follow the ledger's, from every start, sound or not; and an accepted open or load leaves what holds the table that it makes.
 -- Assumes nothing.
 use Prim.Native.Nat.{ℕ, _≤_}
 use mathlib.Core.Path.{_≡_, refl, sym, ap, subst, _∙_}
@@ -35,7 +33,6 @@ use Rattle.ledger.proofs.MatchedKept.{MatchedIfAccepted, ask-matched, take-matc
 use Rattle.ledger.proofs.ConservationHolds.{conservation-open}
 use Rattle.ledger.proofs.Following.{Follows, FollowsAll, demand3-followed, asks-twice-followed, never-shared-followed, conserved-followed, conservation-followed, list-depends-followed}
 use Rattle.call_spec.specs.ImageCalls.{Lent, tableIn, stateIn, storedIn, settled, askImage, listImage, imageCalls, openImage, loadInto, roomRows}
-use Rattle.call_spec.specs.OnImages.{Begins, opened, loaded, FromOpen}
 use Rattle.call_spec.proofs.StoreLaws.{settled-refused, settled-accepted}
 use Rattle.call_spec.proofs.TableLaws.{held-room}
 use Rattle.call_spec.proofs.Images.{found-again}
@@ -74,21 +71,6 @@ follows-all = record {
       λ h now network len d. follow h (mark (stateIn h) now network len d) (mark-sound (stateIn h) now network len d) (mark-matched (stateIn h) now network len d)
       (λ k. mark-refused-unchanged (stateIn h) now network len d k .stays);
 }
-
--- DEMAND 3 OF THE CODE'S ASK: `askImage` is what `flockdrift_ask` is proved to be.
-pub demand3-on-images : Demand3 stateIn askImage
-demand3-on-images = demand3-followed stateIn askImage (follows-all .asks)
-
--- A CLIENT THAT ASKS TWICE gets its leases again.
-pub asks-twice-on-images : AsksTwice stateIn askImage
-asks-twice-on-images = asks-twice-followed stateIn askImage (follows-all .asks)
-
--- CONSERVATION over histories of calls on what is lent, and WHAT A LIST DEPENDS ON.
-pub conservation-on-images : FromLoad imageCalls
-conservation-on-images = conservation-followed imageCalls follows-all
-
-pub list-depends-on-images : DependsOnly imageCalls
-list-depends-on-images = list-depends-followed imageCalls follows-all
 
 -- WHERE HISTORIES BEGIN: an accepted open or load leaves what holds the table that it makes, and a sheet that is filled.
 
@@ -166,17 +148,3 @@ module _ (h : Lent) (saved : List ℕ) (b : Bytes saved) (z : loadInto h saved .
 
   pub loaded-sound : sound (tableIn (loadInto h saved .state)) ≡ true
   loaded-sound = ap (λ (s : State). sound (s .table)) loaded-holds ∙ read-sound
-
-begins-sound : (h : Lent) → Begins h → sound (tableIn h) ≡ true
-begins-sound h (opened g networks lengths term defaultLength start z) = opened-sound g networks lengths term defaultLength start z
-begins-sound h (loaded g saved b z) = loaded-sound g saved b z
-
--- NO TWO LEASES SHARE AN ADDRESS, in all that a history of calls on what is lent can reach.
-pub never-shared-on-images : NeverShared imageCalls Begins
-never-shared-on-images = never-shared-followed imageCalls follows-all Begins begins-sound
-
-pub conservation-open-on-images : FromOpen
-conservation-open-on-images h networks lengths term defaultLength start es z =
-    let o = opened-as h networks lengths term defaultLength start z in
-    conserved-followed imageCalls follows-all 0 (openImage h networks lengths term defaultLength start .state) es
-    (subst (λ (s : State). Conserved ledger 0 s es) (sym (o .1)) (conservation-open networks lengths term defaultLength start es (o .0)))

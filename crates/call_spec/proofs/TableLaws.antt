@@ -45,7 +45,7 @@ pub blank-unsound : sound blank ≡ false
 unfolding sound headOk
 blank-unsound = refl
 
-nothing-loads : loadImage [] ≡ none
+pub nothing-loads : loadImage [] ≡ none
 unfolding loadImage headAt
 nothing-loads = refl
 

@@ -1,3 +1,5 @@
 pub mod ImageCalls
-pub mod OnImages
+pub mod Books
+pub mod OnBooks
 pub mod InRange
+pub mod CountsKept

@@ -3,10 +3,11 @@
 use Prim.Native.Nat.{ℕ, _+_, _*_, _≤_, _<_}
 use native.Mathlib.Omega.{arith}
 use mathlib.Core.Path.{_≡_, refl, sym, ap, ap₂, subst, _∙_}
-use mathlib.Core.Bool.{true, false}
+use mathlib.Core.Bool.{Bool, true, false, cond, _&&_}
 use mathlib.Core.List.{List, [], _∷_, map}
 use lib.ListN.{length}
 use lib.ListN.{take as upTo}
+use lib.Dec.{eqb}
 use borrow.Author.Tests.{eqb-false}
 use Rattle.lists.specs.Put.{put}
 use Rattle.lists.proofs.PutLaws.{put-front}
@@ -14,7 +15,7 @@ use Rattle.option.specs.Values.{Entry, information}
 use Rattle.option.specs.Contents.{entriesIn}
 use Rattle.option.specs.Writing.{optionHead, informationHead, entriesBytes, optionBytes}
 use Rattle.table.specs.declared.Lease.{Lease}
-use Rattle.table.specs.Table.{addresses, poolSlots, leaseSlots, present, store}
+use Rattle.table.specs.Table.{addresses, poolSlots, leaseSlots, prefixOf, present, store}
 use Rattle.table.proofs.TableLaws.{sound-term}
 use Rattle.image.specs.Image.{usedLeases}
 use Rattle.image_records.specs.Records.{Records, Ascending}
@@ -26,19 +27,28 @@ use Rattle.figures.specs.Figures.{taken}
 use Rattle.figures.specs.Inner.{withEach, filing, struckRows}
 use Rattle.image_figures.specs.Sheets.{sheetOf}
 use Rattle.image_figures.proofs.AcceptedLaws.{rows-matched, strike-filed, nothing-filed, take-follows}
-use Rattle.ledger.specs.Ledger.{State, state, Call, Result, result, refusal, acceptance, accept, refusalPlace, leastReply, forTake, found, renewNamed, renewed, takeRows}
+use Rattle.counts.specs.Counts.{countsOf}
+use Rattle.ledger.specs.declared.Answer.{Answer}
+use Rattle.ledger.specs.Ledger.{State, state, Call, Result, result, refusal, acceptance, accept, refusalPlace, leastReply, forTake, found, namedBy?, renew, renewNamed, renewed, takeRows}
 use Rattle.ledger.specs.Ledger.{take as takeOf}
+use Rattle.ledger.proofs.RowLaws.{served-or-not}
+use Rattle.ledger.proofs.SoundKept.{take-sound}
 use Rattle.call_spec.specs.ImageCalls.{Lent, lent, tableIn, stateIn, takeImage}
+use Rattle.call_spec.specs.Books.{Book, lentIn, takeBook}
 use Rattle.call_rows.specs.declared.Admission.{Admission}
-use Rattle.call_rows.specs.Admission.{leasesFrom, Admitted, Admits, Finished}
+use Rattle.call_rows.specs.Admission.{leasesFrom, Admitted, Admits, Finished, LeftIfAccepted}
 use Rattle.call_rows.specs.StruckRows.{struckIf}
 use Rattle.call_spec.proofs.StoreLaws.{row-refuses}
+use Rattle.call_spec.proofs.OnImages.{follows-all}
+use Rattle.call_spec.proofs.BookLaws.{refuses-book}
+use Rattle.call_spec.proofs.PoolsKept.{take-pools}
+use Rattle.call_rows.proofs.SettleLaws.{admitted-counts, unmoved, countable, settles}
 use Rattle.call_rows.proofs.RowLaws.{RefusedBy, refused-admission, admitted-room, nothing-found, none-left, accepts}
 use Rattle.call_rows.proofs.StruckLaws.{struck-is}
 use Rattle.call_entries.specs.EntryLeases.{Hold, changedBy}
 use Rattle.call_entries.proofs.ManyLaws.{renewed-present, renewed-all, found-nothing}
 use Rattle.call_entries.proofs.EntriesLaws.{unchanged, changed-prefix, changed-client, changed-fewer}
-use Rattle.call_entries.proofs.CallLaws.{EntriesCall, refused-entries, entries-passed, entries-sized, changed-many, changed-stand, changed-in-place}
+use Rattle.call_entries.proofs.CallLaws.{EntriesCall, refused-entries, entries-passed, entries-sized, as-lent, on-lent, changed-many, changed-stand, changed-in-place}
 use Rattle.call_take.specs.declared.Renewal.{Renewal}
 use Rattle.call_take.specs.InnerPlaces.{ToFile}
 use Rattle.call_take.specs.InnerRenewed.{Renewed}
@@ -264,3 +274,57 @@ module _ (h : Lent) (now : ℕ) (c : Call) (summary : ImageSummary) (networks le
           accepts h (takeRows (stateIn h) now c) (refusalPlace (c .option)) (c .reply) (outcome h now c)
           (none-left h c (takeRows (stateIn h) now c) (takeImage h now c) (by-row h now c) gs (t .left-rows) (λ w. k (shown-is ∙ w))) after refl after-is (lent l₂ n sheet)
           (changed-in-place h now c summary o until es l₁ (done .after-is) l₂ n finished (stateWith h now c (present now ys) .rows) sheet rows-left)
+
+-- ON THE OPEN BOOK
+
+-- Renewing moves no lease, and ends none.
+renew-prefix : (now term : ℕ) (named : Bool) (x : Lease) → prefixOf (cond named (renew now term x) x) ≡ prefixOf x
+renew-prefix now term true x = refl
+renew-prefix now term false x = refl
+
+renew-later : (now term : ℕ) → 60 ≤ term → (named : Bool) (x : Lease) → now < x .expires → now < cond named (renew now term x) x .expires
+renew-later now term long true x k = omega (arith, long)
+renew-later now term long false x k = k
+
+-- Where none had expired the counts stay.
+take-unmoved : (h : Lent) (now : ℕ) (c : Call) (summary : ImageSummary) → Admitted true h now (c .client) summary → summary .expired ≡ 0
+    → countsOf (takeOf (stateIn h) now c .state .table) ≡ countsOf (tableIn h)
+unfolding takeOf renewed
+take-unmoved h now c summary o none-gone =
+    let term : ℕ = tableIn h .term in
+    let named : Lease → Bool = namedBy? (c .client) (entriesIn (c .option)) in
+    served-or-not (λ (r : Result State). countsOf (r .state .table) ≡ countsOf (tableIn h)) (takeRows (stateIn h) now c) _ _ (λ n. refl)
+    (λ e. unmoved now (λ (x : Lease). cond (named x) (renew now term x) x) (λ x. renew-prefix now term (named x) x) (λ x. renew-later now term (sound-term (tableIn h) (o .sound) .0) (named x) x)
+    true h (c .client) summary o none-gone)
+
+module _ (b : Book) (now : ℕ) (c : Call) where
+  pub book-refused : (a : Admission) → Admits true (length (c .reply)) (lentIn b) now (c .client) a → (a .number ≡ 0 → ⊥) → (r : Answer) → r ≡ refusal (a .number) 0
+      → result r b (c .reply) ≡ takeBook b now c
+  book-refused a ad k r is =
+      refuses-book b (takeImage (lentIn b) now c) r (lentIn b) (c .reply) (ap (λ (y : Answer). result y (lentIn b) (c .reply)) is ∙ take-refused (lentIn b) now c a ad k)
+      (λ z. k (sym (ap (λ (y : Answer). y .number) is) ∙ z))
+
+  module _ (s : EntriesCall (length (c .reply)) (lentIn b) now c) where
+    pub book-unread : (s .read .answer .number ≡ 0 → ⊥) → result (s .read .answer) b (c .reply) ≡ takeBook b now c
+    book-unread k = refuses-book b (takeImage (lentIn b) now c) (s .read .answer) (lentIn b) (c .reply) (take-unread (lentIn b) now c s k) k
+
+    -- What it leaves, and the counts.
+    module _ (a : Answer) (g : Lent) (reply : List ℕ) (is : result a g reply ≡ takeImage (b .lent) now c) where
+      pub take-countable : LeftIfAccepted (a .number) (lent (g .image) (g .bytes) []) (s .admission .summary .pools)
+      take-countable =
+          countable (b .lent) (takeOf (stateIn (b .lent)) now c) (follows-all .takes (b .lent) now c) (take-sound (stateIn (b .lent)) now c)
+          (take-pools (stateIn (b .lent)) now c) a g reply is (s .admission .summary .pools) (on-lent (length (c .reply)) b now c s .admits .admitted (s .admitted) .pools)
+
+      stay : s .admission .summary .expired ≡ 0 → countsOf (tableIn g) ≡ b .counts
+      stay none-gone =
+          ap (λ (w : Result Lent). countsOf (tableIn (w .state))) is
+          ∙ ap (λ (u : State). countsOf (u .table)) (follows-all .takes (b .lent) now c .holds)
+          ∙ take-unmoved (b .lent) now c (s .admission .summary) (on-lent (length (c .reply)) b now c s .admits .admitted (s .admitted)) none-gone
+          ∙ sym (admitted-counts true b now (c .client) (s .admission .summary) (s .admits .admitted (s .admitted)))
+
+      pub take-settles : (moved : Bool) → (moved ≡ false → s .admission .summary .expired ≡ 0) → (counts : List (List ℕ))
+          → counts ≡ cond (eqb (a .number) 0 && moved) (countsOf (tableIn (lent (g .image) (g .bytes) []))) (b .counts)
+          → result a (record { lent = g; counts = counts }) reply ≡ takeBook b now c
+      take-settles moved none-gone counts left =
+          settles b (as-lent (length (c .reply)) b now c s) (takeOf (stateIn (b .lent)) now c) (λ (h : Lent). takeImage h now c) (follows-all .takes (b .lent) now c) a g reply is moved counts left
+          (λ z e. stay (none-gone e))

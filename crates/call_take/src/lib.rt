@@ -1,5 +1,6 @@
-// Take as a call on an image, in place.
+// Take as a call on an open book, in place.
 use call_entries::Expiry;
+use counts::Counts;
 use image::HEAD;
 use image::LEASE;
 use image::POOL;
@@ -22,6 +23,7 @@ ghost use Rattle.image_figures.specs.Sheets.{rowSize, sheetOf};
 ghost use Rattle.ledger.specs.Ledger.{call, result};
 ghost use Rattle.call_entries.specs.EntryLeases.{Hold};
 ghost use Rattle.call_spec.specs.ImageCalls.{lent, takeImage};
+ghost use Rattle.call_spec.specs.Books.{bookOf, takeBook};
 ghost use Rattle.call_take.specs.InnerTaking.{renewalOf, TakeSized, Taking};
 ghost use Rattle.call_take.specs.InnerRenewed.{Renewed};
 ghost use Rattle.call_take.specs.InnerPlaces.{filedAt, ToFile};
@@ -158,29 +160,32 @@ pub fn take(
     image: &mut [u8],
     image_bytes: &mut usize,
     figures: &mut [u8],
+    counts: &mut Counts,
     client: u32,
     time: u32,
     option: &[u8],
     reply: &mut [u8],
 ) -> Answer
-    ensures { λ r. ⌜ result r (lent (now (image .exit)) (now («image_bytes» .exit)) (now (figures .exit))) (now (reply .exit))
-        ≡ takeImage (lent (now (image .entry)) (now («image_bytes» .entry)) (now (figures .entry))) time (call client (now (option .entry)) (now (reply .entry))) ⌝ }
+    ensures { λ r. ⌜ result r (bookOf (now (image .exit)) (now («image_bytes» .exit)) (now (figures .exit)) (now (counts .exit))) (now (reply .exit))
+        ≡ takeBook (bookOf (now (image .entry)) (now («image_bytes» .entry)) (now (figures .entry)) (now (counts .entry))) time (call client (now (option .entry)) (now (reply .entry))) ⌝ }
 {
     let bytes = *image_bytes;
-    let admission = call_rows::admit(image, bytes, figures, true, reply.len(), client, time);
+    let room = reply.len();
+    let admission = call_rows::admit(image, bytes, figures, true, counts, room, client, time);
     if admission.number != 0 {
         return call_spec::refused(admission.number, 0);
     }
     let mut networks = [0u32; option_scan::MOST_ENTRIES];
     let mut lengths = [0u8; option_scan::MOST_ENTRIES];
     let read = call_entries::read_entries(option, &mut networks, &mut lengths);
-    let answer = read.answer;
-    if answer.number != 0 {
-        return answer;
+    let refusal = read.answer;
+    if refusal.number != 0 {
+        return refusal;
     }
     let n = read.count;
-    let renewal = renewal_of(admission.summary, client, time);
-    renew_found(
+    let summary = admission.summary;
+    let renewal = renewal_of(summary, client, time);
+    let answer = renew_found(
         image,
         image_bytes,
         figures,
@@ -189,5 +194,16 @@ pub fn take(
         &networks[..n],
         &lengths[..n],
         reply,
-    )
+    );
+    // Of the leases only expired ones go.
+    let moved = summary.expired != 0;
+    call_rows::settle(
+        answer.number,
+        moved,
+        image,
+        *image_bytes,
+        summary.pools,
+        counts,
+    );
+    answer
 }

@@ -17,7 +17,7 @@ use Rattle.lists.specs.Put.{put}
 use Rattle.lists.proofs.PutLaws.{put-nothing, put-fits}
 use Rattle.text.specs.Ascii.{ascii}
 use Rattle.text.specs.Wrote.{Wrote}
-use Rattle.call_spec.specs.ImageCalls.{Lent}
+use Rattle.call_spec.specs.Books.{Book}
 use Rattle.console_words.specs.Prefixes.{Columns, prefixesOf}
 use Rattle.console_script.specs.declared.BufferLine.{BufferLine}
 use Rattle.console_script.specs.declared.Command.{Command}
@@ -58,6 +58,9 @@ not-passed (command.Read x) words k = refl
 not-passed (command.Write x) words k = refl
 not-passed command.Figures words k = refl
 not-passed (command.SetFigures x) words k = refl
+not-passed command.Counts words k = refl
+not-passed (command.SetCounts x) words k = refl
+not-passed (command.Whole x) words k = refl
 not-passed (command.Buffer x) words k = refl
 not-passed command.Nothing words k = absurd (k refl)
 not-passed command.Bad words k = refl
@@ -74,6 +77,9 @@ reply-same (command.Read x) words old k = refl
 reply-same (command.Write x) words old k = refl
 reply-same command.Figures words old k = refl
 reply-same (command.SetFigures x) words old k = refl
+reply-same command.Counts words old k = refl
+reply-same (command.SetCounts x) words old k = refl
+reply-same (command.Whole x) words old k = refl
 reply-same (command.Buffer x) words old k = absurd (k x refl)
 reply-same command.Nothing words old k = refl
 reply-same command.Bad words old k = refl
@@ -97,6 +103,9 @@ short (command.Read x) words n old w le = le
 short (command.Write x) words n old w le = le
 short command.Figures words n old w le = le
 short (command.SetFigures x) words n old w le = le
+short command.Counts words n old w le = le
+short (command.SetCounts x) words n old w le = le
+short (command.Whole x) words n old w le = le
 short (command.Buffer x) words n old w le = w
 short command.Nothing words n old w le = le
 short command.Bad words n old w le = le
@@ -157,7 +166,7 @@ behind old at first second mid new p next a b =
     }
 
 -- The echo and then the command's answer, from what each part leaves: the next line's state, that with the echo, the command's end in the output.
-module _ (s next begun r : State) (line kept words : List ℕ) (c : Command) (end : ℕ) (book book₁ : Lent) (old mid new : List ℕ) (same : kept ≡ line) (parsed : valueIn words c ≡ parseLine line)
+module _ (s next begun r : State) (line kept words : List ℕ) (c : Command) (end : ℕ) (book book₁ : Book) (old mid new : List ℕ) (same : kept ≡ line) (parsed : valueIn words c ≡ parseLine line)
     (counts : (next .«reply_length» ≡ s .«reply_length») × (next .lines ≡ nextLine (s .lines)) × (next .at ≡ s .at) × (next .echo ≡ s .echo)) (begins : Unchanged next begun) (inside : begun .at ≤ length old)
     (echo : Echoed (next .echo) c kept old (next .at) mid (begun .at))
     (ran : Ran (valueIn words c) (given book (begun .«reply_length») (begun .lines) (drop (begun .at) mid)) book₁ mid (begun .at) new end)

@@ -6,7 +6,7 @@ use mathlib.Core.List.{List, [], append-nil}
 use native.Mathlib.Omega.{arith}
 use lib.ListN.{length, take, drop}
 use Rattle.text.specs.Wrote.{Wrote}
-use Rattle.call_spec.specs.ImageCalls.{Lent}
+use Rattle.call_spec.specs.Books.{Book}
 use Rattle.console_words.specs.Prefixes.{prefixesOf}
 use Rattle.console_script.specs.declared.Command.{Command}
 use Rattle.console_script.specs.Commands.{CommandValue, mostPrefixes, withPrefixes, valueIn, read, write, buffer, nothing, bad}
@@ -15,12 +15,12 @@ use Rattle.console_commands.specs.Commands.{Given, Ran, Read, WroteOption}
 use Rattle.console_commands.proofs.CommandLaws.{appended, rest-of}
 
 -- The command that the line has is this one.
-pub ran-as : (line : List ℕ) (k this : Command) → k ≡ this → {g : Given} {book : Lent} {old : List ℕ} {at : ℕ} {new : List ℕ} {next : ℕ}
+pub ran-as : (line : List ℕ) (k this : Command) → k ≡ this → {g : Given} {book : Book} {old : List ℕ} {at : ℕ} {new : List ℕ} {next : ℕ}
     → Ran (valueIn line this) g book old at new next → Ran (valueIn line k) g book old at new next
 ran-as line k this e {g} {book} {old} {at} {new} {next} ran = subst (λ (x : Command). Ran (valueIn line x) g book old at new next) (sym e) ran
 
 -- An open is lent the rest of its line.
-pub open-as : (line : List ℕ) (from : ℕ) (f : List ℕ → List ℕ → CommandValue) {g : Given} {book : Lent} {old : List ℕ} {at : ℕ} {new : List ℕ} {next : ℕ}
+pub open-as : (line : List ℕ) (from : ℕ) (f : List ℕ → List ℕ → CommandValue) {g : Given} {book : Book} {old : List ℕ} {at : ℕ} {new : List ℕ} {next : ℕ}
     → Ran (withPrefixes (prefixesOf mostPrefixes (take (length line - from) (drop from line))) f) g book old at new next
     → Ran (withPrefixes (prefixesOf mostPrefixes (drop from line)) f) g book old at new next
 open-as line from f {g} {book} {old} {at} {new} {next} ran =

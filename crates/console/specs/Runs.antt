@@ -5,8 +5,8 @@ use mathlib.Core.Bool.{Bool, true, false, not, _&&_}
 use mathlib.Core.List.{List, [], _++_}
 use lib.ListN.{length, drop}
 use Rattle.text.specs.Ascii.{ascii}
-use Rattle.call_spec.specs.ImageCalls.{Lent}
-use Rattle.console_script.specs.Commands.{CommandValue, call, mark, «open», load, save, sheet, read, write, figures, setFigures, buffer, nothing, bad}
+use Rattle.call_spec.specs.Books.{Book}
+use Rattle.console_script.specs.Commands.{CommandValue, call, mark, «open», load, save, sheet, read, write, figures, setFigures, counts, setCounts, whole, buffer, nothing, bad}
 use Rattle.console_script.specs.Parsing.{parseLine}
 use Rattle.console_session.specs.declared.State.{State}
 use Rattle.console_session.specs.States.{nextLine}
@@ -24,6 +24,9 @@ replyAfter (read octets) old = old
 replyAfter (write words) old = old
 replyAfter figures old = old
 replyAfter (setFigures octets) old = old
+replyAfter counts old = old
+replyAfter (setCounts octets) old = old
+replyAfter (whole len) old = old
 replyAfter (buffer n) old = n
 replyAfter nothing old = old
 replyAfter bad old = old
@@ -40,6 +43,9 @@ passedOver? (read octets) = false
 passedOver? (write words) = false
 passedOver? figures = false
 passedOver? (setFigures octets) = false
+passedOver? counts = false
+passedOver? (setCounts octets) = false
+passedOver? (whole len) = false
 passedOver? (buffer n) = false
 passedOver? nothing = true
 passedOver? bad = false
@@ -55,7 +61,7 @@ echoOf s line = echoText (s .echo && not (passedOver? (parseLine line))) line
 
 -- A line has run from the state s: what its command does with the state's reply length and the next line's number, the output that was there with the
 -- echo and the answer's text behind it, and the state that is left.
-pub record RanLine (s : State) (line : List ℕ) (book : Lent) (old : List ℕ) (r : State) (book₁ : Lent) (new : List ℕ) : Type 0 where
+pub record RanLine (s : State) (line : List ℕ) (book : Book) (old : List ℕ) (r : State) (book₁ : Book) (new : List ℕ) : Type 0 where
   pub text : List ℕ
   pub does : Does (parseLine line) (given book (s .«reply_length») (nextLine (s .lines)) (drop (s .at + length (echoOf s line)) old)) book₁ text
   pub wrote : Appended old (s .at) (echoOf s line ++ text) new (r .at)

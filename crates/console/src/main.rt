@@ -1,18 +1,18 @@
 // Runs a script of calls, and writes what each call answers to standard output. Everything that matters is in the proved libraries.
-// Memory is constant: a chunk of the input, one line and a copy of it, the book, the figures sheet, the reply buffer and the output, each of a fixed size.
+// Memory is constant: a chunk of the input, one line and a copy of it, the book, the figures sheet, the counts, the reply buffer and the output, each of a fixed size.
 use console_input::NAME;
 use console_input::Reader;
 use console_reason::REASON;
 use console_script::Command;
-use console_script::LONGEST_REPLY;
 use console_session::State;
+use counts::Counts;
 use image::FULL_IMAGE;
 use program::Request;
 ghost use mathlib.Core.Path.{_≡_};
 ghost use Prim.Native.Nat.{_≤_, _<_};
 ghost use lib.ListN.{length, drop};
 ghost use Rattle.image_figures.specs.Sheets.{figuresSize};
-ghost use Rattle.call_spec.specs.ImageCalls.{lent};
+ghost use Rattle.call_spec.specs.Books.{bookOf};
 ghost use Rattle.console_input.specs.Lines.{lineSpace};
 ghost use Rattle.console_session.specs.States.{AnswerFits, LineFits, OutputHolds, Unchanged};
 ghost use Rattle.console_script.specs.Commands.{Within, valueIn, longestReply};
@@ -20,7 +20,7 @@ ghost use Rattle.console_commands.specs.Commands.{given, Ran};
 ghost use Rattle.console.specs.Runs.{RanLine};
 ghost use Rattle.console.specs.InnerRuns.{Echoed, Buffered};
 
-const HELP: [u8; 765] = *b"usage: console [--echo] [FILE]
+const HELP: [u8; 819] = *b"usage: console [--echo] [FILE]
 
 Runs the commands in FILE, one to a line, and prints what each call answers. Without FILE,
 or where it is -, the commands are read from standard input.
@@ -34,13 +34,17 @@ Commands:
   open TERM DEFAULT START PREFIX..    ask, take, list, return STATION NOW OPTION
   mark NOW PREFIX D                   save, load IMAGE, sheet
   read OPTION, write ITEM..           figures [SHEET], buffer N
+  whole LENGTH                        counts [COUNTS]
 
 A line that is no command answers 'error line N', and standard error has the reason. What
 cannot be read or written is told there too. The exit status is always 0.
 ";
 
-// The reply buffer.
-const REPLY: usize = LONGEST_REPLY as usize;
+// A turn of the loop over the input: the state, and what was read.
+struct Turn {
+    s: State,
+    r: Reader,
+}
 
 // Runs a command that a line has; the place where the output ends then.
 fn run(
@@ -50,15 +54,15 @@ fn run(
     image: &mut [u8],
     image_bytes: &mut usize,
     figures: &mut [u8],
-    reply: &mut [u8],
+    counts: &mut Counts,
     out: &mut [u8],
 ) -> usize
-    requires { ⌜ AnswerFits (s .at) (now out) × (length (now reply) ≡ s .«reply_length») × (length (now reply) ≤ longestReply) × Within (length (now line)) command ⌝ }
+    requires { ⌜ AnswerFits (s .at) (now out) × (s .«reply_length» ≤ longestReply) × Within (length (now line)) command ⌝ }
     requires { ⌜ length (now figures) ≡ figuresSize ⌝ }
     ensures { λ r. ⌜ r ≤ length (now (out .entry)) ⌝ }
     ensures { λ r. ⌜ Ran (valueIn (now (line .entry)) command)
-        (given (lent (now (image .entry)) (now («image_bytes» .entry)) (now (figures .entry))) (s .«reply_length») (s .lines) (drop (s .at) (now (out .entry))))
-        (lent (now (image .exit)) (now («image_bytes» .exit)) (now (figures .exit))) (now (out .entry)) (s .at) (now (out .exit)) r ⌝ }
+        (given (bookOf (now (image .entry)) (now («image_bytes» .entry)) (now (figures .entry)) (now (counts .entry))) (s .«reply_length») (s .lines) (drop (s .at) (now (out .entry))))
+        (bookOf (now (image .exit)) (now («image_bytes» .exit)) (now (figures .exit)) (now (counts .exit))) (now (out .entry)) (s .at) (now (out .exit)) r ⌝ }
 {
     match command {
         Command::Call(c) => {
@@ -71,22 +75,31 @@ fn run(
                 image,
                 image_bytes,
                 figures,
-                reply,
+                counts,
                 out,
             )
         }
-        Command::Mark(c) => console_commands::mark(s, c, image, image_bytes, figures, out),
+        Command::Mark(c) => console_commands::mark(s, c, image, image_bytes, figures, counts, out),
         Command::Open(c) => {
             let from = c.from;
-            console_commands::open(s, c, &line[from..], image, image_bytes, figures, out)
+            console_commands::open(
+                s,
+                c,
+                &line[from..],
+                image,
+                image_bytes,
+                figures,
+                counts,
+                out,
+            )
         }
         Command::Load(c) => {
             let from = c.from;
             let to = c.to;
-            console_commands::load(s, &line[from..to], image, image_bytes, figures, out)
+            console_commands::load(s, &line[from..to], image, image_bytes, figures, counts, out)
         }
-        Command::Save => console_commands::save(s, image, *image_bytes, out),
-        Command::Sheet => console_commands::sheet(s, image, *image_bytes, out),
+        Command::Save => console_commands::save(s, image, *image_bytes, counts, out),
+        Command::Sheet => console_commands::sheet(s, image, *image_bytes, counts, out),
         Command::Read(c) => {
             let from = c.from;
             let to = c.to;
@@ -94,13 +107,22 @@ fn run(
         }
         Command::Write(c) => {
             let from = c.from;
-            console_commands::write(s, &mut line[from..], reply, out)
+            console_commands::write(s, &mut line[from..], out)
         }
         Command::Figures => console_commands::figures(s, figures, out),
         Command::SetFigures(c) => {
             let from = c.from;
             let to = c.to;
             console_commands::set_figures(s, &line[from..to], figures, out)
+        }
+        Command::Counts => console_commands::counts(s, image, *image_bytes, counts, out),
+        Command::SetCounts(c) => {
+            let from = c.from;
+            let to = c.to;
+            console_commands::set_counts(s, &line[from..to], counts, out)
+        }
+        Command::Whole(c) => {
+            console_commands::whole(s, c.length, image, *image_bytes, counts, out)
         }
         Command::Buffer(_) => console_lines::ok(out, s.at),
         Command::Nothing => s.at,
@@ -157,19 +179,18 @@ fn run_line(
     image: &mut [u8],
     image_bytes: &mut usize,
     figures: &mut [u8],
+    counts: &mut Counts,
     out: &mut [u8],
 ) -> State
     requires { ⌜ LineFits (s .at) (now out) ⌝ }
     requires { ⌜ (now kept ≡ now line) × (length (now kept) ≤ lineSpace) ⌝ }
     requires { ⌜ (s .«reply_length» ≤ longestReply) × (length (now figures) ≡ figuresSize) ⌝ }
     ensures { λ r. ⌜ (r .at ≤ length (now (out .entry))) × (r .«reply_length» ≤ longestReply) ⌝ }
-    ensures { λ r. ⌜ RanLine s (now (line .entry)) (lent (now (image .entry)) (now («image_bytes» .entry)) (now (figures .entry))) (now (out .entry))
-        r (lent (now (image .exit)) (now («image_bytes» .exit)) (now (figures .exit))) (now (out .exit)) ⌝ }
+    ensures { λ r. ⌜ RanLine s (now (line .entry)) (bookOf (now (image .entry)) (now («image_bytes» .entry)) (now (figures .entry)) (now (counts .entry))) (now (out .entry))
+        r (bookOf (now (image .exit)) (now («image_bytes» .exit)) (now (figures .exit)) (now (counts .exit))) (now (out .exit)) ⌝ }
 {
     let command = console_script::read_command(line);
     let begun = echo(console_session::next_line(s), command, kept, out);
-    let mut reply = [0u8; REPLY];
-    let n = begun.reply_length;
     let end = run(
         begun,
         command,
@@ -177,7 +198,7 @@ fn run_line(
         image,
         image_bytes,
         figures,
-        &mut reply[0..n],
+        counts,
         out,
     );
     explain(begun, end, kept, out);
@@ -186,24 +207,26 @@ fn run_line(
 
 // Runs the line if it is whole, unless the output has failed.
 fn end_line(
-    s: State,
-    r: Reader,
+    t: Turn,
     line: &mut [u8],
     kept: &mut [u8],
     image: &mut [u8],
     image_bytes: &mut usize,
     figures: &mut [u8],
+    counts: &mut Counts,
     out: &mut [u8],
 ) -> State
-    requires { ⌜ r .pending ≤ length (now line) ⌝ }
-    requires { ⌜ LineFits (s .at) (now out) ⌝ }
+    requires { ⌜ t .r .pending ≤ length (now line) ⌝ }
+    requires { ⌜ LineFits (t .s .at) (now out) ⌝ }
     requires { ⌜ (lineSpace ≡ length (now line)) × (lineSpace ≡ length (now kept)) ⌝ }
-    requires { ⌜ (s .«reply_length» ≤ longestReply) × (length (now figures) ≡ figuresSize) ⌝ }
+    requires { ⌜ (t .s .«reply_length» ≤ longestReply) × (length (now figures) ≡ figuresSize) ⌝ }
     ensures { λ r. ⌜ (r .at ≤ length (now (out .entry))) × (r .«reply_length» ≤ longestReply) ⌝ }
 {
+    let s = t.s;
     if s.failed {
         return s;
     }
+    let r = t.r;
     if r.whole {
         let pending = r.pending;
         let n = console_script::without_return(&line[0..pending]);
@@ -215,6 +238,7 @@ fn end_line(
             image,
             image_bytes,
             figures,
+            counts,
             out,
         );
     }
@@ -254,11 +278,22 @@ fn run_script(
     let mut r = console_input::first_reader();
     // At first the book is no bytes, which are no image.
     let mut image_bytes: usize = 0;
+    let mut counts = console_session::first_counts();
     let mut turns = u64::MAX;
     while 0 < turns {
         s = console_session::make_room(s, r.from == r.to, out);
         r = console_input::go_on(fd, r, input, line);
-        s = end_line(s, r, line, kept, image, &mut image_bytes, figures, out);
+        let t = Turn { s, r };
+        s = end_line(
+            t,
+            line,
+            kept,
+            image,
+            &mut image_bytes,
+            figures,
+            &mut counts,
+            out,
+        );
         turns = turns_left(turns, s, r);
     }
     console_session::flush(s, out);

@@ -7,7 +7,7 @@ use mathlib.Core.Bool.{Bool, true, false, cond}
 use mathlib.Core.Option.{Option, none, some}
 use mathlib.Core.Logic.{inl, inr}
 use mathlib.Core.List.{List, [], _++_, append-nil}
-use lib.ListN.{length, take, drop, length-append, length-drop}
+use lib.ListN.{length, take, drop, replicate, length-append, length-take, length-drop, length-replicate}
 use lib.Seq.{take-at, length-take-le, take-append-le, take-append-add, take-all}
 use borrow.Author.Tests.{eq-eqb, ne-eqb}
 use Rattle.lists.proofs.PutLaws.{put-fits}
@@ -15,20 +15,25 @@ use Rattle.lists.proofs.DropLaws.{drop-end}
 use Rattle.text.specs.Wrote.{Wrote}
 use Rattle.ledger.specs.declared.Answer.{Answer}
 use Rattle.ledger.specs.Ledger.{Result, result}
+use Rattle.table.specs.Table.{sound}
 use Rattle.image.specs.Image.{fullImage}
-use Rattle.call_spec.specs.ImageCalls.{Lent, lent, openImage, saveFrom}
-use Rattle.call_spec.specs.OnImages.{GivenAlike}
+use Rattle.call_spec.specs.ImageCalls.{tableIn}
+use Rattle.call_spec.specs.Books.{Book, bookOf, lentIn, openBook, saveBook}
+use Rattle.call_spec.specs.OnBooks.{GivenAlike}
 use Rattle.call_sheet.specs.SheetImage.{sheetImage}
 use Rattle.console_words.specs.Prefixes.{Columns, prefixesIn}
 use Rattle.console_words.specs.declared.Prefixes.{Prefixes}
 use Rattle.console_script.specs.declared.OptionCall.{OptionCall}
-use Rattle.console_script.specs.Commands.{CommandValue, call, «open», save, sheet, withPrefixes}
+use Rattle.console_script.specs.Commands.{CommandValue, call, «open», save, sheet, longestReply, withPrefixes}
 use Rattle.console_lines.proofs.TextLaws.{first-bytes}
+use Rattle.console_lines.specs.Sizes.{octetsMost}
+use Rattle.console_session.specs.States.{AnswerFits}
 use Rattle.console_lines.specs.Lines.{errorLine, refusedLine, doneLine, writtenLine}
 use Rattle.console_write.specs.declared.Outcome.{Outcome}
 use Rattle.console_write.specs.declared.Outcome.the-variants as outcome
 use Rattle.console_write.specs.Writes.{Writes, WroteOne}
-use Rattle.console_commands.specs.Commands.{Given, callOn, callLine, savedLine, With, Done, Appended, Ran, WroteOption, sheetText}
+use Rattle.console_commands.specs.Commands.{Given, callOn, callLine, savedLine, With, Done, Appended, Ran, WroteOption, sheetText, ofSound}
+use Rattle.console_commands.proofs.QueryLaws.{shown-text}
 
 -- OUTPUT
 
@@ -58,41 +63,41 @@ front-appended old at part post text new next le inside w =
 -- CALLS
 
 -- What a call that has no figures sheet gives, with the sheet beside it.
-pub beside : (image : List ℕ) (bytes : ℕ) (figures : List ℕ) (f : Lent → Result Lent) → GivenAlike image bytes figures f → (a : Answer) (after : List ℕ) → result a (lent image bytes []) after ≡ f (lent image bytes [])
-    → result a (lent image bytes figures) after ≡ f (lent image bytes figures)
-beside image bytes figures f alike a after same = ap (λ (q : Result Lent). result (q .answer) (lent image bytes figures) (q .reply)) same ∙ sym alike
+pub beside : (image : List ℕ) (bytes : ℕ) (figures : List ℕ) (counts : List (List ℕ)) (f : Book → Result Book) → GivenAlike image bytes figures counts f → (a : Answer) (after : List ℕ)
+    → result a (bookOf image bytes [] counts) after ≡ f (bookOf image bytes [] counts) → result a (bookOf image bytes figures counts) after ≡ f (bookOf image bytes figures counts)
+beside image bytes figures counts f alike a after same = ap (λ (q : Result Book). result (q .answer) (bookOf image bytes figures counts) (q .reply)) same ∙ sym alike
 
-pub done-does : (a : Answer) (h : Lent) (q : Result Lent) → result a h [] ≡ q → Done q h (doneLine a)
-done-does a h q same = record { leaves = ap (λ (r : Result Lent). r .state) same; says = ap (λ (r : Result Lent). doneLine (r .answer)) same }
+pub done-does : (a : Answer) (h : Book) (q : Result Book) → result a h [] ≡ q → Done q h (doneLine a)
+done-does a h q same = record { leaves = ap (λ (r : Result Book). r .state) same; says = ap (λ (r : Result Book). doneLine (r .answer)) same }
 
-module _ (g : Given) (a : Answer) (h : Lent) (old : List ℕ) (at : ℕ) (new : List ℕ) (next : ℕ) (inside : next ≤ length old) where
+module _ (g : Given) (a : Answer) (h : Book) (old : List ℕ) (at : ℕ) (new : List ℕ) (next : ℕ) (inside : next ≤ length old) where
   pub call-ran : (x y : OptionCall) (client time : ℕ) (option reply after : List ℕ) → x ≡ y → length reply ≡ g .replyLength → result a h after ≡ callOn y (g .book) client time option reply
       → Wrote old at (callLine y (result a h after)) new next → Ran (call x client time option) g h old at new next
   call-ran x y client time option reply after e size same w =
       record {
         text = callLine y (result a h after);
         does = subst (λ (z : OptionCall). With (g .replyLength) (callOn z (g .book) client time option) (callLine z) h (callLine y (result a h after))) (sym e)
-            (record { buffer = reply; size = size; leaves = ap (λ (q : Result Lent). q .state) same; says = ap (callLine y) same });
+            (record { buffer = reply; size = size; leaves = ap (λ (q : Result Book). q .state) same; says = ap (callLine y) same });
         wrote = appended old at _ new next inside w;
       }
 
-  pub save-ran : (buffer after : List ℕ) → length buffer ≡ fullImage → result a h after ≡ saveFrom (g .book) buffer → Wrote old at (savedLine (result a h after)) new next → Ran save g h old at new next
+  pub save-ran : (buffer after : List ℕ) → length buffer ≡ fullImage → result a h after ≡ saveBook (g .book) buffer → Wrote old at (savedLine (result a h after)) new next → Ran save g h old at new next
   save-ran buffer after size same w =
       record {
         text = savedLine (result a h after);
-        does = record { buffer = buffer; size = size; leaves = ap (λ (q : Result Lent). q .state) same; says = ap savedLine same };
+        does = record { buffer = buffer; size = size; leaves = ap (λ (q : Result Book). q .state) same; says = ap savedLine same };
         wrote = appended old at _ new next inside w;
       }
 
   pub open-ran : (o : Option Columns) (p : Prefixes) (networks lengths networks₁ lengths₁ : List ℕ) (term len start : ℕ) → prefixesIn p networks lengths ≡ o → p .good ≡ true
       → networks₁ ≡ take (p .count) networks → lengths₁ ≡ take (p .count) lengths
-      → result a h [] ≡ openImage (g .book) networks₁ lengths₁ term len start → Wrote old at (doneLine a) new next → Ran (withPrefixes o («open» term len start)) g h old at new next
+      → result a h [] ≡ openBook (g .book) networks₁ lengths₁ term len start → Wrote old at (doneLine a) new next → Ran (withPrefixes o («open» term len start)) g h old at new next
   open-ran o p networks lengths networks₁ lengths₁ term len start is good first second same w =
       subst (λ (x : Option Columns). Ran (withPrefixes x («open» term len start)) g h old at new next)
       (sym (ap (λ (b : Bool). cond b (some (take (p .count) networks, take (p .count) lengths)) none) good) ∙ is)
       (record {
         text = doneLine a;
-        does = done-does a h (openImage (g .book) (take (p .count) networks) (take (p .count) lengths) term len start) (same ∙ ap₂ (λ (x y : List ℕ). openImage (g .book) x y term len start) first second);
+        does = done-does a h (openBook (g .book) (take (p .count) networks) (take (p .count) lengths) term len start) (same ∙ ap₂ (λ (x y : List ℕ). openBook (g .book) x y term len start) first second);
         wrote = appended old at _ new next inside w;
       })
 
@@ -134,18 +139,41 @@ sheet-refused p k = sym (ap (λ (b : Bool). cond b (take (p .0 .bytes) (p .1)) (
 pub sheet-shown : (p : Answer × List ℕ) → p .0 .number ≡ 0 → take (p .0 .bytes) (p .1) ≡ sheetText p
 sheet-shown p e = sym (ap (λ (b : Bool). cond b (take (p .0 .bytes) (p .1)) (refusedLine (p .0 .number) (p .0 .place))) (eq-eqb (p .0 .number) 0 e))
 
-module _ (g : Given) (a : Answer) (part : List ℕ) (x y : List ℕ) (first : x ≡ take (g .book .bytes) (g .book .image)) (second : y ≡ g .room) (same : _≡_ {A = Answer × List ℕ} (a, part) (sheetImage x y))
+-- The book is sound.
+module _ (g : Given) (s : sound (tableIn (lentIn (g .book))) ≡ true) (a : Answer) (part : List ℕ) (x y : List ℕ) (first : x ≡ take (g .book .lent .bytes) (g .book .lent .image)) (second : y ≡ g .room) (same : _≡_ {A = Answer × List ℕ} (a, part) (sheetImage x y))
     (old : List ℕ) (at : ℕ) (le : at ≤ length old) (post : List ℕ) where
-  here : _≡_ {A = Answer × List ℕ} (a, part) (sheetImage (take (g .book .bytes) (g .book .image)) (g .room))
-  here = same ∙ ap₂ (λ (l m : List ℕ). sheetImage l m) first second
+  here : sheetText (a, part) ≡ ofSound (g .book) (sheetText (sheetImage (take (g .book .lent .bytes) (g .book .lent .image)) (g .room)))
+  here = ap sheetText (same ∙ ap₂ (λ (l m : List ℕ). sheetImage l m) first second) ∙ shown-text (g .book) _ s
 
   pub sheet-refuses : (new : List ℕ) (next : ℕ) → (a .number ≡ 0 → ⊥) → next ≤ length (take at old ++ (part ++ post)) → Wrote (take at old ++ (part ++ post)) at (refusedLine (a .number) (a .place)) new next → Ran sheet g (g .book) old at new next
   sheet-refuses new next k inside w =
-      record { text = refusedLine (a .number) (a .place); does = (refl, sheet-refused (a, part) k ∙ ap sheetText here); wrote = front-appended old at part post _ new next le inside w }
+      record { text = refusedLine (a .number) (a .place); does = (refl, sheet-refused (a, part) k ∙ here); wrote = front-appended old at part post _ new next le inside w }
 
   pub sheet-shows : (n : ℕ) → a .number ≡ 0 → n ≤ length part → (length part < a .bytes → n ≡ length part) → (a .bytes ≤ length part → n ≡ a .bytes) → Ran sheet g (g .book) old at (take at old ++ (part ++ post)) (at + n)
   sheet-shows n e few over under =
-      record { text = take n part; does = (refl, sym (column n part) ∙ first-bytes (a .bytes) n part over under ∙ sheet-shown (a, part) e ∙ ap sheetText here); wrote = part-appended old at n part post le few }
+      record { text = take n part; does = (refl, sym (column n part) ∙ first-bytes (a .bytes) n part over under ∙ sheet-shown (a, part) e ∙ here); wrote = part-appended old at n part post le few }
+
+-- THE REPLY BUFFER: the front of the space for it, and what a call left of that.
+
+pub reply-size : (n : ℕ) → n ≤ longestReply → length (take (n - 0) (replicate {A = ℕ} longestReply 0)) ≡ n
+reply-size n le = length-take-le (n - 0) (replicate {A = ℕ} longestReply 0) (omega (arith, length-replicate {A = ℕ} longestReply 0)) ∙ omega arith
+
+pub reply-left : (n : ℕ) (after post : List ℕ) → length after ≡ n → take (n - 0) (after ++ post) ≡ after
+reply-left n after post size = take-at after post (n - 0) (omega arith)
+
+pub part-fits : (n : ℕ) (after post : List ℕ) → length after ≡ n → n ≤ length (after ++ post)
+part-fits n after post size = omega (arith, length-append after post)
+
+-- Its answer fits into the output.
+module _ (at n : ℕ) (l out : List ℕ) (fits : AnswerFits at out) (le : n ≤ longestReply) where
+  few : length (take (n - 0) l) ≤ n
+  few = omega (arith, length-take (n - 0) l)
+
+  pub reply-fits : at + octetsMost (length (take (n - 0) l)) ≤ length out
+  reply-fits = omega (arith, few)
+
+  pub reply-inside : (r : ℕ) → r ≤ at + octetsMost (length (take (n - 0) l)) → r ≤ length out
+  reply-inside r h = omega (arith, few)
 
 -- FIGURES
 

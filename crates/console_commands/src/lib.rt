@@ -1,17 +1,21 @@
 // The commands of a script: each is its call with the arguments of its line, and the line of its answer in the output.
+use call_open::Terms;
 use console_script::CallLine;
+use console_script::LONGEST_REPLY;
 use console_script::MarkLine;
 use console_script::OpenLine;
 use console_script::OptionCall;
 use console_session::State;
 use console_write::Outcome;
+use counts::Counts;
 use image::FULL_IMAGE;
+use image::HEAD;
 ghost use mathlib.Core.Path.{_≡_};
 ghost use Prim.Native.Nat.{ℕ, _≤_};
 ghost use lib.ListN.{length, drop};
 ghost use mathlib.Core.List.{List};
 ghost use Rattle.image_figures.specs.Sheets.{figuresSize};
-ghost use Rattle.call_spec.specs.ImageCalls.{lent};
+ghost use Rattle.call_spec.specs.Books.{bookOf};
 ghost use Rattle.console_script.specs.Commands.{
   call as callValue,
   mark as markValue,
@@ -21,7 +25,11 @@ ghost use Rattle.console_script.specs.Commands.{
   sheet as sheetValue,
   figures as figuresValue,
   setFigures as setFiguresValue,
+  counts as countsValue,
+  setCounts as setCountsValue,
+  whole as wholeValue,
   longestReply,
+  countsSize,
   mostPrefixes,
   withPrefixes,
 };
@@ -32,6 +40,9 @@ ghost use Rattle.console_commands.specs.Commands.{given, Ran, Read, Wrot
 // The most prefixes that an open may have.
 const PREFIXES: usize = 16;
 
+// The reply buffer.
+const REPLY: usize = LONGEST_REPLY as usize;
+
 // ask, take, list, return: STATION NOW OPTION
 pub fn call(
     s: State,
@@ -40,31 +51,69 @@ pub fn call(
     image: &mut [u8],
     image_bytes: &mut usize,
     figures: &mut [u8],
-    reply: &mut [u8],
+    counts: &mut Counts,
     out: &mut [u8],
 ) -> usize
-    requires { ⌜ AnswerFits (s .at) (now out) × (length (now reply) ≡ s .«reply_length») × (length (now reply) ≤ longestReply) ⌝ }
+    requires { ⌜ AnswerFits (s .at) (now out) × (s .«reply_length» ≤ longestReply) ⌝ }
     ensures { λ r. ⌜ r ≤ length (now (out .entry)) ⌝ }
     ensures { λ r. ⌜ Ran (callValue (c .call) (c .client) (c .time) (now (option .entry)))
-        (given (lent (now (image .entry)) (now («image_bytes» .entry)) (now (figures .entry))) (s .«reply_length») (s .lines) (drop (s .at) (now (out .entry))))
-        (lent (now (image .exit)) (now («image_bytes» .exit)) (now (figures .exit))) (now (out .entry)) (s .at) (now (out .exit)) r ⌝ }
+        (given (bookOf (now (image .entry)) (now («image_bytes» .entry)) (now (figures .entry)) (now (counts .entry))) (s .«reply_length») (s .lines) (drop (s .at) (now (out .entry))))
+        (bookOf (now (image .exit)) (now («image_bytes» .exit)) (now (figures .exit)) (now (counts .exit))) (now (out .entry)) (s .at) (now (out .exit)) r ⌝ }
 {
+    let mut reply = [0u8; REPLY];
+    let n = s.reply_length;
+    let client = c.client;
+    let time = c.time;
     let call = c.call;
     match call {
         OptionCall::Ask => {
-            let a = call_ask::ask(image, image_bytes, figures, c.client, c.time, option, reply);
-            console_lines::replied(out, s.at, a, reply)
+            let a = call_ask::ask(
+                image,
+                image_bytes,
+                figures,
+                counts,
+                client,
+                time,
+                option,
+                &mut reply[0..n],
+            );
+            console_lines::replied(out, s.at, a, &reply[0..n])
         }
         OptionCall::Take => {
-            let a = call_take::take(image, image_bytes, figures, c.client, c.time, option, reply);
-            console_lines::replied(out, s.at, a, reply)
+            let a = call_take::take(
+                image,
+                image_bytes,
+                figures,
+                counts,
+                client,
+                time,
+                option,
+                &mut reply[0..n],
+            );
+            console_lines::replied(out, s.at, a, &reply[0..n])
         }
         OptionCall::List => {
-            let a = call_list::list(image, *image_bytes, c.client, c.time, option, reply);
-            console_lines::replied(out, s.at, a, reply)
+            let a = call_list::list(
+                image,
+                *image_bytes,
+                counts,
+                client,
+                time,
+                option,
+                &mut reply[0..n],
+            );
+            console_lines::replied(out, s.at, a, &reply[0..n])
         }
         OptionCall::Return => {
-            let a = call_release::release(image, image_bytes, figures, c.client, c.time, option);
+            let a = call_release::release(
+                image,
+                image_bytes,
+                figures,
+                counts,
+                client,
+                time,
+                option,
+            );
             console_lines::counted(out, s.at, a)
         }
     }
@@ -77,18 +126,20 @@ pub fn mark(
     image: &mut [u8],
     image_bytes: &mut usize,
     figures: &mut [u8],
+    counts: &mut Counts,
     out: &mut [u8],
 ) -> usize
     requires { ⌜ AnswerFits (s .at) (now out) ⌝ }
     ensures { λ r. ⌜ r ≤ length (now (out .entry)) ⌝ }
     ensures { λ r. ⌜ Ran (markValue (c .time) (c .network) (c .length) (c .deprecated))
-        (given (lent (now (image .entry)) (now («image_bytes» .entry)) (now (figures .entry))) (s .«reply_length») (s .lines) (drop (s .at) (now (out .entry))))
-        (lent (now (image .exit)) (now («image_bytes» .exit)) (now (figures .exit))) (now (out .entry)) (s .at) (now (out .exit)) r ⌝ }
+        (given (bookOf (now (image .entry)) (now («image_bytes» .entry)) (now (figures .entry)) (now (counts .entry))) (s .«reply_length») (s .lines) (drop (s .at) (now (out .entry))))
+        (bookOf (now (image .exit)) (now («image_bytes» .exit)) (now (figures .exit)) (now (counts .exit))) (now (out .entry)) (s .at) (now (out .exit)) r ⌝ }
 {
     let a = call_mark::mark(
         image,
         image_bytes,
         figures,
+        counts,
         c.network,
         c.length as u32,
         c.deprecated,
@@ -105,13 +156,14 @@ pub fn open(
     image: &mut [u8],
     image_bytes: &mut usize,
     figures: &mut [u8],
+    counts: &mut Counts,
     out: &mut [u8],
 ) -> usize
     requires { ⌜ AnswerFits (s .at) (now out) ⌝ }
     ensures { λ r. ⌜ r ≤ length (now (out .entry)) ⌝ }
     ensures { λ r. ⌜ Ran (withPrefixes (prefixesOf mostPrefixes (now (words .entry))) (openValue (c .term) (c .«default_length») (c .start)))
-        (given (lent (now (image .entry)) (now («image_bytes» .entry)) (now (figures .entry))) (s .«reply_length») (s .lines) (drop (s .at) (now (out .entry))))
-        (lent (now (image .exit)) (now («image_bytes» .exit)) (now (figures .exit))) (now (out .entry)) (s .at) (now (out .exit)) r ⌝ }
+        (given (bookOf (now (image .entry)) (now («image_bytes» .entry)) (now (figures .entry)) (now (counts .entry))) (s .«reply_length») (s .lines) (drop (s .at) (now (out .entry))))
+        (bookOf (now (image .exit)) (now («image_bytes» .exit)) (now (figures .exit)) (now (counts .exit))) (now (out .entry)) (s .at) (now (out .exit)) r ⌝ }
 {
     let mut networks = [0u32; PREFIXES];
     let mut lengths = [0u8; PREFIXES];
@@ -120,15 +172,19 @@ pub fn open(
         return console_lines::error(out, s.at, s.lines);
     }
     let n = pools.count;
+    let terms = Terms {
+        term: c.term,
+        default_length: c.default_length,
+        start: c.start,
+    };
     let a = call_open::open(
         image,
         image_bytes,
         figures,
+        counts,
         &networks[0..n],
         &lengths[0..n],
-        c.term,
-        c.default_length,
-        c.start,
+        terms,
     );
     console_lines::done(out, s.at, a)
 }
@@ -140,47 +196,86 @@ pub fn load(
     image: &mut [u8],
     image_bytes: &mut usize,
     figures: &mut [u8],
+    counts: &mut Counts,
     out: &mut [u8],
 ) -> usize
     requires { ⌜ AnswerFits (s .at) (now out) ⌝ }
     ensures { λ r. ⌜ r ≤ length (now (out .entry)) ⌝ }
     ensures { λ r. ⌜ Ran (loadValue (now (saved .entry)))
-        (given (lent (now (image .entry)) (now («image_bytes» .entry)) (now (figures .entry))) (s .«reply_length») (s .lines) (drop (s .at) (now (out .entry))))
-        (lent (now (image .exit)) (now («image_bytes» .exit)) (now (figures .exit))) (now (out .entry)) (s .at) (now (out .exit)) r ⌝ }
+        (given (bookOf (now (image .entry)) (now («image_bytes» .entry)) (now (figures .entry)) (now (counts .entry))) (s .«reply_length») (s .lines) (drop (s .at) (now (out .entry))))
+        (bookOf (now (image .exit)) (now («image_bytes» .exit)) (now (figures .exit)) (now (counts .exit))) (now (out .entry)) (s .at) (now (out .exit)) r ⌝ }
 {
-    let a = call_load::load(image, image_bytes, figures, saved);
+    let a = call_load::load(image, image_bytes, figures, counts, saved);
     console_lines::done(out, s.at, a)
 }
 
-// "save into a buffer that holds a full book". Neither this nor the book's sheet has the figures sheet.
-pub fn save(s: State, image: &[u8], image_bytes: usize, out: &mut [u8]) -> usize
+// "save into a buffer that holds a full book". Neither this nor what follows has the figures sheet.
+pub fn save(s: State, image: &[u8], image_bytes: usize, counts: &Counts, out: &mut [u8]) -> usize
     requires { ⌜ AnswerFits (s .at) (now out) ⌝ }
     ensures { λ r. ⌜ r ≤ length (now (out .entry)) ⌝ }
     ensures { λ r. ⌜ ((figures : List ℕ) → Ran saveValue
-        (given (lent (now (image .entry)) «image_bytes» figures) (s .«reply_length») (s .lines) (drop (s .at) (now (out .entry))))
-        (lent (now (image .entry)) «image_bytes» figures) (now (out .entry)) (s .at) (now (out .exit)) r) ⌝ }
+        (given (bookOf (now (image .entry)) «image_bytes» figures (now (counts .entry))) (s .«reply_length») (s .lines) (drop (s .at) (now (out .entry))))
+        (bookOf (now (image .entry)) «image_bytes» figures (now (counts .entry))) (now (out .entry)) (s .at) (now (out .exit)) r) ⌝ }
 {
     let mut buffer = [0u8; FULL_IMAGE];
-    let a = call_save::save(image, image_bytes, &mut buffer);
+    let a = call_save::save(image, image_bytes, counts, &mut buffer);
     console_lines::written(out, s.at, a, &buffer)
 }
 
 // The sheet's rows stand in the output as they are.
-pub fn sheet(s: State, image: &[u8], image_bytes: usize, out: &mut [u8]) -> usize
+pub fn sheet(s: State, image: &[u8], image_bytes: usize, counts: &Counts, out: &mut [u8]) -> usize
     requires { ⌜ AnswerFits (s .at) (now out) ⌝ }
     ensures { λ r. ⌜ r ≤ length (now (out .entry)) ⌝ }
     ensures { λ r. ⌜ ((figures : List ℕ) → Ran sheetValue
-        (given (lent (now (image .entry)) «image_bytes» figures) (s .«reply_length») (s .lines) (drop (s .at) (now (out .entry))))
-        (lent (now (image .entry)) «image_bytes» figures) (now (out .entry)) (s .at) (now (out .exit)) r) ⌝ }
+        (given (bookOf (now (image .entry)) «image_bytes» figures (now (counts .entry))) (s .«reply_length») (s .lines) (drop (s .at) (now (out .entry))))
+        (bookOf (now (image .entry)) «image_bytes» figures (now (counts .entry))) (now (out .entry)) (s .at) (now (out .exit)) r) ⌝ }
 {
-    let n = console_lines::least(image_bytes, image.len());
     let at = s.at;
+    let sound = call_query::check(image, image_bytes, counts);
+    if sound.number != 0 {
+        return console_lines::refusal(out, at, sound.number, sound.place);
+    }
+    let n = console_lines::least(image_bytes, image.len());
     let left = out.len() - at;
     let a = call_sheet::sheet(&image[0..n], &mut out[at..]);
     if a.number != 0 {
         return console_lines::refusal(out, at, a.number, a.place);
     }
     at + console_lines::least(a.bytes as usize, left)
+}
+
+// The counts of the pools that have whole free blocks.
+pub fn counts(s: State, image: &[u8], image_bytes: usize, counts: &Counts, out: &mut [u8]) -> usize
+    requires { ⌜ AnswerFits (s .at) (now out) ⌝ }
+    ensures { λ r. ⌜ r ≤ length (now (out .entry)) ⌝ }
+    ensures { λ r. ⌜ ((figures : List ℕ) → Ran countsValue
+        (given (bookOf (now (image .entry)) «image_bytes» figures (now (counts .entry))) (s .«reply_length») (s .lines) (drop (s .at) (now (out .entry))))
+        (bookOf (now (image .entry)) «image_bytes» figures (now (counts .entry))) (now (out .entry)) (s .at) (now (out .exit)) r) ⌝ }
+{
+    let a = call_query::check(image, image_bytes, counts);
+    if a.number != 0 {
+        return console_lines::refusal(out, s.at, a.number, a.place);
+    }
+    console_lines::counts(out, s.at, &image[HEAD..], *counts)
+}
+
+// LENGTH: how many blocks of it are whole.
+pub fn whole(
+    s: State,
+    len: u32,
+    image: &[u8],
+    image_bytes: usize,
+    counts: &Counts,
+    out: &mut [u8],
+) -> usize
+    requires { ⌜ AnswerFits (s .at) (now out) ⌝ }
+    ensures { λ r. ⌜ r ≤ length (now (out .entry)) ⌝ }
+    ensures { λ r. ⌜ ((figures : List ℕ) → Ran (wholeValue len)
+        (given (bookOf (now (image .entry)) «image_bytes» figures (now (counts .entry))) (s .«reply_length») (s .lines) (drop (s .at) (now (out .entry))))
+        (bookOf (now (image .entry)) «image_bytes» figures (now (counts .entry))) (now (out .entry)) (s .at) (now (out .exit)) r) ⌝ }
+{
+    let a = call_query::whole(image, image_bytes, counts, len);
+    console_lines::counted(out, s.at, a)
 }
 
 // OPTION: what the reader finds.
@@ -195,14 +290,16 @@ pub fn read(s: State, octets: &[u8], out: &mut [u8]) -> usize
 }
 
 // The words that `read` prints, made into an option.
-pub fn write(s: State, words: &mut [u8], buffer: &mut [u8], out: &mut [u8]) -> usize
-    requires { ⌜ AnswerFits (s .at) (now out) × (length (now buffer) ≡ s .«reply_length») × (length (now buffer) ≤ longestReply) ⌝ }
+pub fn write(s: State, words: &mut [u8], out: &mut [u8]) -> usize
+    requires { ⌜ AnswerFits (s .at) (now out) × (s .«reply_length» ≤ longestReply) ⌝ }
     ensures { λ r. ⌜ r ≤ length (now (out .entry)) ⌝ }
     ensures { λ r. ⌜ WroteOption (s .lines) (s .«reply_length») (now (out .entry)) (s .at) (now (out .exit)) r ⌝ }
 {
-    match console_write::write(words, buffer) {
+    let mut buffer = [0u8; REPLY];
+    let n = s.reply_length;
+    match console_write::write(words, &mut buffer[0..n]) {
         Outcome::Bad => console_lines::error(out, s.at, s.lines),
-        Outcome::Of(a) => console_lines::written(out, s.at, a, buffer),
+        Outcome::Of(a) => console_lines::written(out, s.at, a, &buffer[0..n]),
     }
 }
 
@@ -210,9 +307,9 @@ pub fn write(s: State, words: &mut [u8], buffer: &mut [u8], out: &mut [u8]) -> u
 pub fn figures(s: State, sheet: &[u8], out: &mut [u8]) -> usize
     requires { ⌜ AnswerFits (s .at) (now out) × (length (now sheet) ≡ figuresSize) ⌝ }
     ensures { λ r. ⌜ r ≤ length (now (out .entry)) ⌝ }
-    ensures { λ r. ⌜ ((image : List ℕ) (bytes : ℕ) → Ran figuresValue
-        (given (lent image bytes (now (sheet .entry))) (s .«reply_length») (s .lines) (drop (s .at) (now (out .entry))))
-        (lent image bytes (now (sheet .entry))) (now (out .entry)) (s .at) (now (out .exit)) r) ⌝ }
+    ensures { λ r. ⌜ ((image : List ℕ) (bytes : ℕ) (counts : List (List ℕ)) → Ran figuresValue
+        (given (bookOf image bytes (now (sheet .entry)) counts) (s .«reply_length») (s .lines) (drop (s .at) (now (out .entry))))
+        (bookOf image bytes (now (sheet .entry)) counts) (now (out .entry)) (s .at) (now (out .exit)) r) ⌝ }
 {
     console_lines::figures_sheet(out, s.at, sheet)
 }
@@ -221,10 +318,22 @@ pub fn figures(s: State, sheet: &[u8], out: &mut [u8]) -> usize
 pub fn set_figures(s: State, octets: &[u8], sheet: &mut [u8], out: &mut [u8]) -> usize
     requires { ⌜ AnswerFits (s .at) (now out) × (length (now octets) ≡ figuresSize) × (length (now sheet) ≡ figuresSize) ⌝ }
     ensures { λ r. ⌜ r ≤ length (now (out .entry)) ⌝ }
-    ensures { λ r. ⌜ ((image : List ℕ) (bytes : ℕ) → Ran (setFiguresValue (now (octets .entry)))
-        (given (lent image bytes (now (sheet .entry))) (s .«reply_length») (s .lines) (drop (s .at) (now (out .entry))))
-        (lent image bytes (now (sheet .exit))) (now (out .entry)) (s .at) (now (out .exit)) r) ⌝ }
+    ensures { λ r. ⌜ ((image : List ℕ) (bytes : ℕ) (counts : List (List ℕ)) → Ran (setFiguresValue (now (octets .entry)))
+        (given (bookOf image bytes (now (sheet .entry)) counts) (s .«reply_length») (s .lines) (drop (s .at) (now (out .entry))))
+        (bookOf image bytes (now (sheet .exit)) counts) (now (out .entry)) (s .at) (now (out .exit)) r) ⌝ }
 {
     bytes::copy(octets, sheet);
+    console_lines::ok(out, s.at)
+}
+
+// COUNTS: as many bytes as counts have, which become the counts.
+pub fn set_counts(s: State, octets: &[u8], counts: &mut Counts, out: &mut [u8]) -> usize
+    requires { ⌜ AnswerFits (s .at) (now out) × (length (now octets) ≡ countsSize) ⌝ }
+    ensures { λ r. ⌜ r ≤ length (now (out .entry)) ⌝ }
+    ensures { λ r. ⌜ ((image : List ℕ) (bytes : ℕ) (figures : List ℕ) → Ran (setCountsValue (now (octets .entry)))
+        (given (bookOf image bytes figures (now (counts .entry))) (s .«reply_length») (s .lines) (drop (s .at) (now (out .entry))))
+        (bookOf image bytes figures (now (counts .exit))) (now (out .entry)) (s .at) (now (out .exit)) r) ⌝ }
+{
+    *counts = console_script::counts_in(octets);
     console_lines::ok(out, s.at)
 }

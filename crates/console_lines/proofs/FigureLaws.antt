@@ -33,10 +33,10 @@ figure-untold n e = sym (cond-true (eqb n untold) (ascii "-") (decimal n) (eq-eq
 pub figure-told : (n : ℕ) → (n ≡ untold → ⊥) → filled (ascii "%") (n ∷ []) ≡ figureText n
 figure-told n k = append-nil (decimal n) ∙ sym (cond-false (eqb n untold) (ascii "-") (decimal n) (ne-eqb n untold k))
 
-pub head-filled : (n len : ℕ) → filled (ascii "figures %.%.%.%/%") (n / 16777216 ∷ n / 65536 % 256 ∷ n / 256 % 256 ∷ n % 256 ∷ len ∷ []) ≡ ascii "figures " ++ prefixText n len
-head-filled n len =
+pub prefix-filled : (n len : ℕ) → filled (ascii "%.%.%.%/%") (n / 16777216 ∷ n / 65536 % 256 ∷ n / 256 % 256 ∷ n % 256 ∷ len ∷ []) ≡ prefixText n len
+prefix-filled n len =
     ap
-    (λ (l : List ℕ). ascii "figures " ++ (decimal (n / 16777216) ++ (ascii "." ++ (decimal (n / 65536 % 256) ++ (ascii "." ++ (decimal (n / 256 % 256) ++ (ascii "." ++ (decimal (n % 256) ++ (ascii "/" ++ l)))))))))
+    (λ (l : List ℕ). decimal (n / 16777216) ++ (ascii "." ++ (decimal (n / 65536 % 256) ++ (ascii "." ++ (decimal (n / 256 % 256) ++ (ascii "." ++ (decimal (n % 256) ++ (ascii "/" ++ l))))))))
     (append-nil (decimal len))
 
 module _ (r : FigureRow) where

@@ -3,3 +3,5 @@ pub mod TextLaws
 pub mod AnswerLaws
 pub mod FigureLaws
 mod FigureExamples
+pub mod CountLaws
+mod CountExamples

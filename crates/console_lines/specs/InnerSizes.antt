@@ -2,6 +2,7 @@
 use Prim.Native.Nat.{ℕ, _+_, _-_, _*_, _≤_}
 use mathlib.Core.List.{List}
 use lib.ListN.{length}
+use Rattle.counts.specs.Counts.{countedLengths}
 use Rattle.option.specs.declared.Suboption.{Suboption}
 use Rattle.option.specs.declared.Suboption.the-variants.{Request, Information, Name, Unknown}
 
@@ -21,15 +22,26 @@ requestMost = 52
 abbrev pub addressMost : ℕ
 addressMost = 95
 
+-- A prefix.
+abbrev pub prefixMost : ℕ
+prefixMost = 54
+
 -- A row of the figures sheet up to its figures; the name of a figure, and a figure with its name.
 abbrev pub rowHeadMost : ℕ
-rowHeadMost = 62
+rowHeadMost = prefixMost + 8
 
 abbrev pub figureNameMost : ℕ
 figureNameMost = 12
 
 abbrev pub figureMost : ℕ
 figureMost = figureNameMost + 10
+
+-- A length and its count; a row of them.
+abbrev pub countMost : ℕ
+countMost = 22
+
+abbrev pub rowCountsMost : ℕ
+rowCountsMost = countMost * countedLengths
 
 -- 28 bytes for each byte of an option hold its text.
 abbrev pub most : Suboption → ℕ

@@ -1,6 +1,6 @@
 -- How long the lines of answers can be.
 use Prim.Native.Nat.{ℕ, _+_, _*_}
-use Rattle.table.specs.Table.{leaseSlots}
+use Rattle.table.specs.Table.{poolSlots, leaseSlots}
 use Rattle.option.specs.Values.{longestOption}
 
 -- A line that is no command: its number has at most twenty digits.
@@ -25,3 +25,10 @@ rowMost = 129
 
 abbrev pub rowsMost : ℕ
 rowsMost = rowMost * leaseSlots + 3
+
+-- The line of a pool's counts, and the lines of all with ok.
+abbrev pub poolMost : ℕ
+poolMost = 568
+
+abbrev pub countsMost : ℕ
+countsMost = poolMost * poolSlots + 3

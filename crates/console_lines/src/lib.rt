@@ -1,6 +1,9 @@
-// What calls answer, what the reader finds and the figures sheet, as lines of text in a lent buffer.
+// What calls answer, what the reader finds, the figures sheet and the counts, as lines of text in a lent buffer.
+use counts::Counts;
+use counts::LENGTHS;
 use figures::FigureRow;
 use figures::UNTOLD;
+use image::POOL;
 use image_figures::ROW;
 use ledger::Answer;
 use option::Checked;
@@ -19,13 +22,17 @@ use option_entry::HighWater;
 use option_entry::InUse;
 use option_entry::Unusable;
 use table::LEASES;
+use table::POOLS;
+use table::Pool;
+use table::SHORTEST_POOL;
 ghost use mathlib.Core.Path.{_≡_};
 ghost use Prim.Native.Nat.{_+_, _-_, _*_, _≤_, _<_};
 ghost use mathlib.Core.List.{_++_};
 ghost use lib.ListN.{length, take};
 ghost use Rattle.text.specs.Ascii.{ascii};
 ghost use Rattle.option.specs.declared.Suboption.the-variants as Suboption;
-ghost use Rattle.table.specs.Table.{noLease};
+ghost use Rattle.table.specs.Table.{poolSlots, shortestPool, noLease};
+ghost use Rattle.image.specs.Image.{poolSize};
 ghost use Rattle.figures.specs.Figures.{ofLease?};
 ghost use Rattle.image_figures.specs.Sheets.{figuresSize, sheetRows};
 ghost use Rattle.console_lines.specs.Sizes.{
@@ -35,6 +42,8 @@ ghost use Rattle.console_lines.specs.Sizes.{
   readMost,
   rowMost,
   rowsMost,
+  poolMost,
+  countsMost,
 };
 ghost use Rattle.console_lines.specs.InnerSizes.{
   headMost,
@@ -42,9 +51,12 @@ ghost use Rattle.console_lines.specs.InnerSizes.{
   entryMost,
   requestMost,
   addressMost,
+  prefixMost,
   rowHeadMost,
   figureNameMost,
   figureMost,
+  countMost,
+  rowCountsMost,
   most,
   Within,
 };
@@ -68,6 +80,17 @@ ghost use Rattle.console_lines.specs.FigureLines.{
   rowText,
   figuresText,
 };
+ghost use Rattle.console_lines.specs.CountLines.{
+  countText,
+  rowCounts,
+  noneIn?,
+  poolText,
+  countsText,
+  poolsAt,
+};
+
+// The first length that is counted.
+const FIRST: usize = SHORTEST_POOL as usize;
 
 // ANSWERS
 
@@ -396,21 +419,29 @@ fn unusable(out: &mut [u8], at: usize, f: Unusable) -> usize
     figure(out, at, b" unusable=", f.0)
 }
 
+fn prefix(out: &mut [u8], at: usize, network: u32, len: u8) -> usize
+    requires { ⌜ at + prefixMost ≤ length (now out) ⌝ }
+    ensures { λ end. ⌜ end ≤ at + prefixMost ⌝ }
+    ensures { λ end. ⌜ Wrote (now (out .entry)) at (prefixText network len) (now (out .exit)) end ⌝ }
+{
+    let numbers = [
+        network / 16777216,
+        network / 65536 % 256,
+        network / 256 % 256,
+        network % 256,
+        len as u32,
+    ];
+    console_text::fill(out, at, b"%.%.%.%/%", &numbers)
+}
+
 // A row's line up to its figures.
 fn row_head(out: &mut [u8], at: usize, r: FigureRow) -> usize
     requires { ⌜ at + rowHeadMost ≤ length (now out) ⌝ }
     ensures { λ end. ⌜ end ≤ at + rowHeadMost ⌝ }
     ensures { λ end. ⌜ Wrote (now (out .entry)) at (ascii "figures " ++ prefixText (r .network) (r .length)) (now (out .exit)) end ⌝ }
 {
-    let n = r.network;
-    let numbers = [
-        n / 16777216,
-        n / 65536 % 256,
-        n / 256 % 256,
-        n % 256,
-        r.length as u32,
-    ];
-    console_text::fill(out, at, b"figures %.%.%.%/%", &numbers)
+    let a = console_text::text(out, at, b"figures ");
+    prefix(out, a, r.network, r.length)
 }
 
 // Whether a row is that of an empty slot, whatever its figures are.
@@ -450,6 +481,80 @@ pub fn figures_sheet(out: &mut [u8], at: usize, sheet: &[u8]) -> usize
     while i < LEASES {
         end = row(out, end, image_figures::row_at(sheet, ROW * i));
         i = i + 1;
+    }
+    ok(out, end)
+}
+
+// COUNTS
+
+// A length and its count; nothing of a count that is 0.
+fn count(out: &mut [u8], at: usize, len: u32, n: u16) -> usize
+    requires { ⌜ at + countMost ≤ length (now out) ⌝ }
+    ensures { λ r. ⌜ r ≤ at + countMost ⌝ }
+    ensures { λ r. ⌜ Wrote (now (out .entry)) at (countText len n) (now (out .exit)) r ⌝ }
+{
+    if n == 0 {
+        return at;
+    }
+    console_text::fill(out, at, b" %=%", &[len, n as u32])
+}
+
+// Whether a row has no whole free block.
+fn none_in(row: [u16; LENGTHS]) -> bool
+    ensures { λ r. ⌜ r ≡ noneIn? row ⌝ }
+{
+    let mut j: usize = 0;
+    while j < LENGTHS {
+        if row[j] != 0 {
+            return false;
+        }
+        j = j + 1;
+    }
+    true
+}
+
+// The counts of a row, by their lengths.
+fn row_counts(out: &mut [u8], at: usize, row: [u16; LENGTHS]) -> usize
+    requires { ⌜ at + rowCountsMost ≤ length (now out) ⌝ }
+    ensures { λ r. ⌜ r ≤ at + rowCountsMost ⌝ }
+    ensures { λ r. ⌜ Wrote (now (out .entry)) at (rowCounts shortestPool row) (now (out .exit)) r ⌝ }
+{
+    let mut end = at;
+    let mut j: usize = 0;
+    while j < LENGTHS {
+        end = count(out, end, (j + FIRST) as u32, row[j]);
+        j = j + 1;
+    }
+    end
+}
+
+// The line of a pool; one that has no whole free block has none.
+fn pool(out: &mut [u8], at: usize, p: Pool, row: [u16; LENGTHS]) -> usize
+    requires { ⌜ at + poolMost ≤ length (now out) ⌝ }
+    ensures { λ end. ⌜ end ≤ at + poolMost ⌝ }
+    ensures { λ end. ⌜ Wrote (now (out .entry)) at (poolText p row) (now (out .exit)) end ⌝ }
+{
+    if none_in(row) {
+        return at;
+    }
+    let a = console_text::text(out, at, b"counts ");
+    let b = prefix(out, a, p.network, p.length);
+    let c = row_counts(out, b, row);
+    console_text::text(out, c, b"\n")
+}
+
+// The pools whose records these are, each with its row, and then ok.
+pub fn counts(out: &mut [u8], at: usize, pools: &[u8], counts: Counts) -> usize
+    requires { ⌜ (poolSize * poolSlots ≤ length (now pools)) × (at + countsMost ≤ length (now out)) ⌝ }
+    ensures { λ r. ⌜ r ≤ at + countsMost ⌝ }
+    ensures { λ r. ⌜ Wrote (now (out .entry)) at (countsText (poolsAt poolSlots (now (pools .entry))) counts) (now (out .exit)) r ⌝ }
+{
+    let mut end = at;
+    let mut k: usize = 0;
+    while k < POOLS {
+        let row = counts[k];
+        end = pool(out, end, image::pool_at(pools, POOL * k), row);
+        k = k + 1;
     }
     ok(out, end)
 }

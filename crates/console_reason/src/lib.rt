@@ -1,4 +1,5 @@
 // Why a line is no command: the word that is not what it should be, as a line of text.
+use console_script::COUNTS;
 use console_script::LONGEST;
 use console_script::LONGEST_REPLY;
 use console_script::Name;
@@ -39,7 +40,7 @@ enum Fault {
 }
 
 // KINDS. What a word should be is told by a letter:
-// n a number, b a number below 256, r a length of the reply buffer, f 0 or 1, p a prefix, a an address, x octets, t those of a figures sheet;
+// n a number, b a number below 256, r a length of the reply buffer, f 0 or 1, p a prefix, a an address, x octets, t those of a figures sheet, u those of counts;
 // of `write` h, i, c, s and d a bit behind its key, l `prefix=` and a length, g `figures=` and figures, w a word that begins an item, e an entry in its place.
 
 fn is_number(n: Number) -> bool {
@@ -86,9 +87,12 @@ fn is_octets(word: &[u8]) -> bool {
     is_hexadecimal(word)
 }
 
-// As many octets as a figures sheet has.
-fn is_figures_sheet(word: &[u8]) -> bool {
-    if word.len() != 2 * FIGURES {
+// As many octets as this.
+fn is_octets_of(word: &[u8], size: usize) -> bool {
+    if word.len() % 2 == 1 {
+        return false;
+    }
+    if word.len() / 2 != size {
         return false;
     }
     is_hexadecimal(word)
@@ -133,7 +137,8 @@ fn is_of(kind: u8, word: &[u8]) -> bool {
         b'p' => is_prefix(word),
         b'a' => is_number(console_words::read_network(word)),
         b'x' => is_octets(word),
-        b't' => is_figures_sheet(word),
+        b't' => is_octets_of(word, FIGURES),
+        b'u' => is_octets_of(word, COUNTS),
         b'l' => is_length(word),
         b'g' => is_figures(word),
         _ => is_bit(word, kind),
@@ -268,6 +273,8 @@ fn command_fault(name: Name, s: &[u8], from: usize) -> Fault
         Name::Read => line_fault(s, from, b"x", 1),
         Name::Write => write_fault(s, from),
         Name::Figures => line_fault(s, from, b"t", 0),
+        Name::Counts => line_fault(s, from, b"u", 0),
+        Name::Whole => line_fault(s, from, b"n", 1),
         Name::Buffer => line_fault(s, from, b"r", 1),
         Name::Other => Fault::None(from),
     }
@@ -324,6 +331,18 @@ fn put_bit(out: &mut [u8], at: usize, key: u8) -> usize
     console_text::text(out, c, b"=1")
 }
 
+fn put_octets_of(out: &mut [u8], at: usize, size: u32) -> usize
+    requires { ⌜ at + kindMost ≤ length (now out) ⌝ }
+    ensures { λ r. ⌜ r ≤ at + kindMost ⌝ }
+{
+    console_text::fill(
+        out,
+        at,
+        b"hexadecimal digits, two for each of % bytes",
+        &[size],
+    )
+}
+
 fn put_kind(out: &mut [u8], at: usize, kind: u8) -> usize
     requires { ⌜ at + kindMost ≤ length (now out) ⌝ }
     ensures { λ r. ⌜ r ≤ at + kindMost ⌝ }
@@ -336,12 +355,8 @@ fn put_kind(out: &mut [u8], at: usize, kind: u8) -> usize
         b'p' => console_text::text(out, at, b"a prefix A.B.C.D/L"),
         b'a' => console_text::text(out, at, b"an address A.B.C.D"),
         b'x' => console_text::text(out, at, b"hexadecimal digits, two for each byte, or -"),
-        b't' => console_text::fill(
-            out,
-            at,
-            b"hexadecimal digits, two for each of % bytes",
-            &[FIGURES as u32],
-        ),
+        b't' => put_octets_of(out, at, FIGURES as u32),
+        b'u' => put_octets_of(out, at, COUNTS as u32),
         b'l' => console_text::text(out, at, b"prefix= and a number below 256"),
         b'g' => console_text::text(
             out,
@@ -404,6 +419,8 @@ fn put_form(out: &mut [u8], at: usize, name: Name) -> usize
         Name::Read => console_text::text(out, at, b" OPTION)\n"),
         Name::Write => console_text::text(out, at, b" ITEM.. or address A.B.C.D)\n"),
         Name::Figures => console_text::text(out, at, b" alone, or SHEET)\n"),
+        Name::Counts => console_text::text(out, at, b" alone, or COUNTS)\n"),
+        Name::Whole => console_text::text(out, at, b" LENGTH)\n"),
         Name::Buffer => console_text::text(out, at, b" N)\n"),
         Name::Other => console_text::text(out, at, b")\n"),
     }

@@ -10,7 +10,6 @@ use lib.ListN.{length, drop, getD}
 use lib.Dec.{eqb}
 use borrow.Author.Tests.{lt-ltb, le-ltb, eq-eqb, ne-eqb}
 use Rattle.lists.proofs.Tests.{cond-true, cond-false}
-use Rattle.image_figures.specs.Sheets.{figuresSize}
 use Rattle.console_words.specs.declared.Number.{Number}
 use Rattle.console_words.specs.declared.Number.the-variants as number
 use Rattle.console_words.specs.declared.NumberAt.{NumberAt}
@@ -25,8 +24,8 @@ use Rattle.console_script.specs.declared.OptionCall.{OptionCall}
 use Rattle.console_script.specs.declared.Lone.{Lone}
 use Rattle.console_script.specs.declared.Lone.the-variants as lone
 use Rattle.console_script.specs.declared.Name.{Name}
-use Rattle.console_script.specs.Commands.{CommandValue, call, mark, «open», load, save, sheet, read, figures, setFigures, buffer, nothing, bad, longestLine, longestReply, mostPrefixes, withPrefixes}
-use Rattle.console_script.specs.Parsing.{withNumber, withOctets, sheetOnly, atEnd, nameOf, parseCall, parseMark, parseOpen, parseLoad, parseRead, parseFigures, parseBuffer, parseLone, parseWords, parseLine, unreturned}
+use Rattle.console_script.specs.Commands.{CommandValue, call, mark, «open», load, save, sheet, read, whole, buffer, nothing, bad, longestLine, longestReply, mostPrefixes, withPrefixes}
+use Rattle.console_script.specs.Parsing.{withNumber, withOctets, ofSize, aloneOr, atEnd, nameOf, parseCall, parseMark, parseOpen, parseLoad, parseRead, parseWhole, parseBuffer, parseLone, parseWords, parseLine, unreturned}
 
 -- What the next word spells, where xs is left of the line.
 pub spells : (spelt : List ℕ → Number) (s : List ℕ) (from : ℕ) (r : NumberAt) (xs : List ℕ) (n : Number) → NextNumber spelt s from r → drop from s ≡ xs → r .number ≡ n → spelt (firstWord xs) ≡ n
@@ -136,29 +135,44 @@ module _ (xs : List ℕ) where
   unfolding parseRead
   read-of option e = sym (ap (λ (o : Option (List ℕ)). withOctets o read) e)
 
--- Nothing more, or SHEET
-module _ (xs : List ℕ) where
-  pub figures-alone : last? xs ≡ true → figures ≡ parseFigures xs
-  unfolding parseFigures
-  figures-alone e = sym (ap (λ (b : Bool). cond b figures (withOctets (lastOctets xs) sheetOnly)) e)
+-- Nothing more, or so many octets
+module _ (alone : CommandValue) (n : ℕ) (f : List ℕ → CommandValue) (xs : List ℕ) where
+  pub is-alone : last? xs ≡ true → alone ≡ aloneOr alone n f xs
+  unfolding aloneOr
+  is-alone e = sym (ap (λ (b : Bool). cond b alone (withOctets (lastOctets xs) (ofSize n f))) e)
 
   module _ (more : last? xs ≡ false) where
-    with-octets : withOctets (lastOctets xs) sheetOnly ≡ parseFigures xs
-    unfolding parseFigures
-    with-octets = sym (ap (λ (b : Bool). cond b figures (withOctets (lastOctets xs) sheetOnly)) more)
+    with-octets : withOctets (lastOctets xs) (ofSize n f) ≡ aloneOr alone n f xs
+    unfolding aloneOr
+    with-octets = sym (ap (λ (b : Bool). cond b alone (withOctets (lastOctets xs) (ofSize n f))) more)
 
-    pub figures-bad : lastOctets xs ≡ none → bad ≡ parseFigures xs
-    figures-bad e = sym (ap (λ (o : Option (List ℕ)). withOctets o sheetOnly) e) ∙ with-octets
+    pub no-octets : lastOctets xs ≡ none → bad ≡ aloneOr alone n f xs
+    no-octets e = sym (ap (λ (o : Option (List ℕ)). withOctets o (ofSize n f)) e) ∙ with-octets
 
     module _ (octets : List ℕ) (e₁ : lastOctets xs ≡ some octets) where
-      sized : sheetOnly octets ≡ parseFigures xs
-      sized = sym (ap (λ (o : Option (List ℕ)). withOctets o sheetOnly) e₁) ∙ with-octets
+      sized : ofSize n f octets ≡ aloneOr alone n f xs
+      sized = sym (ap (λ (o : Option (List ℕ)). withOctets o (ofSize n f)) e₁) ∙ with-octets
 
-      pub figures-of-another-size : (length octets ≡ figuresSize → ⊥) → bad ≡ parseFigures xs
-      figures-of-another-size k = sym (cond-false (eqb (length octets) figuresSize) (setFigures octets) bad (ne-eqb (length octets) figuresSize k)) ∙ sized
+      pub of-another-size : (length octets ≡ n → ⊥) → bad ≡ aloneOr alone n f xs
+      of-another-size k = sym (cond-false (eqb (length octets) n) (f octets) bad (ne-eqb (length octets) n k)) ∙ sized
 
-      pub figures-of : length octets ≡ figuresSize → setFigures octets ≡ parseFigures xs
-      figures-of e = sym (cond-true (eqb (length octets) figuresSize) (setFigures octets) bad (eq-eqb (length octets) figuresSize e)) ∙ sized
+      pub of-its-size : length octets ≡ n → f octets ≡ aloneOr alone n f xs
+      of-its-size e = sym (cond-true (eqb (length octets) n) (f octets) bad (eq-eqb (length octets) n e)) ∙ sized
+
+-- LENGTH
+module _ (xs : List ℕ) where
+  pub whole-no-number : numberOf (firstWord xs) ≡ number.Bad → bad ≡ parseWhole xs
+  unfolding parseWhole
+  whole-no-number e = rw e refl
+
+  module _ (n : ℕ) (e₁ : numberOf (firstWord xs) ≡ number.Of n) where
+    pub whole-more : last? (afterWord xs) ≡ false → bad ≡ parseWhole xs
+    unfolding parseWhole
+    whole-more e = rw e₁ (sym (ap (λ (b : Bool). cond b (whole n) bad) e))
+
+    pub whole-of : last? (afterWord xs) ≡ true → whole n ≡ parseWhole xs
+    unfolding parseWhole
+    whole-of e = rw e₁ (sym (ap (λ (b : Bool). cond b (whole n) bad) e))
 
 -- N
 module _ (xs : List ℕ) where

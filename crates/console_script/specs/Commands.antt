@@ -1,10 +1,12 @@
 -- Commands as values, and what a command of the code stands for: the octets and words at its places in the line.
-use Prim.Native.Nat.{ℕ, _-_, _≤_}
+use Prim.Native.Nat.{ℕ, _-_, _*_, _≤_}
 use mathlib.Core.Path.{_≡_}
 use mathlib.Core.Option.{Option, none, some}
 use mathlib.Core.List.{List}
 use lib.ListN.{drop}
+use Rattle.table.specs.Table.{poolSlots}
 use Rattle.image_figures.specs.Sheets.{figuresSize}
+use Rattle.counts.specs.Counts.{countedLengths}
 use Rattle.console_words.specs.Words.{between}
 use Rattle.console_words.specs.Prefixes.{Columns, prefixesOf}
 use Rattle.console_script.specs.declared.{OptionCall.OptionCall, Command.Command}
@@ -28,6 +30,11 @@ pub data CommandValue : Type 0 where
   -- the figures sheet written out, and one set: its octets
   figures : CommandValue
   setFigures : List ℕ → CommandValue
+  -- the counts written out, and others set: their octets
+  counts : CommandValue
+  setCounts : List ℕ → CommandValue
+  -- the length that is asked for
+  whole : ℕ → CommandValue
   -- the reply buffer's length
   buffer : ℕ → CommandValue
   -- no word, or a comment
@@ -42,6 +49,10 @@ longestLine = 100000
 -- "the reply buffer's length from now on, 0 to 1,024"
 abbrev pub longestReply : ℕ
 longestReply = 1024
+
+-- "these 368 bytes (8 rows of 23 numbers, 2 bytes each, little-endian)"
+abbrev pub countsSize : ℕ
+countsSize = 2 * countedLengths * poolSlots
 
 -- The most prefixes: "open takes 0 to 16 prefixes as arguments (more than 16: an error)".
 abbrev pub mostPrefixes : ℕ
@@ -62,11 +73,14 @@ valueIn s (command.Read c) = read (between (c .from) (c .to) s)
 valueIn s (command.Write c) = write (drop (c .from) s)
 valueIn s command.Figures = figures
 valueIn s (command.SetFigures c) = setFigures (between (c .from) (c .to) s)
+valueIn s command.Counts = counts
+valueIn s (command.SetCounts c) = setCounts (between (c .from) (c .to) s)
+valueIn s (command.Whole c) = whole (c .length)
 valueIn s (command.Buffer c) = buffer (c .length)
 valueIn s command.Nothing = nothing
 valueIn s command.Bad = bad
 
--- The places of a command are within a line of n bytes; a sheet has its size.
+-- The places of a command are within a line of n bytes; a sheet has its size, and so have counts.
 abbrev pub Within : ℕ → Command → Type 0
 Within n (command.Call c) = (c .from ≤ c .to) × (c .to ≤ n)
 Within n (command.Mark c) = Unit {0}
@@ -78,6 +92,9 @@ Within n (command.Read c) = (c .from ≤ c .to) × (c .to ≤ n)
 Within n (command.Write c) = c .from ≤ n
 Within n command.Figures = Unit {0}
 Within n (command.SetFigures c) = (c .from ≤ c .to) × (c .to ≤ n) × (c .to - c .from ≡ figuresSize)
+Within n command.Counts = Unit {0}
+Within n (command.SetCounts c) = (c .from ≤ c .to) × (c .to ≤ n) × (c .to - c .from ≡ countsSize)
+Within n (command.Whole c) = Unit {0}
 Within n (command.Buffer c) = c .length ≤ longestReply
 Within n command.Nothing = Unit {0}
 Within n command.Bad = Unit {0}

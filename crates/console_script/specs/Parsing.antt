@@ -18,7 +18,7 @@ use Rattle.console_script.specs.declared.{OptionCall.OptionCall, Lone.Lo
 use Rattle.console_script.specs.declared.OptionCall.the-variants.{Ask, Take, List as ListCall, Return}
 use Rattle.console_script.specs.declared.Lone.the-variants as lone
 use Rattle.console_script.specs.declared.Name.the-variants as name
-use Rattle.console_script.specs.Commands.{CommandValue, call, mark, «open», load, save, sheet, read, write, figures, setFigures, buffer, nothing, bad, longestLine, longestReply, mostPrefixes, withPrefixes}
+use Rattle.console_script.specs.Commands.{CommandValue, call, mark, «open», load, save, sheet, read, write, figures, setFigures, counts, setCounts, whole, buffer, nothing, bad, longestLine, longestReply, countsSize, mostPrefixes, withPrefixes}
 
 -- NAMES
 
@@ -29,7 +29,16 @@ same? [] (y ∷ ys) = false
 same? (x ∷ xs) [] = false
 same? (x ∷ xs) (y ∷ ys) = eqb x y && same? xs ys
 
--- The command that a word names.
+-- The command that a word names: a call, or another.
+unfoldable pub otherName : List ℕ → Name
+otherName w =
+    cond (same? w (ascii "read")) name.Read
+    (cond (same? w (ascii "write")) name.Write
+    (cond (same? w (ascii "figures")) name.Figures
+    (cond (same? w (ascii "counts")) name.Counts
+    (cond (same? w (ascii "whole")) name.Whole
+    (cond (same? w (ascii "buffer")) name.Buffer name.Other)))))
+
 unfoldable pub nameOf : List ℕ → Name
 nameOf w =
     cond (same? w (ascii "ask")) (name.Call Ask)
@@ -40,11 +49,7 @@ nameOf w =
     (cond (same? w (ascii "open")) name.Open
     (cond (same? w (ascii "load")) name.Load
     (cond (same? w (ascii "save")) (name.Lone lone.Save)
-    (cond (same? w (ascii "sheet")) (name.Lone lone.Sheet)
-    (cond (same? w (ascii "read")) name.Read
-    (cond (same? w (ascii "write")) name.Write
-    (cond (same? w (ascii "figures")) name.Figures
-    (cond (same? w (ascii "buffer")) name.Buffer name.Other))))))))))))
+    (cond (same? w (ascii "sheet")) (name.Lone lone.Sheet) (otherName w)))))))))
 
 -- ARGUMENTS: each of xs, what is left of a line behind the name.
 
@@ -96,12 +101,24 @@ parseLoad xs = withOctets (lastOctets xs) load
 unfoldable pub parseRead : List ℕ → CommandValue
 parseRead xs = withOctets (lastOctets xs) read
 
--- Nothing more, or SHEET: "an error if they are not exactly as many as the sheet has"
-abbrev pub sheetOnly : List ℕ → CommandValue
-sheetOnly octets = cond (eqb (length octets) figuresSize) (setFigures octets) bad
+-- Nothing more, or so many octets.
+abbrev pub ofSize : ℕ → (List ℕ → CommandValue) → List ℕ → CommandValue
+ofSize n f octets = cond (eqb (length octets) n) (f octets) bad
 
-unfoldable pub parseFigures : List ℕ → CommandValue
-parseFigures xs = cond (last? xs) figures (withOctets (lastOctets xs) sheetOnly)
+unfoldable pub aloneOr : CommandValue → ℕ → (List ℕ → CommandValue) → List ℕ → CommandValue
+aloneOr alone n f xs = cond (last? xs) alone (withOctets (lastOctets xs) (ofSize n f))
+
+-- Nothing more, or SHEET: "an error if they are not exactly as many as the sheet has"
+abbrev pub parseFigures : List ℕ → CommandValue
+parseFigures xs = aloneOr figures figuresSize setFigures xs
+
+-- Nothing more, or COUNTS: "an error if they are not 368"
+abbrev pub parseCounts : List ℕ → CommandValue
+parseCounts xs = aloneOr counts countsSize setCounts xs
+
+-- LENGTH, "any number below 2^32"
+unfoldable pub parseWhole : List ℕ → CommandValue
+parseWhole xs = withNumber (numberOf (firstWord xs)) (λ n. atEnd (afterWord xs) (whole n))
 
 -- N, "0 to 1,024"
 unfoldable pub parseBuffer : List ℕ → CommandValue
@@ -121,6 +138,8 @@ parseWords (name.Lone c) xs = parseLone c xs
 parseWords name.Read xs = parseRead xs
 parseWords name.Write xs = write xs
 parseWords name.Figures xs = parseFigures xs
+parseWords name.Counts xs = parseCounts xs
+parseWords name.Whole xs = parseWhole xs
 parseWords name.Buffer xs = parseBuffer xs
 parseWords name.Other xs = bad
 

@@ -1,13 +1,19 @@
 // The lines of a script: the command of each, with the numbers that its words spell and the places where its octets and other words stand.
 use console_words::Number;
 use console_words::PrefixWord;
+use counts::Counts;
+use counts::LENGTHS;
 use image_figures::FIGURES;
+use table::POOLS;
 ghost use mathlib.Core.Path.{_≡_};
-ghost use Prim.Native.Nat.{_≤_};
+ghost use Prim.Native.Nat.{_+_, _*_, _≤_};
 ghost use lib.ListN.{length, drop};
-ghost use Rattle.console_script.specs.Commands.{valueIn, Within};
+ghost use Rattle.counts.specs.Counts.{countedLengths};
+ghost use Rattle.console_script.specs.Commands.{valueIn, Within, countsSize};
+ghost use Rattle.console_script.specs.CountOctets.{numbersIn, countsIn};
 ghost use Rattle.console_script.specs.Parsing.{
   same?,
+  otherName,
   nameOf,
   parseCall,
   parseMark,
@@ -15,6 +21,8 @@ ghost use Rattle.console_script.specs.Parsing.{
   parseLoad,
   parseRead,
   parseFigures,
+  parseCounts,
+  parseWhole,
   parseBuffer,
   parseLone,
   parseWords,
@@ -27,6 +35,9 @@ pub const LONGEST: usize = 100000;
 
 // The longest reply buffer.
 pub const LONGEST_REPLY: u32 = 1024;
+
+// The bytes of all counts, two for each.
+pub const COUNTS: usize = 2 * LENGTHS * POOLS;
 
 // The calls that are given an option.
 pub enum OptionCall {
@@ -61,7 +72,7 @@ pub struct OpenLine {
     pub from: usize,
 }
 
-// OPTION, IMAGE or SHEET: where its octets stand.
+// OPTION, IMAGE, SHEET or COUNTS: where its octets stand.
 pub struct OctetLine {
     pub from: usize,
     pub to: usize,
@@ -70,6 +81,11 @@ pub struct OctetLine {
 // The place after which all words are those of an option that is to be written.
 pub struct WriteLine {
     pub from: usize,
+}
+
+// LENGTH
+pub struct WholeLine {
+    pub length: u32,
 }
 
 // N
@@ -89,6 +105,9 @@ pub enum Command {
     Write(WriteLine),
     Figures,
     SetFigures(OctetLine),
+    Counts,
+    SetCounts(OctetLine),
+    Whole(WholeLine),
     Buffer(BufferLine),
     Nothing,
     Bad,
@@ -110,6 +129,8 @@ pub enum Name {
     Read,
     Write,
     Figures,
+    Counts,
+    Whole,
     Buffer,
     Other,
 }
@@ -121,6 +142,31 @@ fn is(word: &[u8], name: &[u8]) -> bool
     ensures { λ r. ⌜ r ≡ same? (now (word .entry)) (now (name .entry)) ⌝ }
 {
     check::same(word, name)
+}
+
+// The command that a word names where it is none of a call.
+fn other_name(word: &[u8]) -> Name
+    ensures { λ r. ⌜ r ≡ otherName (now (word .entry)) ⌝ }
+{
+    if is(word, b"read") {
+        return Name::Read;
+    }
+    if is(word, b"write") {
+        return Name::Write;
+    }
+    if is(word, b"figures") {
+        return Name::Figures;
+    }
+    if is(word, b"counts") {
+        return Name::Counts;
+    }
+    if is(word, b"whole") {
+        return Name::Whole;
+    }
+    if is(word, b"buffer") {
+        return Name::Buffer;
+    }
+    Name::Other
 }
 
 pub fn read_name(word: &[u8]) -> Name
@@ -153,19 +199,7 @@ pub fn read_name(word: &[u8]) -> Name
     if is(word, b"sheet") {
         return Name::Lone(Lone::Sheet);
     }
-    if is(word, b"read") {
-        return Name::Read;
-    }
-    if is(word, b"write") {
-        return Name::Write;
-    }
-    if is(word, b"figures") {
-        return Name::Figures;
-    }
-    if is(word, b"buffer") {
-        return Name::Buffer;
-    }
-    Name::Other
+    other_name(word)
 }
 
 // LINES: what the words after a name spell.
@@ -317,6 +351,45 @@ fn figures_line(s: &mut [u8], from: usize) -> Command
     })
 }
 
+// Nothing more, or COUNTS: exactly as many bytes as all counts have.
+fn counts_line(s: &mut [u8], from: usize) -> Command
+    requires { ⌜ from ≤ length (now s) ⌝ }
+    ensures { λ r. ⌜ Within (length (now (s .entry))) r ⌝ }
+    ensures { λ r. ⌜ valueIn (now (s .exit)) r ≡ parseCounts (drop from (now (s .entry))) ⌝ }
+{
+    if console_words::ends(s, from) {
+        return Command::Counts;
+    }
+    let octets = console_words::last_octets(s, from);
+    if !octets.good {
+        return Command::Bad;
+    }
+    if octets.end - octets.start != COUNTS {
+        return Command::Bad;
+    }
+    Command::SetCounts(OctetLine {
+        from: octets.start,
+        to: octets.end,
+    })
+}
+
+// LENGTH, any number.
+fn whole_line(s: &[u8], from: usize) -> Command
+    requires { ⌜ from ≤ length (now s) ⌝ }
+    ensures { λ r. ⌜ Within (length (now (s .entry))) r ⌝ }
+    ensures { λ r. ⌜ valueIn (now (s .entry)) r ≡ parseWhole (drop from (now (s .entry))) ⌝ }
+{
+    let a = console_words::next_number(s, from);
+    let number = a.number;
+    let Number::Of(length) = number else {
+        return Command::Bad;
+    };
+    if !console_words::ends(s, a.end) {
+        return Command::Bad;
+    }
+    Command::Whole(WholeLine { length })
+}
+
 // N, at most the longest reply buffer.
 fn buffer_line(s: &[u8], from: usize) -> Command
     requires { ⌜ from ≤ length (now s) ⌝ }
@@ -367,6 +440,8 @@ fn read_words(name: Name, s: &mut [u8], from: usize) -> Command
         Name::Read => read_line(s, from),
         Name::Write => Command::Write(WriteLine { from }),
         Name::Figures => figures_line(s, from),
+        Name::Counts => counts_line(s, from),
+        Name::Whole => whole_line(s, from),
         Name::Buffer => buffer_line(s, from),
         Name::Other => Command::Bad,
     }
@@ -404,4 +479,44 @@ pub fn read_command(s: &mut [u8]) -> Command
     }
     let name = read_name(&s[start..end]);
     read_words(name, s, end)
+}
+
+// COUNTS
+
+fn wide(x: u8) -> u16
+    ensures { λ r. ⌜ (r ≡ x) × (r ≤ 255) ⌝ }
+{
+    x as u16
+}
+
+// The row that the octets from a place on spell, low bytes first.
+fn row_in(octets: &[u8], at: usize) -> [u16; LENGTHS]
+    requires { ⌜ at + 2 * countedLengths ≤ length (now octets) ⌝ }
+    ensures { λ r. ⌜ r ≡ numbersIn countedLengths (drop at (now (octets .entry))) ⌝ }
+{
+    let mut row = [0u16; LENGTHS];
+    let mut j: usize = 0;
+    while j < LENGTHS {
+        let low = wide(octets[at + 2 * j]);
+        let high = wide(octets[at + 2 * j + 1]);
+        row[j] = low + 256 * high;
+        j = j + 1;
+    }
+    row
+}
+
+// The counts that the octets of a `counts` line spell.
+pub fn counts_in(octets: &[u8]) -> Counts
+    requires { ⌜ length (now octets) ≡ countsSize ⌝ }
+    ensures { λ r. ⌜ r ≡ countsIn (now (octets .entry)) ⌝ }
+{
+    let none = [0u16; LENGTHS];
+    let mut rows = [none; POOLS];
+    let mut k: usize = 0;
+    while k < POOLS {
+        let row = row_in(octets, 2 * LENGTHS * k);
+        rows[k] = row;
+        k = k + 1;
+    }
+    rows
 }

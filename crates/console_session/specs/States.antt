@@ -5,9 +5,10 @@ use mathlib.Core.Bool.{cond}
 use mathlib.Core.List.{List}
 use lib.ListN.{length, replicate}
 use lib.Dec.{ltb}
-use Rattle.table.specs.Table.{leaseSlots}
+use Rattle.table.specs.Table.{poolSlots, leaseSlots}
 use Rattle.figures.specs.Figures.{emptyRow}
 use Rattle.image_figures.specs.Sheets.{sheetOf}
+use Rattle.counts.specs.Counts.{countedLengths}
 use Rattle.console_input.specs.Lines.{lineSpace}
 use Rattle.console_session.specs.declared.State.{State}
 
@@ -26,6 +27,10 @@ firstReply = 257
 -- "Before the first accepted open or load the sheet is all empty lines' rows."
 abbrev pub firstSheet : List ℕ
 firstSheet = sheetOf (replicate leaseSlots emptyRow)
+
+-- "Before the first accepted open or load the counts are all 0."
+abbrev pub firstCounts : List (List ℕ)
+firstCounts = replicate poolSlots (replicate countedLengths 0)
 
 -- What may wait in the output, the longest line behind "> " and with its newline, and room for any answer.
 abbrev pub waitingMost : ℕ

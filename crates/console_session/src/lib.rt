@@ -1,7 +1,10 @@
-// What goes from line to line of a script beside the book, the figures sheet at first, and the output written out.
+// What goes from line to line of a script beside the book, the figures sheet and the counts at first, and the output written out.
 use console_input::LINE;
 use console_input::NAME;
+use counts::Counts;
+use counts::LENGTHS;
 use image_figures::FIGURES;
+use table::POOLS;
 ghost use mathlib.Core.Path.{_≡_};
 ghost use Prim.Native.Nat.{_≤_};
 ghost use lib.ListN.{length};
@@ -10,6 +13,7 @@ ghost use Rattle.console_session.specs.States.{
   nextLine,
   firstReply,
   firstSheet,
+  firstCounts,
   outputSpace,
   LineFits,
   OutputHolds,
@@ -90,6 +94,14 @@ pub fn first_figures() -> [u8; FIGURES]
     let mut sheet = [0u8; FIGURES];
     image_figures::fill(&mut sheet, b"", 0, 0);
     sheet
+}
+
+// The counts at first: all 0.
+pub fn first_counts() -> Counts
+    ensures { λ r. ⌜ r ≡ firstCounts ⌝ }
+{
+    let none = [0u16; LENGTHS];
+    [none; POOLS]
 }
 
 // OUTPUT

@@ -17,26 +17,22 @@ use Rattle.table.specs.Table.{addresses, poolPrefix, noPool, noLease, poolsOf, 
 use Rattle.image.specs.Fields.{number32}
 use Rattle.image.specs.Image.{usedPools, usedLeases, imageOf, headSize, poolSize, leaseSize}
 use Rattle.image.specs.Reading.{poolIn, leaseIn}
+use Rattle.counts.specs.Counts.{countsOf, total}
+use Rattle.counts.proofs.TotalLaws.{total-is-wholes}
+use Rattle.image_counts.specs.Standing.{Stands, SomeTable}
 use Rattle.image_records.proofs.RecordLaws.{lease-in-place}
 use Rattle.image_records.proofs.SoundLaws.{image-records}
 use Rattle.image_records.proofs.PoolRecords.{image-pools}
 use Rattle.sheet_text.specs.declared.Used.{Used}
-use Rattle.sheet_text.specs.declared.Levels.{Levels}
-use Rattle.sheet_text.specs.Sheet.{usedBy, Row, usedRow, freeRow, usedIn, freeIn, leasesShown, rows, rowText, headText, sheetText}
+use Rattle.sheet_text.specs.Sheet.{usedBy, Row, freeIn, leasesShown, rows, rowText, headText, sheetText}
 use Rattle.sheet_text.specs.InnerScan.{Fits, leaseShown, poolShown, poolsShown, SoundImage, scanAll, scanText, ReadyAll}
-use Rattle.sheet_text.specs.InnerLevels.{allLevels, noLevels}
 use Rattle.sheet_text.proofs.ShowLaws.{scanFirst}
-use Rattle.sheet_text.proofs.LevelLaws.{levelsFirst}
-use Rattle.sheet_text.proofs.SheetLaws.{blank, shown-at, shown-blocks, pools-are, pools-good, all-found, rows-found}
+use Rattle.sheet_text.proofs.SheetLaws.{blank, shown-at, shown-blocks, pools-are, pools-good, rows-found}
+use Rattle.sheet_text.proofs.SheetHolds.{free-rows}
 
 no-lease : leaseIn [] ≡ noLease
 unfolding number32
 no-lease = refl
-
-split-rows : (rs : List Row) → length rs ≡ length (usedIn rs) + length (freeIn rs)
-split-rows [] = refl
-split-rows (usedRow x ∷ rs) = omega (arith, split-rows rs)
-split-rows (freeRow p ∷ rs) = omega (arith, split-rows rs)
 
 module _ (image : List ℕ) (k n : ℕ) (s : SoundImage image k n) where
   abbrev t : LeaseTable
@@ -95,24 +91,20 @@ module _ (image : List ℕ) (k n : ℕ) (s : SoundImage image k n) where
   found-rows : scanFirst image base n k .rows ≡ rows t
   found-rows = found (λ g m ps. scanAll g m ps 0 .rows) ∙ rows-found t (s .sound)
 
-  -- The sums tell how many free rows there are.
-  pub free-told : (levels : Levels) → levels ≡ levelsFirst image base n k → length (freeIn (rows t)) + (levels .shared + n) ≡ k + levels .deep
-  free-told levels el =
-      let same : levels ≡ allLevels (λ i. getD (leasesShown t) i blank) (length (leasesShown t)) (poolsOf t) noLevels = el ∙ found (λ g m ps. allLevels g m ps noLevels) in
-      let all = all-found t (s .sound) in
-      let all-rows = rows-found t (s .sound) in
-      omega (
-        arith,
-        all .count noLevels refl,
-        ap (λ (l : Levels). l .shared) same,
-        ap (λ (l : Levels). l .deep) same,
-        split-rows (rows t),
-        ap length all-rows,
-        ap (λ (rs : List Row). length (usedIn rs)) all-rows,
-        ap length (all .used),
-        n-is,
-        pools-size,
-      )
+  -- The counts of the image tell how many free rows there are.
+  stands : Stands t image k n
+  stands = record {
+    sound-table = s .sound;
+    image-is = s .bytes ∙ sym (take-all (length (imageOf t)) image (omega (arith, ap length (s .bytes))));
+    pools-are = s .pools;
+    leases-are = s .leases;
+  }
+
+  pub some-table : SomeTable image k n
+  some-table = record { table = t; stands = stands }
+
+  pub free-told : (c : List (List ℕ)) → ((u : LeaseTable) → Stands u image k n → c ≡ countsOf u) → total c ≡ length (freeIn (rows t))
+  free-told c counted = ap total (counted t stands) ∙ total-is-wholes t (s .sound) ∙ sym (ap length (free-rows t (s .sound)))
 
   pub ready-sheet : (out : List ℕ) (at : ℕ) → Fits out at (scanText (scanFirst image base n k)) → ReadyAll image base n k out at
   ready-sheet out at room =

@@ -1,6 +1,5 @@
 pub mod RowTexts
 pub mod ShowLaws
-pub mod LevelLaws
 pub mod RowLaws
 pub mod PoolLaws
 pub mod SheetLaws

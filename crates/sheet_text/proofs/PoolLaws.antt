@@ -1,32 +1,25 @@
 -- The walk over all pools: its rows are those of the definition, its used rows the leases, its free rows the whole free prefixes.
 -- Assumes nothing.
 use Prim.Native.Nat.{ℕ, suc, _+_, _-_, _*_, _≤_, _<_}
-use mathlib.Core.Path.{_≡_, refl, sym, ap, ap₂, subst, _∙_}
-use mathlib.Core.Bool.{true, false}
+use mathlib.Core.Path.{_≡_, refl, sym, ap, ap₂, _∙_}
 use mathlib.Core.Logic.{_⊎_, inl, inr, ⊎-elim, by-cases}
 use mathlib.Core.List.{List, [], _∷_, _++_, map}
 use native.Mathlib.Nat.{mul-le-mul-right}
 use native.Mathlib.Decide.{decLe}
 use native.Mathlib.Omega.{arith}
-use lib.ListN.{length, drop, getD, length-append, length-drop, drop-of-length-le}
-use lib.Dec.{ltb}
-use borrow.Author.Tests.{lt-leb, lt-ltb}
+use lib.ListN.{length, drop, getD, drop-of-length-le}
 use Rattle.lists.specs.Lists.{All, Any, concatMap}
-use Rattle.lists.proofs.Tests.{cond-true}
-use Rattle.lists.proofs.ListLaws.{any-all, all-map}
+use Rattle.lists.proofs.ListLaws.{any-all}
 use Rattle.prefix.specs.declared.Prefix.{Prefix}
-use Rattle.prefix.specs.Prefixes.{longest, end, Aligned, In, Inside}
+use Rattle.prefix.specs.Prefixes.{longest, end, Aligned, Inside}
 use Rattle.prefix.proofs.PrefixLaws.{size-positive}
 use Rattle.free_space.specs.Grant.{walk, wholes}
 use Rattle.table.proofs.Ascending.{Ascending, ascending-low}
 use Rattle.sheet_text.specs.declared.Used.{Used}
 use Rattle.sheet_text.specs.Sheet.{Row, usedIn, freeIn, prefixUsed, rowsIn}
 use Rattle.sheet_text.specs.SheetSizes.{halvings}
-use Rattle.sheet_text.specs.declared.Levels.{Levels}
-use Rattle.sheet_text.specs.InnerScan.{Scan, clear?, scanOf, scanAll}
-use Rattle.sheet_text.specs.InnerLevels.{withLease, poolLevels, allLevels}
-use Rattle.sheet_text.proofs.ShowLaws.{used-append, free-append, length-used, length-free, clear-of}
-use Rattle.sheet_text.proofs.LevelLaws.{deepIn, sharedAfter, sharedIn, Stops, levels-path, pool-none, pool-some, first-is, rest-is, later-levels}
+use Rattle.sheet_text.specs.InnerScan.{Scan, scanOf, scanAll}
+use Rattle.sheet_text.proofs.ShowLaws.{used-append, free-append, length-used, length-free}
 use Rattle.sheet_text.proofs.RowLaws.{Blocks, Cursor, Tidy, Scanned, scanned}
 
 module _ (xs : List Used) (d : Used) (blocks : Blocks xs d) where
@@ -42,44 +35,6 @@ module _ (xs : List Used) (d : Used) (blocks : Blocks xs d) where
     pub used : drop i xs ≡ usedIn (s .rows)
     pub free : freeIn (s .rows) ≡ wholes ps (map prefixUsed xs)
     pub few : length (freeIn (s .rows)) ≤ halvings * length (usedIn (s .rows)) + length ps
-    pub count : (from : Levels) → from .next ≡ i
-        → length (s .rows) + allLevels lease (length xs) ps from .shared + from .deep ≡ length ps + allLevels lease (length xs) ps from .deep + from .shared
-
-  -- THE SUMS OF A POOL
-
-  stops-of : (stop j : ℕ) (ws : List Used) → drop j xs ≡ ws → (j < length xs → stop ≤ lease j .network) → Stops stop ws
-  stops-of stop j [] e h = tt
-  stops-of stop j (w ∷ ws) e h =
-      subst (λ (x : Used). stop ≤ x .network) (first-is xs d j w ws e) (h (omega (arith, ap length e, length-drop j xs)))
-
-  -- The leases us of a pool, from the next one on.
-  pool-sums : (p : Prefix) (j : ℕ) (from : Levels) (us : List Used) → Cursor xs d blocks j (end p) → from .next ≤ length xs → drop (from .next) xs ≡ us ++ drop j xs
-      → All (λ x. In (x .network) p) us
-      → poolLevels lease (length xs) p from ≡ record { next = j; deep = from .deep + deepIn us; shared = from .shared + sharedIn p us }
-  pool-sums p j from [] cursor bound e a =
-      let same : from .next ≡ j = omega (arith, ap length e, length-drop (from .next) xs, length-drop j xs, cursor .bound) in
-      sym (pool-none lease (length xs) p from (clear? (length xs) (end p) (from .next) (lease (from .next) .network)) refl
-      (clear-of (length xs) (end p) (from .next) (lease (from .next) .network) (λ h. cursor .later (from .next) (omega arith) h)))
-      ∙ levels-path _ _ _ _ _ _ same (omega arith) (omega arith)
-  pool-sums p j from (z ∷ zs) cursor bound e a =
-      let here : lease (from .next) ≡ z = first-is xs d (from .next) z (zs ++ drop j xs) e in
-      let size = ap length e in
-      let sizes = length-append zs (drop j xs) in
-      let lt : from .next < length xs = omega (arith, size, length-drop (from .next) xs) in
-      let taken : clear? (length xs) (end p) (from .next) (lease (from .next) .network) ≡ false =
-      cond-true (ltb (from .next) (length xs)) _ true (lt-ltb (from .next) (length xs) lt)
-      ∙ lt-leb (end p) (lease (from .next) .network) (omega (arith, ap (λ (x : Used). x .network) here, a .0 .1)) in
-      let before : from .next + 1 - 1 ≡ from .next = omega arith in
-      let same : lease (from .next + 1 - 1) .network ≡ z .network = ap (λ (k : ℕ). lease k .network) before ∙ ap (λ (x : Used). x .network) here in
-      sym (pool-some lease (length xs) p from (clear? (length xs) (end p) (from .next) (lease (from .next) .network)) refl taken (lease (from .next)) refl (end p) refl _ refl)
-      ∙ later-levels xs d (end p) zs (drop j xs) (withLease from (lease (from .next)) (p .length))
-      (rest-is xs d (from .next) z (zs ++ drop j xs) e)
-      (all-map (λ x (h : In (x .network) p). h .1) zs (a .1))
-      (stops-of (end p) j (drop j xs) refl (λ h. cursor .later j (omega arith) h))
-      ∙ levels-path _ _ _ _ _ _
-      (omega (arith, size, sizes, length-drop (from .next) xs, length-drop j xs, cursor .bound))
-      (omega (arith, ap (λ (x : Used). x .length) here))
-      (omega (arith, ap (λ (m : ℕ). sharedAfter m zs) same))
 
   -- Past the last pool no lease is left.
   none-left : (i c : ℕ) → Cursor xs d blocks i c → Pooled c [] → drop i xs ≡ []
@@ -121,9 +76,9 @@ module _ (xs : List Used) (d : Used) (blocks : Blocks xs d) where
 
   pub scanned-all : (ps : List Prefix) (i c : ℕ) → All (λ p. (8 ≤ p .length) × (p .length ≤ longest)) ps → All Aligned ps → Ascending (λ p. p) c ps
       → Cursor xs d blocks i c → Pooled c ps → ScannedAll ps i (scanAll lease (length xs) ps i)
-  unfolding scanAll allLevels
+  unfolding scanAll
   scanned-all [] i c lengths aligned ascend cursor pooled =
-      record { rows = refl; used = none-left i c cursor pooled; free = refl; few = omega arith; count = λ from e. omega arith }
+      record { rows = refl; used = none-left i c cursor pooled; free = refl; few = omega arith }
   scanned-all (p ∷ ps) i c lengths aligned ascend cursor pooled =
       let after : All (λ q. end p ≤ q .network) ps = ascending-low (λ q. q) (end p) ps (ascend .1) in
       let first : Scan = scanOf lease (length xs) p i in
@@ -132,9 +87,6 @@ module _ (xs : List Used) (d : Used) (blocks : Blocks xs d) where
       scanned xs d blocks (longest - p .length) p i (omega arith) (aligned .0) (pool-tidy p ps i c (ascend .0) after cursor pooled) (pool-cursor p ps i c (ascend .0) after cursor pooled) in
       let t : ScannedAll ps (first .next) later =
       scanned-all ps (first .next) (end p) (lengths .1) (aligned .1) (ascend .1) (s .cursor) (pool-pooled p ps i c (ascend .0) after cursor pooled) in
-      let sums : (from : Levels) → from .next ≡ i
-      → poolLevels lease (length xs) p from ≡ record { next = first .next; deep = from .deep + deepIn (usedIn (first .rows)); shared = from .shared + sharedIn p (usedIn (first .rows)) } =
-      λ from e. pool-sums p (first .next) from (usedIn (first .rows)) (s .cursor) (omega (arith, e, cursor .bound)) (ap (λ (k : ℕ). drop k xs) e ∙ s .used) (s .inside) in
       let level : 32 - p .length ≡ suc (suc (longest - p .length)) = omega arith in
       record {
         rows = ap₂ (λ (a b : List Row). a ++ b) (s .rows) (t .rows);
@@ -148,14 +100,5 @@ module _ (xs : List Used) (d : Used) (blocks : Blocks xs d) where
               ap (λ (k : ℕ). halvings * k) (length-used (first .rows) (later .rows)),
               length-free (first .rows) (later .rows),
               few-more (longest - p .length) (length (usedIn (first .rows))) (length (usedIn (later .rows))) (length (freeIn (first .rows))) (length (freeIn (later .rows))) (length ps) (omega arith) (s .few) (t .few),
-            );
-        count = λ from e.
-            omega (
-              arith,
-              length-append (first .rows) (later .rows),
-              s .count,
-              t .count (poolLevels lease (length xs) p from) (ap (λ (l : Levels). l .next) (sums from e)),
-              ap (λ (l : Levels). l .deep) (sums from e),
-              ap (λ (l : Levels). l .shared) (sums from e),
             );
       }

@@ -15,10 +15,10 @@ use lib.Dec.{eqb}
 use borrow.Author.Tests.{eqb-true, eq-eqb}
 use Rattle.lists.specs.Lists.{All, any?}
 use Rattle.lists.proofs.Tests.{bool-cases, not-true⇒false, and-to, and-of, cond-true, cond-false, or-left, or-right}
-use Rattle.lists.proofs.ListLaws.{any-all, all-map, all-append}
+use Rattle.lists.proofs.ListLaws.{any-all}
 use Rattle.lists.proofs.DropLaws.{drop-at}
 use Rattle.prefix.specs.declared.Prefix.{Prefix}
-use Rattle.prefix.specs.Prefixes.{longest, end, Aligned, In, Inside, inside?, Apart, lower, upper}
+use Rattle.prefix.specs.Prefixes.{longest, end, Aligned, Inside, inside?, Apart, lower, upper}
 use Rattle.prefix.proofs.PrefixLaws.{size-positive, inside-of, lower-inside, upper-inside, upper-end}
 use Rattle.prefix.proofs.Nesting.{order, apart-sub, apart-absurd, inside-order, inside-same-order, aligned-lower, aligned-upper, in-half}
 use Rattle.free_space.specs.Space.{unused?}
@@ -28,7 +28,6 @@ use Rattle.sheet_text.specs.declared.Used.{Used}
 use Rattle.sheet_text.specs.Sheet.{Row, usedRow, freeRow, usedIn, freeIn, prefixUsed, usedAt, rowsIn}
 use Rattle.sheet_text.specs.InnerScan.{Scan, clear?, both, freeScan, usedScan, scan}
 use Rattle.sheet_text.proofs.ShowLaws.{used-append, free-append, length-used, length-free, scan-clear, scan-here, scan-split, clear-not, clear-yes}
-use Rattle.sheet_text.proofs.LevelLaws.{deepIn, sharedIn, counted-halves}
 
 -- LISTS BY INDEX
 
@@ -119,8 +118,6 @@ module _ (xs : List Used) (d : Used) (blocks : Blocks xs d) where
     pub used : drop i xs ≡ usedIn (s .rows) ++ drop (s .next) xs
     pub free : freeIn (s .rows) ≡ walk (map prefixUsed xs) (suc (suc left)) p
     pub few : length (freeIn (s .rows)) ≤ left * length (usedIn (s .rows)) + 1
-    pub inside : All (λ x. In (x .network) p) (usedIn (s .rows))
-    pub count : length (s .rows) + sharedIn p (usedIn (s .rows)) ≡ 1 + deepIn (usedIn (s .rows))
 
   module _ (left : ℕ) (p : Prefix) (i : ℕ) (level : p .length + left ≡ longest) (aligned : Aligned p) (tidy : Tidy p) (cursor : Cursor i (p .network)) where
     -- p is free.
@@ -145,8 +142,6 @@ module _ (xs : List Used) (d : Used) (blocks : Blocks xs d) where
         used = refl;
         free = sym (walk-unused (map prefixUsed xs) (suc (suc left)) p apart-p);
         few = omega arith;
-        inside = tt;
-        count = omega arith;
       }
 
     -- A lease is left and starts in p.
@@ -192,8 +187,6 @@ module _ (xs : List Used) (d : Used) (blocks : Blocks xs d) where
               sym (walk-covered (map prefixUsed xs) (suc (suc left)) p taken
               (any?-map-at (inside? p) prefixUsed xs d i lt (inside-of p (at i) covers)));
           few = omega arith;
-          inside = ((lies .0, omega (arith, lies .1, size-positive (getD xs i d .length))), tt);
-          count = omega (arith, same .1);
         }
 
       -- It is smaller than p.
@@ -266,23 +259,6 @@ module _ (xs : List Used) (d : Used) (blocks : Blocks xs d) where
           halves-few : length (freeIn (low .rows ++ high .rows)) ≤ suc rest * length (usedIn (low .rows ++ high .rows)) + 1
           halves-few = few-both rest _ _ _ _ _ _ (length-used (low .rows) (high .rows)) (length-free (low .rows) (high .rows)) some-used (first .few) (second .few)
 
-          halves-inside : All (λ x. In (x .network) p) (usedIn (low .rows) ++ usedIn (high .rows))
-          halves-inside =
-              let l = lower-inside p (omega (arith, shorter)) in
-              let u = upper-inside p (omega (arith, shorter)) in
-              all-append (λ x. In (x .network) p) (usedIn (low .rows)) (usedIn (high .rows))
-              (all-map (λ x (h : In (x .network) (lower p)). (h .0, omega (arith, h .1, l .1))) (usedIn (low .rows)) (first .inside))
-              (all-map (λ x (h : In (x .network) (upper p)). (omega (arith, h .0, u .0), omega (arith, h .1, u .1))) (usedIn (high .rows)) (second .inside))
-
-          halves-count : length (low .rows ++ high .rows) + sharedIn p (usedIn (low .rows) ++ usedIn (high .rows)) ≡ 1 + deepIn (usedIn (low .rows) ++ usedIn (high .rows))
-          halves-count =
-              omega (
-                arith,
-                length-append (low .rows) (high .rows),
-                counted-halves p (omega (arith, shorter)) aligned (usedIn (low .rows)) (usedIn (high .rows)) (length (low .rows)) (length (high .rows)) (first .inside) (second .inside)
-                    (omega (arith, some-used, ap length (used-append (low .rows) (high .rows)))) (first .count) (second .count),
-              )
-
           scanned-both : Scanned (suc rest) p i (both low high)
           scanned-both = record {
             rows = ap₂ (λ (a b : List Row). a ++ b) (first .rows) (second .rows) ∙ sym (rows-halves xs p rest taken (used-none p xs d none-is));
@@ -297,10 +273,6 @@ module _ (xs : List Used) (d : Used) (blocks : Blocks xs d) where
                 ∙ ap₂ (λ (a b : List Prefix). a ++ b) (first .free) (second .free)
                 ∙ sym (walk-halves (map prefixUsed xs) (suc (suc rest)) p taken not-covered);
             few = halves-few;
-            inside = subst (All (λ x. In (x .network) p)) (sym (used-append (low .rows) (high .rows))) halves-inside;
-            count =
-                subst (λ (us : List Used). length (low .rows ++ high .rows) + sharedIn p us ≡ 1 + deepIn us) (sym (used-append (low .rows) (high .rows)))
-                halves-count;
           }
 
   abbrev lease : ℕ → Used

@@ -2,4 +2,3 @@ pub mod Sheet
 pub mod Answers
 pub mod SheetSizes
 pub mod InnerScan
-pub mod InnerLevels

@@ -17,14 +17,6 @@ ghost use Rattle.text.specs.Wrote.{Wrote};
 ghost use Rattle.sheet_text.specs.Sheet.{prefixText, usedRow, freeRow, freeIn, rows, rowText, headText, sheetText};
 ghost use Rattle.sheet_text.specs.Answers.{sheetOfImage};
 ghost use Rattle.sheet_text.specs.SheetSizes.{sheetSize};
-ghost use Rattle.sheet_text.specs.InnerLevels.{
-  commonBits,
-  laterLevels,
-  poolLevels,
-  allLevels,
-  noLevels,
-  SumsFit,
-};
 ghost use Rattle.sheet_text.specs.InnerScan.{
   prefixSize,
   usedSize,
@@ -289,101 +281,14 @@ fn show_pools(out: &mut [u8], image: &[u8], base: usize, n: usize, k: usize, fro
     at
 }
 
-// HOW MANY ROWS. The first row has the number of free rows, so it is told before a row is written, from the lengths and networks of the leases alone. A pool has one
-// row more than it has prefixes that are shown as halves, and those are the prefixes in it that lie around a lease, each counted once.
-
-// The next lease, and sums over those before it: how many prefixes lie around each (as many as its length), and how many of these lie around the pool or the lease before
-// it too.
-pub struct Levels {
-    pub next: usize,
-    pub deep: u32,
-    pub shared: u32,
-}
-
-// Two networks lie in as many prefixes as this, and one more.
-fn common_bits(a: u32, b: u32) -> u32
-    ensures { λ r. ⌜ (r ≡ commonBits a b) × (r ≤ 32) ⌝ }
-{
-    u32::leading_zeros(a ^ b)
-}
-
-// The leases from the next one on that start before an end; a lease of the same pool is before the first of them.
-fn later_levels(image: &[u8], base: usize, n: usize, from: Levels, end: u64) -> Levels
-    requires { ⌜ (base + leaseSize * n ≤ length (now image)) × (1 ≤ from .next) × SumsFit n from ⌝ }
-    ensures { λ r. ⌜ r ≡ laterLevels (leaseShown (now (image .entry)) base) end (n - from .next) from ⌝ }
-    ensures { λ r. ⌜ SumsFit n r ⌝ }
-{
-    let mut i = from.next;
-    let mut deep = from.deep;
-    let mut shared = from.shared;
-    while i < n {
-        let x = lease(image, base, i);
-        if end <= wide(x.network) {
-            return Levels {
-                next: i,
-                deep,
-                shared,
-            };
-        }
-        let before = lease(image, base, i - 1);
-        deep = deep + x.length as u32;
-        shared = shared + common_bits(before.network, x.network) + 1;
-        i = i + 1;
-    }
-    Levels {
-        next: i,
-        deep,
-        shared,
-    }
-}
-
-// The leases of a pool.
-fn pool_levels(image: &[u8], base: usize, n: usize, from: Levels, p: Prefix) -> Levels
-    requires { ⌜ (base + leaseSize * n ≤ length (now image)) × SumsFit n from ⌝ }
-    ensures { λ r. ⌜ r ≡ poolLevels (leaseShown (now (image .entry)) base) n p from ⌝ }
-    ensures { λ r. ⌜ SumsFit n r ⌝ }
-{
-    let i = from.next;
-    if is_free(image, base, n, i, p) {
-        return from;
-    }
-    let x = lease(image, base, i);
-    let first = Levels {
-        next: i + 1,
-        deep: from.deep + x.length as u32,
-        shared: from.shared + p.length as u32,
-    };
-    later_levels(image, base, n, first, p.end())
-}
-
-// Those of the first k pools.
-fn all_levels(image: &[u8], base: usize, n: usize, k: usize) -> Levels
-    requires { ⌜ (base + leaseSize * n ≤ length (now image)) × (headSize + poolSize * k ≤ length (now image)) × (n ≤ leaseSlots) ⌝ }
-    ensures { λ r. ⌜ r ≡ allLevels (leaseShown (now (image .entry)) base) n (poolsShown (now (image .entry)) k) noLevels ⌝ }
-    ensures { λ r. ⌜ SumsFit n r ⌝ }
-{
-    let mut levels = Levels {
-        next: 0,
-        deep: 0,
-        shared: 0,
-    };
-    let mut j: usize = 0;
-    while j < k {
-        levels = pool_levels(image, base, n, levels, pool(image, j));
-        j = j + 1;
-    }
-    levels
-}
-
 // THE SHEET of the table that the bytes are the image of; it has k pools and n leases.
 
-// How many rows are free: all of them but the leases.
+// How many rows are free: the whole free blocks. The first row has the number, so it is told before a row is written.
 fn free_rows(image: &[u8], k: usize, n: usize) -> u32
     requires { ⌜ SoundImage (now image) k n ⌝ }
     ensures { λ r. ⌜ OfTable (now (image .entry)) (λ t. r ≡ length (freeIn (rows t))) ⌝ }
 {
-    let levels = all_levels(image, HEAD + POOL * k, n, k);
-    (k as u32) + levels.deep - (levels.shared + n as u32)
+    counts::total(image_counts::counts_in(image, k, n))
 }
 
 // Whether so many bytes are too few. They are enough if they are with every row as long as rows get; else the rows are measured.

@@ -16,7 +16,8 @@ use std::fmt;
 mod raw;
 
 pub use raw::{
-    FIGURES_CAPACITY, IMAGE_CAPACITY, REPLY_CAPACITY, SELECTION_CAPACITY, TEXT_CAPACITY,
+    COUNTS_LENGTHS, COUNTS_ROWS, FIGURES_CAPACITY, IMAGE_CAPACITY, REPLY_CAPACITY,
+    SELECTION_CAPACITY, TEXT_CAPACITY,
 };
 
 use raw::Answer;
@@ -44,7 +45,7 @@ impl Refusal {
             2 => "there is no client 0",
             3 => "the time is before the last time of the table",
             4 => "the time is too late",
-            5 => "not the image of a sound table",
+            5 => "not the image of a sound table, or not its counts",
             6 => "not exactly the option",
             7 => "a bad suboption",
             8 => "the suboptions are not those that the call takes",
@@ -207,17 +208,18 @@ impl Figures {
 
 // THE BOOK
 
-/// A lease table, held as its image, and beside it the figures sheet, which is not saved. A copy of it is a book to
-/// which a server can go back.
+/// A lease table, held as its image, and beside it the figures sheet and the counts, which are not saved. A copy of it
+/// is a book to which a server can go back.
 #[derive(Clone)]
 pub struct Book {
     image: [u8; IMAGE_CAPACITY],
     bytes: usize,
     figures: [u8; FIGURES_CAPACITY],
+    counts: [u16; COUNTS_ROWS * COUNTS_LENGTHS],
 }
 
-// SAFETY of every call below: each pointer with a size is that of a live slice, with its length; the one without is
-// that of the image's length; and the library keeps none of them.
+// SAFETY of every call below: each pointer with a size is that of a live slice, with its length; those without are
+// that of the image's length and that of all counts; and the library keeps none of them.
 impl Book {
     /// No book yet: every call is refused with 5.
     pub const fn none() -> Book {
@@ -225,6 +227,7 @@ impl Book {
             image: [0; IMAGE_CAPACITY],
             bytes: 0,
             figures: [0; FIGURES_CAPACITY],
+            counts: [0; COUNTS_ROWS * COUNTS_LENGTHS],
         }
     }
 
@@ -244,6 +247,7 @@ impl Book {
                 &mut book.bytes,
                 book.figures.as_mut_ptr(),
                 book.figures.len(),
+                book.counts.as_mut_ptr(),
                 networks.as_ptr(),
                 networks.len(),
                 lengths.as_ptr(),
@@ -266,6 +270,7 @@ impl Book {
                 &mut book.bytes,
                 book.figures.as_mut_ptr(),
                 book.figures.len(),
+                book.counts.as_mut_ptr(),
                 saved.as_ptr(),
                 saved.len(),
             )
@@ -281,6 +286,7 @@ impl Book {
                 self.image.as_ptr(),
                 self.image.len(),
                 self.bytes,
+                self.counts.as_ptr(),
                 saved.as_mut_ptr(),
                 saved.len(),
             )
@@ -299,6 +305,7 @@ impl Book {
                 &mut self.bytes,
                 self.figures.as_mut_ptr(),
                 self.figures.len(),
+                self.counts.as_mut_ptr(),
                 client,
                 now,
                 option.as_ptr(),
@@ -318,6 +325,7 @@ impl Book {
                 &mut self.bytes,
                 self.figures.as_mut_ptr(),
                 self.figures.len(),
+                self.counts.as_mut_ptr(),
                 client,
                 now,
                 option.as_ptr(),
@@ -335,6 +343,7 @@ impl Book {
                 self.image.as_ptr(),
                 self.image.len(),
                 self.bytes,
+                self.counts.as_ptr(),
                 client,
                 now,
                 option.as_ptr(),
@@ -354,6 +363,7 @@ impl Book {
                 &mut self.bytes,
                 self.figures.as_mut_ptr(),
                 self.figures.len(),
+                self.counts.as_mut_ptr(),
                 client,
                 now,
                 option.as_ptr(),
@@ -378,6 +388,7 @@ impl Book {
                 &mut self.bytes,
                 self.figures.as_mut_ptr(),
                 self.figures.len(),
+                self.counts.as_mut_ptr(),
                 network,
                 length.into(),
                 deprecated.into(),
@@ -389,6 +400,7 @@ impl Book {
 
     /// The book as text for an operator.
     pub fn sheet(&self) -> Result<String, Refusal> {
+        self.check()?;
         let mut text = vec![0; TEXT_CAPACITY];
         let image = &self.image[..self.bytes];
         let a = accepted(unsafe {
@@ -400,15 +412,27 @@ impl Book {
 
     /// Whether there is a book; 5 otherwise.
     pub fn check(&self) -> Result<(), Refusal> {
+        let counts = self.counts.as_ptr();
         accepted(unsafe {
-            raw::flockdrift_check(self.image.as_ptr(), self.image.len(), self.bytes)
+            raw::flockdrift_check(self.image.as_ptr(), self.image.len(), self.bytes, counts)
         })?;
         Ok(())
     }
 
+    /// How many whole free prefixes of this length there are, summed over the pools, as the book stands; 0 for every
+    /// length outside 8 to 30.
+    pub fn whole(&self, length: u32) -> Result<u32, Refusal> {
+        let (image, counts) = (&self.image, self.counts.as_ptr());
+        let a = accepted(unsafe {
+            raw::flockdrift_whole(image.as_ptr(), image.len(), self.bytes, counts, length)
+        })?;
+        Ok(a.count)
+    }
+
     /// The head of the book.
     pub fn head(&self) -> Result<Head, Refusal> {
-        let a = unsafe { raw::flockdrift_head(self.image.as_ptr(), self.image.len(), self.bytes) };
+        let (image, counts) = (&self.image, self.counts.as_ptr());
+        let a = unsafe { raw::flockdrift_head(image.as_ptr(), image.len(), self.bytes, counts) };
         let head = Head {
             term: a.term,
             default_length: a.default_length as u8,
@@ -421,9 +445,9 @@ impl Book {
 
     /// The pool with this index, which counts from 0; 11 where there is none.
     pub fn pool(&self, index: usize) -> Result<Pool, Refusal> {
-        let a = unsafe {
-            raw::flockdrift_pool(self.image.as_ptr(), self.image.len(), self.bytes, index)
-        };
+        let (image, counts) = (&self.image, self.counts.as_ptr());
+        let a =
+            unsafe { raw::flockdrift_pool(image.as_ptr(), image.len(), self.bytes, counts, index) };
         let pool = Pool {
             network: a.network,
             length: a.length as u8,
@@ -433,8 +457,9 @@ impl Book {
 
     /// The lease with this index, which counts from 0; 11 where there is none.
     pub fn lease(&self, index: usize) -> Result<Lease, Refusal> {
+        let (image, counts) = (&self.image, self.counts.as_ptr());
         let a = unsafe {
-            raw::flockdrift_lease(self.image.as_ptr(), self.image.len(), self.bytes, index)
+            raw::flockdrift_lease(image.as_ptr(), image.len(), self.bytes, counts, index)
         };
         let lease = Lease {
             network: a.network,

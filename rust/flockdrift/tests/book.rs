@@ -26,6 +26,8 @@ fn no_book_is_refused() {
     assert_eq!(number(book.pool(0)), 5);
     assert_eq!(number(book.lease(0)), 5);
     assert_eq!(number(book.save()), 5);
+    assert_eq!(number(book.whole(26)), 5);
+    assert_eq!(number(book.whole(99)), 5);
     assert_eq!(number(book.sheet()), 5);
     assert_eq!(number(book.ask(7, 1000, ASK_26_H)), 5);
     assert_eq!(book.pools().count() + book.leases().count(), 0);
@@ -123,6 +125,29 @@ fn a_refusal_and_going_back_leave_the_book() {
 }
 
 #[test]
+fn how_much_is_left() {
+    let mut book = opened();
+    assert_eq!(
+        [24, 25, 26].map(|length| book.whole(length)),
+        [Ok(1), Ok(0), Ok(1)]
+    );
+    book.ask(7, 1000, ASK_26_H).unwrap();
+    assert_eq!([24, 26].map(|length| book.whole(length)), [Ok(1), Ok(0)]);
+    for outside in [0, 7, 31, 256 + 24, u32::MAX] {
+        assert_eq!(book.whole(outside), Ok(0));
+    }
+    // It has ended at 1120, and is counted when a call removes it.
+    assert_eq!(book.whole(26), Ok(0));
+    book.ask(8, 1120, &[0xdc, 5, 0, 1, 2, 0, 27]).unwrap();
+    assert_eq!(
+        [24, 26, 27].map(|length| book.whole(length)),
+        [Ok(1), Ok(0), Ok(1)]
+    );
+    let loaded = Book::load(&book.save().unwrap()).unwrap();
+    assert_eq!(loaded.whole(27), Ok(1));
+}
+
+#[test]
 fn figures_are_told_and_not_saved() {
     let mut book = opened();
     book.ask(7, 1000, ASK_26_H).unwrap();
@@ -173,7 +198,10 @@ fn options_without_a_book() {
 #[test]
 fn refusals_in_words() {
     let words = |number, place| Refusal { number, place }.to_string();
-    assert_eq!(words(5, 0), "refused 5: not the image of a sound table");
+    assert_eq!(
+        words(5, 0),
+        "refused 5: not the image of a sound table, or not its counts"
+    );
     assert_eq!(words(7, 13), "refused 7: a bad suboption at 13");
     assert_eq!(words(13, 0), "refused 13: no number of this library");
     assert_eq!(

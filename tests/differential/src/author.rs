@@ -12,6 +12,7 @@ use options::REQUEST_I;
 use tables::aligned;
 
 mod again;
+mod counts;
 mod figures;
 mod options;
 mod tables;
@@ -95,8 +96,8 @@ impl Author {
         self.script.say(line).to_string()
     }
 
-    /// Says a call, and then `save` and `figures`: every byte of the image and the rows of
-    /// the sheet are compared after it.
+    /// Says a call, and then `save`, `figures` and `counts`: every byte of the image, the rows
+    /// of the sheet and the counts are compared after it.
     pub fn call(&mut self, line: String) -> String {
         let answer = self.say(line);
         self.see_all();
@@ -106,9 +107,10 @@ impl Author {
     fn see_all(&mut self) {
         self.script.say("save");
         self.script.say("figures");
+        self.script.say("counts");
     }
 
-    /// A line that is often no command, and image and figures after it.
+    /// A line that is often no command, and image, figures and counts after it.
     pub fn damaged_line(&mut self, mut line: Vec<u8>) {
         for _ in 0..self.numbers.between(1, 2) {
             damage_line(&mut self.numbers, &mut line);
@@ -214,8 +216,12 @@ impl Author {
         if !self.sheet_matches() && self.numbers.once_in(3) {
             self.good_sheet();
         }
+        if self.counts_differ() && self.numbers.once_in(3) {
+            self.good_counts();
+        }
         match self.numbers.below(100) {
-            0..=23 => self.ask(profile),
+            0..=20 => self.ask(profile),
+            21..=23 => self.whole(profile),
             24..=31 => self.ask_again(profile),
             32..=52 => self.take(profile),
             53..=65 => self.release(profile),
@@ -234,7 +240,7 @@ impl Author {
                 self.call(line);
             }
             98 | 99 => self.any_sheet(profile),
-            _ => self.ask(profile),
+            _ => self.any_counts(profile),
         }
     }
 

@@ -4,7 +4,8 @@
 
 use reference::option::{read220, Entry, Suboption};
 use reference::prefix::Prefix;
-pub use reference::samples::image;
+use reference::samples;
+use reference::table::Table;
 pub use reference::words::hex_text as hex;
 
 /// The longest option that Len can tell.
@@ -84,6 +85,11 @@ pub fn nothing_ignored(option: &[u8]) -> bool {
         number => number == 3,
     };
     option[2] == 0 && suboption_places(option).into_iter().all(plain)
+}
+
+/// The image of a table, whatever its counts are; no bytes if it is not sound but for them.
+pub fn image(table: &Table) -> Vec<u8> {
+    samples::image(&table.clone().counted())
 }
 
 /// Where each record of an image begins, by their lengths, and where the last ends.

@@ -8,12 +8,13 @@ use reference::option::Entry;
 
 use crate::again::Again;
 use crate::bytes::{entries_of, from_hex, reply_of};
+use crate::left::Left;
 use crate::rounds::Rounds;
 use crate::script::{Script, Step};
 
 /// Each command with the numbers that it can be refused with, in the papers' row order.
 /// The buffer that `save` is given holds a full book, so it has no 14.
-const COMMANDS: [(&str, &[u8]); 13] = [
+const COMMANDS: [(&str, &[u8]); 15] = [
     ("open", &[12]),
     ("ask", &[1, 5, 15, 2, 3, 4, 6, 7, 8, 9, 10]),
     ("take", &[1, 5, 15, 2, 3, 4, 6, 7, 8, 11]),
@@ -24,13 +25,16 @@ const COMMANDS: [(&str, &[u8]); 13] = [
     ("sheet", &[5]),
     ("read", &[6, 7]),
     ("write", &[13, 14]),
+    ("whole", &[5]),
     ("save", &[5]),
     ("figures", &[]),
+    ("counts", &[5]),
     ("buffer", &[]),
 ];
 
-/// `save`, `figures` and `buffer` stand between the calls and are not counted as calls.
-const CALLS: usize = 10;
+/// `save`, `figures`, `counts` and `buffer` stand between the calls and are not counted as
+/// calls.
+const CALLS: usize = 11;
 /// The figures sheet does not match.
 const NO_MATCH: u8 = 15;
 /// In place of a refusal's number.
@@ -51,6 +55,8 @@ pub struct Counts {
     sheets: usize,
     /// Asks that gave a line again.
     again: Again,
+    /// What met the counts of whole free blocks.
+    left: Left,
 }
 
 impl Counts {
@@ -70,6 +76,9 @@ impl Counts {
         self.sheets += usize::from(gives_sheet(step));
         if let Some(given) = &step.given {
             self.again.add(given);
+        }
+        if let Some(met) = step.met {
+            self.left.add(met);
         }
         if let Some(command) = command(step) {
             let number = match refused_with(&step.answer) {
@@ -105,6 +114,7 @@ impl Counts {
     pub fn missing(&self) -> Vec<String> {
         let mut missing = self.rounds.missing();
         missing.extend(self.again.missing(self.calls()));
+        missing.extend(self.left.missing());
         if self.filed == 0 {
             missing.push("take with figures".to_string());
         }
@@ -175,13 +185,14 @@ impl Display for Counts {
         }
         write!(
             out,
-            "error lines {}, {}, {} sheets given, {} calls refused with 15, {} takes filed figures, {}",
+            "error lines {}, {}, {} sheets given, {} calls refused with 15, {} takes filed figures, {}, {}",
             self.errors,
             self.rounds,
             self.sheets,
             self.not_matching(),
             self.filed,
-            self.again
+            self.again,
+            self.left
         )
     }
 }

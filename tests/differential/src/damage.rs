@@ -1,5 +1,6 @@
-//! Damage to good options, images, figures sheets and lines.
+//! Damage to good options, images, figures sheets, counts and lines.
 
+use reference::counts::{Counts, LENGTHS};
 use reference::figures::Row;
 use reference::numbers::Numbers;
 use reference::prefix::Prefix;
@@ -235,6 +236,34 @@ pub fn damage_rows(numbers: &mut Numbers, rows: &mut [Row], leases: usize) {
     }
 }
 
+/// Counts of which the first so many rows are pools': one by one too many or too few, a row or
+/// a count in another place, or any. Now and then they are still the right ones.
+pub fn damage_counts(numbers: &mut Numbers, counts: &mut Counts, pools: usize) {
+    let place = |numbers: &mut Numbers| match numbers.below(4) {
+        0 => numbers.below(counts.len()),
+        1 => pools.min(counts.len() - 1),
+        _ => numbers.below(pools.max(1)),
+    };
+    let (one, other) = (place(numbers), place(numbers));
+    let (column, next) = (numbers.below(LENGTHS), numbers.below(LENGTHS));
+    let count = counts[one][column];
+    match numbers.below(14) {
+        0..=3 => counts[one][column] = count.wrapping_add(1),
+        4 | 5 => counts[one][column] = count.wrapping_sub(1),
+        6 => counts[one][column] = count ^ (1 << numbers.below(16)),
+        7 | 8 => counts.swap(one, other),
+        9 => counts[one] = counts[other],
+        10 => counts[one].swap(column, next),
+        11 => counts[one].rotate_right(1),
+        // The same sum, in another row.
+        12 => {
+            counts[one][column] = 0;
+            counts[other][column] = counts[other][column].wrapping_add(count);
+        }
+        _ => counts[one] = [0; LENGTHS],
+    }
+}
+
 /// A line of a script: words, spaces, or any byte, but never a newline.
 pub fn damage_line(numbers: &mut Numbers, line: &mut Vec<u8>) {
     let at = numbers.below(line.len() + 1);
@@ -388,6 +417,30 @@ mod tests {
                 seen.insert(format!("{rows:?}"));
             }
             assert!(seen.len() > 100, "{leases}: {}", seen.len());
+        }
+    }
+
+    #[test]
+    fn counts_are_damaged_in_many_ways() {
+        let mut numbers = Numbers::new(5);
+        for pools in [0, 1, 5, 8] {
+            let mut good = [[0; LENGTHS]; 8];
+            for (index, row) in good.iter_mut().enumerate().take(pools) {
+                row[index] = 2;
+            }
+            let mut seen = std::collections::BTreeSet::new();
+            for _ in 0..40_000 {
+                let mut counts = good;
+                damage_counts(&mut numbers, &mut counts, pools);
+                seen.insert(counts);
+            }
+            for place in 0..8 {
+                for column in 0..LENGTHS {
+                    let mut wrong = good;
+                    wrong[place][column] += 1;
+                    assert!(seen.contains(&wrong), "{pools}: {place} {column}");
+                }
+            }
         }
     }
 

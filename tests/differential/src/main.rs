@@ -8,6 +8,7 @@ mod bytes;
 mod compare;
 mod counts;
 mod damage;
+mod left;
 mod plant;
 mod program;
 mod rounds;

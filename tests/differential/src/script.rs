@@ -1,9 +1,11 @@
 //! A script, and the reference's answer to each of its lines.
 
 use reference::console::Console;
+use reference::counts::Counts;
 use reference::table::Table;
 
 use crate::again::{given, Given};
+use crate::left::{met, Met};
 
 pub struct Step {
     /// With its newline, which only the last line of a script may lack.
@@ -12,6 +14,8 @@ pub struct Step {
     pub answer: String,
     /// Of an accepted ask, how its requests fared.
     pub given: Option<Given>,
+    /// What it has to do with the counts.
+    pub met: Option<Met>,
 }
 
 impl Step {
@@ -33,6 +37,8 @@ fn words_of(line: &[u8]) -> Vec<&[u8]> {
 pub struct Script {
     pub steps: Vec<Step>,
     console: Console,
+    /// The table's counts before the last call that changed them.
+    counts: Counts,
 }
 
 impl Script {
@@ -40,6 +46,7 @@ impl Script {
         Script {
             steps: Vec::new(),
             console: Console::new(),
+            counts: Table::zero().counts,
         }
     }
 
@@ -55,11 +62,17 @@ impl Script {
     pub fn add(&mut self, line: Vec<u8>) -> &str {
         let before = self.console.table.clone();
         let answer = self.console.line(&line);
-        let given = given(&before, &words_of(&line), &answer);
+        let (after, words) = (&self.console.table, words_of(&line));
+        let given = given(&before, &words, &answer);
+        let met = met(&before, after, &words, &answer);
+        if before.leases != after.leases {
+            self.counts = before.counts;
+        }
         self.steps.push(Step {
             line,
             answer,
             given,
+            met,
         });
         &self.steps[self.steps.len() - 1].answer
     }
@@ -79,6 +92,11 @@ impl Script {
     /// The bytes of the reference's figures sheet as they now are.
     pub fn figures(&self) -> &[u8] {
         &self.console.figures
+    }
+
+    /// The counts before the last call that changed lines.
+    pub fn counts_before(&self) -> Counts {
+        self.counts
     }
 
     /// The length of the reply buffer as it now is.

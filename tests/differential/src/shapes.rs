@@ -14,7 +14,7 @@ use crate::script::Script;
 type Shape = (&'static str, fn(&mut Author));
 
 /// Taken in turn, so that every run has all of them.
-const SHAPES: [Shape; 20] = [
+const SHAPES: [Shape; 21] = [
     ("one pool", |author| walk(author, &ONE_POOL)),
     ("small pools", |author| walk(author, &SMALL_POOLS)),
     ("many pools", |author| walk(author, &MANY_POOLS)),
@@ -27,6 +27,7 @@ const SHAPES: [Shape; 20] = [
     ("pages", pages),
     ("figures", figures),
     ("asks again", asks_again),
+    ("counts", counts),
     ("faults", |author| walk(author, &FAULTS)),
     ("short", short),
     ("openings", openings),
@@ -285,6 +286,30 @@ fn asks_again(author: &mut Author) {
     }
 }
 
+/// Counts that are the table's and that are not, queries, and calls that strike ended lines.
+fn counts(author: &mut Author) {
+    let wide = author.numbers.once_in(3);
+    let profile = Profile {
+        pools: author.one_of(&[1, 3, 8]),
+        pool_lengths: if wide { (8, 30) } else { (23, 30) },
+        lengths: if wide { (8, 30) } else { (25, 30) },
+        requests: 6,
+        clients: 3,
+        ends: 4,
+        faults: author.one_of(&[12, 60]),
+        leases: author.one_of(&[4, 30, 120]),
+        ..ONE_POOL
+    };
+    author.start(&profile);
+    for _ in 0..author.numbers.between(20, 80) {
+        match author.numbers.below(8) {
+            0 | 1 => author.any_counts(&profile),
+            2 | 3 => author.whole(&profile),
+            _ => author.any_call(&profile),
+        }
+    }
+}
+
 /// A few calls and no more, often without a table.
 fn short(author: &mut Author) {
     let profile = Profile {
@@ -447,7 +472,7 @@ fn late_place(author: &mut Author) -> Vec<u8> {
 /// Damaged lines, and lines of words in no order; a table stands behind them.
 fn lines(author: &mut Author) {
     const COMMANDS: &str =
-        "open ask take list return mark save load sheet figures read write buffer";
+        "open ask take list return mark save load sheet figures whole counts read write buffer";
     const WORDS: &str = "0 7 1000 3600 28 257 10.0.0.0/8 10.0.0.0/28 dc05000102001c \
                          dc0b000208000a0000001c0000 - # 4294967296 unknown name address";
     let commands: Vec<&str> = COMMANDS.split_whitespace().collect();
@@ -459,8 +484,8 @@ fn lines(author: &mut Author) {
     }
     for line in source.script.lines() {
         let line = &line[..line.len() - 1];
-        // Nothing comes between a call, its image and its figures.
-        let between = line != b"save" && line != b"figures";
+        // Nothing comes between a call, its image, its figures and its counts.
+        let between = ![&b"save"[..], b"figures", b"counts"].contains(&line);
         if between && author.numbers.once_in(2) && line.len() < 2_000 {
             author.damaged_line(line.to_vec());
         }
@@ -523,22 +548,27 @@ mod tests {
     }
 
     #[test]
-    fn image_and_figures_are_seen_after_every_call_that_could_change_them() {
+    fn all_is_seen_after_every_call_that_could_change_it() {
         for number in 0..3 * SHAPES.len() {
             let (script, shape) = script(8, number);
-            for steps in script.steps.windows(3) {
+            for steps in script.steps.windows(4) {
                 let line = String::from_utf8_lossy(&steps[0].line);
                 let command = line.split_whitespace().next().unwrap_or("");
-                let same =
-                    ["save", "sheet", "figures", "read", "write", "buffer"].contains(&command);
+                let same = [
+                    "save", "sheet", "figures", "whole", "counts", "read", "write", "buffer",
+                ];
+                let same = same.contains(&command);
                 let answered = !steps[0].answer.is_empty();
                 if answered && !same && !steps[0].answer.starts_with("error") {
                     assert!(steps[1].line.starts_with(b"save"), "{shape}: {line}");
                     assert_eq!(steps[2].line, b"figures\n", "{shape}: {line}");
+                    assert_eq!(steps[3].line, b"counts\n", "{shape}: {line}");
                 }
-                // A sheet that is given is shown as well.
-                if steps[0].words().len() == 2 && command == "figures" {
-                    assert_eq!(steps[1].line, b"figures\n", "{shape}");
+                // A sheet that is given is shown as well, and so are counts.
+                let given = steps[0].words().len() == 2 && steps[0].answer == "ok\n";
+                if given && ["figures", "counts"].contains(&command) {
+                    let shown = format!("{command}\n").into_bytes();
+                    assert!(steps[1..].iter().any(|step| step.line == shown), "{shape}");
                 }
             }
         }

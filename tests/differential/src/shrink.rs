@@ -1,6 +1,7 @@
 //! A failing script made short: lines left out, then what is left of them shortened,
 //! as long as the two programs still differ.
 
+use reference::counts::{bytes_of, of_bytes, Counts};
 use reference::figures::{put_rows, rows_of, Row, SHEET, UNTOLD};
 use reference::prefix::Prefix;
 
@@ -137,9 +138,10 @@ fn simpler_words(word: &[u8]) -> Vec<Vec<u8>> {
     let Some(bytes) = from_hex(word) else {
         return Vec::new();
     };
-    let shorter = match rows_of(&bytes) {
-        Some(rows) => emptier_sheets(&rows),
-        None => shorter_bytes(&bytes),
+    let shorter = match (rows_of(&bytes), of_bytes(&bytes)) {
+        (Some(rows), _) => emptier_sheets(&rows),
+        (_, Some(counts)) => fewer_counts(&counts),
+        _ => shorter_bytes(&bytes),
     };
     let shorter = shorter.into_iter();
     shorter.map(|bytes| hex(&bytes).into_bytes()).collect()
@@ -175,6 +177,29 @@ fn emptier_sheets(rows: &[Row]) -> Vec<Vec<u8>> {
         sheet
     };
     found.into_iter().map(bytes).collect()
+}
+
+/// Counts keep their size: fewer of them are not 0, or one is 1.
+fn fewer_counts(counts: &Counts) -> Vec<Vec<u8>> {
+    let lengths = counts[0].len();
+    let used: Vec<usize> = (0..counts.len() * lengths)
+        .filter(|at| counts[at / lengths][at % lengths] != 0)
+        .collect();
+    let mut found = Vec::new();
+    let places: Vec<usize> = (0..=used.len()).collect();
+    for (start, end) in stretches(&places) {
+        let mut fewer = *counts;
+        for at in &used[start..end] {
+            fewer[at / lengths][at % lengths] = 0;
+        }
+        found.push(fewer);
+    }
+    for at in used {
+        let mut fewer = *counts;
+        fewer[at / lengths][at % lengths] = 1;
+        found.push(fewer);
+    }
+    found.iter().map(bytes_of).collect()
 }
 
 /// An option with fewer suboptions or entries, an image with fewer records, or any
@@ -361,6 +386,24 @@ mod tests {
             short.concat(),
             format!("figures {}\n", hex(&sheet)).as_bytes()
         );
+    }
+
+    #[test]
+    fn counts_become_fewer() {
+        let mut counts = [[7; 23]; 8];
+        counts[3][4] = 9;
+        let line = format!("counts {}\n", hex(&bytes_of(&counts)));
+        let short = shrink(lines_of(line.as_bytes()), &mut |lines| {
+            let bytes = lines.concat();
+            let words: Vec<&[u8]> = bytes.trim_ascii_end().split(|b| *b == b' ').collect();
+            let given = words.get(1).and_then(|word| from_hex(word));
+            let counts = given.and_then(|given| of_bytes(&given));
+            counts.is_some_and(|counts| counts[3][4] != 0)
+        });
+        let mut one = [[0; 23]; 8];
+        one[3][4] = 1;
+        let line = format!("counts {}\n", hex(&bytes_of(&one)));
+        assert_eq!(short.concat(), line.as_bytes());
     }
 
     #[test]

@@ -1,7 +1,8 @@
 //! The calls: open, ask, take, list, return (here `release`) and mark. "Ask, take, return
 //! and mark take the sheet; open and load fill it" (M-100 in document 02): it is lent as
 //! its bytes, which is what `figures` is in each of them. Ask re-gives what is held already
-//! (M-101 in document 02).
+//! (M-101 in document 02). "Every call that changes lines keeps" the counts "equal to what a
+//! fresh walk would find" (M-102 in document 02): so each that is accepted works them out.
 
 use crate::figures::{fill, matches, present_rows, put_rows, rows_after, rows_of, Row};
 use crate::option::{read220, write220, Entry, Information, Request, Suboption};
@@ -46,7 +47,7 @@ pub fn open(
     table.last_time = start;
     table.pools[..sorted.len()].copy_from_slice(&sorted);
     fill(&table, figures)?;
-    Ok(table)
+    Ok(table.counted())
 }
 
 /// Row 1.
@@ -57,7 +58,7 @@ fn check_buffer(buffer: &[u8]) -> Result<(), Refusal> {
     Ok(())
 }
 
-/// Row 5.
+/// Row 5: the book, its counts included.
 fn check_sound(table: &Table) -> Result<(), Refusal> {
     if !table.sound() {
         return Err(refusal(5));
@@ -198,7 +199,7 @@ pub fn ask(
     let bytes = write220(&reply, buffer)?;
     let kept = present_rows(&rows, table, now);
     put_rows(&rows_after(&next, &kept), figures);
-    *table = next;
+    *table = next.counted();
     Ok(Answer {
         bytes,
         count: reply.len(),
@@ -333,7 +334,7 @@ pub fn take(
     });
     let bytes = write220(&[reply], buffer)?;
     put_rows(&rows, figures);
-    *table = next;
+    *table = next.counted();
     Ok(Answer { bytes, count })
 }
 
@@ -416,7 +417,7 @@ pub fn release(
     next.set_leases(kept);
     let kept = present_rows(&rows, table, now);
     put_rows(&rows_after(&next, &kept), figures);
-    *table = next;
+    *table = next.counted();
     Ok(Answer { bytes: 0, count })
 }
 
@@ -444,6 +445,6 @@ pub fn mark(
     }
     let kept = present_rows(&rows, table, now);
     put_rows(&rows_after(&next, &kept), figures);
-    *table = next;
+    *table = next.counted();
     Ok(Answer::default())
 }

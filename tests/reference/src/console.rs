@@ -4,14 +4,15 @@
 use std::io::{self, BufRead, Write};
 
 use crate::calls::{self, Answer};
+use crate::counts;
 use crate::figures::{rows_of, untold_sheet, SHEET, UNTOLD};
 use crate::image;
 use crate::option::{read118, read220, write118, write220, SUBNET_SELECTION};
 use crate::prefix::{dotted, Prefix};
-use crate::refusal::Refusal;
+use crate::refusal::{refusal, Refusal};
 use crate::sheet::sheet;
 use crate::suboptions::{list_of, text_of};
-use crate::table::Table;
+use crate::table::{Table, SHORTEST_POOL};
 use crate::words::{address_of, bit, byte, hex, hex_text, number, prefix_of};
 
 /// "Longest line: 100,000 bytes."
@@ -49,8 +50,8 @@ impl Default for Console {
 }
 
 impl Console {
-    /// "Until the first accepted open or load the book is all zero", and "the sheet is all
-    /// empty lines' rows".
+    /// "Until the first accepted open or load the book is all zero", "the sheet is all empty
+    /// lines' rows" and "the counts are all 0".
     pub fn new() -> Console {
         Console {
             table: Table::zero(),
@@ -142,6 +143,16 @@ impl Console {
                 self.figures = sheet;
                 Some("ok\n".to_string())
             }
+            (b"whole", [length]) => Some(match counts::whole(&self.table, number(length)?) {
+                Ok(count) => format!("ok count={count}\n"),
+                Err(refusal) => refused(refusal),
+            }),
+            (b"counts", []) => Some(counts_text(&self.table)),
+            (b"counts", [bytes]) => {
+                // "an error if they are not 368".
+                self.table.counts = counts::of_bytes(&hex(bytes)?)?;
+                Some("ok\n".to_string())
+            }
             (b"sheet", []) => Some(match sheet(&self.table) {
                 Ok(rows) => rows,
                 Err(refusal) => refused(refusal),
@@ -199,6 +210,28 @@ fn figures_text(sheet: &[u8]) -> String {
                 figure(row.in_use),
                 figure(row.unusable)
             ));
+        }
+    }
+    text.push_str("ok\n");
+    text
+}
+
+/// "a line for each root that has a whole free block, in order, then `ok`: ... the lengths
+/// ascending, those that are 0 left out"; "`refused 5` for an unsound book, and nothing else".
+fn counts_text(table: &Table) -> String {
+    if !table.sound() {
+        return refused(refusal(5));
+    }
+    let mut text = String::new();
+    for (pool, row) in table.used_pools().iter().zip(&table.counts) {
+        let mut line = format!("counts {pool}");
+        for (length, count) in (SHORTEST_POOL..).zip(row) {
+            if *count != 0 {
+                line.push_str(&format!(" {length}={count}"));
+            }
+        }
+        if row.iter().any(|count| *count != 0) {
+            text.push_str(&format!("{line}\n"));
         }
     }
     text.push_str("ok\n");

@@ -85,10 +85,11 @@ pub fn load(table: &mut Table, figures: &mut [u8], image: &[u8]) -> Result<(), R
     Ok(())
 }
 
-/// The table that an image is of. Row 5 is about "the saved bytes only".
+/// The table that an image is of. Row 5 is about "the saved bytes only". M-102: "Load works
+/// the counts out."
 pub fn loaded(image: &[u8]) -> Result<Table, Refusal> {
     match table_of(image) {
-        Some(table) if table.sound() => Ok(table),
+        Some(table) if table.sound_but_counts() => Ok(table.counted()),
         _ => Err(refusal(5)),
     }
 }

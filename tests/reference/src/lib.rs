@@ -11,6 +11,7 @@
 
 pub mod calls;
 pub mod console;
+pub mod counts;
 pub mod figures;
 pub mod image;
 pub mod numbers;

@@ -93,6 +93,7 @@ pub fn table(pools: &[Prefix], last_time: u32, leases: Vec<Lease>) -> Table {
     (table.term, table.default_length, table.last_time) = (3600, 28, last_time);
     table.pools[..pools.len()].copy_from_slice(pools);
     table.set_leases(leases);
+    let table = table.counted();
     assert!(table.sound());
     table
 }

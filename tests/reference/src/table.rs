@@ -1,5 +1,6 @@
 //! The table of leases: document 01's book.
 
+use crate::counts::{fresh, Counts, LENGTHS};
 use crate::prefix::{Prefix, LONGEST, SHORTEST};
 
 /// "A book holds 1 to 8 roots".
@@ -37,7 +38,8 @@ pub struct Lease {
 }
 
 /// The table, with a place for every pool and every lease; unused places are all
-/// zero. Nothing keeps it sound but the calls.
+/// zero. The counts are M-102's of document 02, "in the open book". Nothing keeps it sound
+/// but the calls.
 #[derive(Clone, Debug, PartialEq, Eq)]
 pub struct Table {
     pub term: u32,
@@ -45,6 +47,7 @@ pub struct Table {
     pub last_time: u32,
     pub pools: [Prefix; POOLS],
     pub leases: [Lease; LEASES],
+    pub counts: Counts,
 }
 
 impl Table {
@@ -56,7 +59,14 @@ impl Table {
             last_time: 0,
             pools: [Prefix::default(); POOLS],
             leases: [Lease::default(); LEASES],
+            counts: [[0; LENGTHS]; POOLS],
         }
+    }
+
+    /// The same table, its counts worked out.
+    pub fn counted(mut self) -> Table {
+        self.counts = fresh(&self);
+        self
     }
 
     /// The pools before the first unused place.
@@ -97,8 +107,13 @@ impl Table {
         used.filter(|lease| lease.expires > now).copied().collect()
     }
 
-    /// "Sound means: ..."
+    /// The open book: M-102 adds that "a book whose counts differ is unsound".
     pub fn sound(&self) -> bool {
+        self.sound_but_counts() && self.counts == fresh(self)
+    }
+
+    /// "Sound means: ..."
+    pub fn sound_but_counts(&self) -> bool {
         let pools = self.used_pools();
         let leases = self.used_leases();
         // "head and roots keep open's rules (row 12)".
@@ -160,7 +175,7 @@ impl Table {
 
 /// `block` is a pool, or the block around it is known not to be free: so it is whole
 /// if it is free, and otherwise its halves are looked at.
-fn find_whole(block: Prefix, leases: &[Prefix], found: &mut Vec<Prefix>) {
+pub fn find_whole(block: Prefix, leases: &[Prefix], found: &mut Vec<Prefix>) {
     // Leases ascend, so those that share an address with the block are a run.
     let shares = |lease: &&Prefix| lease.shares_address_with(block);
     let before = leases.iter().take_while(|lease| !shares(lease)).count();

@@ -11,12 +11,15 @@ use borrow.Author.Tests.{not-true, not-false}
 use Rattle.table.specs.Table.{poolSlots, leaseSlots}
 use Rattle.image.specs.Image.{headSize, poolSize, leaseSize}
 use Rattle.ledger.specs.Sizes.{Bytes}
-use Rattle.call_spec.specs.ImageCalls.{lent}
+use Rattle.call_spec.specs.Books.{Book, bookOf}
 use Rattle.call_spec.proofs.TableLaws.{bytes-all}
 use Rattle.call_query.specs.Queries.{leaseAnswer}
 use Rattle.call_query.proofs.QueryLaws.{few, inside, lease-refused, lease-none, lease-found}
 use Rattle.call_query.proofs.lease.Statement.{statement}
 use Rattle.call_query.proofs.lease.Tie as tie
+
+abbrev book-of : tie.After-summary-in → Book
+book-of c = let a = c .before .before .args in bookOf (a .image .now) (a .image-bytes) [] (a .counts .now)
 
 bytes : (c : tie.After-summary-in) → Bytes (c .before .before .args .image .now)
 bytes c = bytes-all (c .before .before .args .image .now) (λ i. omega (arith, c .before .shared-slice-known .given i))
@@ -27,7 +30,7 @@ returns c =
     let a = s .before .before .args in
     c .lease-answer .ensures
     ∙ ap (leaseAnswer 5 0) (c .before .no-lease .ensures)
-    ∙ lease-refused (lent (a .image .now) (a .image-bytes) []) (bytes s) (s .summary-in .result) (s .summary-in .ensures) (not-true _ (c .before .before .if1 .taken)) (a .index)
+    ∙ lease-refused (book-of s) (bytes s) (s .summary-in .result) (s .summary-in .ensures []) (not-true _ (c .before .before .if1 .taken)) (a .index)
 
 returns-2 : tie.Need-returns-2
 returns-2 c =
@@ -36,7 +39,7 @@ returns-2 c =
     let a = s .before .before .args in
     c .lease-answer2 .ensures
     ∙ ap (leaseAnswer 11 0) (c .before .no-lease2 .ensures)
-    ∙ lease-none (lent (a .image .now) (a .image-bytes) []) (bytes s) (s .summary-in .result) (s .summary-in .ensures) (not-false _ (else .if1 .left)) (a .index) (c .before .before .if2 .taken)
+    ∙ lease-none (book-of s) (bytes s) (s .summary-in .result) (s .summary-in .ensures []) (not-false _ (else .if1 .left)) (a .index) (c .before .before .if2 .taken)
 
 -- There is a lease with that index, and its record lies in the buffer.
 abbrev summed : tie.Else2 → tie.After-summary-in
@@ -50,13 +53,13 @@ within : (c : tie.Else2) → let s = summed c in let a = s .before .before .args
 within c =
     let s = summed c in
     let a = s .before .before .args in
-    omega (arith, c .if2 .left, inside (lent (a .image .now) (a .image-bytes) []) (bytes s) (s .summary-in .result) (s .summary-in .ensures) (found c))
+    omega (arith, c .if2 .left, inside (book-of s) (bytes s) (s .summary-in .result) (s .summary-in .ensures []) (found c))
 
 few-before : (c : tie.Else2) → let s = summed c in (s .summary-in .result .pools ≤ poolSlots) × (s .before .before .args .index < leaseSlots)
 few-before c =
     let s = summed c in
     let a = s .before .before .args in
-    let both = few (lent (a .image .now) (a .image-bytes) []) (bytes s) (s .summary-in .result) (s .summary-in .ensures) (found c) in
+    let both = few (book-of s) (bytes s) (s .summary-in .result) (s .summary-in .ensures []) (found c) in
     (both .0, omega (arith, c .if2 .left, both .1))
 
 mul-pools : tie.Need-mul-lease-at
@@ -82,7 +85,7 @@ returns-3 c =
     let a = s .before .before .args in
     c .lease-answer3 .ensures
     ∙ ap (λ (state : ℕ). leaseAnswer 0 state (read .lease-at .result)) (c .before .state-byte .ensures)
-    ∙ lease-found (lent (a .image .now) (a .image-bytes) []) (bytes s) (s .summary-in .result) (s .summary-in .ensures) (found else) (a .index) (else .if2 .left) (read .lease-at .result) (read .lease-at .ensures)
+    ∙ lease-found (book-of s) (bytes s) (s .summary-in .result) (s .summary-in .ensures []) (found else) (a .index) (else .if2 .left) (read .lease-at .result) (read .lease-at .ensures)
 
 pub lease-spec : {M : Type 1} → statement M
 lease-spec =

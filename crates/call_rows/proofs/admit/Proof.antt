@@ -4,11 +4,10 @@ use mathlib.Core.Path.{refl}
 use native.Mathlib.Omega.{arith}
 use borrow.Author.Needs.{needs}
 use Rattle.ledger.specs.Sizes.{Bytes}
-use Rattle.call_spec.specs.ImageCalls.{lent}
+use Rattle.call_spec.specs.Books.{bookOf, lentIn}
 use Rattle.call_spec.proofs.TableLaws.{bytes-all}
 use Rattle.call_rows.specs.InnerSummary.{SummaryIn}
-use Rattle.call_rows.proofs.SummaryLaws.{measured}
-use Rattle.call_rows.proofs.AdmitLaws.{admit-short, admit-rest}
+use Rattle.call_rows.proofs.AdmitLaws.{admit-short, book-measured, admit-book}
 use Rattle.call_rows.proofs.admit.Statement.{statement}
 use Rattle.call_rows.proofs.admit.Tie as tie
 
@@ -16,11 +15,11 @@ returns : tie.Need-returns
 returns c =
     let then = c .before .before in
     let a = then .before .before .before .args in
-    admit-short (a .has-sheet) (a .room) (lent (a .image .now) (a .image-bytes) (a .figures .now)) (a .time) (a .client) _ (then .if1 .taken) refl
+    admit-short (a .has-sheet) (a .room) (lentIn (bookOf (a .image .now) (a .image-bytes) (a .figures .now) (a .counts .now))) (a .time) (a .client) _ (then .if1 .taken) refl
 
--- What is lent is bytes, and this is what the check says of it.
-seen : (c : tie.After-summary-in) → let a = c .before .before .before .before .args in let h = lent (a .image .now) (a .image-bytes) (a .figures .now) in
-    Bytes (h .image) × Bytes (h .figures) × SummaryIn h (a .time) (c .summary-in .result)
+-- What is lent is bytes, and this is what the check says of the book.
+seen : (c : tie.After-summary-in) → let a = c .before .before .before .before .args in
+    Bytes (a .image .now) × Bytes (a .figures .now) × SummaryIn (lentIn (bookOf (a .image .now) (a .image-bytes) (a .figures .now) (a .counts .now))) (a .time) (c .summary-in .result)
 seen c =
     let sheet = c .before .before in
     let image = sheet .before in
@@ -34,7 +33,7 @@ sheet-passes-requires : tie.Need-sheet-passes-requires
 sheet-passes-requires c κs =
     let a = c .before .before .before .before .args in
     let k = seen c in
-    measured (lent (a .image .now) (a .image-bytes) (a .figures .now)) (a .time) (k .0) (c .summary-in .result) (k .2)
+    book-measured (bookOf (a .image .now) (a .image-bytes) (a .figures .now) (a .counts .now)) (a .time) (k .0) (c .summary-in .result) (k .2)
 
 returns-2 : tie.Need-returns-2
 returns-2 c =
@@ -42,7 +41,7 @@ returns-2 c =
     let summed = passed .before in
     let a = summed .before .before .before .before .args in
     let k = seen summed in
-    admit-rest (a .has-sheet) (a .room) (lent (a .image .now) (a .image-bytes) (a .figures .now)) (a .time) (a .client) _ (summed .before .if1 .left) (k .0) (k .1) (k .2)
+    admit-book (a .has-sheet) (a .room) (bookOf (a .image .now) (a .image-bytes) (a .figures .now) (a .counts .now)) (a .time) (a .client) _ (summed .before .if1 .left) (k .0) (k .1) (k .2)
     (passed .sheet-passes .result) (passed .sheet-passes .ensures) (c .first-row .ensures)
 
 pub admit-spec : {M : Type 1} → statement M

@@ -18,7 +18,7 @@ returns-2 c = let a = c .before .before .before .before .before .before .args in
 
 returns-3 : tie.Need-returns-3
 returns-3 c =
-    let k : (c .before .before .before .before .before .before .before .before .before .before .before .before .before .before .before .before .before .before .before .before .args .command ≡ command.Nothing → ⊥) = other (c .before .before .before .before .before .before .before .before .before .before .before .before .before .before .before .before .before .before .before .before .args .command) command.Nothing (0 ∷ 1 ∷ 2 ∷ 3 ∷ 4 ∷ 5 ∷ 6 ∷ 7 ∷ 8 ∷ 9 ∷ 10 ∷ 12 ∷ []) tt (c .before .before .before .before .before .before .before .before .before .before .before .before .before .before .before .match .keys2) in
+    let k : (c .before .before .before .before .before .before .before .before .before .before .before .before .before .before .before .before .before .before .before .before .args .command ≡ command.Nothing → ⊥) = other (c .before .before .before .before .before .before .before .before .before .before .before .before .before .before .before .before .before .before .before .before .args .command) command.Nothing (0 ∷ 1 ∷ 2 ∷ 3 ∷ 4 ∷ 5 ∷ 6 ∷ 7 ∷ 8 ∷ 9 ∷ 10 ∷ 11 ∷ 12 ∷ 13 ∷ 15 ∷ []) tt (c .before .before .before .before .before .before .before .before .before .before .before .before .before .before .before .match .keys2) in
     let a = c .before .before .before .before .before .before .before .before .before .before .before .before .before .before .before .before .before .before .before .before .args in
     let first = c .before .before .before .before .before .before .before .before .before .before .before .before .text .ensures in
     let second = c .before .before .before .before .before .before .before .before .text2 .ensures in

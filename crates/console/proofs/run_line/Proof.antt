@@ -1,12 +1,11 @@
 -- `run_line` runs the command that its line says, with the reply length and the line number of its state.
 -- Assumes nothing.
-use Rattle.call_spec.specs.ImageCalls.{lent}
-use Prim.Native.Nat.{ℕ, _-_, _≤_}
+use Prim.Native.Nat.{ℕ, _≤_}
 use mathlib.Core.Path.{_≡_, sym, subst, _∙_}
 use native.Mathlib.Omega.{arith}
-use lib.ListN.{length, take, replicate, length-replicate}
-use lib.Seq.{length-take-le}
-use Rattle.console_script.specs.Commands.{Within, longestReply}
+use lib.ListN.{length}
+use Rattle.call_spec.specs.Books.{bookOf}
+use Rattle.console_script.specs.Commands.{Within}
 use Rattle.console.proofs.LineLaws.{ran-line, buffered-as}
 use borrow.Author.Needs.{needs}
 use Rattle.console.proofs.run_line.Statement.{statement}
@@ -15,41 +14,36 @@ use Rattle.console.proofs.run_line.Tie as tie
 run-requires : tie.Need-run-requires
 run-requires c κs =
     let read = c .before .before .before .before .before .before .before .before .before .before .before .before .before .read-command in
-    let begun = c .before .before .before .before .before .before .before .before .echo in
-    let n = begun .result .«reply_length» in
-    let short : n - 0 ≤ longestReply = omega (arith, begun .ensures .0 .1 .0, c .before .before .before .before .before .before .before .before .before .before .before .before .before .before .before .before .before .before .before .before .pre, c .before .before .before .before .before .before .before .before .before .before .next-line .ensures .0) in
-    let size : length (take (n - 0) (replicate {A = ℕ} longestReply 0)) ≡ n - 0 = length-take-le (n - 0) (replicate {A = ℕ} longestReply 0) (omega (arith, short, length-replicate {A = ℕ} longestReply 0)) in (
+    let begun = c .before .before .before .before .before .before .before .before .echo in (
       (
         omega (arith, begun .ensures .0 .0, begun .kept .1 .1 .1 .0),
-        omega (arith, size),
-        omega (arith, size, short),
+        omega (arith, begun .ensures .0 .1 .0, c .before .before .before .before .before .before .before .before .before .before .before .before .before .before .before .before .before .before .before .before .pre, c .before .before .before .before .before .before .before .before .before .before .next-line .ensures .0),
         subst (λ (k : ℕ). Within k (read .result)) (sym (read .kept .0)) (read .ensures .0),
       ),
       c .before .before .before .before .before .before .before .before .before .before .before .before .before .before .before .before .before .before .before .before .pre .1 .1 .1,
     )
 
 same-length : tie.Need-same-length
-same-length c = let read = c .before .before .before .before .before .before .before .before .before .before .before .before .before .before .before .before .before .before .before .before .before .before .before .before .before .before .before .read-command in c .before .before .before .before .before .before .before .before .before .before .before .before .before .run .kept .1 .1 .0 ∙ read .kept .0
+same-length c = c .before .before .before .before .before .before .before .before .before .before .before .before .run .kept .1 .1 .0 ∙ c .before .before .before .before .before .before .before .before .before .before .before .before .before .before .before .before .before .before .before .before .before .before .before .before .before .before .read-command .kept .0
 
 returns : tie.Need-returns
 returns c =
-    let a = c .before .before .before .before .before .before .before .before .before .before .before .before .before .before .before .before .before .before .before .before .before .before .before .before .before .before .before .before .before .before .before .before .before .before .args in
-    let read = c .before .before .before .before .before .before .before .before .before .before .before .before .before .before .before .before .before .before .before .before .before .before .before .before .before .before .before .read-command in
-    let next = c .before .before .before .before .before .before .before .before .before .before .before .before .before .before .before .before .before .before .before .before .before .before .before .before .next-line in
-    let begun = c .before .before .before .before .before .before .before .before .before .before .before .before .before .before .before .before .before .before .before .before .before .before .echo in
-    let ran = c .before .before .before .before .before .before .before .before .before .before .before .before .before .run in
+    let a = c .before .before .before .before .before .before .before .before .before .before .before .before .before .before .before .before .before .before .before .before .before .before .before .before .before .before .before .before .before .before .before .before .before .args in
+    let read = c .before .before .before .before .before .before .before .before .before .before .before .before .before .before .before .before .before .before .before .before .before .before .before .before .before .before .read-command in
+    let next = c .before .before .before .before .before .before .before .before .before .before .before .before .before .before .before .before .before .before .before .before .before .before .before .next-line in
+    let begun = c .before .before .before .before .before .before .before .before .before .before .before .before .before .before .before .before .before .before .before .before .before .echo in
+    let ran = c .before .before .before .before .before .before .before .before .before .before .before .before .run in
     let put = c .before .with-output .ensures in
     let buf = c .buffered .ensures in
     let inside : begun .result .at ≤ length (a .out .now) = omega (arith, begun .ensures .0 .0) in
     let law = ran-line (a .s) (next .result) (begun .result) (c .buffered .result) (a .line .now) (a .kept .now) (read .last .0) (read .result) (ran .result)
-    (lent (a .image .now) (a .«image-bytes» .now) (a .figures .now)) _ (a .out .now) (begun .last .1 .1 .1 .0) _ (c .before .before .before .before .before .before .before .before .before .before .before .before .before .before .before .before .before .before .before .before .before .before .before .before .before .before .before .before .before .before .before .before .before .before .pre .1 .0 .0) (read .ensures .1) (next .ensures) (begun .ensures .0 .1) inside
+    (bookOf (a .image .now) (a .«image-bytes» .now) (a .figures .now) (a .counts .now)) _ (a .out .now) (begun .last .1 .1 .1 .0) _ (c .before .before .before .before .before .before .before .before .before .before .before .before .before .before .before .before .before .before .before .before .before .before .before .before .before .before .before .before .before .before .before .before .before .pre .1 .0 .0) (read .ensures .1) (next .ensures) (begun .ensures .0 .1) inside
     (begun .ensures .1) (ran .ensures .1) (buf .0 ∙ put .0, buf .1 ∙ put .1 .1, buf .2 ∙ put .1 .2, buffered-as (read .result) (begun .result .«reply_length») (c .before .with-output .result .«reply_length») (c .buffered .result .«reply_length») (put .1 .0) (buf .3))
-    (length (a .line .now)) (read .ensures .0) (c .before .before .before .before .before .before .before .before .before .before .before .before .before .before .before .before .before .before .before .before .before .before .before .before .before .before .before .before .before .before .before .before .before .before .pre .1 .1 .0) in
+    (length (a .line .now)) (read .ensures .0) (c .before .before .before .before .before .before .before .before .before .before .before .before .before .before .before .before .before .before .before .before .before .before .before .before .before .before .before .before .before .before .before .before .before .pre .1 .1 .0) in
     ((omega (arith, ran .ensures .0, buf .0, put .0, begun .kept .1 .1 .1 .0), law .0), law .1)
 
 pub run-line-spec : {M : Type 1} → statement M
 run-line-spec =
     tie.close
-    (tie.spec (λ c κs. search needs) (λ c κs. search needs) (λ c κs. search needs) (λ c. search needs) (λ c. search needs)
-    (λ c. search needs) run-requires (λ c κs. search needs) (λ c κs. search needs) (λ c κs. search needs) same-length (λ c. search needs)
-    (λ c. search needs) (λ c. search needs) returns)
+    (tie.spec (λ c κs. search needs) (λ c κs. search needs) (λ c κs. search needs) run-requires (λ c κs. search needs)
+    (λ c κs. search needs) (λ c κs. search needs) same-length (λ c. search needs) (λ c. search needs) (λ c. search needs) returns)

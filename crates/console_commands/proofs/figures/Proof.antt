@@ -13,7 +13,7 @@ returns : tie.Need-returns
 returns c =
     let said = c .before .before .figures-sheet in
     let inside : said .result ≤ length (c .before .before .before .before .before .before .args .out .now) = omega (arith, said .ensures .0, c .before .before .before .before .before .before .pre) in
-    (inside, λ image bytes. record { text = _; does = (refl, refl); wrote = appended _ _ _ _ _ inside (said .ensures .1) })
+    (inside, λ image bytes counts. record { text = _; does = (refl, refl); wrote = appended _ _ _ _ _ inside (said .ensures .1) })
 
 pub figures-spec : {M : Type 1} → statement M
 figures-spec =

@@ -12,7 +12,7 @@ use Rattle.console_commands.proofs.load.Tie as tie
 returns : tie.Need-returns
 returns c =
     let said = c .before .before .done in
-    let inside : said .result ≤ length (c .before .before .before .before .before .before .before .before .before .before .before .before .before .before .before .before .args .out .now) = omega (arith, said .ensures .0, c .before .before .before .before .before .before .before .before .before .before .before .before .before .before .before .before .pre) in
+    let inside : said .result ≤ length (c .before .before .before .before .before .before .before .before .before .before .before .before .before .before .before .before .before .args .out .now) = omega (arith, said .ensures .0, c .before .before .before .before .before .before .before .before .before .before .before .before .before .before .before .before .before .pre) in
     (inside, record { text = doneLine (c .before .before .before .before .before .before .before .before .load .result); does = done-does _ _ _ (c .before .before .before .before .before .before .before .before .load .ensures); wrote = appended _ _ _ _ _ inside (said .ensures .1) })
 
 pub load-spec : {M : Type 1} → statement M

@@ -33,10 +33,16 @@ returns-8 : tie.Need-returns-8
 returns-8 c = (c .before .before .figures-line .ensures .0, c .before .before .figures-line .ensures .1 ∙ ap (λ (n : Name). parseWords n (drop (c .before .before .before .before .before .before .before .args .from) (c .before .before .before .before .before .before .before .args .s .now))) (sym (c .before .before .before .before .enum-told6 .given .1)))
 
 returns-9 : tie.Need-returns-9
-returns-9 c = (c .buffer-line .ensures .0, c .buffer-line .ensures .1 ∙ ap (λ (n : Name). parseWords n (drop (c .before .before .before .before .before .args .from) (c .before .before .before .before .before .args .s .now))) (sym (c .before .before .enum-told7 .given .1)))
+returns-9 c = (c .before .before .counts-line .ensures .0, c .before .before .counts-line .ensures .1 ∙ ap (λ (n : Name). parseWords n (drop (c .before .before .before .before .before .before .before .args .from) (c .before .before .before .before .before .before .before .args .s .now))) (sym (c .before .before .before .before .enum-told7 .given .1)))
 
 returns-10 : tie.Need-returns-10
-returns-10 c = (tt, ap (λ (n : Name). parseWords n (drop (c .before .before .before .args .from) (c .before .before .before .args .s .now))) (sym (c .enum-told8 .given .1)))
+returns-10 c = (c .whole-line .ensures .0, c .whole-line .ensures .1 ∙ ap (λ (n : Name). parseWords n (drop (c .before .before .before .before .before .args .from) (c .before .before .before .before .before .args .s .now))) (sym (c .before .before .enum-told8 .given .1)))
+
+returns-11 : tie.Need-returns-11
+returns-11 c = (c .buffer-line .ensures .0, c .buffer-line .ensures .1 ∙ ap (λ (n : Name). parseWords n (drop (c .before .before .before .before .before .args .from) (c .before .before .before .before .before .args .s .now))) (sym (c .before .before .enum-told9 .given .1)))
+
+returns-12 : tie.Need-returns-12
+returns-12 c = (tt, ap (λ (n : Name). parseWords n (drop (c .before .before .before .args .from) (c .before .before .before .args .s .now))) (sym (c .enum-told10 .given .1)))
 
 pub read-words-spec : {M : Type 1} → statement M
 read-words-spec =
@@ -44,6 +50,7 @@ read-words-spec =
     (tie.spec (λ c. search needs) (λ c κs. search needs) (λ c. search needs) (λ c κs. search needs) (λ c. search needs)
     (λ c κs. search needs) (λ c. search needs) (λ c κs. search needs) (λ c. search needs) (λ c κs. search needs) (λ c. search needs)
     (λ c κs. search needs) (λ c. search needs) (λ c. search needs) (λ c κs. search needs) (λ c. search needs) (λ c κs. search needs)
-    (λ c. search needs) (λ c. search needs) returns (λ c. search needs) returns-2 (λ c. search needs) returns-3 (λ c. search needs)
-    returns-4 (λ c. search needs) returns-5 (λ c. search needs) returns-6 returns-7 (λ c. search needs) returns-8 (λ c. search needs)
-    returns-9 returns-10)
+    (λ c. search needs) (λ c κs. search needs) (λ c. search needs) (λ c κs. search needs) (λ c. search needs) (λ c. search needs)
+    returns (λ c. search needs) returns-2 (λ c. search needs) returns-3 (λ c. search needs) returns-4 (λ c. search needs) returns-5
+    (λ c. search needs) returns-6 returns-7 (λ c. search needs) returns-8 (λ c. search needs) returns-9 (λ c. search needs) returns-10
+    (λ c. search needs) returns-11 returns-12)

@@ -98,6 +98,6 @@ impl Author {
         table.last_time = last_time;
         table.pools[0] = prefix(TEN, 21);
         table.set_leases(leases);
-        table
+        table.counted()
     }
 }

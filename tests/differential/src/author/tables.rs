@@ -116,7 +116,7 @@ impl Author {
             }
         }
         table.set_leases(leases);
-        table
+        table.counted()
     }
 
     pub(super) fn any_lease(&mut self, at: Prefix, last_time: u32, profile: &Profile) -> Lease {

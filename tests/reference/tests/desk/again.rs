@@ -642,7 +642,7 @@ fn expected(table: &Table, now: u32, requests: &[(u8, bool)]) -> Result<(Vec<Str
         );
     }
     assert_eq!(made.next(), None);
-    Ok((reply, after))
+    Ok((reply, after.counted()))
 }
 
 #[test]

@@ -182,6 +182,7 @@ fn replied(call: impl FnOnce(&mut [u8]) -> Result<Answer, Refusal>) -> Reply {
 pub fn table_with(texts: &[&str], last: u32, leases: &[Lease]) -> Table {
     let mut table = open(&pools(texts), 3600, 28, last).unwrap();
     table.set_leases(leases.to_vec());
+    let table = table.counted();
     assert!(table.sound());
     table
 }

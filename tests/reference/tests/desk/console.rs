@@ -71,6 +71,18 @@ fn words_lines_and_errors() {
         (b"Figures", "error line 1\n"),
         (b"figures\t", "error line 1\n"),
         (b"figure", "error line 1\n"),
+        (b"whole 26", "refused 5\n"),
+        (b"whole 4294967295", "refused 5\n"),
+        (b"whole 4294967296", "error line 1\n"),
+        (b"whole", "error line 1\n"),
+        (b"whole 26 27", "error line 1\n"),
+        (b"whole -1", "error line 1\n"),
+        (b"whole /26", "error line 1\n"),
+        (b"counts", "refused 5\n"),
+        (b"counts -", "error line 1\n"),
+        (b"counts 00", "error line 1\n"),
+        (b"counts 0 0", "error line 1\n"),
+        (b"count", "error line 1\n"),
         (b"buffer 0", "ok\n"),
         (b"  buffer   1024  ", "ok\n"),
         (b"buffer 0000000000000000257\r\n", "ok\n"),
@@ -240,6 +252,60 @@ fn a_sheet_that_does_not_match_is_refused_by_four_commands() {
                 ok\nrefused 1\nrefused 1\nrefused 15\nrefused 5\n\
                 figures 10.0.1.0/27 high-water=- in-use=- unusable=-\nok";
     assert_eq!(lines[18..].join("\n"), rest);
+}
+
+/// So many bytes of counts, all 0 but those given by place.
+fn counts(bytes: usize, given: &[(usize, u8)]) -> String {
+    let mut digits = vec!["00".to_string(); bytes];
+    for (place, byte) in given {
+        digits[*place] = format!("{byte:02X}");
+    }
+    format!("counts {}\n", digits.concat())
+}
+
+#[test]
+fn counts_are_written_root_by_root() {
+    let script = "open 3600 28 1000 10.0.1.0/24 10.0.0.0/30 10.2.0.0/16\n\
+                  ask 7 1000 dc09000102001e0102001a\ncounts\nwhole 25\nwhole 26\nwhole 030\nwhole 0\n\
+                  whole 4294967295\nask 8 1000 dc05000102001a\ncounts\n";
+    assert_eq!(
+        answers(script.as_bytes()),
+        "ok\n\
+         ok bytes=23 count=2 dc15000208000a0000001e0000020800\
+0a0001001a0000\n\
+         counts 10.0.1.0/24 25=1 26=1\n\
+         counts 10.2.0.0/16 16=1\n\
+         ok\n\
+         ok count=1\nok count=1\nok count=0\nok count=0\nok count=0\n\
+         ok bytes=13 count=1 dc0b000208000a0001401a0000\n\
+         counts 10.0.1.0/24 25=1\n\
+         counts 10.2.0.0/16 16=1\n\
+         ok\n"
+    );
+}
+
+#[test]
+fn counts_become_what_is_given() {
+    // A /24 has its count at the place of length 24 of the first row.
+    let (right, wrong) = (counts(368, &[(32, 1)]), counts(368, &[(32, 1), (367, 1)]));
+    let every =
+        "ask 7 1000 dc05000102001a\nlist 7 1000 dc050001020200\nsave\nsheet\ncounts\nwhole 24\n\
+                 whole 99\ntake 7 1000 -\nreturn 7 1000 -\nmark 1000 10.0.1.0/26 1\n";
+    let script = format!(
+        "{right}open 3600 28 1000 10.0.1.0/24\n{right}whole 24\n{wrong}{every}{}{}whole 24\n{right}counts\n\
+         {wrong}open 3600 28 1000 10.0.1.0/24\nwhole 24\n{wrong}load {}\nwhole 24\n",
+        counts(367, &[(32, 1)]),
+        counts(369, &[(32, 1)]),
+        "0b000100100e00001ce8030000070002000001000a18"
+    );
+    let refused = "refused 5\n".repeat(10);
+    assert_eq!(
+        answers(script.as_bytes()),
+        format!(
+            "ok\nok\nok\nok count=1\nok\n{refused}error line 16\nerror line 17\nrefused 5\nok\n\
+             counts 10.0.1.0/24 24=1\nok\nok\nok\nok count=1\nok\nok\nok count=1\n"
+        )
+    );
 }
 
 #[test]

@@ -4,6 +4,7 @@
 mod again;
 mod common;
 mod console;
+mod counts;
 mod examples;
 mod figures;
 mod images;

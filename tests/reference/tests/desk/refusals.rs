@@ -358,7 +358,8 @@ fn every_way_to_be_unsound() {
     for (index, spoil) in spoils.iter().enumerate() {
         let mut table = good.clone();
         spoil(&mut table);
-        assert!(!table.sound(), "{index}");
+        // It is not the counts alone.
+        assert!(!table.sound_but_counts() && !table.sound(), "{index}");
         let before = table.clone();
         let mut buffer = [0x5a; 5000];
         let found = entries(&[p("10.0.0.0/25")]);

@@ -97,7 +97,7 @@ pub fn full() -> String {
     script.remark("Half a message again, half of it new ground.");
     let mut few = full_table(24);
     few.set_leases(few.used_leases()[..200].to_vec());
-    script.say(&format!("load {}", image(&few)));
+    script.say(&format!("load {}", image(&few.counted())));
     script.say(&format!("ask 7 1001 {all}"));
     script.say("save");
     script.say("sheet");

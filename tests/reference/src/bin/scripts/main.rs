@@ -3,6 +3,7 @@
 //! left as they are.
 
 mod again;
+mod counts;
 mod figures;
 mod writing;
 
@@ -58,6 +59,12 @@ fn main() -> io::Result<()> {
         ("console-figures", figures::console()),
         ("again-full-256-leases", again::full()),
         ("random-calls-again", again::random_calls()),
+        ("counts-wrong", counts::wrong()),
+        ("counts-roots-and-lengths", counts::roots_and_lengths()),
+        ("counts-struck", counts::struck()),
+        ("counts-numbers", counts::numbers()),
+        ("random-calls-counts", counts::random_calls()),
+        ("console-counts", counts::console()),
         ("rfc6656-options-written", writing::rfc6656_options(&fs::read_to_string(folder.join("rfc6656.options"))?)),
         ("write-lengths", writing::lengths()),
         ("write-buffer", writing::buffers()),
@@ -364,6 +371,8 @@ fn combinations(
     call: &dyn Fn(u32, u32, &str) -> String,
 ) {
     let sound = script.console.table.sound();
+    // Counts alone can be wrong, and the last time then still says which times are before it.
+    let has_time = script.console.table.sound_but_counts();
     let start = image(&script.console.table);
     // Return has no reply buffer, so row 1 never applies to it; list has no sheet.
     let has_buffer = !call(0, 0, "-").starts_with("return");
@@ -385,8 +394,10 @@ fn combinations(
                     if !matches && has_sheet {
                         rows.push(15);
                     }
-                    if !sound {
+                    if !has_time {
                         rows.retain(|row| *row != 3 && *row != outcome);
+                    }
+                    if !sound {
                         rows.push(5);
                     }
                     let applying: Vec<String> = ROWS
@@ -1070,7 +1081,7 @@ fn console_long_lines() -> Vec<u8> {
 
 fn console_any_bytes() -> Vec<u8> {
     let mut numbers = Numbers::new(41);
-    let words = "open ask take list return mark save load sheet read buffer 0 7 1000 1001 3600 28 \
+    let words = "open ask take list return mark save load sheet whole counts read buffer 0 7 1000 1001 3600 28 \
                  257 10.0.0.0/8 10.0.0.0/28 dc05000102001c dc050001020200 \
                  dc0b000208000a0000001c0000 - # 1 07 4294967296 \t -1";
     let words: Vec<&[u8]> = words.split(' ').map(str::as_bytes).collect();

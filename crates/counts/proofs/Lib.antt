@@ -1,0 +1,11 @@
+pub mod CompareLaws
+pub mod CountLaws
+pub mod CommonLaws
+pub mod OneLaws
+pub mod LevelRow
+pub mod LevelRows
+pub mod BelowLaws
+pub mod SmallLaws
+pub mod SumLaws
+pub mod Examples
+pub mod TotalLaws

@@ -1,0 +1,3 @@
+pub mod Counts
+pub mod Meaning
+pub mod InnerLevels

@@ -1,0 +1,5 @@
+pub mod PlaceLaws
+pub mod TallyLaws
+pub mod SideLaws
+pub mod FreeLaws
+pub mod PassLaws
