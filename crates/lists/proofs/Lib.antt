@@ -1,7 +1,6 @@
 pub mod Tests
 pub mod ListLaws
 pub mod Permutations
-pub mod TableRule
 pub mod FilterLaws
 pub mod DropLaws
 pub mod WalkLaws

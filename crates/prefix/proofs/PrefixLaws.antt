@@ -8,7 +8,7 @@ use native.Mathlib.Nat.{le-refl, pow-suc}
 use native.Mathlib.Decide.{decLe}
 use native.Mathlib.Omega.{arith}
 use lib.Dec.{leb}
-use lib.Pow.{pow-pos, pow-mono}
+use lib.Pow.{pow-pos}
 use borrow.Author.Tests.{leb-true, le-leb, eqb-true, eq-eqb}
 use Rattle.lists.proofs.Tests.{and-to, and-of, or-to, or-left, or-right, not-true⇒false}
 use Rattle.prefix.specs.declared.Prefix.{Prefix}
@@ -16,9 +16,6 @@ use Rattle.prefix.specs.Prefixes.{size, end, Aligned, aligned?, Inside, 
 
 pub size-positive : (l : ℕ) → 0 < size l
 size-positive l = pow-pos (32 - l)
-
-pub size-bound : (l : ℕ) → size l ≤ 4294967296
-size-bound l = pow-mono {i = 32 - l} {j = 32} (omega arith)
 
 -- A prefix has twice the addresses of one that is longer by 1.
 pub size-half : (l : ℕ) → l < 32 → size l ≡ size (l + 1) + size (l + 1)

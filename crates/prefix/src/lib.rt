@@ -11,86 +11,19 @@ ghost use Rattle.prefix.specs.Prefixes.{
   longest,
 };
 
-// How many addresses a prefix of each length has. Only `size` reads the table.
-const SIZES: [u64; 33] = [
-    4294967296,
-    2147483648,
-    1073741824,
-    536870912,
-    268435456,
-    134217728,
-    67108864,
-    33554432,
-    16777216,
-    8388608,
-    4194304,
-    2097152,
-    1048576,
-    524288,
-    262144,
-    131072,
-    65536,
-    32768,
-    16384,
-    8192,
-    4096,
-    2048,
-    1024,
-    512,
-    256,
-    128,
-    64,
-    32,
-    16,
-    8,
-    4,
-    2,
-    1,
-];
+// How many addresses there are: an address has 32 bits.
+const ADDRESSES: u64 = 4294967296;
 
-// The number of addresses in a prefix of this length. Past 32 it is that of a single address.
+// The number of addresses in a prefix of this length. Past 32 it is that of a single address. Halved so many times, and not a bit
+// shifted up: so its mask comes from the size itself, and a check of both shifts once.
 pub fn size(length: u8) -> u64
     ensures { λ r. ⌜ r ≡ sizeOf length ⌝ }
     ensures { λ r. ⌜ r ≤ 4294967296 ⌝ }
 {
-    // Read only at constant places: any other index would lay the table out on the stack at every call.
-    let sizes = SIZES;
-    match length {
-        0 => sizes[0],
-        1 => sizes[1],
-        2 => sizes[2],
-        3 => sizes[3],
-        4 => sizes[4],
-        5 => sizes[5],
-        6 => sizes[6],
-        7 => sizes[7],
-        8 => sizes[8],
-        9 => sizes[9],
-        10 => sizes[10],
-        11 => sizes[11],
-        12 => sizes[12],
-        13 => sizes[13],
-        14 => sizes[14],
-        15 => sizes[15],
-        16 => sizes[16],
-        17 => sizes[17],
-        18 => sizes[18],
-        19 => sizes[19],
-        20 => sizes[20],
-        21 => sizes[21],
-        22 => sizes[22],
-        23 => sizes[23],
-        24 => sizes[24],
-        25 => sizes[25],
-        26 => sizes[26],
-        27 => sizes[27],
-        28 => sizes[28],
-        29 => sizes[29],
-        30 => sizes[30],
-        31 => sizes[31],
-        32 => sizes[32],
-        _ => 1,
+    if 32 < length {
+        return 1;
     }
+    ADDRESSES >> length
 }
 
 // How far an address lies past the last one that is aligned at this length; the sizes are powers of two, so no division is needed.
