@@ -20,7 +20,7 @@ use Rattle.free_space.specs.Scan.{lengthOf, levels, inGap, roundUp, roundDown}
 use Rattle.free_space.proofs.LevelLaws.{levels-low, levels-high, levels-on, levels-none, gap-small, gap-nothing, gap-empty, gap-ends}
 use Rattle.free_space.proofs.GapLaws.{up-multiple, up-ge, up-least, down-multiple, down-le}
 use Rattle.gap_list.specs.declared.Best.{Best}
-use Rattle.gap_list.specs.InnerSearch.{bitsOf, BestFound, AtEnd}
+use Rattle.gap_list.specs.InnerSearch.{Passed, bitsOf, BestFound, AtEnd}
 use Rattle.gap_list.proofs.BitLaws.{Lowest, lowest, or-multiple, multiple-or}
 
 -- rounding
@@ -41,6 +41,16 @@ module _ (l s : ℕ) (sized : s ≡ size l) where
       by-cases (decLe (roundDown l up) (roundUp l x)) (λ h. h)
       (λ h. absurd (omega (arith, next-multiple (size l) (roundUp l x) (roundDown l up) (up-multiple l x) (down-multiple l up) (omega arith), up-ge l x, down-le l up, sized, size-positive l))) in
       mask-down up ∙ omega arith
+
+-- The first prefix of the size that begins in a gap ends behind it: the gap has none.
+pub gap-passed : (mask a b : ℕ) → b < a + mask - bitAnd (a + mask) mask + mask → Passed a b mask
+gap-passed mask a b h l best e =
+    let m : mask + 1 - 1 ≡ mask = omega arith in
+    let up : a + mask - bitAnd (a + mask) mask ≡ roundUp l a = ap (λ (x : ℕ). a + x - bitAnd (a + x) x) (sym m) ∙ mask-up l (mask + 1) (sym e) a in
+    let shut : roundDown l (b + 1) ≤ roundUp l a =
+    by-cases (decLe (roundDown l (b + 1)) (roundUp l a)) (λ k. k)
+    (λ k. absurd (omega (arith, next-multiple (size l) (roundUp l a) (roundDown l (b + 1)) (up-multiple l a) (down-multiple l (b + 1)) (omega arith), down-le l (b + 1), up, e, h))) in
+    by-cases (decLe (a + size l) (b + 1)) (λ k. gap-empty l best a (b + 1) k shut) (λ k. gap-small l best a (b + 1) (omega arith))
 
 -- What the bits of both ends say.
 

@@ -22,12 +22,11 @@ use Rattle.prefix.proofs.PrefixLaws.{size-positive}
 use Rattle.prefix.proofs.Nesting.{pow-le}
 use Rattle.free_space.specs.Grant.{lowestPart}
 use Rattle.free_space.specs.Scan.{lengthOf, inGap, roundUp, roundDown}
-use Rattle.free_space.proofs.LevelLaws.{gap-small}
 use Rattle.free_space.proofs.GapLaws.{up-ge, down-le}
 use Rattle.gap_list.specs.declared.Best.{Best}
 use Rattle.gap_list.specs.Gaps.{fitFrom, fitIn, LiesIn}
 use Rattle.gap_list.specs.Columns.{held, heldIn, Fitted}
-use Rattle.gap_list.specs.InnerSearch.{heldFrom, FirstLarge, bitsOf, BestFound, AtEnd}
+use Rattle.gap_list.specs.InnerSearch.{heldFrom, Passed, NextLarge, bitsOf, BestFound, AtEnd}
 use Rattle.gap_list.proofs.FitLaws.{fit-exact}
 use Rattle.gap_list.proofs.ColumnLaws.{at-lies}
 use Rattle.gap_list.proofs.EndLaws.{mask-up, mask-down, gap-worse, gap-open, gap-found, gap-better}
@@ -42,17 +41,19 @@ module _ (starts lasts : List ℕ) (n : ℕ) where
   held-end : (i : ℕ) → n ≤ i → heldFrom starts lasts n i ≡ []
   held-end i h = ap (λ (ss : List ℕ). held ss (drop i (take n lasts))) (drop-end (take n starts) i (omega (arith, take-short n starts)))
 
-  -- Gaps that are too small are passed over.
+  -- Gaps that have nothing of a size are passed over.
 
-  pub large-none : (mask : ℕ) → FirstLarge starts lasts n mask 0
-  large-none mask = record { within = omega arith; rest = λ l best e. refl }
+  pub large-none : (mask from : ℕ) → from ≤ n → NextLarge starts lasts n mask from from
+  large-none mask from h = record { later = omega arith; within = h; rest = λ l best e. refl }
 
-  pub large-next : (mask i : ℕ) → n ≤ length starts → n ≤ length lasts → i < n → getD lasts i 0 < getD starts i 0 + mask → FirstLarge starts lasts n mask i → FirstLarge starts lasts n mask (i + 1)
-  large-next mask i h k lt small first = record {
+  pub large-next : (mask from i j : ℕ) → n ≤ length starts → n ≤ length lasts → i < n → j ≡ i + 1 → Passed (getD starts i 0) (getD lasts i 0) mask → NextLarge starts lasts n mask from i → NextLarge starts lasts n mask from j
+  large-next mask from i j h k lt is passed next = record {
+    later = omega (arith, next .later);
     within = omega arith;
     rest = λ l best e.
-        first .rest l best e ∙ ap (fitFrom l best) (held-next i h k lt)
-        ∙ ap (λ (o : Option Prefix). fitFrom l o (heldFrom starts lasts n (i + 1))) (gap-small l best (getD starts i 0) (getD lasts i 0 + 1) (omega (arith, e)));
+        next .rest l best e ∙ ap (fitFrom l best) (held-next i h k lt)
+        ∙ ap (λ (o : Option Prefix). fitFrom l o (heldFrom starts lasts n (i + 1))) (passed l best e)
+        ∙ ap (λ (x : ℕ). fitFrom l best (heldFrom starts lasts n x)) (sym is);
   }
 
 -- The best prefix so far, as the code has it: of size 2^32 it is none.
@@ -70,7 +71,7 @@ pub record Searching (starts lasts : List ℕ) (n l : ℕ) (best : Best) (index 
   pub place : (so-far ≡ none) ⊎ LiesIn (prefix (best .network) l) index (heldIn starts lasts n)
   pub small : best .network < 4294967296
 
-pub search-start : (starts lasts : List ℕ) (n l s i : ℕ) → s ≡ size l → FirstLarge starts lasts n (s - 1) i → Searching starts lasts n l (record { network = 0; size = 4294967296 }) 0 i
+pub search-start : (starts lasts : List ℕ) (n l s i : ℕ) → s ≡ size l → NextLarge starts lasts n (s - 1) 0 i → Searching starts lasts n l (record { network = 0; size = 4294967296 }) 0 i
 search-start starts lasts n l s i e first = record {
   within = first .within;
   so-far = none;
@@ -114,6 +115,17 @@ module _ (starts lasts : List ℕ) (n l s : ℕ) (best : Best) (index i : ℕ) (
         found-is best l (searching .so-far) (searching .stands)
         ∙ ap (lowestPart l) (sym (searching .rest ∙ ap (fitFrom l (searching .so-far)) (held-end starts lasts n i h)));
     place = λ e. ⊎-elim (λ z. absurd (found-not best l (searching .so-far) (searching .stands) e z)) (λ k. k) (searching .place);
+  }
+
+  -- What follows is passed over.
+  pub search-skip : (r : ℕ) → s ≡ size l → NextLarge starts lasts n (s - 1) i r → Searching starts lasts n l best index r
+  search-skip r e next = record {
+    within = next .within;
+    so-far = searching .so-far;
+    stands = searching .stands;
+    rest = searching .rest ∙ next .rest l (searching .so-far) (omega (arith, e, size-positive l));
+    place = searching .place;
+    small = searching .small;
   }
 
   pub size-pos : 0 < best .size

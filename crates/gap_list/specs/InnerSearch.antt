@@ -9,7 +9,7 @@ use lib.Dec.{ltb}
 use lib.ListN.{take, drop}
 use Rattle.prefix.specs.declared.Prefix.{Prefix}
 use Rattle.prefix.specs.Prefixes.{size, prefix}
-use Rattle.free_space.specs.Scan.{levels}
+use Rattle.free_space.specs.Scan.{levels, inGap}
 use Rattle.gap_list.specs.declared.Best.{Best}
 use Rattle.gap_list.specs.Gaps.{Gap, fitFrom}
 use Rattle.gap_list.specs.Columns.{held, heldIn}
@@ -25,10 +25,15 @@ left xs i = take i xs ++ drop (suc i) xs
 abbrev pub heldFrom : List ℕ → List ℕ → ℕ → ℕ → List Gap
 heldFrom starts lasts n i = held (drop i (take n starts)) (drop i (take n lasts))
 
--- The gaps before r are too small for any prefix of a size, of which `mask` is one less.
-pub record FirstLarge (starts lasts : List ℕ) (n mask r : ℕ) : Type 0 where
+-- A gap, by its first and its last address, has nothing of a size, of which `mask` is one less.
+abbrev pub Passed : ℕ → ℕ → ℕ → Type 0
+Passed first last mask = (l : ℕ) (best : Option Prefix) → size l ≡ mask + 1 → inGap l best first (last + 1) ≡ best
+
+-- The gaps from `from` on that are before r have nothing of a size, of which `mask` is one less.
+pub record NextLarge (starts lasts : List ℕ) (n mask from r : ℕ) : Type 0 where
+  pub later : from ≤ r
   pub within : r ≤ n
-  pub rest : (l : ℕ) (best : Option Prefix) → size l ≡ mask + 1 → fitFrom l best (heldIn starts lasts n) ≡ fitFrom l best (heldFrom starts lasts n r)
+  pub rest : (l : ℕ) (best : Option Prefix) → size l ≡ mask + 1 → fitFrom l best (heldFrom starts lasts n from) ≡ fitFrom l best (heldFrom starts lasts n r)
 
 -- The bits of both ends of a range; none where nothing is between them.
 abbrev pub bitsOf : ℕ → ℕ → ℕ

@@ -1,5 +1,6 @@
 // Free space as a list of gaps in two lent columns: the first address of each gap and its last one, ascending. An ask looks at the gaps alone.
 ghost use mathlib.Core.Path.{_≡_};
+ghost use mathlib.Core.Bool.{false};
 ghost use mathlib.Core.List.{_++_};
 ghost use Prim.Native.Nat.{_+_, _-_, _≤_, _<_};
 ghost use lib.Bits.{bitOr};
@@ -7,7 +8,7 @@ ghost use lib.ListN.{length as lengthOf, take};
 ghost use Rattle.prefix.specs.Prefixes.{prefix};
 ghost use Rattle.gap_list.specs.Gaps.{between, without, LiesIn};
 ghost use Rattle.gap_list.specs.Columns.{heldIn, Kept, Fitted};
-ghost use Rattle.gap_list.specs.InnerSearch.{doubled, left, FirstLarge, bitsOf, AtEnd};
+ghost use Rattle.gap_list.specs.InnerSearch.{doubled, left, Passed, NextLarge, bitsOf, AtEnd};
 
 // One gap more after the first n, if it is not empty; answers how many there are.
 pub fn push(starts: &mut [u32], lasts: &mut [u32], n: usize, from: u64, to: u64) -> usize
@@ -28,17 +29,36 @@ pub struct Best {
     pub size: u64,
 }
 
-// The first gap that is large enough for a size, of which `mask` is one less; n where none is.
-fn first_large(starts: &[u32], lasts: &[u32], n: usize, mask: u64) -> usize
-    requires { ⌜ (n ≤ lengthOf (now starts)) × (n ≤ lengthOf (now lasts)) × (mask < 4294967296) ⌝ }
-    ensures { λ r. ⌜ FirstLarge (now (starts .entry)) (now (lasts .entry)) n mask r ⌝ }
+// Whether a gap holds a whole prefix of a size, of which `mask` is one less: the first one that begins in it ends in it.
+fn holds(first: u32, last: u32, mask: u64) -> bool
+    requires { ⌜ mask < 4294967296 ⌝ }
+    ensures { λ r. ⌜ (r ≡ false → Passed first last mask) ⌝ }
 {
-    let mut i: usize = 0;
-    while i < n {
-        if (starts[i] as u64) + mask <= lasts[i] as u64 {
+    let up = (first as u64) + mask;
+    up - (up & mask) + mask <= last as u64
+}
+
+// The next gap, from `from` on, that has to be looked at for a size, of which `mask` is one less; n where there is none. Four gaps
+// in a turn, which costs less than a turn for each; of the last three nothing is said.
+fn next_large(starts: &[u32], lasts: &[u32], n: usize, mask: u64, from: usize) -> usize
+    requires { ⌜ (n ≤ lengthOf (now starts)) × (n ≤ lengthOf (now lasts)) × (mask < 4294967296) × (from ≤ n) ⌝ }
+    ensures { λ r. ⌜ NextLarge (now (starts .entry)) (now (lasts .entry)) n mask from r ⌝ }
+{
+    let mut i = from;
+    while 3 < n - i {
+        if holds(starts[i], lasts[i], mask) {
             return i;
         }
-        i += 1;
+        if holds(starts[i + 1], lasts[i + 1], mask) {
+            return i + 1;
+        }
+        if holds(starts[i + 2], lasts[i + 2], mask) {
+            return i + 2;
+        }
+        if holds(starts[i + 3], lasts[i + 3], mask) {
+            return i + 3;
+        }
+        i += 4;
     }
     i
 }
@@ -92,7 +112,7 @@ pub fn fit(starts: &[u32], lasts: &[u32], n: usize, length: u8) -> Choice
         size: 4294967296,
     };
     let mut index: usize = 0;
-    let mut i = first_large(starts, lasts, n, mask);
+    let mut i = next_large(starts, lasts, n, mask, 0);
     while i < n {
         let up = (starts[i] as u64) + mask;
         let low = up - (up & mask);
@@ -111,7 +131,7 @@ pub fn fit(starts: &[u32], lasts: &[u32], n: usize, length: u8) -> Choice
                 };
             }
         }
-        i += 1;
+        i = next_large(starts, lasts, n, mask, i + 1);
     }
     Choice {
         found: best.size != 4294967296,

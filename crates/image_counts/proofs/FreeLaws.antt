@@ -23,6 +23,9 @@ total-up-to l k (suc d) = let next : suc d + k ≡ suc (d + k) = omega arith in 
 total-less : (l : List ℕ) (k m : ℕ) → k ≤ m → total m l ≡ 0 → total k l ≡ 0
 total-less l k m h e = let same : m - k + k ≡ m = omega arith in omega (arith, e, total-up-to l k (m - k), ap (λ (j : ℕ). total j l) same)
 
+total-start : (l : List ℕ) (pool j : ℕ) → total (pool - 1) l ≡ 0 → j + shortestPool ≡ pool → 0 ≡ total (j + 7) l
+total-start l pool j e ej = let place : pool - 1 ≡ j + 7 = omega arith in sym e ∙ ap (λ (m : ℕ). total m l) place
+
 -- FILLING
 
 module _ (pool : ℕ) (opened closed : List ℕ) where
@@ -46,7 +49,7 @@ module _ (pool : ℕ) (opened closed : List ℕ) where
       ∙ ap₂ (λ (m : ℕ) (ms : List ℕ). m ∷ ms) none (frees-below e (suc l) j k (omega arith))
       ∙ ap (λ (m : ℕ). 0 ∷ (replicate {A = ℕ} j 0 ++ freesOn pool opened closed m k)) next
 
-  pub row-start : total (pool - 1) opened ≡ 0 → (j : ℕ) → j + shortestPool ≡ pool → j ≤ countedLengths
+  row-start : total (pool - 1) opened ≡ 0 → (j : ℕ) → j + shortestPool ≡ pool → j ≤ countedLengths
       → take j (replicate {A = ℕ} countedLengths 0) ++ freesOn pool opened closed (j + 7) (countedLengths - j) ≡ freesOn pool opened closed 7 countedLengths
   row-start e j ej le =
       let all : j + (countedLengths - j) ≡ countedLengths = omega arith in
@@ -60,7 +63,7 @@ module _ (pool : ℕ) (opened closed : List ℕ) where
       take-zeros (suc j) zero h = absurd (omega arith)
       take-zeros (suc j) (suc n) h = ap (λ (zs : List ℕ). 0 ∷ zs) (take-zeros j n (omega arith))
 
-  pub row-more : (row : List ℕ) (j v : ℕ) → j < countedLengths → length row ≡ countedLengths → v ≡ freeOn pool opened closed (j + 7)
+  row-more : (row : List ℕ) (j v : ℕ) → j < countedLengths → length row ≡ countedLengths → v ≡ freeOn pool opened closed (j + 7)
       → take j row ++ freesOn pool opened closed (j + 7) (countedLengths - j) ≡ freesOn pool opened closed 7 countedLengths
       → take (j + 1) (set row j v) ++ freesOn pool opened closed (j + 1 + 7) (countedLengths - (j + 1)) ≡ freesOn pool opened closed 7 countedLengths
   row-more row j v lt size ev e =
@@ -74,6 +77,26 @@ module _ (pool : ℕ) (opened closed : List ℕ) where
       ∙ ap (λ (l : List ℕ). take j row ++ l) (sym (ap (freesOn pool opened closed (j + 7)) less ∙ frees-first (j + 7) (countedLengths - (j + 1))))
       ∙ e
 
+  free-is : (j one up down r : ℕ) → one ≡ one? (eqb pool (j + 8)) → up ≡ total (j + 7) opened → down ≡ total (j + 7) closed
+      → r ≡ one + up - (getD opened (j + 8) 0 + down) → r ≡ freeOn pool opened closed (j + 7)
+  free-is j one up down r eo eu ed er =
+      let place : j + 8 ≡ suc (j + 7) = omega arith in
+      omega (arith, er, eo, eu, ed, ap (λ (m : ℕ). one? (eqb pool m)) place, ap (λ (m : ℕ). getD opened m 0) place)
+
+  -- The place of the pool's length, where the pool itself counts, and each later one.
+  pub row-first : total (pool - 1) opened ≡ 0 → total (pool - 1) closed ≡ 0 → (j v : ℕ) → j + shortestPool ≡ pool → j < countedLengths → v ≡ 1 - getD opened pool 0
+      → take (j + 1) (set (replicate {A = ℕ} countedLengths 0) j v) ++ freesOn pool opened closed (j + 1 + 7) (countedLengths - (j + 1)) ≡ freesOn pool opened closed 7 countedLengths
+  row-first eo ec j v ej lt ev =
+      row-more (replicate {A = ℕ} countedLengths 0) j v lt refl
+      (free-is j 1 0 0 v (sym (one-eq pool (j + 8) (omega arith))) (total-start opened pool j eo ej) (total-start closed pool j ec ej) (omega (arith, ev, ap (λ (m : ℕ). getD opened m 0) ej)))
+      (row-start eo j ej (omega arith))
+
+  pub row-next : (row : List ℕ) (j up down v : ℕ) → j < countedLengths → pool < j + 8 → length row ≡ countedLengths → up ≡ total (j + 7) opened → down ≡ total (j + 7) closed
+      → v ≡ up - (getD opened (j + 8) 0 + down)
+      → take j row ++ freesOn pool opened closed (j + 7) (countedLengths - j) ≡ freesOn pool opened closed 7 countedLengths
+      → take (j + 1) (set row j v) ++ freesOn pool opened closed (j + 1 + 7) (countedLengths - (j + 1)) ≡ freesOn pool opened closed 7 countedLengths
+  row-next row j up down v lt past size eu ed ev e = row-more row j v lt size (free-is j 0 up down v (sym (one-lt pool (j + 8) past)) eu ed (omega (arith, ev))) e
+
   pub row-all : (row : List ℕ) (j : ℕ) → j ≤ countedLengths → countedLengths ≤ j → length row ≡ countedLengths
       → take j row ++ freesOn pool opened closed (j + 7) (countedLengths - j) ≡ freesOn pool opened closed 7 countedLengths → row ≡ freesOn pool opened closed 7 countedLengths
   row-all row j le ge size e =
@@ -83,12 +106,6 @@ module _ (pool : ℕ) (opened closed : List ℕ) where
       ∙ ap (λ (l : List ℕ). take j row ++ l) (sym (ap (freesOn pool opened closed (j + 7)) none ∙ frees-none (j + 7)))
       ∙ e
 
-  pub free-is : (j one up down r : ℕ) → one ≡ one? (eqb pool (j + 8)) → up ≡ total (j + 7) opened → down ≡ total (j + 7) closed
-      → r ≡ one + up - (getD opened (j + 8) 0 + down) → r ≡ freeOn pool opened closed (j + 7)
-  free-is j one up down r eo eu ed er =
-      let place : j + 8 ≡ suc (j + 7) = omega arith in
-      omega (arith, er, eo, eu, ed, ap (λ (m : ℕ). one? (eqb pool m)) place, ap (λ (m : ℕ). getD opened m 0) place)
-
 pub total-more : (l : List ℕ) (j up : ℕ) → up ≡ total (j + 7) l → up + getD l (j + 8) 0 ≡ total (j + 1 + 7) l
 unfolding total
 total-more l j up e =
@@ -96,8 +113,8 @@ total-more l j up e =
     let here : j + 8 ≡ suc (j + 7) = omega arith in
     omega (arith, e, ap (λ (m : ℕ). total m l) place, ap (λ (m : ℕ). getD l m 0) here)
 
-pub total-start : (l : List ℕ) (pool j : ℕ) → total (pool - 1) l ≡ 0 → j + shortestPool ≡ pool → 0 ≡ total (j + 7) l
-total-start l pool j e ej = let place : pool - 1 ≡ j + 7 = omega arith in sym e ∙ ap (λ (m : ℕ). total m l) place
+pub total-first : (l : List ℕ) (pool j : ℕ) → total (pool - 1) l ≡ 0 → j + shortestPool ≡ pool → getD l pool 0 ≡ total (j + 1 + 7) l
+total-first l pool j e ej = omega (arith, total-more l j 0 (total-start l pool j e ej), ap (λ (m : ℕ). getD l m 0) ej)
 
 -- WITHOUT LEASES
 

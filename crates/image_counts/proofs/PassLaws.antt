@@ -2,8 +2,10 @@
 -- Assumes nothing.
 use Prim.Native.Nat.{ℕ, suc, _+_, _-_, _*_, _≤_, _<_}
 use mathlib.Core.Path.{_≡_, refl, sym, ap, ap₂, subst, _∙_}
+use mathlib.Core.Logic.{by-cases}
 use mathlib.Core.List.{List, [], _∷_, _++_, append-nil, append-assoc}
 use native.Mathlib.Numerals.{add-one}
+use native.Mathlib.Decide.{decLe}
 use native.Mathlib.Omega.{arith}
 use lib.ListN.{length, take, drop, getD, set, replicate, length-set, length-map, take-append-drop}
 use lib.Seq.{take-suc-set, drop-set-lt, drop-drop}
@@ -20,9 +22,9 @@ use Rattle.counts.proofs.BelowLaws.{closed-above, opened-above}
 use Rattle.counts.proofs.LevelRows.{laid-lies, laid-ascend, laid-past, counts-by-levels}
 use Rattle.image_counts.specs.declared.Tally.{Tally}
 use Rattle.image_counts.specs.Standing.{Stands}
-use Rattle.image_counts.specs.InnerTally.{noRow, ahead, poolsAt, Short, Tallied, total, freesOn, Ready, Counted}
-use Rattle.image_counts.proofs.PlaceLaws.{pools-first, pools-none, leases-of, pools-of}
-use Rattle.image_counts.proofs.TallyLaws.{total-up, frees-same}
+use Rattle.image_counts.specs.InnerTally.{noRow, leaseAt, ahead, poolsAt, Short, bothOf, Tallied, total, freesOn, Ready, Counted}
+use Rattle.image_counts.proofs.PlaceLaws.{ahead-first, pools-first, pools-none, leases-of, pools-of}
+use Rattle.image_counts.proofs.TallyLaws.{total-up, frees-same, none-end}
 
 -- A POOL
 
@@ -36,12 +38,12 @@ module _ (image : List ℕ) (from n : ℕ) (p : Prefix) (at : ℕ) (ready : Read
         ap (total (p .length - 1)) (told .opened) ∙ total-up (openings p mine) (p .length - 1) (omega (arith, ready .to-longest))
         ∙ opened-above p (omega (arith, ready .from-shortest)) (omega (arith, ready .to-longest)) (ready .aligned) mine (ready .lie) (ready .ascend) (p .length - 1) (omega (arith, ready .from-shortest))
 
-    pub closed-none : total (p .length - 1) (t .closed) ≡ 0
+    pub closed-none : total (p .length - 1) (bothOf (t .sides)) ≡ 0
     closed-none =
         ap (total (p .length - 1)) (told .closed) ∙ total-up (lengths mine) (p .length - 1) (omega (arith, ready .to-longest))
         ∙ closed-above p (omega (arith, ready .from-shortest)) (omega (arith, ready .to-longest)) (ready .aligned) mine (ready .lie) (ready .ascend) (p .length - 1) (omega (arith, ready .from-shortest))
 
-    pub row-told : (row : List ℕ) → row ≡ freesOn (p .length) (t .opened) (t .closed) 7 countedLengths → Counted image from n p at (t .next) row
+    pub row-told : (row : List ℕ) → row ≡ freesOn (p .length) (t .opened) (bothOf (t .sides)) 7 countedLengths → Counted image from n p at (t .next) row
     row-told row e = record {
       within = told .within;
       row-is =
@@ -89,6 +91,17 @@ module _ (image : List ℕ) (pools leases : ℕ) where
 
   pub passed-none : Laid 0 (left-pools 0) (ahead image start leases 0) → Passed 0 0 (replicate poolSlots noRow)
   passed-none laid = record { size = refl; within = omega arith; some = omega arith; filled = refl; empty = refl; address = 0; laid = laid }
+
+  -- While leases are left there is a pool for them.
+  pub passed-some : (k next : ℕ) (rows : List (List ℕ)) → Passed k next rows → next < leases → k < pools
+  passed-some k next rows c lt =
+      by-cases (decLe pools k)
+      (λ past.
+      let none : Laid (c .address) [] (leaseAt image start next ∷ ahead image start leases (next + 1)) =
+      subst (λ (xs : List Prefix). Laid (c .address) [] xs) (ahead-first image start leases next lt)
+      (subst (λ (ps : List Prefix). Laid (c .address) ps (ahead image start leases next)) (pools-none image pools k past) (c .laid)) in
+      absurd (none .rooted .0 .pooled))
+      (λ less. omega arith)
 
   module _ (k next : ℕ) (rows : List (List ℕ)) (c : Passed k next rows) (lt : k < pools) (p : Prefix) (read : p ≡ nthPool (drop headSize image) k) where
     here : left-pools k ≡ p ∷ left-pools (k + 1)
@@ -139,6 +152,10 @@ module _ (image : List ℕ) (pools leases : ℕ) where
           address = end p;
           laid = subst (Laid (end p) rest) (sym (told .left)) (laid-past (c .address) p rest xs here-laid);
         }
+
+    -- A pool after the last lease.
+    pub passed-bare : pools ≤ poolSlots → Ready image start leases p next → leases ≤ next → (row : List ℕ) → row ≡ freesAfter (p .length) [] [] 7 countedLengths → Passed (k + 1) next (set rows k row)
+    passed-bare few ready past row e = passed-pool few next row (row-bare image start leases p next ready (none-end image start leases (end p) next past) row e)
 
   pub passed-all : (k next : ℕ) (rows : List (List ℕ)) → Passed k next rows → pools ≤ k → (t : LeaseTable) → Stands t image pools leases → rows ≡ countsOf t
   unfolding prefixesOf

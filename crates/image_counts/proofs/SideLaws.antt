@@ -7,7 +7,6 @@ use mathlib.Core.List.{List, [], _∷_}
 use native.Mathlib.Decide.{decLe}
 use native.Mathlib.Omega.{arith}
 use lib.ListN.{length, getD, set, replicate, length-set}
-use lib.Seq.{getD-set-same, getD-set-other}
 use lib.Dec.{eqb}
 use Rattle.free_space.specs.Serving.{one?}
 use Rattle.counts.proofs.OneLaws.{one-eq, one-lt, one-gt}
@@ -43,20 +42,6 @@ module _ (sides : List ℕ) where
   both-at j h =
       let same : 0 + j ≡ j = omega arith in
       sums-at 0 openLengths j h ∙ ap (λ (i : ℕ). getD sides i 0 + getD sides (openLengths + i) 0) same
-
-  -- A sum that has its first j places has the next.
-  pub both-more : (sum : List ℕ) (j v : ℕ) → j < openLengths → length sum ≡ openLengths → v ≡ getD sides j 0 + getD sides (openLengths + j) 0
-      → ((i : ℕ) → i < j → getD sum i 0 ≡ getD (bothOf sides) i 0)
-      → (i : ℕ) → i < j + 1 → getD (set sum j v) i 0 ≡ getD (bothOf sides) i 0
-  both-more sum j v lt size e h i less =
-      by-cases (decLe j i)
-      (λ a.
-      let same : i ≡ j = omega arith in
-      ap (λ (m : ℕ). getD (set sum j v) m 0) same ∙ getD-set-same sum j v 0 (omega arith) ∙ e ∙ sym (both-at j lt) ∙ sym (ap (λ (m : ℕ). getD (bothOf sides) m 0) same))
-      (λ a. getD-set-other sum j i v 0 (λ x. omega arith) ∙ h i (omega arith))
-
-  pub both-all : (sum : List ℕ) (j : ℕ) → openLengths ≤ j → length sum ≡ openLengths → ((i : ℕ) → i < j → getD sum i 0 ≡ getD (bothOf sides) i 0) → sum ≡ bothOf sides
-  both-all sum j ge size h = same-lists sum (bothOf sides) (size ∙ sym (sums-length 0 openLengths)) (λ i lt. h i (omega arith))
 
 -- ONE MORE
 

@@ -16,7 +16,7 @@ use Rattle.table.specs.Table.{leaseSlots}
 use Rattle.counts.specs.InnerLevels.{commonBits, equalTo, upTo, openingsAfter, openings, lengths, freesAfter, startIn, startPast}
 use Rattle.counts.proofs.OneLaws.{one-eq, one-lt, one-gt, one-over, up-next}
 use Rattle.counts.proofs.LevelRows.{in-first, in-none, in-empty, past-first, past-none, past-empty}
-use Rattle.image_counts.specs.InnerTally.{leaseAt, ahead, openLengths, zeros, tally, Tallied, total, freesOn}
+use Rattle.image_counts.specs.InnerTally.{leaseAt, ahead, openLengths, zeros, tally, bothOf, Tallied, total, freesOn}
 use Rattle.image_counts.proofs.PlaceLaws.{ahead-first, ahead-none}
 
 -- ONE PLACE
@@ -179,29 +179,30 @@ module _ (image : List ℕ) (from n stop top at : ℕ) where
           left = past-same i lt inside ∙ c .left;
         }
 
-    -- No lease of the pool is left.
-    module _ (p : Prefix) (es : stop ≡ end p) (et : top ≡ p .length) (few : n ≤ leaseSlots) where
-      done : mine i ≡ [] → startPast stop (ahead image from n i) ≡ ahead image from n i → Tallied image from n p at (record { next = i; opened = opened; closed = closed })
-      done none rest = record {
-        within = c .within;
-        few-opened = λ k. omega (arith, c .few-opened k, c .within);
-        few-closed = λ k. omega (arith, c .few-closed k, c .within);
-        opened =
-            sym (tally-none opened)
-            ∙ ap (λ (us : List Prefix). tally opened (openingsAfter before us)) (sym none)
-            ∙ c .opens
-            ∙ ap₂ (λ (m k : ℕ). tally zeros (openings (prefix 0 m) (startIn k (ahead image from n at)))) et es
-            ∙ ap (tally zeros) (openings-top p (startIn (end p) (ahead image from n at)));
-        closed =
-            sym (tally-none closed)
-            ∙ ap (λ (us : List Prefix). tally closed (lengths us)) (sym none)
-            ∙ c .closes
-            ∙ ap (λ (k : ℕ). tally zeros (lengths (startIn k (ahead image from n at)))) es;
-        left = sym rest ∙ c .left ∙ ap (λ (k : ℕ). startPast k (ahead image from n at)) es;
-      }
+  -- No lease of the pool is left.
+  module _ (opened sides : List ℕ) (before i : ℕ) (c : Counting opened (bothOf sides) before i)
+      (p : Prefix) (es : stop ≡ end p) (et : top ≡ p .length) (few : n ≤ leaseSlots) where
+    done : mine i ≡ [] → startPast stop (ahead image from n i) ≡ ahead image from n i → Tallied image from n p at (record { next = i; opened = opened; sides = sides })
+    done none rest = record {
+      within = c .within;
+      few-opened = λ k. omega (arith, c .few-opened k, c .within);
+      few-closed = λ k. omega (arith, c .few-closed k, c .within);
+      opened =
+          sym (tally-none opened)
+          ∙ ap (λ (us : List Prefix). tally opened (openingsAfter before us)) (sym none)
+          ∙ c .opens
+          ∙ ap₂ (λ (m k : ℕ). tally zeros (openings (prefix 0 m) (startIn k (ahead image from n at)))) et es
+          ∙ ap (tally zeros) (openings-top p (startIn (end p) (ahead image from n at)));
+      closed =
+          sym (tally-none (bothOf sides))
+          ∙ ap (λ (us : List Prefix). tally (bothOf sides) (lengths us)) (sym none)
+          ∙ c .closes
+          ∙ ap (λ (k : ℕ). tally zeros (lengths (startIn k (ahead image from n at)))) es;
+      left = sym rest ∙ c .left ∙ ap (λ (k : ℕ). startPast k (ahead image from n at)) es;
+    }
 
-      pub counting-stop : i < n → stop ≤ leaseAt image from i .network → Tallied image from n p at (record { next = i; opened = opened; closed = closed })
-      counting-stop lt h = let none = none-here image from n stop i lt h in done (none .0) (none .1)
+    pub counting-stop : i < n → stop ≤ leaseAt image from i .network → Tallied image from n p at (record { next = i; opened = opened; sides = sides })
+    counting-stop lt h = let none = none-here image from n stop i lt h in done (none .0) (none .1)
 
-      pub counting-end : n ≤ i → Tallied image from n p at (record { next = i; opened = opened; closed = closed })
-      counting-end past = let none = none-end image from n stop i past in done (none .0) (none .1)
+    pub counting-end : n ≤ i → Tallied image from n p at (record { next = i; opened = opened; sides = sides })
+    counting-end past = let none = none-end image from n stop i past in done (none .0) (none .1)

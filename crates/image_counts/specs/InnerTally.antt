@@ -68,9 +68,9 @@ bothOf sides = sumsOn sides 0 openLengths
 pub record Tallied (image : List ℕ) (from n : ℕ) (p : Prefix) (at : ℕ) (r : Tally) : Type 0 where
   pub within : r .next ≤ n
   pub few-opened : Few (r .opened)
-  pub few-closed : Few (r .closed)
+  pub few-closed : Few (bothOf (r .sides))
   pub opened : r .opened ≡ tally zeros (openings p (startIn (end p) (ahead image from n at)))
-  pub closed : r .closed ≡ tally zeros (lengths (startIn (end p) (ahead image from n at)))
+  pub closed : bothOf (r .sides) ≡ tally zeros (lengths (startIn (end p) (ahead image from n at)))
   pub left : ahead image from n (r .next) ≡ startPast (end p) (ahead image from n at)
 
 -- The sum of a list up to a place.

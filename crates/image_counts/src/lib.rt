@@ -12,9 +12,7 @@ ghost use mathlib.Core.Path.{_≡_};
 ghost use mathlib.Core.List.{[]};
 ghost use Prim.Native.Nat.{_+_, _-_, _*_, _≤_, _<_};
 ghost use lib.ListN.{length};
-ghost use lib.Dec.{eqb};
 ghost use Rattle.prefix.specs.Prefixes.{longest, end};
-ghost use Rattle.free_space.specs.Serving.{one?};
 ghost use Rattle.table.specs.declared.LeaseTable.{LeaseTable};
 ghost use Rattle.table.specs.Table.{leaseSlots, shortestPool};
 ghost use Rattle.image.specs.Image.{leaseSize};
@@ -33,25 +31,11 @@ const SIDES: usize = 2 * LEVELS;
 // The first length that is counted.
 const FIRST: usize = SHORTEST_POOL as usize;
 
-// The next lease, and of the leases of a pool before it how many open at each length, and how many have each length.
+// The next lease, and of the leases of a pool before it how many open at each length, and how many have each length, on two sides.
 struct Tally {
     next: usize,
     opened: [u16; LEVELS],
-    closed: [u16; LEVELS],
-}
-
-// The sum of both sides.
-fn both(sides: [u16; SIDES]) -> [u16; LEVELS]
-    requires { ⌜ Few (bothOf sides) ⌝ }
-    ensures { λ r. ⌜ r ≡ bothOf sides ⌝ }
-{
-    let mut sum = [0u16; LEVELS];
-    let mut j: usize = 0;
-    while j < LEVELS {
-        sum[j] = sides[j] + sides[LEVELS + j];
-        j += 1;
-    }
-    sum
+    sides: [u16; SIDES],
 }
 
 // The leases of a pool, of which the one at the place `at` is the first. It opens at the pool's length, each later one after the bits that its network
@@ -74,11 +58,10 @@ fn in_pool(image: &[u8], from: usize, n: usize, p: Prefix, at: usize) -> Tally
         let record = from + LEASE * i;
         let network = image::network_at(image, record);
         if stop <= (network as u64) {
-            let closed = both(sides);
             return Tally {
                 next: i,
                 opened,
-                closed,
+                sides,
             };
         }
         let k = (counts::common_bits(before, network) + 1) as usize;
@@ -89,11 +72,10 @@ fn in_pool(image: &[u8], from: usize, n: usize, p: Prefix, at: usize) -> Tally
         before = network;
         i += 1;
     }
-    let closed = both(sides);
     Tally {
         next: i,
         opened,
-        closed,
+        sides,
     }
 }
 
@@ -103,25 +85,23 @@ fn less(a: u16, b: u16) -> u16
     if b <= a { a - b } else { 0 }
 }
 
-fn one(pool: u8, length: usize) -> u16
-    ensures { λ r. ⌜ (r ≡ one? (eqb pool length)) × (r ≤ 1) ⌝ }
+// The row of a pool that has leases, into a row of zeros. It has nothing at lengths below the pool's, and at that length the pool itself counts: its
+// place comes first, so that the others need no test. Both sides are added here, where one pass sums them up anyway.
+fn fill(pool: u8, opened: [u16; LEVELS], sides: [u16; SIDES], row: &mut [u16; LENGTHS])
+    requires { ⌜ (shortestPool ≤ pool) × (pool ≤ longest) × Few opened × Few (bothOf sides) × (total (pool - 1) opened ≡ 0) × (total (pool - 1) (bothOf sides) ≡ 0) × (now row ≡ noRow) ⌝ }
+    ensures { λ _. ⌜ now (row .exit) ≡ freesOn pool opened (bothOf sides) (shortestPool - 1) countedLengths ⌝ }
 {
-    if pool as usize == length { 1 } else { 0 }
-}
-
-// The row of a pool that has leases, into a row of zeros. It has nothing at lengths below the pool's.
-fn fill(pool: u8, opened: [u16; LEVELS], closed: [u16; LEVELS], row: &mut [u16; LENGTHS])
-    requires { ⌜ (shortestPool ≤ pool) × (pool ≤ longest) × Few opened × Few closed × (total (pool - 1) opened ≡ 0) × (total (pool - 1) closed ≡ 0) × (now row ≡ noRow) ⌝ }
-    ensures { λ _. ⌜ now (row .exit) ≡ freesOn pool opened closed (shortestPool - 1) countedLengths ⌝ }
-{
-    let mut up: u16 = 0;
-    let mut down: u16 = 0;
-    let mut j = (pool - SHORTEST_POOL) as usize;
+    let top = pool as usize;
+    let mut up = opened[top];
+    let mut down = sides[top] + sides[LEVELS + top];
+    let at = top - FIRST;
+    row[at] = less(1, up);
+    let mut j = at + 1;
     while j < LENGTHS {
         let l = j + FIRST;
-        row[j] = less(one(pool, l) + up, opened[l] + down);
+        row[j] = less(up, opened[l] + down);
         up += opened[l];
-        down += closed[l];
+        down += sides[l] + sides[LEVELS + l];
         j += 1;
     }
 }
@@ -135,7 +115,8 @@ fn bare(pool: u8, row: &mut [u16; LENGTHS])
     row[j] = 1;
 }
 
-// The row of a pool, whose leases begin at the place `at`, into a row of zeros; the place of the next lease.
+// The row of a pool, into a row of zeros, where the place `at` is that of the next lease, be it one of the pool or of a later one; the place of the
+// lease after those of the pool.
 fn pool_row(
     image: &[u8],
     from: usize,
@@ -144,13 +125,9 @@ fn pool_row(
     at: usize,
     row: &mut [u16; LENGTHS],
 ) -> usize
-    requires { ⌜ Ready (now image) from n p at × (now row ≡ noRow) ⌝ }
+    requires { ⌜ Ready (now image) from n p at × (at < n) × (now row ≡ noRow) ⌝ }
     ensures { λ r. ⌜ Counted (now (image .entry)) from n p at r (now (row .exit)) ⌝ }
 {
-    if n <= at {
-        bare(p.length, row);
-        return at;
-    }
     let first = image::network_at(image, from + LEASE * at) as u64;
     if p.end() <= first {
         bare(p.length, row);
@@ -158,12 +135,13 @@ fn pool_row(
     }
     let t = in_pool(image, from, n, p, at);
     let opened = t.opened;
-    let closed = t.closed;
-    fill(p.length, opened, closed, row);
+    let sides = t.sides;
+    fill(p.length, opened, sides, row);
     t.next
 }
 
 // The counts of a table, from its image, as the counts that are kept: "Every call that changes lines keeps it equal to what a fresh walk would find".
+// While leases are left there is a pool for them; the pools after the last lease have no lease, and need no look at one.
 pub fn recount(image: &[u8], pools: usize, leases: usize, counts: &mut Counts)
     requires { ⌜ SomeTable (now image) pools leases ⌝ }
     ensures { λ _. ⌜ ((t : LeaseTable) → Stands t (now (image .entry)) pools leases → now (counts .exit) ≡ countsOf t) ⌝ }
@@ -173,9 +151,14 @@ pub fn recount(image: &[u8], pools: usize, leases: usize, counts: &mut Counts)
     *counts = [none; POOLS];
     let mut next: usize = 0;
     let mut k: usize = 0;
-    while k < pools {
+    while next < leases {
         let p = image_check::pool(&image[HEAD..], k);
         next = pool_row(image, from, leases, p, next, &mut counts[k]);
+        k += 1;
+    }
+    while k < pools {
+        let p = image_check::pool(&image[HEAD..], k);
+        bare(p.length, &mut counts[k]);
         k += 1;
     }
 }
@@ -196,5 +179,6 @@ pub fn counted(image: &[u8], pools: usize, leases: usize, counts: &Counts) -> bo
     requires { ⌜ SomeTable (now image) pools leases ⌝ }
     ensures { λ r. ⌜ ((t : LeaseTable) → Stands t (now (image .entry)) pools leases → r ≡ sameCounts? (now (counts .entry)) (countsOf t)) ⌝ }
 {
-    counts::same(*counts, counts_in(image, pools, leases))
+    let fresh = counts_in(image, pools, leases);
+    counts::same(*counts, fresh)
 }

@@ -10,7 +10,7 @@ use lib.ListN.{getD}
 use borrow.Author.Needs.{needs}
 use Rattle.prefix.proofs.PrefixLaws.{size-positive}
 use Rattle.gap_list.proofs.EndLaws.{bits-some}
-use Rattle.gap_list.proofs.SearchLaws.{Searching, search-start, search-end, size-pos, search-keep, search-open, search-small, search-better, search-exact}
+use Rattle.gap_list.proofs.SearchLaws.{Searching, search-start, search-end, search-skip, size-pos, search-keep, search-open, search-small, search-better, search-exact}
 use Rattle.gap_list.proofs.fit.Statement.{statement}
 use Rattle.gap_list.proofs.fit.Tie as tie
 
@@ -26,13 +26,13 @@ returns c = record { best = λ h. absurd (omega arith); place = λ e. absurd (fa
 sub-mask : tie.Need-sub-mask Inv-loop μ-loop
 sub-mask c = omega (arith, c .size .ensures .0, size-positive (c .before .before .before .before .args .length))
 
-first-large-requires : tie.Need-first-large-requires Inv-loop μ-loop
-first-large-requires c κs = (omega arith, omega arith, omega (arith, c .size .ensures .1, c .size .ensures .0, size-positive (c .before .before .before .before .args .length)))
+next-large-requires : tie.Need-next-large-requires Inv-loop μ-loop
+next-large-requires c κs = (omega arith, omega arith, omega (arith, c .size .ensures .1, c .size .ensures .0, size-positive (c .before .before .before .before .args .length)), omega arith)
 
 loop-holds : tie.Need-loop-holds Inv-loop μ-loop
 loop-holds c =
     let a = c .before .before .before .before .before .args in
-    search-start (a .starts .now) (a .lasts .now) (a .n) (a .length) (c .before .size .result) _ (c .before .size .ensures .0) (c .first-large .ensures)
+    search-start (a .starts .now) (a .lasts .now) (a .n) (a .length) (c .before .size .result) _ (c .before .size .ensures .0) (c .next-large .ensures)
 
 cast-up : tie.Need-cast-up Inv-loop μ-loop
 cast-up c = omega (arith, c .shared-slice-known3 .given (c .before .before .loop .i))
@@ -88,19 +88,32 @@ returns-2 c =
     let s = b .before .before .size in
     search-exact (a .starts .now) (a .lasts .now) (a .n) (a .length) (s .result) (b .loop .best) (b .loop .index) (b .loop .i) (b .loop .inv) (start .pre .0) (start .pre .1) (omega arith) (s .ensures .0) (e .before .bits .result) (e .before .bits .ensures) (at-end .before .if2 .taken) (omega arith) (omega (arith, e .before .before .shared-slice-known4 .given (b .loop .i))) (at-end .at-end .result) (at-end .at-end .ensures) (c .before .if3 .taken)
 
+next-large-requires-2 : tie.Need-next-large-requires-2 Inv-loop μ-loop
+next-large-requires-2 c κs =
+    let b = c .before .before .before .before .before .before in
+    let start = b .before .before .before .before .before .before in
+    let s = b .before .before .size in
+    (start .pre .0, start .pre .1, omega (arith, s .ensures .1, s .ensures .0, size-positive (start .args .length)), omega arith)
+
+loop-less : tie.Need-loop-less Inv-loop μ-loop
+loop-less c = omega (arith, c .next-large2 .ensures .later)
+
 loop-again : tie.Need-loop-again Inv-loop μ-loop
 loop-again c =
-    let e = c .before in
+    let m = c .before in
+    let e = m .before in
     let b = e .before .before .before .before .before in
     let start = b .before .before .before .before .before .before in
     let a = start .args in
     let s = b .before .before .size in
+    let searched : Searching (a .starts .now) (a .lasts .now) (a .n) (a .length) (m .if2 .best) (m .if2 .index) (b .loop .i + 1) =
     ⊎-elim
     (λ t.
     rw (t .4, t .5)
     (search-better (a .starts .now) (a .lasts .now) (a .n) (a .length) (s .result) (b .loop .best) (b .loop .index) (b .loop .i) (b .loop .inv) (start .pre .0) (start .pre .1) (omega arith) (s .ensures .0) (e .before .bits .result) (e .before .bits .ensures) (t .0 .taken) (omega arith) (omega (arith, e .before .before .shared-slice-known4 .given (b .loop .i))) (t .1 .result) (t .1 .ensures)))
     (λ t. rw (t .1, t .2) (search-keep (a .starts .now) (a .lasts .now) (a .n) (a .length) (s .result) (b .loop .best) (b .loop .index) (b .loop .i) (b .loop .inv) (start .pre .0) (start .pre .1) (omega arith) (s .ensures .0) (e .before .bits .result) (e .before .bits .ensures) (t .0 .left)))
-    (c .if2 .came)
+    (m .if2 .came) in
+    search-skip (a .starts .now) (a .lasts .now) (a .n) (a .length) (s .result) (m .if2 .best) (m .if2 .index) (b .loop .i + 1) searched (c .next-large2 .result) (s .ensures .0) (c .next-large2 .ensures)
 
 cast-t25 : tie.Need-cast-t25 Inv-loop μ-loop
 cast-t25 c = omega (arith, c .before .before .before .loop .inv .small)
@@ -114,6 +127,6 @@ returns-3 c =
 pub fit-spec : {M : Type 1} → statement M
 fit-spec =
     tie.close
-    (tie.spec Inv-loop μ-loop returns (λ c κs. search needs) sub-mask first-large-requires loop-holds (λ c. search needs) (λ c. search needs)
+    (tie.spec Inv-loop μ-loop returns (λ c κs. search needs) sub-mask next-large-requires loop-holds (λ c. search needs) (λ c. search needs)
     cast-up add-up sub-low (λ c. search needs) (λ c. search needs) cast-to add-to sub-high (λ c κs. search needs) sub-if2 at-end-requires
-    cast-t24 returns-2 (λ c. search needs) (λ c. search needs) loop-again cast-t25 returns-3)
+    cast-t24 returns-2 (λ c. search needs) next-large-requires-2 loop-less loop-again cast-t25 returns-3)

@@ -7,7 +7,7 @@ use mathlib.Core.List.{List}
 use native.Mathlib.Omega.{arith}
 use lib.ListN.{length, getD, set, replicate, length-set}
 use borrow.Author.Needs.{needs}
-use Rattle.image_counts.specs.InnerTally.{openLengths, zeros, bothOf, Tallied}
+use Rattle.image_counts.specs.InnerTally.{openLengths, zeros, bothOf}
 use Rattle.image_counts.proofs.TallyLaws.{Counting, counting-first, counting-more, counting-stop, counting-end}
 use Rattle.image_counts.proofs.SideLaws.{side-first, side-more, side-few}
 use Rattle.image_counts.proofs.in_pool.Statement.{statement}
@@ -84,22 +84,15 @@ network-at-requires-2 c κs = search needs
 cast-if1 : tie.Need-cast-if1 Inv-loop μ-loop
 cast-if1 c = search needs
 
-both-requires : tie.Need-both-requires Inv-loop μ-loop
-both-requires c κs =
-    let pre = c .before .before .before .before .before .before .before .before .before .pre in
-    let loop = c .before .before .before .loop in
-    λ k. omega (arith, loop .inv .0 .few-closed k, loop .inv .0 .within, pre .1)
-
 returns : tie.Need-returns Inv-loop μ-loop
 returns c =
-    let a = c .before .before .before .before .before .before .before .before .before .before .args in
-    let pre = c .before .before .before .before .before .before .before .before .before .before .pre in
-    let end = c .before .before .before .before .before .before .before .before .end in
-    let loop = c .before .before .before .before .loop in
-    let read = c .before .before .network-at2 in
-    subst (λ (closed : List ℕ). Tallied (a .image .now) (a .from) (a .n) (a .p) (a .at) (record { next = loop .i; opened = loop .opened; closed = closed })) (sym (c .both .ensures))
-    (counting-stop (a .image .now) (a .from) (a .n) (end .result) (a .p .length) (a .at) (loop .opened) (bothOf (loop .sides)) (loop .before) (loop .i) (loop .inv .0) (a .p) (end .ensures .0) refl (pre .1)
-    (omega arith) (omega (arith, read .ensures, c .before .if1 .taken)))
+    let a = c .before .before .before .before .before .before .before .before .before .args in
+    let pre = c .before .before .before .before .before .before .before .before .before .pre in
+    let end = c .before .before .before .before .before .before .before .end in
+    let loop = c .before .before .before .loop in
+    let read = c .before .network-at2 in
+    counting-stop (a .image .now) (a .from) (a .n) (end .result) (a .p .length) (a .at) (loop .opened) (loop .sides) (loop .before) (loop .i) (loop .inv .0) (a .p) (end .ensures .0) refl (pre .1)
+    (omega arith) (omega (arith, read .ensures, c .if1 .taken))
 
 common-bits-requires : tie.Need-common-bits-requires Inv-loop μ-loop
 common-bits-requires c κs = search needs
@@ -195,21 +188,14 @@ loop-again c =
       length-set (loop .sides) side (getD (loop .sides) side 0 + 1) ∙ loop .inv .1,
     )
 
-both-requires-2 : tie.Need-both-requires-2 Inv-loop μ-loop
-both-requires-2 c κs =
-    let pre = c .before .before .before .before .before .before .before .pre in
-    let loop = c .before .loop in
-    λ k. omega (arith, loop .inv .0 .few-closed k, loop .inv .0 .within, pre .1)
-
 returns-2 : tie.Need-returns-2 Inv-loop μ-loop
 returns-2 c =
-    let a = c .before .before .before .before .before .before .before .before .args in
-    let pre = c .before .before .before .before .before .before .before .before .pre in
-    let end = c .before .before .before .before .before .before .end in
-    let loop = c .before .before .loop in
-    subst (λ (closed : List ℕ). Tallied (a .image .now) (a .from) (a .n) (a .p) (a .at) (record { next = loop .i; opened = loop .opened; closed = closed })) (sym (c .both2 .ensures))
-    (counting-end (a .image .now) (a .from) (a .n) (end .result) (a .p .length) (a .at) (loop .opened) (bothOf (loop .sides)) (loop .before) (loop .i) (loop .inv .0) (a .p) (end .ensures .0) refl (pre .1)
-    (omega arith))
+    let a = c .before .before .before .before .before .before .before .args in
+    let pre = c .before .before .before .before .before .before .before .pre in
+    let end = c .before .before .before .before .before .end in
+    let loop = c .before .loop in
+    counting-end (a .image .now) (a .from) (a .n) (end .result) (a .p .length) (a .at) (loop .opened) (loop .sides) (loop .before) (loop .i) (loop .inv .0) (a .p) (end .ensures .0) refl (pre .1)
+    (omega arith)
 
 pub in-pool-spec : {M : Type 1} → statement M
 in-pool-spec =
@@ -234,7 +220,6 @@ in-pool-spec =
     add-record
     network-at-requires-2
     cast-if1
-    both-requires
     returns
     common-bits-requires
     add-k
@@ -254,5 +239,4 @@ in-pool-spec =
     add-i-2
     loop-less
     loop-again
-    both-requires-2
     returns-2)

@@ -3,30 +3,24 @@
 use native.Mathlib.Omega.{arith}
 use borrow.Author.Needs.{needs}
 use Rattle.prefix.specs.Prefixes.{end}
-use Rattle.image_counts.proofs.TallyLaws.{none-end, none-here}
+use Rattle.image_counts.proofs.TallyLaws.{none-here}
 use Rattle.image_counts.proofs.PassLaws.{opened-none, closed-none, row-told, row-bare}
 use Rattle.image_counts.proofs.pool_row.Statement.{statement}
 use Rattle.image_counts.proofs.pool_row.Tie as tie
 
 returns : tie.Need-returns
 returns c =
-    let start = c .before .before .before .before in
-    let a = start .args in
-    row-bare (a .image .now) (a .from) (a .n) (a .p) (a .at) (start .pre .0) (none-end (a .image .now) (a .from) (a .n) (end (a .p)) (a .at) (omega (arith, c .before .before .if1 .taken))) (c .bare .last .1 .0) (c .bare .ensures)
-
-returns-2 : tie.Need-returns-2
-returns-2 c =
-    let start = c .before .before .before .before .before .before .before in
+    let start = c .before .before .before .before .before .before in
     let a = start .args in
     let read = c .before .before .before .before .network-at in
     let stop = c .before .before .before .end in
     row-bare (a .image .now) (a .from) (a .n) (a .p) (a .at) (start .pre .0)
-    (none-here (a .image .now) (a .from) (a .n) (end (a .p)) (a .at) (omega arith) (omega (arith, read .ensures, stop .ensures .0, c .before .before .if2 .taken)))
-    (c .bare2 .last .1 .0) (c .bare2 .ensures)
+    (none-here (a .image .now) (a .from) (a .n) (end (a .p)) (a .at) (omega arith) (omega (arith, read .ensures, stop .ensures .0, c .before .before .if1 .taken)))
+    (c .bare .last .1 .0) (c .bare .ensures)
 
 fill-requires : tie.Need-fill-requires
 fill-requires c κs =
-    let start = c .before .before .before .before .before .before .before .before .before in
+    let start = c .before .before .before .before .before .before .before .before in
     let a = start .args in
     let pre = start .pre .0 in
     let told = c .before .before .before .in-pool in (
@@ -36,12 +30,12 @@ fill-requires c κs =
       told .ensures .few-closed,
       opened-none (a .image .now) (a .from) (a .n) (a .p) (a .at) pre (told .result) (told .ensures),
       closed-none (a .image .now) (a .from) (a .n) (a .p) (a .at) pre (told .result) (told .ensures),
-      start .pre .1,
+      start .pre .2,
     )
 
-returns-3 : tie.Need-returns-3
-returns-3 c =
-    let start = c .before .before .before .before .before .before .before .before .before .before in
+returns-2 : tie.Need-returns-2
+returns-2 c =
+    let start = c .before .before .before .before .before .before .before .before .before in
     let a = start .args in
     let told = c .before .before .before .before .in-pool in
     row-told (a .image .now) (a .from) (a .n) (a .p) (a .at) (start .pre .0) (told .result) (told .ensures) (c .fill .last .1 .1 .1 .0) (c .fill .ensures)
@@ -50,15 +44,13 @@ pub pool-row-spec : {M : Type 1} → statement M
 pool-row-spec =
     tie.close
     (tie.spec
+    (λ c. search needs)
+    (λ c. search needs)
+    (λ c κs. search needs)
+    (λ c. search needs)
+    (λ c κs. search needs)
     (λ c κs. search needs)
     returns
-    (λ c. search needs)
-    (λ c. search needs)
-    (λ c κs. search needs)
-    (λ c. search needs)
-    (λ c κs. search needs)
-    (λ c κs. search needs)
-    returns-2
     (λ c κs. search needs)
     fill-requires
-    returns-3)
+    returns-2)
