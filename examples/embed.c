@@ -270,8 +270,8 @@ static void show(const struct server *s, struct flockdrift_answer a, const char 
 {
     uint32_t i;
 
-    if (a.number == FLOCKDRIFT_BAD_SUBOPTION) {
-        printf("refused 7 place=%lu\n", (unsigned long)a.place);
+    if (a.number == FLOCKDRIFT_BAD_SUBOPTION || a.number == FLOCKDRIFT_BAD_FIELD) {
+        printf("refused %lu place=%lu\n", (unsigned long)a.number, (unsigned long)a.place);
     } else if (a.number != 0) {
         printf("refused %lu\n", (unsigned long)a.number);
     } else if (strcmp(verb, "sheet") == 0) {

@@ -245,7 +245,10 @@ impl Server {
         self.steps.step();
         let words = match answer {
             Ok(words) => words,
-            Err(Refusal { number: 7, place }) => return Some(format!("refused 7 place={place}")),
+            Err(Refusal {
+                number: number @ (7 | 16),
+                place,
+            }) => return Some(format!("refused {number} place={place}")),
             Err(Refusal { number, .. }) => return Some(format!("refused {number}")),
         };
         if !matches!(message, Message::List(..) | Message::Sheet) {

@@ -82,7 +82,7 @@ extern "C" {
 #endif
 
 /* Of this header and of the library that belongs to it. */
-#define FLOCKDRIFT_VERSION "0.12.0"
+#define FLOCKDRIFT_VERSION "0.13.0"
 
 /*
  * The image of a full table: 8 pools and 256 leases. No image is longer, and an image buffer must not be smaller. After
@@ -114,15 +114,17 @@ extern "C" {
  */
 struct flockdrift_answer {
     uint32_t number; /* 0: accepted; otherwise why not, see below */
-    uint32_t place;  /* of FLOCKDRIFT_BAD_SUBOPTION: where in the option it begins, the code byte being at 0 */
+    uint32_t place;  /* of FLOCKDRIFT_BAD_SUBOPTION and FLOCKDRIFT_BAD_FIELD: where in the option the suboption begins,
+                        the code byte being at 0; 0 of every other number */
     uint32_t bytes;  /* how many bytes of reply, buffer or text were written; those after them are as they were */
     uint32_t count;  /* ask, take, list: entries in the reply; release: leases removed by the option's entries; whole:
                         whole free prefixes of the length */
 };
 
 /*
- * Why a call is refused. If several apply, the answer is the first in this order: 1, 5, 15, 2, 3, 4, 6, 7, 8, 9, 10,
- * 11, 12, 14.
+ * Why a call is refused. If several apply, the answer is the first in this order: 1, 5, 15, 2, 3, 4, 6, 7 and 16, 8, 9,
+ * 10, 11, 12, 14. 7 and 16 stand in one row: the first bad suboption decides which, and of one that is bad in both ways
+ * the framing, all of which is looked at before any field.
  */
 enum {
     FLOCKDRIFT_ACCEPTED = 0,
@@ -134,7 +136,9 @@ enum {
                                          below FLOCKDRIFT_IMAGE_CAPACITY or below image_bytes; or, where counts are
                                          lent to be read, one of them is not the table's */
     FLOCKDRIFT_NOT_THE_OPTION = 6,    /* the input is not exactly one option 220; read_selection: one option 118 */
-    FLOCKDRIFT_BAD_SUBOPTION = 7,     /* a suboption breaks the format: `place` says which */
+    FLOCKDRIFT_BAD_SUBOPTION = 7,     /* a suboption's framing is bad, as of a message that was cut: no Len byte, a Len
+                                         past the end or one that the suboption cannot have, an entry cut short, a
+                                         figure length odd or past the end; `place` says which suboption */
     FLOCKDRIFT_WRONG_SUBOPTIONS = 8,  /* requests or entries are not those that this call takes */
     FLOCKDRIFT_TABLE_FULL = 9,        /* ask: 256 leases are present, and nothing is offered again */
     FLOCKDRIFT_NO_SPACE = 10,         /* ask: no free prefix of the length, and nothing is offered again */
@@ -143,8 +147,11 @@ enum {
     FLOCKDRIFT_BUFFER_TOO_SMALL = 14, /* open, load: the image buffer is below FLOCKDRIFT_IMAGE_CAPACITY, or the
                                          figures sheet is not of FLOCKDRIFT_FIGURES_CAPACITY; save, sheet,
                                          write_selection: what is written is longer than its buffer */
-    FLOCKDRIFT_FIGURES_UNSOUND = 15   /* ask, take, release, mark: the figures sheet does not match the table, as it is
+    FLOCKDRIFT_FIGURES_UNSOUND = 15,  /* ask, take, release, mark: the figures sheet does not match the table, as it is
                                          lent, with the leases that have ended; or it is of another size */
+    FLOCKDRIFT_BAD_FIELD = 16         /* a suboption's framing is good, and a field of it outside the rules: a request's
+                                         prefix above 30, an entry's prefix 0 or above 30, a network bit past the
+                                         prefix, a name's last octet zero; `place` says which suboption */
 };
 
 /* A number in words, for a log; never null. */
@@ -158,7 +165,7 @@ static inline const char *flockdrift_text(uint32_t number)
     case FLOCKDRIFT_TOO_LATE: return "the time is too late";
     case FLOCKDRIFT_NOT_AN_IMAGE: return "not the image of a sound table, or not its counts";
     case FLOCKDRIFT_NOT_THE_OPTION: return "not exactly the option";
-    case FLOCKDRIFT_BAD_SUBOPTION: return "a bad suboption";
+    case FLOCKDRIFT_BAD_SUBOPTION: return "bad framing in the suboption";
     case FLOCKDRIFT_WRONG_SUBOPTIONS: return "the suboptions are not those that the call takes";
     case FLOCKDRIFT_TABLE_FULL: return "the table is full";
     case FLOCKDRIFT_NO_SPACE: return "no free prefix of the length";
@@ -166,6 +173,7 @@ static inline const char *flockdrift_text(uint32_t number)
     case FLOCKDRIFT_OUTSIDE_RULES: return "pools, term, default length or start are outside the rules";
     case FLOCKDRIFT_BUFFER_TOO_SMALL: return "the buffer is too small";
     case FLOCKDRIFT_FIGURES_UNSOUND: return "the figures sheet does not match the table";
+    case FLOCKDRIFT_BAD_FIELD: return "a field outside the rules in the suboption";
     default: return "no number of this library";
     }
 }
@@ -194,7 +202,8 @@ struct flockdrift_answer flockdrift_open(uint8_t *image, size_t capacity, size_t
  * lease of its length and h that the client holds, of several the lowest, each only once in a call. It is held for 120
  * seconds from now on, even if it would have ended later; its d stays and is in the reply, and its row of the figures
  * sheet stays. This needs no place in the table and no free prefix. Only the other requests get free prefixes. So a
- * client whose answer was lost, and who asks again, gets the same prefixes. Numbers: 1, 5, 15, 2, 3, 4, 6, 7, 8, 9, 10.
+ * client whose answer was lost, and who asks again, gets the same prefixes. Numbers: 1, 5, 15, 2, 3, 4, 6, 7, 16, 8, 9,
+ * 10.
  */
 struct flockdrift_answer flockdrift_ask(uint8_t *image, size_t capacity, size_t *image_bytes, uint8_t *figures,
                                         size_t figures_capacity, uint16_t *counts, uint32_t client, uint32_t now,
@@ -204,7 +213,7 @@ struct flockdrift_answer flockdrift_ask(uint8_t *image, size_t capacity, size_t 
 /*
  * Confirms or renews, for the table's term, the client's leases that the option's entries name, and files the figures
  * of these entries; the reply names the leases that were found, without figures. The option has entries and no request.
- * Numbers: 1, 5, 15, 2, 3, 4, 6, 7, 8, 11.
+ * Numbers: 1, 5, 15, 2, 3, 4, 6, 7, 16, 8, 11.
  */
 struct flockdrift_answer flockdrift_take(uint8_t *image, size_t capacity, size_t *image_bytes, uint8_t *figures,
                                          size_t figures_capacity, uint16_t *counts, uint32_t client, uint32_t now,
@@ -214,13 +223,13 @@ struct flockdrift_answer flockdrift_take(uint8_t *image, size_t capacity, size_t
 /*
  * Lists the client's leases, ascending, at most 35 in a reply; whose s bit says that more remain, and an option with
  * that reply's information then gets the next ones. Every request of the option has its i bit set. Changes nothing.
- * Numbers: 1, 5, 2, 3, 4, 6, 7, 8, 11.
+ * Numbers: 1, 5, 2, 3, 4, 6, 7, 16, 8, 11.
  */
 struct flockdrift_answer flockdrift_list(const uint8_t *image, size_t capacity, size_t image_bytes,
                                          const uint16_t *counts, uint32_t client, uint32_t now, const uint8_t *option,
                                          size_t option_bytes, uint8_t *reply, size_t reply_capacity);
 
-/* Removes the client's leases that the option's entries name. Numbers: 5, 15, 2, 3, 4, 6, 7, 8, 11. */
+/* Removes the client's leases that the option's entries name. Numbers: 5, 15, 2, 3, 4, 6, 7, 16, 8, 11. */
 struct flockdrift_answer flockdrift_release(uint8_t *image, size_t capacity, size_t *image_bytes, uint8_t *figures,
                                             size_t figures_capacity, uint16_t *counts, uint32_t client, uint32_t now,
                                             const uint8_t *option, size_t option_bytes);
@@ -320,7 +329,7 @@ struct flockdrift_lease_answer flockdrift_lease(const uint8_t *image, size_t cap
 
 /* OPTIONS, with no book. */
 
-/* Checks an option 220, as ask, take, list and release do before they look at what it asks for. Numbers: 6, 7. */
+/* Checks an option 220, as ask, take, list and release do before they look at what it asks for. Numbers: 6, 7, 16. */
 struct flockdrift_answer flockdrift_check_option(const uint8_t *option, size_t option_bytes);
 
 struct flockdrift_selection_answer {

@@ -86,6 +86,10 @@ static const uint8_t list_all[] = {0xdc, 5, 0, 1, 2, 2, 0};
 static const uint8_t name_26[] = {0xdc, 11, 0, 2, 8, 0, 10, 0, 8, 0, 26, 0, 0};
 static const uint8_t tell_26[] = {0xdc, 17, 0, 2, 14, 0, 10, 0, 8, 0, 26, 0, 6, 1, 10, NO, 0, 2};
 static const uint8_t name_and_bad[] = {0xdc, 13, 0, 2, 8, 0, 10, 0, 8, 0, 26, 0, 0, 1, 0};
+/* a network bit past its prefix, before a second entry that is cut, and before a suboption whose Len is bad */
+static const uint8_t network_and_cut[] = {0xdc, 12, 0, 2, 9, 0, 10, 0, 8, 1, 26, 0, 0, 10};
+static const uint8_t network_and_bad[] = {0xdc, 13, 0, 2, 8, 0, 10, 0, 8, 1, 26, 0, 0, 1, 0};
+static const uint8_t name_of_zero[] = {0xdc, 8, 0, 1, 2, 0, 26, 3, 1, 0};
 
 /* What stands in s[0] is what the next refusal has to leave. */
 static void keep(struct lent *s)
@@ -452,28 +456,36 @@ static void order(struct lent *s)
     REFUSED(s, ask(s, 7, late, NULL, 0), 4, 0);
     REFUSED(s, ask(s, 7, 1000, NULL, 0), 6, 0);
     REFUSED(s, ask(s, 7, 1000, name_and_bad, sizeof name_and_bad), 7, 13);
-    REFUSED(s, ask(s, 7, 1000, ask_31, sizeof ask_31), 7, 3);
+    REFUSED(s, ask(s, 7, 1000, ask_31, sizeof ask_31), 16, 3);
+    REFUSED(s, ask(s, 7, 1000, network_and_cut, sizeof network_and_cut), 7, 3);
+    REFUSED(s, ask(s, 7, 1000, network_and_bad, sizeof network_and_bad), 16, 3);
     REFUSED(s, ask(s, 7, 1000, name_26, sizeof name_26), 8, 0);
     REFUSED(s, ask(s, 7, 1000, ask_8, sizeof ask_8), 10, 0);
     REFUSED(s, take(s, 0, 999, NULL, 0), 2, 0);
     REFUSED(s, take(s, 8, 999, NULL, 0), 3, 0);
     REFUSED(s, take(s, 8, late, NULL, 0), 4, 0);
     REFUSED(s, take(s, 8, 1000, NULL, 0), 6, 0);
-    REFUSED(s, take(s, 8, 1000, ask_31, sizeof ask_31), 7, 3);
+    REFUSED(s, take(s, 8, 1000, ask_31, sizeof ask_31), 16, 3);
+    REFUSED(s, take(s, 8, 1000, network_and_cut, sizeof network_and_cut), 7, 3);
+    REFUSED(s, take(s, 8, 1000, network_and_bad, sizeof network_and_bad), 16, 3);
     REFUSED(s, take(s, 8, 1000, ask_26, sizeof ask_26), 8, 0);
     REFUSED(s, take(s, 8, 1000, name_26, sizeof name_26), 11, 0);
     REFUSED(s, list(s, 0, 999, NULL, 0), 2, 0);
     REFUSED(s, list(s, 8, 999, NULL, 0), 3, 0);
     REFUSED(s, list(s, 8, late, NULL, 0), 4, 0);
     REFUSED(s, list(s, 8, 1000, NULL, 0), 6, 0);
-    REFUSED(s, list(s, 8, 1000, ask_31, sizeof ask_31), 7, 3);
+    REFUSED(s, list(s, 8, 1000, ask_31, sizeof ask_31), 16, 3);
+    REFUSED(s, list(s, 8, 1000, network_and_cut, sizeof network_and_cut), 7, 3);
+    REFUSED(s, list(s, 8, 1000, network_and_bad, sizeof network_and_bad), 16, 3);
     REFUSED(s, list(s, 8, 1000, ask_26, sizeof ask_26), 8, 0);
     REFUSED(s, list(s, 8, 1000, list_all, sizeof list_all), 11, 0);
     REFUSED(s, release(s, 0, 999, NULL, 0), 2, 0);
     REFUSED(s, release(s, 8, 999, NULL, 0), 3, 0);
     REFUSED(s, release(s, 8, late, NULL, 0), 4, 0);
     REFUSED(s, release(s, 8, 1000, NULL, 0), 6, 0);
-    REFUSED(s, release(s, 8, 1000, ask_31, sizeof ask_31), 7, 3);
+    REFUSED(s, release(s, 8, 1000, ask_31, sizeof ask_31), 16, 3);
+    REFUSED(s, release(s, 8, 1000, network_and_cut, sizeof network_and_cut), 7, 3);
+    REFUSED(s, release(s, 8, 1000, network_and_bad, sizeof network_and_bad), 16, 3);
     REFUSED(s, release(s, 8, 1000, ask_26, sizeof ask_26), 8, 0);
     REFUSED(s, release(s, 8, 1000, name_26, sizeof name_26), 11, 0);
     REFUSED(s, mark(s, network[0], 25, 1, 999), 3, 0);
@@ -848,6 +860,7 @@ static void options(struct lent *s)
 {
     static const uint8_t selected[] = {118, 4, 10, 0, 1, 0};
     static const uint8_t short_118[] = {118, 3, 10, 0, 1};
+    static uint8_t longest[257];
     size_t n = FLOCKDRIFT_SELECTION_CAPACITY;
 
     fill(s);
@@ -855,7 +868,20 @@ static void options(struct lent *s)
     READ(s, flockdrift_check_option(name_26, sizeof name_26), 0, 0);
     REFUSED(s, flockdrift_check_option(ask_26, sizeof ask_26 - 1), 6, 0);
     REFUSED(s, flockdrift_check_option(selected, sizeof selected), 6, 0);
-    REFUSED(s, flockdrift_check_option(ask_31, sizeof ask_31), 7, 3);
+    REFUSED(s, flockdrift_check_option(ask_31, sizeof ask_31), 16, 3);
+    REFUSED(s, flockdrift_check_option(network_and_cut, sizeof network_and_cut), 7, 3);
+    REFUSED(s, flockdrift_check_option(network_and_bad, sizeof network_and_bad), 16, 3);
+    REFUSED(s, flockdrift_check_option(name_of_zero, sizeof name_of_zero), 16, 7);
+    /* the longest option: a number without Len as its last byte, and a name of a zero as its last three */
+    longest[0] = 0xdc;
+    longest[1] = 255;
+    longest[3] = 9;
+    longest[4] = 251;
+    REFUSED(s, flockdrift_check_option(longest, sizeof longest), 7, 256);
+    longest[4] = 249;
+    longest[254] = 3;
+    longest[255] = 1;
+    REFUSED(s, flockdrift_check_option(longest, sizeof longest), 16, 254);
     REFUSED(s, flockdrift_check_option(name_and_bad, sizeof name_and_bad), 7, 13);
 
     SELECTION(flockdrift_read_selection(selected, sizeof selected), 0, 0x0a000100);
@@ -924,8 +950,9 @@ static void book(struct lent *s)
     SAME("a length past the buffer", flockdrift_book_sheet(&held, s->text, sizeof s->text).number, 5);
     SAME("a length past the buffer", flockdrift_book_check(&held).number, 5);
 
-    for (i = 0; i <= 16; i++)
+    for (i = 0; i <= 17; i++)
         SAME("no words", flockdrift_text(i)[0] == '\0', 0);
+    SAME("words", strcmp(flockdrift_text(FLOCKDRIFT_BAD_FIELD), "a field outside the rules in the suboption") != 0, 0);
     SAME("words", strcmp(flockdrift_text(5), "not the image of a sound table, or not its counts") != 0, 0);
 }
 

@@ -15,6 +15,7 @@ use bench::options::{information, option, request};
 use bench::peer::PEER;
 use bench::random::Random;
 use bench::reference::REFERENCE;
+use reference::option::read220;
 
 const CALLS: u64 = 200_000;
 const SEED: u64 = 6656;
@@ -75,6 +76,17 @@ impl Call {
             Call::Mark { network, length, deprecated, now } => (desk.mark)(lent, *network, *length, *deprecated, *now),
             Call::Load { saved } => (desk.load)(lent, saved),
             Call::List { .. } | Call::Save | Call::Whole { .. } | Call::Sheet => unreachable!("they are above"),
+        }
+    }
+
+    /// The option that it was given.
+    fn option(&self) -> Option<&[u8]> {
+        match self {
+            Call::Ask { option, .. }
+            | Call::Take { option, .. }
+            | Call::List { option, .. }
+            | Call::Release { option, .. } => Some(option),
+            _ => None,
         }
     }
 
@@ -170,8 +182,11 @@ fn plausible(call: &Call, given: &Buffers, answer: &Answer, left: &Buffers) -> R
         if left != given {
             return Err("a refusal changed what was lent".into());
         }
-        if (answer.bytes, answer.count) != (0, 0) || (answer.number != 7 && answer.place != 0) {
-            return Err(format!("a refusal has counts: {answer:?}"));
+        // The first suboption is at 3.
+        let has_place = matches!(answer.number, 7 | 16);
+        if (answer.bytes, answer.count) != (0, 0) || (answer.place != 0) != has_place || (1..3).contains(&answer.place)
+        {
+            return Err(format!("a refusal has counts, or a place or none: {answer:?}"));
         }
         return Ok(());
     }
@@ -405,6 +420,80 @@ fn random_other(random: &mut Random) -> Vec<u8> {
     bytes
 }
 
+/// A suboption that is bad in its framing, in a field, or in both.
+fn random_bad(random: &mut Random, table: &Table) -> Vec<u8> {
+    let outside = random.pick(&[0, 31, 31, 32, 33, 255]);
+    let mut bytes = match random.below(8) {
+        0 => vec![1, 2, random.below(4) as u8, outside.max(31)],
+        1 => [vec![1, 3, 0, outside, 0], vec![1, 1, outside], vec![1, 0]][random.below(3) as usize].clone(),
+        2 => [vec![3, 0], vec![3, 1, 0], vec![3, 3, 0, 97, 0]][random.below(3) as usize].clone(),
+        // Without a Len byte, or with one past the end where it is the last.
+        3 => random.pick(&[&[1][..], &[2], &[3], &[9], &[1, 2, 0], &[2, 8, 0, 10], &[3, 2, 0]]).to_vec(),
+        _ => random_information(random, table, 0, 4),
+    };
+    if bytes[0] != 2 || bytes.len() < 10 {
+        return bytes;
+    }
+    let mut entries = vec![3];
+    while let Some(next) = entries.last().map(|at| at + 7 + usize::from(bytes[at + 6])).filter(|at| *at < bytes.len()) {
+        entries.push(next);
+    }
+    let both = random.once_in(2);
+    if both || random.once_in(2) {
+        let at = random.pick(&entries);
+        if random.once_in(2) {
+            bytes[at + 4] = outside
+        } else {
+            bytes[at + 3] |= 1
+        };
+    }
+    if both || random.once_in(2) {
+        let at = random.pick(&entries);
+        match random.below(4) {
+            // Odd, with as many bytes.
+            0 | 1 => {
+                bytes[at + 6] += 1;
+                bytes.insert(at + 7, 0);
+            }
+            2 => bytes[at + 6] = random.pick(&[253, 254, 255]),
+            _ => bytes.truncate(bytes.len() - 1 - random.below(6) as usize),
+        }
+    }
+    bytes[1] = (bytes.len() - 2) as u8;
+    bytes
+}
+
+/// What the suboption at this place would be refused with alone, if it were.
+fn refused_alone(suboption: &[u8]) -> Option<u8> {
+    read220(&option(suboption)).err().map(|refusal| refusal.number)
+}
+
+/// Whether an option that was refused with 7 or 16 also has a suboption of the other number after the bad one.
+fn both_in_two(option: &[u8], number: u8, mut place: usize) -> bool {
+    let mut first = true;
+    while place < option.len() {
+        let end = option.get(place + 1).map_or(option.len(), |len| option.len().min(place + 2 + usize::from(*len)));
+        if !first && refused_alone(&option[place..end]) == Some(23 - number) {
+            return true;
+        }
+        (first, place) = (false, end);
+    }
+    false
+}
+
+/// Whether the information at this place, refused with 7, has an entry with a field outside the rules.
+fn both_in_one(option: &[u8], place: usize) -> bool {
+    let Some((&[2, len], rest)) = option[place..].split_first_chunk() else { return false };
+    let mut entries = rest.get(1..usize::from(len)).unwrap_or(&[]);
+    while let Some((&[a, b, c, d, length, _, size], after)) = entries.split_first_chunk() {
+        if refused_alone(&[2, 8, 0, a, b, c, d, length, 0, 0]).is_some() {
+            return true;
+        }
+        entries = after.get(usize::from(size)..).unwrap_or(&[]);
+    }
+    false
+}
+
 fn random_request(random: &mut Random, table: &Table, listing: bool) -> [u8; 4] {
     let pool = random.pick(&table.pools).1;
     let length = match random.below(12) {
@@ -469,6 +558,20 @@ fn random_pieces(random: &mut Random, table: &Table, kind: u64) -> Vec<u8> {
     if random.once_in(4) {
         let at = random.below(pieces.len() as u64) as usize;
         pieces.swap(0, at);
+    }
+    if random.once_in(10) {
+        for _ in 0..1 + random.below(2) {
+            let at = random.below(pieces.len() as u64 + 1) as usize;
+            pieces.insert(at, random_bad(random, table));
+        }
+        if random.once_in(6) {
+            // One that ends with the longest option.
+            let bad = random_bad(random, table);
+            let len = 252 - bad.len();
+            let mut unknown = vec![0; 2 + len];
+            (unknown[0], unknown[1]) = (9, len as u8);
+            pieces = vec![unknown, bad];
+        }
     }
     let mut bytes = Vec::new();
     for piece in pieces {
@@ -881,6 +984,7 @@ fn main() {
     let mut answers: BTreeMap<(&str, u32), u64> = BTreeMap::new();
     let (mut most, mut full, mut filing, mut again, mut again_full) = (0, 0, 0, 0, 0);
     let (mut differing, mut counted) = (0u64, 0u64);
+    let (mut in_one, mut in_two, mut last_place) = (0u64, 0u64, 0u64);
     let (mut image, mut figures) = (Vec::new(), Vec::new());
     for index in 0..calls {
         if index % HISTORY == 0 {
@@ -900,6 +1004,12 @@ fn main() {
                     most = most.max(answer.count);
                 }
                 differing += u64::from(by_counts(&call, &given, &answer));
+                if let (Some(option), 7 | 16) = (call.option(), answer.number) {
+                    let (number, place) = (answer.number as u8, answer.place as usize);
+                    in_one += u64::from(number == 7 && both_in_one(option, place));
+                    in_two += u64::from(both_in_two(option, number, place));
+                    last_place += u64::from(place == 256);
+                }
                 if answer.number == 0 {
                     full += u64::from(left.bytes == FULL);
                     filing += u64::from(matches!(call, Call::Take { .. }) && filed(&given, &left));
@@ -936,10 +1046,18 @@ fn main() {
         }
         print!(" {number} x{count}");
     }
-    let unsound: u64 = answers.iter().filter(|((_, number), _)| *number == 15).map(|(_, count)| count).sum();
+    let refused = |with: u32| -> u64 {
+        let of_number = answers.iter().filter(|((_, number), _)| *number == with);
+        of_number.map(|(_, count)| count).sum()
+    };
     println!("\nmost entries in an answer: {most}; full images: {full}");
-    println!("figures sheets refused with 15: {unsound}; takes that filed a figure: {filing}");
+    println!("figures sheets refused with 15: {}; takes that filed a figure: {filing}", refused(15));
     println!("asks that gave an offer again: {again}, on a table of 256: {again_full}");
     println!("calls refused because of counts: {differing}; calls that changed counts: {counted}");
+    println!(
+        "options refused with 7: {}, with 16: {}; both in one suboption: {in_one}, in two: {in_two}; at 256: {last_place}",
+        refused(7),
+        refused(16)
+    );
     println!("agree: {calls} calls, the same answer, image, figures, counts and output by all {}", names.len());
 }

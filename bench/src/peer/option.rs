@@ -17,6 +17,10 @@ const ENTRY_H: u8 = 2;
 /// An option holds at most this many entries.
 pub const ENTRIES: usize = 35;
 
+/// A suboption's framing is bad, or a field of it is outside the rules.
+const FRAMING: u32 = 7;
+const FIELD: u32 = 16;
+
 /// What a call looks at while the option is read.
 pub trait Pieces {
     fn request(&mut self, flags: u8, length: u8);
@@ -24,7 +28,7 @@ pub trait Pieces {
     fn entry(&mut self, information: u8, network: u32, length: u8, figures: &[u8]);
 }
 
-/// Reads the option; a refusal is 6, or 7 with the place of the first bad suboption.
+/// Reads the option; a refusal is 6, or 7 or 16 with the place of the first bad suboption.
 #[inline(always)]
 pub fn read(option: &[u8], pieces: &mut impl Pieces) -> Result<(), Answer> {
     if option.len() < 4 || option[0] != CODE || usize::from(option[1]) != option.len() - 2 {
@@ -32,43 +36,57 @@ pub fn read(option: &[u8], pieces: &mut impl Pieces) -> Result<(), Answer> {
     }
     let mut place = 3;
     while place < option.len() {
-        let Some(end) = suboption(&option[place..], pieces) else {
-            return Err(Answer { place: place as u32, ..Answer::refusal(7) });
-        };
-        place += end;
+        match suboption(&option[place..], pieces) {
+            Ok(size) => place += size,
+            Err(number) => return Err(Answer { place: place as u32, ..Answer::refusal(number) }),
+        }
     }
     Ok(())
 }
 
-/// The suboption at the front of the bytes; answers its size, nothing if it is a bad one.
-fn suboption(bytes: &[u8], pieces: &mut impl Pieces) -> Option<usize> {
-    let (&[number, len], rest) = bytes.split_first_chunk()?;
-    let body = rest.get(..usize::from(len))?;
+/// The suboption at the front of the bytes; answers its size, or the number of a bad one.
+fn suboption(bytes: &[u8], pieces: &mut impl Pieces) -> Result<usize, u32> {
+    let (&[number, len], rest) = bytes.split_first_chunk().ok_or(FRAMING)?;
+    let body = rest.get(..usize::from(len)).ok_or(FRAMING)?;
     match number {
         REQUEST => match *body {
             [flags, length @ 0..=30] => pieces.request(flags, length),
-            _ => return None,
+            [_, _] => return Err(FIELD),
+            _ => return Err(FRAMING),
         },
         INFORMATION => {
-            let (&flags, mut entries) = body.split_first()?;
+            let (&flags, mut entries) = body.split_first().ok_or(FRAMING)?;
             if entries.is_empty() {
-                return None;
+                return Err(FRAMING);
             }
+            // The framing of all entries comes before a field of any, so the walk goes on after a bad one.
+            let mut outside = false;
             while !entries.is_empty() {
-                let (&[a, b, c, d, length, _, size], rest) = entries.split_first_chunk()?;
-                let network = u32::from_be_bytes([a, b, c, d]);
-                if !matches!(length, 1..=30) || network << length != 0 || size % 2 != 0 {
-                    return None;
+                let (&[a, b, c, d, length, _, size], rest) = entries.split_first_chunk().ok_or(FRAMING)?;
+                if size % 2 != 0 {
+                    return Err(FRAMING);
                 }
-                let (figures, rest) = rest.split_at_checked(size.into())?;
-                pieces.entry(flags, network, length, figures);
+                let (figures, rest) = rest.split_at_checked(size.into()).ok_or(FRAMING)?;
+                let network = u32::from_be_bytes([a, b, c, d]);
+                if matches!(length, 1..=30) && network << length == 0 {
+                    pieces.entry(flags, network, length, figures);
+                } else {
+                    outside = true;
+                }
                 entries = rest;
             }
+            if outside {
+                return Err(FIELD);
+            }
         }
-        NAME if *body.last()? == 0 => return None,
+        NAME => match body.last() {
+            Some(0) => return Err(FIELD),
+            Some(_) => {}
+            None => return Err(FRAMING),
+        },
         _ => {}
     }
-    Some(2 + body.len())
+    Ok(2 + body.len())
 }
 
 fn put_entry(entry: &mut [u8; 7], network: u32, length: u8, h: bool, d: bool) {

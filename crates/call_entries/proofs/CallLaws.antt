@@ -51,7 +51,7 @@ module _ (room : ℕ) (h : Lent) (now : ℕ) (c : Call) (own : List Row) (s : En
   from-6 : firstOf rows ≡ firstOf (entryRows (c .option) ++ own)
   from-6 = admitted-rows true room h now (c .client) (s .admission) (s .admits) (entryRows (c .option) ++ own) (s .admitted)
 
-  -- Rows 6, 7 and 8.
+  -- Rows 6, 7, 16 and 8.
   pub refused-entries : (accepted : Result State) → (s .read .answer .number ≡ 0 → ⊥)
       → result (s .read .answer) h (c .reply) ≡ settled (byRows rows (refusalPlace (c .option)) (stateIn h) (c .reply) accepted) h
   refused-entries accepted k =

@@ -67,9 +67,9 @@ module _ (s : List ℕ) (at : ℕ) (later : List SuboptionValue) (some : at < le
             later-is = sym (ap (λ (q : List SuboptionValue × End). q .0) all);
           }
       go (stop whole) e = absurd (omega (arith, suboption-whole s at e))
-      go (stop (badAt p)) e =
-          let two : _≡_ {A = List SuboptionValue × End} ([], badAt p) (later, whole) = sym (suboptions-stop s at (omega arith) (badAt p) e) ∙ good in
-          let ends : badAt p ≡ whole = ap (λ (q : List SuboptionValue × End). q .1) two in
+      go (stop (badAt f p)) e =
+          let two : _≡_ {A = List SuboptionValue × End} ([], badAt f p) (later, whole) = sym (suboptions-stop s at (omega arith) (badAt f p) e) ∙ good in
+          let ends : badAt f p ≡ whole = ap (λ (q : List SuboptionValue × End). q .1) two in
           let z : _≡_ {A = ℕ} 0 1 = cc in absurd (omega arith)
 
   pub first-head : at + 2 ≤ length s

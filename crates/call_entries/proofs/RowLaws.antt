@@ -1,4 +1,4 @@
--- Laws of rows 6, 7 and 8: the tests of the code, on counts, and the ledger's, on the pieces of an option.
+-- Laws of rows 6, 7, 16 and 8: the tests of the code, on counts, and the ledger's, on the pieces of an option.
 -- Assumes nothing.
 use Prim.Native.Nat.{ℕ}
 use native.Mathlib.Omega.{arith}
@@ -40,7 +40,7 @@ module _ (m : Contents) (c : Columns) (subs : List SuboptionValue) (h : ScannedO
 -- An option that is accepted is one, and its suboptions are read to the end.
 good-option : (b : Bool) (subs : List SuboptionValue) (e : End) (others : List SuboptionValue) → cond b (ended subs e) (refused 6 0) ≡ accepted others → (b ≡ true) × (e ≡ whole)
 good-option true subs whole others k = (refl, refl)
-good-option true subs (badAt p) others k = let z : _≡_ {A = ℕ} 0 1 = cc in absurd (omega arith)
+good-option true subs (badAt f p) others k = let z : _≡_ {A = ℕ} 0 1 = cc in absurd (omega arith)
 good-option false subs e others k = let z : _≡_ {A = ℕ} 0 1 = cc in absurd (omega arith)
 
 module _ (option : List ℕ) (m : Contents) (c : Columns) (reads : Reads option m c) (a : Answer) (g : a ≡ checkedAnswer (m .checked)) where
@@ -50,7 +50,7 @@ module _ (option : List ℕ) (m : Contents) (c : Columns) (reads : Reads option 
   abbrev right : Bool
   right = forTake (suboptions (readOption option))
 
-  -- Rows 6 and 7.
+  -- Rows 6, 7 and 16.
   pub read-bad : (a .number ≡ 0 → ⊥) → ReadsEntries option (record { answer = a; count = 0 }) (c .networks) (c .lengths)
   read-bad k = record {
     refused = option-refuses by m c reads a g ((8, not right) ∷ []);
@@ -61,8 +61,8 @@ module _ (option : List ℕ) (m : Contents) (c : Columns) (reads : Reads option 
   }
 
   module _ (good : a .number ≡ 0) where
-    none-of-two : firstOf (optionRows by) ≡ none
-    none-of-two = option-none by m c reads a g good
+    none-of-three : firstOf (optionRows by) ≡ none
+    none-of-three = option-none by m c reads a g good
 
     holding : ScannedOf m c (suboptions (readOption option))
     holding = scanned by m c reads a g good
@@ -71,7 +71,7 @@ module _ (option : List ℕ) (m : Contents) (c : Columns) (reads : Reads option 
     figures-left : LeftAt option firstEntries (entriesIn option)
     unfolding readOption
     figures-left =
-        let read : readOption option ≡ accepted (readSuboptions option 3 .0) = option-passed by none-of-two in
+        let read : readOption option ≡ accepted (readSuboptions option 3 .0) = option-passed by none-of-three in
         let good = good-option (option? option) (readSuboptions option 3 .0) (readSuboptions option 3 .1) (readSuboptions option 3 .0) read in
         subst (LeftAt option firstEntries) (ap (λ (o : Outcome). entries (suboptions o)) (sym read))
         (left-first option (readSuboptions option 3 .0) (omega (arith, option-long option (good .0))) (ap (λ (e : End). (readSuboptions option 3 .0, e)) (good .1)))
@@ -80,7 +80,7 @@ module _ (option : List ℕ) (m : Contents) (c : Columns) (reads : Reads option 
     eighth x e wrong =
         let number : x .number ≡ 8 = ap (λ (y : Answer). y .number) e in
         let eight : firstOf (entryRows option) ≡ some 8 =
-        first-after (optionRows by) ((8, not right) ∷ []) none-of-two ∙ cond-true (not right) (some 8) none (not-of right wrong) in
+        first-after (optionRows by) ((8, not right) ∷ []) none-of-three ∙ cond-true (not right) (some 8) none (not-of right wrong) in
         record {
           refused = λ _. (eight ∙ ap some (sym number), e ∙ ap (λ (n : ℕ). refusal n (refusalPlace option n)) (sym number));
           passed = λ z. absurd (omega (arith, number, z));
@@ -100,7 +100,7 @@ module _ (option : List ℕ) (m : Contents) (c : Columns) (reads : Reads option 
       read-good k = record {
         refused = λ some-row. absurd (some-row good);
         passed = λ _ rest.
-            first-after (optionRows by) ((8, not right) ∷ rest) none-of-two
+            first-after (optionRows by) ((8, not right) ∷ rest) none-of-three
             ∙ cond-false (not right) (some 8) (firstOf rest) (not-to right (names-something m c (suboptions (readOption option)) holding none-asked k));
         few = holding .few;
         left = λ _. figures-left;

@@ -13,7 +13,7 @@ use Rattle.call_entries.specs.declared.EntriesRead.{EntriesRead}
 use Rattle.call_entries.specs.EntryLeases.{Hold}
 use Rattle.call_entries.specs.EntryFigures.{firstEntries, LeftAt}
 
--- Rows 6, 7 and 8 of take and release: row 8 is "no requests, at least one entry".
+-- Rows 6, 7, 16 and 8 of take and release: row 8 is "no requests, at least one entry".
 abbrev pub entryRows : List ℕ → List Row
 entryRows option = optionRows (call 0 option []) ++ ((8, not (forTake (suboptions (readOption option)))) ∷ [])
 

@@ -27,7 +27,7 @@ ghost use Rattle.call_entries.specs.EntryFigures.{firstEntries, LeftAt};
 
 // THE ENTRIES
 
-// The refusal of rows 6, 7 and 8, with number 0 where none applies; then there are entries, and these are how many.
+// The refusal of rows 6, 7, 16 and 8, with number 0 where none applies; then there are entries, and these are how many.
 pub struct EntriesRead {
     pub answer: Answer,
     pub count: usize,

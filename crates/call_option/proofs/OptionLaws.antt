@@ -10,6 +10,7 @@ use lib.Dec.{leb}
 use borrow.Author.Tests.{leb-true}
 use Rattle.lists.proofs.PutLaws.{put-front}
 use Rattle.option.specs.Values.{SuboptionValue, refused}
+use Rattle.option.specs.declared.Fault.the-variants.{Framing, Field}
 use Rattle.option.specs.Reading.{End, whole, badAt, ended, option?, readSuboptions, readOption}
 use Rattle.option.specs.Writing.{refusedWith, written, fourBytes}
 use Rattle.option.specs.Selection.{readSelection, selectionBytes, writeSelection}
@@ -69,7 +70,8 @@ selection-few address old new w n e h =
 reading-answer : (b : Bool) (subs : List SuboptionValue) (e : End)
     → checkedAnswer (checkedOf (cond b (ended subs e) (refused 6 0))) ≡ readingAnswer (cond b (ended subs e) (refused 6 0))
 reading-answer true subs whole = refl
-reading-answer true subs (badAt place) = refl
+reading-answer true subs (badAt Framing place) = refl
+reading-answer true subs (badAt Field place) = refl
 reading-answer false subs e = refl
 
 pub checked-option : (option : List ℕ) → checkedAnswer (checkedOf (readOption option)) ≡ optionCheck option

@@ -25,7 +25,7 @@ writingAnswer (written bytes) buffer = (acceptance (length bytes) 0, bytes ++ dr
 unfoldable pub selectionInto : ℕ → List ℕ → Answer × List ℕ
 selectionInto a buffer = writingAnswer (writeSelection (length buffer) a) buffer
 
--- OPTION 220 CHECKED: row 6, or row 7 with its place.
+-- OPTION 220 CHECKED: row 6, or row 7 or 16 with its place.
 abbrev pub readingAnswer : Outcome → Answer
 readingAnswer (refused number place) = refusal number place
 readingAnswer (accepted subs) = acceptance 0 0

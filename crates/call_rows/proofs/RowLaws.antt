@@ -18,10 +18,11 @@ use Rattle.option.specs.Values.{SuboptionValue, Outcome}
 use Rattle.option.specs.Values as values
 use Rattle.option.specs.Contents.{placeIn, suboptions}
 use Rattle.option.specs.Answers.{checkedOf, placeOf}
+use Rattle.option.specs.declared.Fault.the-variants.{Framing, Field}
 use Rattle.option.specs.declared.Checked.{Checked}
 use Rattle.option.specs.declared.Checked.the-variants.{NotTheOption, BadSuboption}
 use Rattle.ledger.specs.declared.Answer.{Answer}
-use Rattle.ledger.specs.Ledger.{State, Call, Result, result, refusal, Row, firstOf, byRows, refusalPlace, leastReply, nothing?, optionRows}
+use Rattle.ledger.specs.Ledger.{State, Call, Result, result, refusal, Row, firstOf, byRows, placed?, refusalPlace, leastReply, nothing?, optionRows}
 use Rattle.ledger.specs.Sizes.{Bytes}
 use Rattle.ledger.specs.Answers.{checkedAnswer, answered}
 use Rattle.ledger.proofs.ReadLaws.{place-short}
@@ -40,7 +41,7 @@ checked-place : (o : Outcome) → placeIn o ≤ 257 → placeOf (checkedOf o) �
 checked-place (values.accepted subs) h = omega arith
 checked-place (values.refused number place) h = pick (eqb number 6)
   where
-    pick : (b : Bool) → placeOf (cond b NotTheOption (BadSuboption place)) ≤ 257
+    pick : (b : Bool) → placeOf (cond b NotTheOption (BadSuboption (cond (eqb number 7) Framing Field) place)) ≤ 257
     pick true = omega arith
     pick false = h
 
@@ -66,9 +67,9 @@ module _ (rows : List Row) (numbered : Numbered rows) (n : ℕ) (e : n ≡ numbe
 
 -- THE ROWS UP TO THE OPTION, AND WHAT FOLLOWS THEM
 
--- None of them has number 0, or 7, which has a place.
+-- None of them has number 0, or one that has a place.
 admission-numbers : (sheet : Bool) (room : ℕ) (h : Lent) (now client : ℕ)
-    → All (λ (r : Row). (eqb (r .0) 0 ≡ false) × (eqb (r .0) 7 ≡ false)) (admissionRows sheet room h now client)
+    → All (λ (r : Row). (eqb (r .0) 0 ≡ false) × (placed? (r .0) ≡ false)) (admissionRows sheet room h now client)
 admission-numbers true room h now client = ((refl, refl), ((refl, refl), ((refl, refl), ((refl, refl), ((refl, refl), ((refl, refl), tt))))))
 admission-numbers false room h now client = ((refl, refl), ((refl, refl), ((refl, refl), ((refl, refl), ((refl, refl), tt)))))
 
@@ -77,15 +78,15 @@ module _ (sheet : Bool) (room : ℕ) (h : Lent) (now client : ℕ) (a : Admissio
   first = admissionRows sheet room h now client
 
   numbered : Numbered first
-  numbered = all-map (λ (r : Row) (k : (eqb (r .0) 0 ≡ false) × (eqb (r .0) 7 ≡ false)). k .0) first (admission-numbers sheet room h now client)
+  numbered = all-map (λ (r : Row) (k : (eqb (r .0) 0 ≡ false) × (placed? (r .0) ≡ false)). k .0) first (admission-numbers sheet room h now client)
 
-  placeless : All (λ (r : Row). eqb (r .0) 7 ≡ false) first
-  placeless = all-map (λ (r : Row) (k : (eqb (r .0) 0 ≡ false) × (eqb (r .0) 7 ≡ false)). k .1) first (admission-numbers sheet room h now client)
+  placeless : All (λ (r : Row). placed? (r .0) ≡ false) first
+  placeless = all-map (λ (r : Row) (k : (eqb (r .0) 0 ≡ false) × (placed? (r .0) ≡ false)). k .1) first (admission-numbers sheet room h now client)
 
-  pub not-admitted : (a .number ≡ 0 → ⊥) → (firstOf (first ++ rest) ≡ some (a .number)) × (eqb (a .number) 7 ≡ false)
+  pub not-admitted : (a .number ≡ 0 → ⊥) → (firstOf (first ++ rest) ≡ some (a .number)) × (placed? (a .number) ≡ false)
   not-admitted k =
       let one = number-some first numbered (a .number) (ad .number) k in
-      (first-before first rest (a .number) one, first-number (λ (n : ℕ). eqb n 7 ≡ false) first placeless (a .number) one)
+      (first-before first rest (a .number) one, first-number (λ (n : ℕ). placed? n ≡ false) first placeless (a .number) one)
 
   none-of : a .number ≡ 0 → firstOf first ≡ none
   none-of = number-none first numbered (a .number) (ad .number)
@@ -97,7 +98,7 @@ module _ (sheet : Bool) (room : ℕ) (h : Lent) (now client : ℕ) (a : Admissio
   pub admitted-rows : a .number ≡ 0 → firstOf (first ++ rest) ≡ firstOf rest
   admitted-rows z = first-after first rest (none-of z)
 
--- ROWS 6 AND 7, what follows them, and what is read of an option that passes them.
+-- ROWS 6, 7 AND 16, what follows them, and what is read of an option that passes them.
 
 module _ (c : Call) (m : Contents) (k : Columns) (reads : Reads (c .option) m k) (ans : Answer) (g : ans ≡ checkedAnswer (m .checked)) where
   answer-is : ans ≡ answered (firstOf (optionRows c)) (c .option)
@@ -121,7 +122,7 @@ module _ (c : Call) (m : Contents) (k : Columns) (reads : Reads (c .option) m k)
         go : (o : Option ℕ) → firstOf (optionRows c) ≡ o → firstOf (optionRows c) ≡ none
         go none f = f
         go (some n) f =
-            absurd (eqb-false n 0 (first-number (λ (m : ℕ). eqb m 0 ≡ false) (optionRows c) (refl, (refl, tt)) n f)
+            absurd (eqb-false n 0 (first-number (λ (m : ℕ). eqb m 0 ≡ false) (optionRows c) (refl, (refl, (refl, tt))) n f)
             (sym (ap (λ (x : Answer). x .number) (answer-is ∙ ap (λ (o : Option ℕ). answered o (c .option)) f)) ∙ good))
 
     pub scanned : ScannedOf m k (suboptions (readOption (c .option)))
@@ -129,9 +130,9 @@ module _ (c : Call) (m : Contents) (k : Columns) (reads : Reads (c .option) m k)
         let read = option-passed c option-none in
         subst (λ (o : Outcome). ScannedOf m k (suboptions o)) (sym read) (reads .holds (readSuboptions (c .option) 3 .0) read)
 
--- A CALL WITH AN OPTION, at each of its steps. Its rows are those up to the option, rows 6 and 7, row 8, which is about the option's suboptions, and its own.
+-- A CALL WITH AN OPTION, at each of its steps. Its rows are those up to the option, rows 6, 7 and 16, row 8, which is about the option's suboptions, and its own.
 
--- It is admitted, its option is read, and this is the answer of rows 6 and 7.
+-- It is admitted, its option is read, and this is the answer of rows 6, 7 and 16.
 pub record ReadCall (sheet : Bool) (room : ℕ) (h : Lent) (now : ℕ) (c : Call) : Type 0 where
   pub admission : Admission
   pub admits : Admits sheet room h now (c .client) admission
@@ -165,14 +166,14 @@ module _ (sheet : Bool) (room : ℕ) (h : Lent) (now : ℕ) (c : Call) (wanted :
   pub refused-admission : (a : Admission) → Admits sheet room h now (c .client) a → (a .number ≡ 0 → ⊥) → result (refusal (a .number) 0) h (c .reply) ≡ after
   refused-admission a ad k =
       let r = not-admitted sheet room h now (c .client) a ad (optionRows c ++ row-8) k in
-      ap (λ (p : ℕ). result (refusal (a .number) p) h (c .reply)) (sym (cond-false (eqb (a .number) 7) (placeIn (readOption (c .option))) 0 (r .1)))
+      ap (λ (p : ℕ). result (refusal (a .number) p) h (c .reply)) (sym (cond-false (placed? (a .number)) (placeIn (readOption (c .option))) 0 (r .1)))
       ∙ by-row (a .number) k (r .0)
 
   module _ (s : ReadCall sheet room h now c) where
     up-to-option : firstOf rows ≡ firstOf (optionRows c ++ row-8)
     up-to-option = admitted-rows sheet room h now (c .client) (s .admission) (s .admits) (optionRows c ++ row-8) (s .admitted)
 
-    -- Rows 6 and 7.
+    -- Rows 6, 7 and 16.
     pub refused-option : (s .answer .number ≡ 0 → ⊥) → result (s .answer) h (c .reply) ≡ after
     refused-option some-row =
         let r = option-refuses c (s .contents) (s .columns) (s .reads) (s .answer) (s .answer-is) row-8 some-row in

@@ -131,7 +131,7 @@ pub fn admit(
     Admission { number, summary }
 }
 
-// Rows 6 and 7, as the reader found them; number 0 where the option is good.
+// Rows 6, 7 and 16, as the reader found them; number 0 where the option is good.
 pub fn option_refusal(c: Checked) -> Answer
     requires { ⌜ placeOf c ≤ longestOption ⌝ }
     ensures { λ r. ⌜ r ≡ checkedAnswer c ⌝ }
@@ -139,7 +139,7 @@ pub fn option_refusal(c: Checked) -> Answer
     match c {
         Checked::Good => call_spec::refused(0, 0),
         Checked::NotTheOption => call_spec::refused(6, 0),
-        Checked::BadSuboption(place) => call_spec::refused(7, place as u32),
+        Checked::BadSuboption(fault, place) => call_spec::refused(fault.number(), place as u32),
     }
 }
 

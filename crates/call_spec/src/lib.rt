@@ -5,7 +5,7 @@ ghost use mathlib.Core.Bool.{cond};
 ghost use lib.Dec.{ltb};
 ghost use Rattle.ledger.specs.Ledger.{refusal, acceptance};
 
-// A refusal with its place (row 7 only), all counts 0.
+// A refusal with its place (rows 7 and 16 only), all counts 0.
 pub fn refused(number: u32, place: u32) -> Answer
     ensures { λ r. ⌜ r ≡ refusal number place ⌝ }
 {

@@ -2,25 +2,26 @@
 -- Assumes nothing.
 use Prim.Native.Nat.{ℕ}
 use mathlib.Core.Path.{_≡_, sym, ap, _∙_}
-use mathlib.Core.Bool.{Bool, cond}
+use mathlib.Core.Bool.{Bool, true, false, cond}
 use mathlib.Core.List.{List, [], _∷_, _++_, append-nil, append-assoc}
 use borrow.Author.Tests.{eq-eqb, ne-eqb}
 use Rattle.text.specs.Ascii.{ascii}
 use Rattle.console_lines.specs.Lines.{decimal, refusedLine, answered, octetText, bytesLine, replyLine}
 use Rattle.console_lines.proofs.TextLaws.{filled}
 use Rattle.ledger.specs.declared.Answer.{Answer}
+use Rattle.ledger.specs.Ledger.{placed?}
 
 module _ (number place : ℕ) where
   abbrev by : Bool → List ℕ
-  by b = cond b (ascii "refused 7 place=" ++ decimal place ++ ascii "\n") (ascii "refused " ++ decimal number ++ ascii "\n")
+  by b = cond b (ascii "refused " ++ (decimal number ++ (ascii " place=" ++ (decimal place ++ ascii "\n")))) (ascii "refused " ++ decimal number ++ ascii "\n")
 
-  pub refused-place : number ≡ 7 → ascii "refused 7 place=" ++ decimal place ++ ascii "\n" ≡ refusedLine number place
+  pub refused-place : placed? number ≡ true → ascii "refused " ++ (decimal number ++ (ascii " place=" ++ (decimal place ++ ascii "\n"))) ≡ refusedLine number place
   unfolding refusedLine
-  refused-place e = sym (ap by (eq-eqb number 7 e))
+  refused-place e = sym (ap by e)
 
-  pub refused-number : (number ≡ 7 → ⊥) → ascii "refused " ++ decimal number ++ ascii "\n" ≡ refusedLine number place
+  pub refused-number : placed? number ≡ false → ascii "refused " ++ decimal number ++ ascii "\n" ≡ refusedLine number place
   unfolding refusedLine
-  refused-number k = sym (ap by (ne-eqb number 7 k))
+  refused-number e = sym (ap by e)
 
 module _ (a : Answer) (line : List ℕ) where
   pub answer-refused : (a .number ≡ 0 → ⊥) → refusedLine (a .number) (a .place) ≡ answered a line

@@ -9,6 +9,7 @@ use Rattle.text.specs.Ascii.{ascii}
 use Rattle.text.specs.Decimal.{digits}
 use Rattle.console_text.specs.Text.{hexOf}
 use Rattle.ledger.specs.declared.Answer.{Answer}
+use Rattle.ledger.specs.Ledger.{placed?}
 
 -- Twenty digits hold every number of 64 bits.
 abbrev pub decimal : ℕ → List ℕ
@@ -17,10 +18,10 @@ decimal n = digits 19 n
 abbrev pub okLine : List ℕ
 okLine = ascii "ok\n"
 
--- "refused 7 place=3: the refusal that has a place"
+-- "refused 7 place=3: the refusal that has a place", and "refused 16 place=3, as for 7"
 unfoldable pub refusedLine : ℕ → ℕ → List ℕ
 refusedLine number place =
-    cond (eqb number 7) (ascii "refused 7 place=" ++ decimal place ++ ascii "\n")
+    cond (placed? number) (ascii "refused " ++ (decimal number ++ (ascii " place=" ++ (decimal place ++ ascii "\n"))))
     (ascii "refused " ++ decimal number ++ ascii "\n")
 
 -- "error line 12: a line that is no command"

@@ -35,6 +35,7 @@ ghost use Rattle.table.specs.Table.{poolSlots, shortestPool, noLease};
 ghost use Rattle.image.specs.Image.{poolSize};
 ghost use Rattle.figures.specs.Figures.{ofLease?};
 ghost use Rattle.image_figures.specs.Sheets.{figuresSize, sheetRows};
+ghost use Rattle.ledger.specs.Ledger.{placed?};
 ghost use Rattle.console_lines.specs.Sizes.{
   errorMost,
   lineMost,
@@ -112,14 +113,24 @@ pub fn error(out: &mut [u8], at: usize, line: u64) -> usize
     console_text::text(out, b, b"\n")
 }
 
-// A refusal by its number, with its place if it is the one that has a place.
+// Whether a refusal has a place.
+fn has_place(number: u32) -> bool
+    ensures { λ r. ⌜ r ≡ placed? number ⌝ }
+{
+    if number == 7 {
+        return true;
+    }
+    number == 16
+}
+
+// A refusal by its number, with its place if it has one.
 pub fn refusal(out: &mut [u8], at: usize, number: u32, place: u32) -> usize
     requires { ⌜ at + lineMost ≤ length (now out) ⌝ }
     ensures { λ r. ⌜ r ≤ at + lineMost ⌝ }
     ensures { λ r. ⌜ Wrote (now (out .entry)) at (refusedLine number place) (now (out .exit)) r ⌝ }
 {
-    if number == 7 {
-        return console_text::fill(out, at, b"refused 7 place=%\n", &[place]);
+    if has_place(number) {
+        return console_text::fill(out, at, b"refused % place=%\n", &[number, place]);
     }
     console_text::fill(out, at, b"refused %\n", &[number])
 }
@@ -321,7 +332,7 @@ fn suboptions(out: &mut [u8], at: usize, s: &[u8]) -> usize
                 end = suboption(out, end, s, x);
                 cursor = next;
             }
-            Step::Bad(_) => {
+            Step::Bad(_, _) => {
                 return end;
             }
             Step::End => {
@@ -343,7 +354,9 @@ fn option(out: &mut [u8], at: usize, s: &[u8]) -> usize
         Checked::Good => suboptions(out, at, s),
         Checked::NotTheOption => refusal(out, at, 6, 0),
         // No place is past the end.
-        Checked::BadSuboption(place) => refusal(out, at, 7, least(place, s.len()) as u32),
+        Checked::BadSuboption(fault, place) => {
+            refusal(out, at, fault.number(), least(place, s.len()) as u32)
+        }
     }
 }
 

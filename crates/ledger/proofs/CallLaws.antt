@@ -55,7 +55,7 @@ well now t c e =
       matched = not-false (matches? (t .table .leases) (t .rows)) (r .1 .1 .0);
       named = eqb-false (c .client) 0 (r .1 .1 .1 .0);
       accepted = (ltb-false now (t .table .last) (r .1 .1 .1 .1 .0), ltb-false latest now (r .1 .1 .1 .1 .1 .0));
-      asks = not-false (forAsk (asksOf c)) (r .1 .1 .1 .1 .1 .1 .1 .1 .0);
+      asks = not-false (forAsk (asksOf c)) (r .1 .1 .1 .1 .1 .1 .1 .1 .1 .0);
     }
 
 run-well : (now : ℕ) (t : State) (c : Call) → wellFormed now t c ≡ true
@@ -91,6 +91,7 @@ well-same now t u c st su at au m =
         ∷ (4, ltb latest now)
         ∷ (6, refuses? 6 (readOption (c .option)))
         ∷ (7, refuses? 7 (readOption (c .option)))
+        ∷ (16, refuses? 16 (readOption (c .option)))
         ∷ (8, not (forAsk (asksOf c)))
         ∷ []))
 

@@ -167,7 +167,7 @@ AskBalance t now r = Balance t now (addressesIn (newlyMade now t (replyEntries r
 
 pub numbered-before : (s : State) (now : ℕ) (c : Call) → Numbered (before 9 (askRows s now c))
 unfolding askRows
-numbered-before s now c = (refl, (refl, (refl, (refl, (refl, (refl, (refl, (refl, (refl, tt)))))))))
+numbered-before s now c = (refl, (refl, (refl, (refl, (refl, (refl, (refl, (refl, (refl, (refl, tt))))))))))
 
 ask-balance : (t : State) (now : ℕ) (c : Call) → AskBalance (t .table) now (ask t now c)
 unfolding wellFormed

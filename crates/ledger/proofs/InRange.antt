@@ -261,7 +261,7 @@ module _ (s : State) (now : ℕ) (c : Call) (f : StateInRange s) (k : CallInRang
       let gs : List Lease = catMaybes (askGives t now (c .client) xs rs) in
       let ys : List Lease = askLeases t now (c .client) xs rs in
       let short : All (λ r. r .length ≤ longest) (restOf given rs) = rest-all (λ r. r .length ≤ longest) given rs (requests-short (c .option)) in
-      let few : length gs ≤ mostRequests = granted-few t now (c .client) xs rs (not-false (forAsk rs) (r .1 .1 .1 .1 .1 .1 .1 .1 .0)) in
+      let few : length gs ≤ mostRequests = granted-few t now (c .client) xs rs (not-false (forAsk rs) (r .1 .1 .1 .1 .1 .1 .1 .1 .1 .0)) in
       let told : All Told gs =
       turn-all now Told given os
       (all-map (λ x (b : (heldBy? (c .client) x ≡ true) × Told x). b .1) (catMaybes given) (again-all t (c .client) Told rs xs (present-told t now so)))

@@ -68,6 +68,7 @@ rowsBy now client option sound? room last gs =
     ∷ (4, ltb latest now)
     ∷ (6, refuses? 6 (readOption option))
     ∷ (7, refuses? 7 (readOption option))
+    ∷ (16, refuses? 16 (readOption option))
     ∷ (8, not (forList (requestsIn option)))
     ∷ (11, nothing? gs)
     ∷ []

@@ -81,7 +81,7 @@ take-reads-back s now c =
     written-reads-back (takeRows s now c) (refusalPlace (c .option)) s _ (c .reply) (information false false (map entryOf gs)) (length gs) (numbered-take s now c)
     (λ free.
     let rows = first-none (takeRows s now c) free in
-    information-writable (poolsOf (s .table)) now false false gs (some-in gs (rows .1 .1 .1 .1 .1 .1 .1 .1 .1 .0))
+    information-writable (poolsOf (s .table)) now false false gs (some-in gs (rows .1 .1 .1 .1 .1 .1 .1 .1 .1 .1 .0))
     (all-found (poolsOf (s .table)) now (c .client) (present now (s .table .leases)) (here-good s now (rows .1 .0)) (entriesIn (c .option))))
 
 pub list-reads-back : ListsReadBack ledger
@@ -91,5 +91,5 @@ list-reads-back s now c =
     written-reads-back (listRows s now c) (refusalPlace (c .option)) s s (c .reply) (information true (ltb mostEntries (length gs)) (map entryOf (upTo mostEntries gs))) (length (upTo mostEntries gs)) (numbered-list s now c)
     (λ free.
     let rows = first-none (listRows s now c) free in
-    information-writable (poolsOf (s .table)) now true (ltb mostEntries (length gs)) (upTo mostEntries gs) (some-upTo mostEntries gs (omega arith) (some-in gs (rows .1 .1 .1 .1 .1 .1 .1 .1 .0)))
+    information-writable (poolsOf (s .table)) now true (ltb mostEntries (length gs)) (upTo mostEntries gs) (some-upTo mostEntries gs (omega arith) (some-in gs (rows .1 .1 .1 .1 .1 .1 .1 .1 .1 .0)))
     (upTo-all (Good (poolsOf (s .table)) now) mostEntries gs (filter-all _ (Good (poolsOf (s .table)) now) (present now (s .table .leases)) (here-good s now (rows .1 .0)))))

@@ -19,11 +19,12 @@ use Rattle.lists.proofs.ListLaws.{all-append, all-left}
 use Rattle.prefix.specs.Prefixes.{longest}
 use Rattle.option.specs.Values.{Entry, SuboptionValue, request, information, name, unknown, refused}
 use Rattle.option.specs.Rules.{fields?}
+use Rattle.option.specs.declared.Fault.the-variants.{Framing}
 use Rattle.option.specs.Reading.{two, figuresAt, entryAt, readEntry, readEntries, End, whole, badAt, subEnd, subInside?, whenGood, readRequest, readInformation, readName, readBody, readSuboption, readSuboptions, ended, option?, readOption}
 use Rattle.option.proofs.EntryLaws.{entry-read, weigh, walk-weight, entries-weight}
 use Rattle.option.proofs.SuboptionLaws.{good-read, suboption-read, suboption-moves, information-entries, option-long, body-stops}
 use Rattle.option.specs.Contents.{refuses?, placeIn, suboptions, requests, entries, requestsIn, entriesIn}
-use Rattle.ledger.specs.Ledger.{refusalPlace}
+use Rattle.ledger.specs.Ledger.{placed?, refusalPlace}
 use Rattle.ledger.proofs.Counts.{upTo-all}
 
 -- WHAT HOLDS OF EACH PIECE OF A WALK
@@ -60,7 +61,7 @@ body-gives number s at end =
 
 ended-all : (P : SuboptionValue → Type 0) (subs : List SuboptionValue) (e : End) → All P subs → All P (suboptions (ended subs e))
 ended-all P subs whole a = a
-ended-all P subs (badAt place) a = tt
+ended-all P subs (badAt fault place) a = tt
 
 pub fields-read : (s : List ℕ) → All (λ x. fields? x ≡ true) (suboptions (readOption s))
 unfolding readOption readSuboptions
@@ -183,7 +184,7 @@ entries-head (unknown ∷ subs) k = omega (arith, entries-head subs k)
 
 ended-weight : (subs : List SuboptionValue) (e : End) → weigh bytesOf (suboptions (ended subs e)) ≤ weigh bytesOf subs
 ended-weight subs whole = omega arith
-ended-weight subs (badAt place) = omega arith
+ended-weight subs (badAt fault place) = omega arith
 
 short : (s : List ℕ) → All (λ b. b < 256) s → option? s ≡ true → length s ≤ 257
 unfolding option?
@@ -236,16 +237,16 @@ module _ {A B : Type 0} (P : B → Type 0) (turn : ℕ → Turn A B) (out : B) (
 
 abbrev Within : ℕ → End → Type 0
 Within n whole = Unit {0}
-Within n (badAt place) = place ≤ n
+Within n (badAt fault place) = place ≤ n
 
 sub-stops : (s : List ℕ) (at : ℕ) (b : End) → readSuboption s at ≡ stop b → Within (length s) b
 unfolding readSuboption
 sub-stops s at b = go (leb (length s) at) (subInside? s at) refl b
   where
-    go : (p q : Bool) → leb (length s) at ≡ p → (b : End) → cond p (stop whole) (cond q (readBody (getD s at 0) s at (subEnd s at)) (stop (badAt at))) ≡ stop b → Within (length s) b
+    go : (p q : Bool) → leb (length s) at ≡ p → (b : End) → cond p (stop whole) (cond q (readBody (getD s at 0) s at (subEnd s at)) (stop (badAt Framing at))) ≡ stop b → Within (length s) b
     go true q l b e = let z : whole ≡ b = cc in subst (Within (length s)) z tt
-    go false true l b e = subst (Within (length s)) (sym (body-stops (getD s at 0) s at (subEnd s at) b e)) (omega (arith, leb-false (length s) at l))
-    go false false l b e = let z : badAt at ≡ b = cc in subst (Within (length s)) z (omega (arith, leb-false (length s) at l))
+    go false true l b e = subst (Within (length s)) (sym (body-stops (getD s at 0) s at (subEnd s at) b e .1)) (omega (arith, leb-false (length s) at l))
+    go false false l b e = let z : badAt Framing at ≡ b = cc in subst (Within (length s)) z (omega (arith, leb-false (length s) at l))
 
 pub place-inside : (s : List ℕ) → placeIn (readOption s) ≤ length s
 unfolding readOption readSuboptions
@@ -253,16 +254,16 @@ place-inside s = go (option? s)
   where
     ended-place : (subs : List SuboptionValue) (e : End) → Within (length s) e → placeIn (ended subs e) ≤ length s
     ended-place subs whole w = omega arith
-    ended-place subs (badAt place) w = w
+    ended-place subs (badAt fault place) w = w
 
     go : (b : Bool) → placeIn (cond b (ended (readSuboptions s 3 .0) (readSuboptions s 3 .1)) (refused 6 0)) ≤ length s
     go true = ended-place (readSuboptions s 3 .0) (readSuboptions s 3 .1) (walk-reason (Within (length s)) (readSuboption s) whole tt (sub-stops s) (suc (length s)) 3)
     go false = omega arith
 
--- "7 also its place": at most 257.
+-- "7 also its place", and 16: at most 257.
 pub place-short : (s : List ℕ) → All (λ b. b < 256) s → (n : ℕ) → refusalPlace s n ≤ 257
 unfolding readOption
-place-short s a n = go (eqb n 7)
+place-short s a n = go (placed? n)
   where
     at : (b : Bool) → option? s ≡ b → placeIn (cond b (ended (readSuboptions s 3 .0) (readSuboptions s 3 .1)) (refused 6 0)) ≤ length s
         → placeIn (cond b (ended (readSuboptions s 3 .0) (readSuboptions s 3 .1)) (refused 6 0)) ≤ 257

@@ -109,19 +109,19 @@ accepted-none rows place s reply accepted k z = go (firstOf rows) refl z
 
 pub numbered-ask : (s : State) (now : ℕ) (c : Call) → Numbered (askRows s now c)
 unfolding askRows
-numbered-ask s now c = (refl, (refl, (refl, (refl, (refl, (refl, (refl, (refl, (refl, (refl, (refl, tt)))))))))))
+numbered-ask s now c = (refl, (refl, (refl, (refl, (refl, (refl, (refl, (refl, (refl, (refl, (refl, (refl, tt))))))))))))
 
 pub numbered-take : (s : State) (now : ℕ) (c : Call) → Numbered (takeRows s now c)
 unfolding takeRows
-numbered-take s now c = (refl, (refl, (refl, (refl, (refl, (refl, (refl, (refl, (refl, (refl, tt))))))))))
+numbered-take s now c = (refl, (refl, (refl, (refl, (refl, (refl, (refl, (refl, (refl, (refl, (refl, tt)))))))))))
 
 pub numbered-list : (s : State) (now : ℕ) (c : Call) → Numbered (listRows s now c)
 unfolding listRows
-numbered-list s now c = (refl, (refl, (refl, (refl, (refl, (refl, (refl, (refl, (refl, tt)))))))))
+numbered-list s now c = (refl, (refl, (refl, (refl, (refl, (refl, (refl, (refl, (refl, (refl, tt))))))))))
 
 pub numbered-release : (s : State) (now : ℕ) (c : Call) → Numbered (releaseRows s now c)
 unfolding releaseRows
-numbered-release s now c = (refl, (refl, (refl, (refl, (refl, (refl, (refl, (refl, (refl, tt)))))))))
+numbered-release s now c = (refl, (refl, (refl, (refl, (refl, (refl, (refl, (refl, (refl, (refl, tt))))))))))
 
 pub numbered-mark : (s : State) (now network len : ℕ) → Numbered (markRows s now network len)
 unfolding markRows

@@ -2,6 +2,7 @@
 use Prim.Native.Nat.{ℕ}
 use mathlib.Core.List.{List}
 use mathlib.Core.Option.{Option}
+use Rattle.option.specs.Reading.{faultNumber}
 use Rattle.option.specs.declared.Checked.{Checked}
 use Rattle.option.specs.declared.Checked.the-variants.{Good, NotTheOption, BadSuboption}
 use Rattle.ledger.specs.declared.Answer.{Answer}
@@ -11,7 +12,7 @@ use Rattle.ledger.specs.Ledger.{refusal, acceptance, orElse, refusalPlac
 abbrev pub checkedAnswer : Checked → Answer
 checkedAnswer Good = acceptance 0 0
 checkedAnswer NotTheOption = refusal 6 0
-checkedAnswer (BadSuboption place) = refusal 7 place
+checkedAnswer (BadSuboption fault place) = refusal (faultNumber fault) place
 
 -- The refusal of the row that applies, or an accepted answer with no counts.
 abbrev pub answered : Option ℕ → List ℕ → Answer

@@ -1,7 +1,7 @@
 -- THE LEDGER: document 01's sections "Ground, blocks and the book" and "The calls". A call is a function of what it is given (`State`), the time and what
 -- comes with it (`Call`), to its answer, what it leaves, and the reply buffer after it; a refused one gives the first row that applies. Save and load stand
 -- in crate `image`. Numbers may be of any size here; within the code's types they stay within them (`InRange`).
-use Rattle.lists.specs.Basics.{ℕ, _+_, Bool, true, false, not, cond, _&&_, Bool·beq, List, [], _∷_, _++_, map, Option, none, some, length, drop, take as upTo, leb, ltb, eqb}
+use Rattle.lists.specs.Basics.{ℕ, _+_, Bool, true, false, not, cond, _&&_, _||_, Bool·beq, List, [], _∷_, _++_, map, Option, none, some, length, drop, take as upTo, leb, ltb, eqb}
 use Rattle.lists.specs.Lists.{and, all?, any?, filter, concatMap, catMaybes}
 use Rattle.prefix.specs.declared.Prefix.{Prefix}
 use Rattle.free_space.specs.Grant.{grant}
@@ -94,9 +94,12 @@ abbrev pub nothing? : {A : Type 0} → List A → Bool
 nothing? [] = true
 nothing? (x ∷ xs) = false
 
--- The place of a refusal: "7 also its place".
+-- The place of a refusal: "7 also its place", and 16 "with the same place, the suboption's number byte".
+abbrev pub placed? : ℕ → Bool
+placed? number = eqb number 7 || eqb number 16
+
 abbrev pub refusalPlace : List ℕ → ℕ → ℕ
-refusalPlace option number = cond (eqb number 7) (placeIn (readOption option)) 0
+refusalPlace option number = cond (placed? number) (placeIn (readOption option)) 0
 
 -- A call goes by its rows: the first that applies refuses it, with the place that its number has.
 abbrev pub byRows : {S : Type 0} → List Row → (ℕ → ℕ) → S → List ℕ → Result S → Result S
@@ -124,8 +127,9 @@ clientRows c = (2, eqb (c .client) 0) ∷ []
 abbrev pub timeRows : State → ℕ → List Row
 timeRows s now = (3, ltb now (s .table .last)) ∷ (4, ltb latest now) ∷ []
 
+-- "16, field outside the rules, in 7's row": the reader gives at most one of them.
 abbrev pub optionRows : Call → List Row
-optionRows c = (6, refuses? 6 (readOption (c .option))) ∷ (7, refuses? 7 (readOption (c .option))) ∷ []
+optionRows c = (6, refuses? 6 (readOption (c .option))) ∷ (7, refuses? 7 (readOption (c .option))) ∷ (16, refuses? 16 (readOption (c .option))) ∷ []
 
 -- Those of a call with an option, after row 1 where it has that one and before its own; `given` are those of what it is given.
 abbrev pub commonRows : List Row → State → ℕ → Call → List Row

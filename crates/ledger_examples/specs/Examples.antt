@@ -81,9 +81,9 @@ examples =
     -- P2 the offer of 10.0.1.0/24 is `DC 0B 00 02 08 00 0A 00 01 00 18 00 00`
     ∷ shows (writes (naming 0x0a000100 24)) (writes (0xdc ∷ 0x0b ∷ 0 ∷ 2 ∷ 8 ∷ 0 ∷ 0x0a ∷ 0 ∷ 1 ∷ 0 ∷ 0x18 ∷ 0 ∷ 0 ∷ []))
     ∷ shows (answers (doesAll (newTable (0x0a000100 ∷ []) (24 ∷ [])) (askFor 1 24 ∷ []))) (answers (offering 1 0 24 ∷ []))
-    -- P3 `DC 05 00 01 02 00 1E` is accepted; with `1F`, 7 at place 3
+    -- P3 `DC 05 00 01 02 00 1E` is accepted; with `1F`, 16 at place 3
     ∷ shows (reads (readOption (0xdc ∷ 5 ∷ 0 ∷ 1 ∷ 2 ∷ 0 ∷ 0x1e ∷ []))) (reads (accepted (request false false 30 ∷ [])))
-    ∷ shows (answers (doesAll (newTable (0x0a000100 ∷ []) (24 ∷ [])) (askFor 1 30 ∷ askFor 1 31 ∷ []))) (answers (offering 1 0 30 ∷ refusing 7 3 ∷ []))
+    ∷ shows (answers (doesAll (newTable (0x0a000100 ∷ []) (24 ∷ [])) (askFor 1 30 ∷ askFor 1 31 ∷ []))) (answers (offering 1 0 30 ∷ refusing 16 3 ∷ []))
     -- P4 `DC 01 00` gets 6; `DC 02 00 01` gets 7 at place 3
     ∷ shows (answers (doesAll (newTable (0x0a000100 ∷ []) (24 ∷ [])) (asked 1000 (call 1 (0xdc ∷ 1 ∷ 0 ∷ []) buffer) ∷ asked 1000 (call 1 (0xdc ∷ 2 ∷ 0 ∷ 1 ∷ []) buffer) ∷ [])))
     (answers (refusing 6 0 ∷ refusing 7 3 ∷ []))
@@ -99,8 +99,8 @@ examples =
     -- P9 held at 1000: a take at 1119 succeeds; a first take at 1120 gets 11
     ∷ shows (answers (doesAll (newTable (0x0a000100 ∷ []) (24 ∷ [])) (askFor 7 26 ∷ takeAt 1119 7 0x0a000100 26 ∷ []))) (answers (offering 1 0 26 ∷ offering 1 0 26 ∷ []))
     ∷ shows (answers (doesAll (newTable (0x0a000100 ∷ []) (24 ∷ [])) (askFor 7 26 ∷ takeAt 1120 7 0x0a000100 26 ∷ []))) (answers (offering 1 0 26 ∷ refusing 11 0 ∷ []))
-    -- P10 an entry 10.0.1.1/24 gets 7
-    ∷ shows (reads (readOption (0xdc ∷ 0x0b ∷ 0 ∷ 2 ∷ 8 ∷ 0 ∷ 10 ∷ 0 ∷ 1 ∷ 1 ∷ 24 ∷ 0 ∷ 0 ∷ []))) (reads (refused 7 3))
+    -- P10 an entry 10.0.1.1/24 gets 16
+    ∷ shows (reads (readOption (0xdc ∷ 0x0b ∷ 0 ∷ 2 ∷ 8 ∷ 0 ∷ 10 ∷ 0 ∷ 1 ∷ 1 ∷ 24 ∷ 0 ∷ 0 ∷ []))) (reads (refused 16 3))
     -- P11 stat-len 4 with four bytes is accepted, 3 with three gets 7
     ∷ shows (reads (readOption (0xdc ∷ 0x0f ∷ 0 ∷ 2 ∷ 12 ∷ 0 ∷ 10 ∷ 0 ∷ 1 ∷ 0 ∷ 24 ∷ 0 ∷ 4 ∷ 1 ∷ 0 ∷ 0 ∷ 7 ∷ [])))
     (reads (accepted (information false false (entry 0x0a000100 24 (256 ∷ 7 ∷ []) ∷ []) ∷ [])))

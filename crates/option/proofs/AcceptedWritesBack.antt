@@ -303,7 +303,7 @@ accepted-read s subs h = go (option? s) refl (readSuboptions s 3 .0) (readSubopt
     go true o xs whole ex ee k =
         let f = option-to s o in
         record { code = f .0 .code-byte; len = f .0 .len; some = f .1; list = ex ∙ cc; ends = ee }
-    go true o xs (badAt p) ex ee k = let z : _≡_ {A = ℕ} 0 1 = cc in absurd (omega arith)
+    go true o xs (badAt f p) ex ee k = let z : _≡_ {A = ℕ} 0 1 = cc in absurd (omega arith)
     go false o xs e ex ee k = let z : _≡_ {A = ℕ} 0 1 = cc in absurd (omega arith)
 
 -- "Repeated suboptions are never joined": the suboptions that are read stand one after another, without a gap, from the third place to the end

@@ -17,6 +17,8 @@ use Rattle.option.specs.Rules.{final, fields?}
 use Rattle.option.specs.Reading.{End, whole, badAt, subEnd, subInside?, whenGood, readEntries, readRequest, readInformation, readName, readBody, readSuboption, readSuboptions, ended, option?}
 use Rattle.option.proofs.RuleLaws.{option-to}
 use Rattle.option.specs.Answers.{suboptionOf, stepOf, checkedOf}
+use Rattle.option.specs.declared.Fault.{Fault}
+use Rattle.option.specs.declared.Fault.the-variants.{Framing, Field}
 use Rattle.option.specs.declared.Suboption.{Suboption}
 use Rattle.option.specs.declared.Cursor.{Cursor}
 use Rattle.option.specs.declared.Step.the-variants as step
@@ -37,15 +39,16 @@ final-byte s at end some fits =
 pub good-read : (framed : Bool) (x : SuboptionValue) (at end : ℕ) (y : SuboptionValue) (next : ℕ) → whenGood framed x at end ≡ more y next
     → (framed ≡ true) × (fields? x ≡ true) × (x ≡ y) × (end ≡ next)
 unfolding whenGood
-good-read framed x at end y next h = go (framed && fields? x) refl h
+good-read framed x at end y next h = go framed (fields? x) h
   where
-    go : (b : Bool) → (framed && fields? x) ≡ b → cond b (more x end) (stop (badAt at)) ≡ more y next → (framed ≡ true) × (fields? x ≡ true) × (x ≡ y) × (end ≡ next)
-    go true e k = let t = and-to framed (fields? x) e in (t .0, t .1, cc, cc)
-    go false e k = let z : _≡_ {A = ℕ} 0 1 = cc in absurd (omega arith)
+    go : (b c : Bool) → cond b (cond c (more x end) (stop (badAt Field at))) (stop (badAt Framing at)) ≡ more y next → (b ≡ true) × (c ≡ true) × (x ≡ y) × (end ≡ next)
+    go true true k = (refl, refl, cc, cc)
+    go true false k = let z : _≡_ {A = ℕ} 0 1 = cc in absurd (omega arith)
+    go false c k = let z : _≡_ {A = ℕ} 0 1 = cc in absurd (omega arith)
 
 -- A turn that gives a suboption: it lies inside, and its body reads as that.
 chosen : (p q : Bool) (t : Turn SuboptionValue End) (at : ℕ) (x : SuboptionValue) (next : ℕ)
-    → cond p (stop whole) (cond q t (stop (badAt at))) ≡ more x next → (q ≡ true) × (t ≡ more x next)
+    → cond p (stop whole) (cond q t (stop (badAt Framing at))) ≡ more x next → (q ≡ true) × (t ≡ more x next)
 chosen true q t at x next h = let z : _≡_ {A = ℕ} 0 1 = cc in absurd (omega arith)
 chosen false true t at x next h = (refl, h)
 chosen false false t at x next h = let z : _≡_ {A = ℕ} 0 1 = cc in absurd (omega arith)
@@ -105,26 +108,27 @@ told-piece at (more x n) f c h =
     let fields : f ≡ suboptionOf x at n = cc in
     (x, ap (more x) (sym place), fields ∙ ap (suboptionOf x at) (sym place))
 told-piece at (stop whole) f c h = let z : _≡_ {A = ℕ} 0 1 = cc in absurd (omega arith)
-told-piece at (stop (badAt p)) f c h = let z : _≡_ {A = ℕ} 0 1 = cc in absurd (omega arith)
+told-piece at (stop (badAt e p)) f c h = let z : _≡_ {A = ℕ} 0 1 = cc in absurd (omega arith)
 
-pub told-bad : (at : ℕ) (t : Turn SuboptionValue End) (place : ℕ) → step.Bad place ≡ stepOf at t → t ≡ stop (badAt place)
-told-bad at (more x n) place h = let z : _≡_ {A = ℕ} 0 1 = cc in absurd (omega arith)
-told-bad at (stop whole) place h = let z : _≡_ {A = ℕ} 0 1 = cc in absurd (omega arith)
-told-bad at (stop (badAt p)) place h = cc
+pub told-bad : (at : ℕ) (t : Turn SuboptionValue End) (fault : Fault) (place : ℕ) → step.Bad fault place ≡ stepOf at t → t ≡ stop (badAt fault place)
+told-bad at (more x n) fault place h = let z : _≡_ {A = ℕ} 0 1 = cc in absurd (omega arith)
+told-bad at (stop whole) fault place h = let z : _≡_ {A = ℕ} 0 1 = cc in absurd (omega arith)
+told-bad at (stop (badAt e p)) fault place h = cc
 
 pub told-end : (at : ℕ) (t : Turn SuboptionValue End) → step.End ≡ stepOf at t → t ≡ stop whole
 told-end at (more x n) h = let z : _≡_ {A = ℕ} 0 1 = cc in absurd (omega arith)
 told-end at (stop whole) h = refl
-told-end at (stop (badAt p)) h = let z : _≡_ {A = ℕ} 0 1 = cc in absurd (omega arith)
+told-end at (stop (badAt e p)) h = let z : _≡_ {A = ℕ} 0 1 = cc in absurd (omega arith)
 
 -- The check's answer goes by how the reading ends alone.
 abbrev pub checkedEnd : End → Checked
 checkedEnd whole = Good
-checkedEnd (badAt place) = BadSuboption place
+checkedEnd (badAt fault place) = BadSuboption fault place
 
 pub checked-ended : (subs : List SuboptionValue) (e : End) → checkedOf (ended subs e) ≡ checkedEnd e
 checked-ended subs whole = refl
-checked-ended subs (badAt place) = refl
+checked-ended subs (badAt Framing place) = refl
+checked-ended subs (badAt Field place) = refl
 
 -- An information among the suboptions: its entries are those from its fourth byte to its end, all framed, and all blocks.
 body-entries : (one two three : Bool) (f₁ f₂ f₃ : Bool) (h i : Bool) (p : ℕ) (c t : Bool) (es : List Entry) (o : List ℕ) (at end : ℕ) (c′ t′ : Bool) (es′ : List Entry) (next : ℕ)
@@ -162,11 +166,12 @@ information-entries s at c t es next h =
 -- Only the end of the option is the end of a reading that is whole.
 pub good-not-whole : (framed : Bool) (x : SuboptionValue) (at end : ℕ) → whenGood framed x at end ≡ stop whole → ⊥
 unfolding whenGood
-good-not-whole framed x at end h = go (framed && fields? x) h
+good-not-whole framed x at end h = go framed (fields? x) h
   where
-    go : (b : Bool) → cond b (more x end) (stop (badAt at)) ≡ stop whole → ⊥
-    go true k = let z : _≡_ {A = ℕ} 0 1 = cc in omega arith
-    go false k = let z : _≡_ {A = ℕ} 0 1 = cc in omega arith
+    go : (b c : Bool) → cond b (cond c (more x end) (stop (badAt Field at))) (stop (badAt Framing at)) ≡ stop whole → ⊥
+    go true true k = let z : _≡_ {A = ℕ} 0 1 = cc in omega arith
+    go true false k = let z : _≡_ {A = ℕ} 0 1 = cc in omega arith
+    go false c k = let z : _≡_ {A = ℕ} 0 1 = cc in omega arith
 
 cond-not : (b : Bool) (t u : Turn SuboptionValue End) → (t ≡ stop whole → ⊥) → (u ≡ stop whole → ⊥) → cond b t u ≡ stop whole → ⊥
 cond-not true t u p q = p
@@ -180,7 +185,7 @@ body-not-whole number s at end =
     (cond-not (eqb number 3) (readName s at end) _ (good-not-whole _ _ at end)
     (λ (h : more unknown end ≡ stop whole). let z : _≡_ {A = ℕ} 0 1 = cc in omega arith)))
 
-finished : (p q : Bool) (t : Turn SuboptionValue End) (at : ℕ) → (t ≡ stop whole → ⊥) → cond p (stop whole) (cond q t (stop (badAt at))) ≡ stop whole → p ≡ true
+finished : (p q : Bool) (t : Turn SuboptionValue End) (at : ℕ) → (t ≡ stop whole → ⊥) → cond p (stop whole) (cond q t (stop (badAt Framing at))) ≡ stop whole → p ≡ true
 finished true q t at never h = refl
 finished false true t at never h = absurd (never h)
 finished false false t at never h = let z : _≡_ {A = ℕ} 0 1 = cc in absurd (omega arith)
@@ -193,7 +198,7 @@ suboption-whole s at h =
 
 -- A body that is bad is so at its suboption.
 abbrev pub StopsAt : ℕ → Turn SuboptionValue End → Type 0
-StopsAt at t = (b : End) → t ≡ stop b → b ≡ badAt at
+StopsAt at t = (b : End) → t ≡ stop b → (fault : Fault) × (b ≡ badAt fault at)
 
 cond-stops : (b : Bool) (at : ℕ) (t u : Turn SuboptionValue End) → StopsAt at t → StopsAt at u → StopsAt at (cond b t u)
 cond-stops true at t u p q = p
@@ -201,11 +206,12 @@ cond-stops false at t u p q = q
 
 good-stops : (framed : Bool) (x : SuboptionValue) (at end : ℕ) → StopsAt at (whenGood framed x at end)
 unfolding whenGood
-good-stops framed x at end = go (framed && fields? x)
+good-stops framed x at end = go framed (fields? x)
   where
-    go : (c : Bool) → StopsAt at (cond c (more x end) (stop (badAt at)))
-    go true b e = absurd (more-not-stop x end b e)
-    go false b e = let z : badAt at ≡ b = cc in sym z
+    go : (p q : Bool) → StopsAt at (cond p (cond q (more x end) (stop (badAt Field at))) (stop (badAt Framing at)))
+    go true true b e = absurd (more-not-stop x end b e)
+    go true false b e = let z : badAt Field at ≡ b = cc in (Field, sym z)
+    go false q b e = let z : badAt Framing at ≡ b = cc in (Framing, sym z)
 
 pub body-stops : (number : ℕ) (s : List ℕ) (at end : ℕ) → StopsAt at (readBody number s at end)
 unfolding readBody readRequest readInformation readName

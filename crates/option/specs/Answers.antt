@@ -11,6 +11,7 @@ use Rattle.lists.specs.Walk.{Turn, more, stop}
 pub use Rattle.option_entry.specs.Steps.{figuresOf, fieldsOf, entriesFrom, entryStepOf}
 use Rattle.option.specs.Values.{Entry, SuboptionValue, request, information, name, unknown, Outcome, refused, accepted}
 use Rattle.option.specs.Reading.{End, whole, badAt}
+use Rattle.option.specs.declared.Fault.the-variants.{Framing, Field}
 use Rattle.option.specs.Contents.{lastNetwork}
 use Rattle.option.specs.Selection as selection
 use Rattle.option.specs.declared.{Selection.Selection, Suboption.Suboption, Cursor.Cursor, Step.Step, Checked.Checked}
@@ -37,7 +38,7 @@ cursorAt at = record { at = at }
 abbrev pub stepOf : ℕ → Turn SuboptionValue End → Step
 stepOf at (more x next) = step.Piece (suboptionOf x at next) (cursorAt next)
 stepOf at (stop whole) = step.End
-stepOf at (stop (badAt place)) = step.Bad place
+stepOf at (stop (badAt fault place)) = step.Bad fault place
 
 -- Networks and lengths of entries, stored in two columns from a place on.
 abbrev pub InColumns : List Entry → ℕ → List ℕ → List ℕ → List ℕ → List ℕ → Type 0
@@ -56,12 +57,12 @@ pub record Stores (t : Turn SuboptionValue End) (from : ℕ) (ns ls ns′ ls′ 
 
 abbrev pub checkedOf : Outcome → Checked
 checkedOf (accepted subs) = Good
-checkedOf (refused number place) = cond (eqb number 6) NotTheOption (BadSuboption place)
+checkedOf (refused number place) = cond (eqb number 6) NotTheOption (BadSuboption (cond (eqb number 7) Framing Field) place)
 
 abbrev pub placeOf : Checked → ℕ
 placeOf Good = 0
 placeOf NotTheOption = 0
-placeOf (BadSuboption place) = place
+placeOf (BadSuboption fault place) = place
 
 -- The same of option 118: what the paper says for each answer.
 abbrev pub selectedBy : Selection → selection.Selected

@@ -10,7 +10,7 @@ pub record Request : Type 0 where
   pub i : Bool
   pub length : ℕ
 
--- Rows 6 and 7 are those of the reader of option 220.
+-- Rows 6, 7 and 16 are those of the reader of option 220.
 abbrev pub refuses? : ℕ → Outcome → Bool
 refuses? number (refused n place) = eqb n number
 refuses? number (accepted subs) = false

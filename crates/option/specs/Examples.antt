@@ -40,16 +40,16 @@ rows =
       task = writing (information false false (bare 0x0a000100 24 ∷ []) ∷ []);
       result = bytes (written (0xdc ∷ 0x0b ∷ 0x00 ∷ 0x02 ∷ 0x08 ∷ 0x00 ∷ 0x0a ∷ 0x00 ∷ 0x01 ∷ 0x00 ∷ 0x18 ∷ 0x00 ∷ 0x00 ∷ []));
     }
-    -- P3 `DC 05 00 01 02 00 1E` is accepted; with `1F`, 7 at place 3
+    -- P3 `DC 05 00 01 02 00 1E` is accepted; with `1F`, 16 at place 3
     ∷ record { task = reading (0xdc ∷ 0x05 ∷ 0x00 ∷ 0x01 ∷ 0x02 ∷ 0x00 ∷ 0x1e ∷ []); result = outcome (accepted (request false false 30 ∷ [])) }
-    ∷ record { task = reading (0xdc ∷ 0x05 ∷ 0x00 ∷ 0x01 ∷ 0x02 ∷ 0x00 ∷ 0x1f ∷ []); result = outcome (refused 7 3) }
+    ∷ record { task = reading (0xdc ∷ 0x05 ∷ 0x00 ∷ 0x01 ∷ 0x02 ∷ 0x00 ∷ 0x1f ∷ []); result = outcome (refused 16 3) }
     -- P4 `DC 01 00` gets 6; `DC 02 00 01` gets 7 at place 3
     ∷ record { task = reading (0xdc ∷ 0x01 ∷ 0x00 ∷ []); result = outcome (refused 6 0) }
     ∷ record { task = reading (0xdc ∷ 0x02 ∷ 0x00 ∷ 0x01 ∷ []); result = outcome (refused 7 3) }
-    -- P10 an entry 10.0.1.1/24 gets 7
+    -- P10 an entry 10.0.1.1/24 gets 16
     ∷ record {
       task = reading (0xdc ∷ 0x0b ∷ 0x00 ∷ 0x02 ∷ 0x08 ∷ 0x00 ∷ 0x0a ∷ 0x00 ∷ 0x01 ∷ 0x01 ∷ 0x18 ∷ 0x00 ∷ 0x00 ∷ []);
-      result = outcome (refused 7 3);
+      result = outcome (refused 16 3);
     }
     -- P11 stat-len 4 with four bytes is accepted, 3 with three gets 7
     ∷ record {

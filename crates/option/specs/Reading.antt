@@ -6,6 +6,8 @@ pub use Rattle.option_entry.specs.Entries.{two, four, bit1, bit2, entryEnd}
 unfoldable pub use Rattle.option_entry.specs.Entries.{figuresAt, entryAt, entryFramed?, readEntry}
 use Rattle.option.specs.Values.{Entry, SuboptionValue, request, information, name, unknown, Outcome, refused, accepted}
 use Rattle.option.specs.Rules.{fields?}
+use Rattle.option.specs.declared.Fault.{Fault}
+use Rattle.option.specs.declared.Fault.the-variants.{Framing, Field}
 
 -- Rule 1 (RFC 6656, section 3): "Code 220, Len, option flags, then suboptions. .. The input must be the option exactly: its length is Len + 2."
 -- Row 6: "under 2 bytes, other code, Len wrong, or (220) Len 0 or 1".
@@ -24,14 +26,20 @@ subEnd s at = at + 2 + getD s (at + 1) 0
 unfoldable pub subInside? : List ℕ → ℕ → Bool
 subInside? s at = leb (at + 2) (length s) && leb (subEnd s at) (length s)
 
--- How a reading of suboptions ends: at the end of the option, or at a bad one, with the place of its number byte.
+-- Row 7 is "for framing (no Len byte, Len past the end, a Len that the suboption can't have, an entry cut short, a figure length odd or past the end)",
+-- row 16 "for a field outside the rules (prefix, network bits past it, a name's final zero)".
+abbrev pub faultNumber : Fault → ℕ
+faultNumber Framing = 7
+faultNumber Field = 16
+
+-- How a reading of suboptions ends: at the end of the option, or at a bad one, with its fault and the place of its number byte.
 pub data End : Type 0 where
   whole : End
-  badAt : ℕ → End
+  badAt : Fault → ℕ → End
 
--- A suboption from `at` to `end`: good if its framing is right and its fields keep the rules.
+-- A suboption from `at` to `end`: "Within one suboption framing is checked first, over the whole of it".
 unfoldable pub whenGood : Bool → SuboptionValue → ℕ → ℕ → Turn SuboptionValue End
-whenGood framed x at end = cond (framed && fields? x) (more x end) (stop (badAt at))
+whenGood framed x at end = cond framed (cond (fields? x) (more x end) (stop (badAt Field at))) (stop (badAt Framing at))
 
 -- Rule 3 (section 3.1): "Request (1): Len 2, flags (h is bit value 1, i is 2), prefix length".
 unfoldable pub readRequest : List ℕ → ℕ → ℕ → Turn SuboptionValue End
@@ -67,17 +75,18 @@ readBody number s at end =
 unfoldable pub readSuboption : List ℕ → ℕ → Turn SuboptionValue End
 readSuboption s at =
     cond (leb (length s) at) (stop whole)
-    (cond (subInside? s at) (readBody (getD s at 0) s at (subEnd s at)) (stop (badAt at)))
+    (cond (subInside? s at) (readBody (getD s at 0) s at (subEnd s at)) (stop (badAt Framing at)))
 
 -- Rule 7: "Repeated suboptions are never joined": each is a value of its own, in order.
 unfoldable pub readSuboptions : List ℕ → ℕ → List SuboptionValue × End
 readSuboptions s at = walk (readSuboption s) whole (suc (length s)) at
 
--- Row 7: "bad suboption; with the place of the first one's number byte, the code byte being place 0".
+-- Row 7: "bad suboption; with the place of the first one's number byte, the code byte being place 0". Row 16: "in 7's row, with the same place";
+-- "between suboptions the first still wins".
 abbrev pub ended : List SuboptionValue → End → Outcome
 ended subs whole = accepted subs
-ended subs (badAt place) = refused 7 place
+ended subs (badAt fault place) = refused (faultNumber fault) place
 
--- The whole option: row 6, then row 7. The suboptions begin at place 3.
+-- The whole option: row 6, then rows 7 and 16. The suboptions begin at place 3.
 unfoldable pub readOption : List ℕ → Outcome
 readOption s = cond (option? s) (ended (readSuboptions s 3 .0) (readSuboptions s 3 .1)) (refused 6 0)

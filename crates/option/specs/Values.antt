@@ -24,7 +24,7 @@ pub data SuboptionValue : Type 0 where
   name : List ℕ → SuboptionValue
   unknown : SuboptionValue
 
--- What reading answers: a refusal with its number and its place, which is 0 for all numbers but 7; or the suboptions, in order.
+-- What reading answers: a refusal with its number and its place, which is 0 for all numbers but 7 and 16; or the suboptions, in order.
 pub data Outcome : Type 0 where
   refused : ℕ → ℕ → Outcome
   accepted : List SuboptionValue → Outcome

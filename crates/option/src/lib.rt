@@ -18,6 +18,7 @@ ghost use Rattle.option.specs.Reading.{
   readBody,
   readSuboption,
   readSuboptions,
+  faultNumber,
   ended,
   readOption,
 };
@@ -83,19 +84,25 @@ pub struct Cursor {
     pub at: usize,
 }
 
+// What is wrong with a suboption: its framing (refusal 7), or a field of one that is framed (refusal 16).
+pub enum Fault {
+    Framing,
+    Field,
+}
+
 // What stands at a cursor.
 pub enum Step {
     Piece(Suboption, Cursor),
     // A bad suboption, with the place of its number byte.
-    Bad(usize),
+    Bad(Fault, usize),
     End,
 }
 
-// The check of a whole option: good, refusal 6, or refusal 7 with its place.
+// The check of a whole option: good, refusal 6, or refusal 7 or 16 with its place.
 pub enum Checked {
     Good,
     NotTheOption,
-    BadSuboption(usize),
+    BadSuboption(Fault, usize),
 }
 
 // What option 118 reads as: its address, or refusal 6.
@@ -107,7 +114,8 @@ pub enum Selection {
 // The body of a suboption. A bad one has no place here: one that each reader wrote would keep the answer out of registers.
 enum Body {
     Good(Suboption),
-    Bad,
+    BadFraming,
+    BadField,
 }
 
 // What one pass over the entries of an information finds: whether all are framed, and whether the fields of all keep the rules;
@@ -195,11 +203,11 @@ fn request_at(s: &[u8], at: usize, end: usize) -> Body
     ensures { λ r. ⌜ r ≡ bodyOf at (readRequest (now (s .entry)) at end) ⌝ }
 {
     if end != at + 4 {
-        return Body::Bad;
+        return Body::BadFraming;
     }
     let length = s[at + 3];
     if prefix::Prefix::LONGEST < length {
-        return Body::Bad;
+        return Body::BadField;
     }
     let flags = s[at + 2];
     Body::Good(Suboption::Request(RequestFields {
@@ -224,14 +232,14 @@ fn information_at(
     ensures { λ _. ⌜ Stores (readInformation (now (s .entry)) at end) from (now (networks .entry)) (now (lengths .entry)) (now (networks .exit)) (now (lengths .exit)) ⌝ }
 {
     if end <= at + 3 {
-        return Body::Bad;
+        return Body::BadFraming;
     }
     let scan = scan_entries(s, at + 3, end, from, networks, lengths);
     if !scan.framed {
-        return Body::Bad;
+        return Body::BadFraming;
     }
     if !scan.fields {
-        return Body::Bad;
+        return Body::BadField;
     }
     let flags = s[at + 2];
     Body::Good(Suboption::Information(InformationFields {
@@ -250,10 +258,10 @@ fn name_at(s: &[u8], at: usize, end: usize) -> Body
     ensures { λ r. ⌜ r ≡ bodyOf at (readName (now (s .entry)) at end) ⌝ }
 {
     if end <= at + 2 {
-        return Body::Bad;
+        return Body::BadFraming;
     }
     if s[end - 1] == 0 {
-        return Body::Bad;
+        return Body::BadField;
     }
     Body::Good(Suboption::Name(NameFields {
         at,
@@ -284,6 +292,18 @@ fn body_at(
     }
 }
 
+impl Fault {
+    // The number of its row.
+    pub fn number(self) -> u32
+        ensures { λ r. ⌜ r ≡ faultNumber self ⌝ }
+    {
+        match self {
+            Fault::Framing => 7,
+            Fault::Field => 16,
+        }
+    }
+}
+
 impl Cursor {
     // The place of an option's first suboption.
     pub fn first() -> Cursor
@@ -304,15 +324,16 @@ impl Cursor {
             return Step::End;
         }
         if s.len() < at + 2 {
-            return Step::Bad(at);
+            return Step::Bad(Fault::Framing, at);
         }
         let end = at + 2 + wide(s[at + 1]);
         if s.len() < end {
-            return Step::Bad(at);
+            return Step::Bad(Fault::Framing, at);
         }
         match body_at(s[at], s, at, end, from, networks, lengths) {
             Body::Good(x) => Step::Piece(x, Cursor { at: end }),
-            Body::Bad => Step::Bad(at),
+            Body::BadFraming => Step::Bad(Fault::Framing, at),
+            Body::BadField => Step::Bad(Fault::Field, at),
         }
     }
 
@@ -337,8 +358,8 @@ fn check_suboptions(s: &[u8]) -> Checked
             Step::Piece(_, next) => {
                 cursor = next;
             }
-            Step::Bad(place) => {
-                return Checked::BadSuboption(place);
+            Step::Bad(fault, place) => {
+                return Checked::BadSuboption(fault, place);
             }
             Step::End => {
                 return Checked::Good;

@@ -14,13 +14,14 @@ use Rattle.lists.specs.Walk.{more, stop}
 use Rattle.lists.proofs.FilterLaws.{filter-fewer}
 use Rattle.lists.proofs.PutLaws.{put-nothing, put-more, put-front}
 use Rattle.option.specs.Values.{longestOption, Entry, SuboptionValue, request, information, name, unknown, refused, accepted}
-use Rattle.option.specs.Reading.{End, whole, badAt, option?, readOption, readSuboption, readSuboptions, ended}
+use Rattle.option.specs.Reading.{End, whole, badAt, faultNumber, option?, readOption, readSuboption, readSuboptions, ended}
 use Rattle.option.specs.Contents.{requests, entries, position}
 use Rattle.option.specs.Answers.{suboptionOf, entriesOf, InColumns, checkedOf}
+use Rattle.option.specs.declared.Fault.{Fault}
 use Rattle.option.specs.declared.Checked.the-variants.{Good, NotTheOption, BadSuboption}
 use Rattle.option.specs.declared.Suboption.{Suboption}
 use Rattle.option.proofs.EntryLaws.{entries-weight, entries-some}
-use Rattle.option.proofs.SuboptionLaws.{suboption-moves, suboptions-more, suboptions-stop, information-entries}
+use Rattle.option.proofs.SuboptionLaws.{suboption-moves, suboptions-more, suboptions-stop, information-entries, checked-ended}
 use Rattle.option_scan.specs.declared.Contents.{Contents}
 use Rattle.option_scan.specs.declared.Tally.{Tally}
 use Rattle.option_scan.specs.Scanned.{Columns, columns, flagOf, positionOf, ScannedOf, Long, Reads}
@@ -185,11 +186,11 @@ module _ (s : List ℕ) where
         ∙ ap (λ (subs : List SuboptionValue). (subs, e)) (append-nil (h .done)) in
         rw (yes, all)
 
-    pub reading-bad : (place : ℕ) → readSuboption s at ≡ stop (badAt place) → r ≡ contentsOf m (BadSuboption place) → (d : Columns) → Reads s r d
-    reading-bad place t n d =
-        let refusal : readOption s ≡ refused 7 place = read-as (badAt place) t in
+    pub reading-bad : (fault : Fault) (place : ℕ) → readSuboption s at ≡ stop (badAt fault place) → r ≡ contentsOf m (BadSuboption fault place) → (d : Columns) → Reads s r d
+    reading-bad fault place t n d =
+        let refusal : readOption s ≡ refused (faultNumber fault) place = read-as (badAt fault place) t in
         record {
-          checked = ap (λ (r : Contents). r .checked) n ∙ sym (ap checkedOf refusal);
+          checked = ap (λ (r : Contents). r .checked) n ∙ sym (ap checkedOf refusal ∙ checked-ended (h .done) (badAt fault place));
           holds = λ subs e. let z : _≡_ {A = ℕ} 0 1 = cc in absurd (omega arith);
         }
 

@@ -53,7 +53,7 @@ pub record Long (c : Columns) : Type 0 where
   pub networks : mostEntries ≤ length (c .networks)
   pub lengths : mostEntries ≤ length (c .lengths)
 
--- WHAT `read` ANSWERS: rows 6 and 7, and all that the calls look at in an option that is accepted.
+-- WHAT `read` ANSWERS: rows 6, 7 and 16, and all that the calls look at in an option that is accepted.
 pub record Reads (option : List ℕ) (r : Contents) (c : Columns) : Type 0 where
   pub checked : r .checked ≡ checkedOf (readOption option)
   pub holds : (subs : List SuboptionValue) → readOption option ≡ accepted subs → ScannedOf r c subs

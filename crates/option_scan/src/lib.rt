@@ -153,8 +153,8 @@ fn read_suboptions(
                 tally = add(tally, x, asks, h);
                 cursor = next;
             }
-            Step::Bad(place) => {
-                return contents_of(tally, Checked::BadSuboption(place));
+            Step::Bad(fault, place) => {
+                return contents_of(tally, Checked::BadSuboption(fault, place));
             }
             Step::End => {
                 return contents_of(tally, Checked::Good);

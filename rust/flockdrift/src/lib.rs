@@ -32,7 +32,7 @@ pub const VERSION: &str = env!("CARGO_PKG_VERSION");
 pub struct Refusal {
     /// The number that document 01 and the header have for it.
     pub number: u32,
-    /// Where in the option a bad suboption begins (number 7), the code byte being at 0; 0 of every other number.
+    /// Where in the option the bad suboption begins (numbers 7 and 16), the code byte being at 0; 0 of every other.
     pub place: u32,
 }
 
@@ -47,7 +47,7 @@ impl Refusal {
             4 => "the time is too late",
             5 => "not the image of a sound table, or not its counts",
             6 => "not exactly the option",
-            7 => "a bad suboption",
+            7 => "bad framing in the suboption",
             8 => "the suboptions are not those that the call takes",
             9 => "the table is full",
             10 => "no free prefix of the length",
@@ -55,6 +55,7 @@ impl Refusal {
             12 => "pools, term, default length or start are outside the rules",
             14 => "the buffer is too small",
             15 => "the figures sheet does not match the table",
+            16 => "a field outside the rules in the suboption",
             _ => "no number of this library",
         }
     }
@@ -63,7 +64,7 @@ impl Refusal {
 impl fmt::Display for Refusal {
     fn fmt(&self, f: &mut fmt::Formatter<'_>) -> fmt::Result {
         write!(f, "refused {}: {}", self.number, self.text())?;
-        if self.number == 7 {
+        if matches!(self.number, 7 | 16) {
             write!(f, " at {}", self.place)?;
         }
         Ok(())
@@ -519,7 +520,8 @@ impl fmt::Debug for Book {
 
 // OPTIONS
 
-/// Checks an option 220: 6 where it is none, 7 with the place of a bad suboption.
+/// Checks an option 220: 6 where it is none; with the place of the first bad suboption, 7 where its framing is bad and
+/// 16 where only a field of it is outside the rules.
 pub fn check_option(option: &[u8]) -> Result<(), Refusal> {
     accepted(unsafe { raw::flockdrift_check_option(option.as_ptr(), option.len()) })?;
     Ok(())

@@ -182,14 +182,20 @@ fn figures_are_told_and_not_saved() {
 fn options_without_a_book() {
     assert_eq!(check_option(ASK_26_H), Ok(()));
     assert_eq!(number(check_option(&ASK_26_H[1..])), 6);
-    let bad = check_option(&[0xdc, 5, 0, 1, 2, 0, 31]).unwrap_err();
+    let bad = |number, place| Err(Refusal { number, place });
+    assert_eq!(check_option(&[0xdc, 5, 0, 1, 2, 0, 31]), bad(16, 3));
+    assert_eq!(check_option(&[0xdc, 5, 0, 1, 3, 0, 31]), bad(7, 3));
     assert_eq!(
-        bad,
-        Refusal {
-            number: 7,
-            place: 3
-        }
+        check_option(&[0xdc, 8, 0, 3, 1, 97, 3, 2, 97, 0]),
+        bad(16, 6)
     );
+    // A bad network in an entry, and then an entry that is cut; the same network alone.
+    let network = [0xdc, 12, 0, 2, 9, 0, 10, 0, 8, 1, 26, 0, 0, 10];
+    assert_eq!(check_option(&network), bad(7, 3));
+    let alone = [0xdc, 11, 0, 2, 8, 0, 10, 0, 8, 1, 26, 0, 0];
+    assert_eq!(check_option(&alone), bad(16, 3));
+    let refused = opened().take(7, 1000, &alone).map(|_| ());
+    assert_eq!(refused, bad(16, 3));
     assert_eq!(write_selection(0x0a000100), [118, 4, 10, 0, 1, 0]);
     assert_eq!(read_selection(&write_selection(u32::MAX)), Ok(u32::MAX));
     assert_eq!(number(read_selection(&[118, 3, 10, 0, 1])), 6);
@@ -202,7 +208,14 @@ fn refusals_in_words() {
         words(5, 0),
         "refused 5: not the image of a sound table, or not its counts"
     );
-    assert_eq!(words(7, 13), "refused 7: a bad suboption at 13");
+    assert_eq!(
+        words(7, 13),
+        "refused 7: bad framing in the suboption at 13"
+    );
+    assert_eq!(
+        words(16, 3),
+        "refused 16: a field outside the rules in the suboption at 3"
+    );
     assert_eq!(words(13, 0), "refused 13: no number of this library");
     assert_eq!(
         words(15, 0),

@@ -13,6 +13,7 @@ use tables::aligned;
 
 mod again;
 mod counts;
+mod faults;
 mod figures;
 mod options;
 mod tables;
@@ -35,6 +36,8 @@ pub struct Profile {
     pub ends: usize,
     /// Once in so many times a part of a call is at fault.
     pub faults: usize,
+    /// Once in so many times an option has bad suboptions among its own.
+    pub bad: usize,
     /// How many leases there are at most at the start.
     pub leases: usize,
 }
@@ -355,6 +358,7 @@ mod tests {
         pace: &[0, 1],
         ends: 10,
         faults: 10,
+        bad: 10,
         leases: 256,
     };
 

@@ -8,6 +8,7 @@ use reference::option::Entry;
 
 use crate::again::Again;
 use crate::bytes::{entries_of, from_hex, reply_of};
+use crate::faults::{fault, Faults};
 use crate::left::Left;
 use crate::rounds::Rounds;
 use crate::script::{Script, Step};
@@ -16,14 +17,14 @@ use crate::script::{Script, Step};
 /// The buffer that `save` is given holds a full book, so it has no 14.
 const COMMANDS: [(&str, &[u8]); 15] = [
     ("open", &[12]),
-    ("ask", &[1, 5, 15, 2, 3, 4, 6, 7, 8, 9, 10]),
-    ("take", &[1, 5, 15, 2, 3, 4, 6, 7, 8, 11]),
-    ("list", &[1, 5, 2, 3, 4, 6, 7, 8, 11]),
-    ("return", &[5, 15, 2, 3, 4, 6, 7, 8, 11]),
+    ("ask", &[1, 5, 15, 2, 3, 4, 6, 7, 16, 8, 9, 10]),
+    ("take", &[1, 5, 15, 2, 3, 4, 6, 7, 16, 8, 11]),
+    ("list", &[1, 5, 2, 3, 4, 6, 7, 16, 8, 11]),
+    ("return", &[5, 15, 2, 3, 4, 6, 7, 16, 8, 11]),
     ("mark", &[5, 15, 3, 4, 11]),
     ("load", &[5]),
     ("sheet", &[5]),
-    ("read", &[6, 7]),
+    ("read", &[6, 7, 16]),
     ("write", &[13, 14]),
     ("whole", &[5]),
     ("save", &[5]),
@@ -57,6 +58,8 @@ pub struct Counts {
     again: Again,
     /// What met the counts of whole free blocks.
     left: Left,
+    /// What was wrong with suboptions.
+    faults: Faults,
 }
 
 impl Counts {
@@ -79,6 +82,9 @@ impl Counts {
         }
         if let Some(met) = step.met {
             self.left.add(met);
+        }
+        if let Some(fault) = fault(&step.words(), &step.answer) {
+            self.faults.add(&fault);
         }
         if let Some(command) = command(step) {
             let number = match refused_with(&step.answer) {
@@ -115,6 +121,7 @@ impl Counts {
         let mut missing = self.rounds.missing();
         missing.extend(self.again.missing(self.calls()));
         missing.extend(self.left.missing());
+        missing.extend(self.faults.missing());
         if self.filed == 0 {
             missing.push("take with figures".to_string());
         }
@@ -185,14 +192,15 @@ impl Display for Counts {
         }
         write!(
             out,
-            "error lines {}, {}, {} sheets given, {} calls refused with 15, {} takes filed figures, {}, {}",
+            "error lines {}, {}, {} sheets given, {} calls refused with 15, {} takes filed figures, {}, {}, {}",
             self.errors,
             self.rounds,
             self.sheets,
             self.not_matching(),
             self.filed,
             self.again,
-            self.left
+            self.left,
+            self.faults
         )
     }
 }
@@ -207,17 +215,17 @@ mod tests {
         let mut counts = Counts::default();
         let script = Script::of_lines(&lines_of(
             b"save\nopen 60 28 0 10.0.0.0/30\n ask 1 0 dc05000102001e\r\nask 2 0 dc05000102001e\n\
-              # ask\nask\nsheet\nbuffer 3\nread dc05000102001f\nsave\nx\n\
+              # ask\nask\nsheet\nbuffer 3\nread dc05000102001f\nread dc03000300\nsave\nx\n\
               write\nwrite name 61\nwrite x\nbuffer 6\nwrite name 61\n",
         ));
         assert_eq!(counts.add(&script), Ok(()));
-        assert_eq!(counts.calls(), 8);
+        assert_eq!(counts.calls(), 9);
         let text = counts.to_string();
         assert!(text.contains("open 1 (1 ok, 0 x 12, 0 error)"), "{text}");
         assert!(text.contains("ask 3 (1 ok, 0 x 1,"), "{text}");
         assert!(text.contains("1 x 10, 1 error)"), "{text}");
         assert!(
-            text.contains("read 1 (0 ok, 0 x 6, 1 x 7, 0 error)"),
+            text.contains("read 2 (0 ok, 0 x 6, 1 x 7, 1 x 16, 0 error)"),
             "{text}"
         );
         assert!(

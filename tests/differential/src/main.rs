@@ -8,6 +8,7 @@ mod bytes;
 mod compare;
 mod counts;
 mod damage;
+mod faults;
 mod left;
 mod plant;
 mod program;

@@ -14,7 +14,7 @@ use crate::script::Script;
 type Shape = (&'static str, fn(&mut Author));
 
 /// Taken in turn, so that every run has all of them.
-const SHAPES: [Shape; 21] = [
+const SHAPES: [Shape; 22] = [
     ("one pool", |author| walk(author, &ONE_POOL)),
     ("small pools", |author| walk(author, &SMALL_POOLS)),
     ("many pools", |author| walk(author, &MANY_POOLS)),
@@ -35,6 +35,7 @@ const SHAPES: [Shape; 21] = [
     ("options", options),
     ("writes", writes),
     ("damaged options", |author| walk(author, &DAMAGED)),
+    ("bad suboptions", |author| walk(author, &BAD)),
     ("lines", lines),
 ];
 
@@ -57,6 +58,7 @@ const ONE_POOL: Profile = Profile {
     pace: &[0, 0, 0, 1, 5, 40],
     ends: 20,
     faults: 60,
+    bad: 60,
     leases: 12,
 };
 
@@ -125,6 +127,14 @@ const DAMAGED: Profile = Profile {
     faults: 8,
     leases: 40,
     ..MANY_POOLS
+};
+
+/// Half the options have suboptions that are bad in framing, in a field or in both.
+const BAD: Profile = Profile {
+    calls: (60, 200),
+    faults: 100,
+    bad: 2,
+    ..SMALL_POOLS
 };
 
 fn walk(author: &mut Author, profile: &Profile) {
@@ -390,11 +400,12 @@ fn images(author: &mut Author) {
 /// Options for the reader: good, damaged, and any bytes.
 fn options(author: &mut Author) {
     for _ in 0..author.numbers.between(60, 180) {
-        let mut bytes = match author.numbers.below(10) {
+        let mut bytes = match author.numbers.below(12) {
             0 => any_bytes(author),
             1 => subnet_selection(author),
             2 => late_place(author),
             3 => author.ask_option(&FAULTS),
+            4 | 5 => author.ask_option(&BAD),
             _ => author.any_option(&MANY_POOLS),
         };
         for _ in 0..author.one_of(&[0, 0, 1, 1, 1, 2]) {

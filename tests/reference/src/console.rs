@@ -269,9 +269,10 @@ fn ok_or_refused<T>(answer: Result<T, Refusal>) -> String {
 }
 
 fn refused(refusal: Refusal) -> String {
-    if refusal.number == 7 {
-        format!("refused 7 place={}\n", refusal.place)
+    let Refusal { number, place } = refusal;
+    if number == 7 || number == 16 {
+        format!("refused {number} place={place}\n")
     } else {
-        format!("refused {}\n", refusal.number)
+        format!("refused {number}\n")
     }
 }

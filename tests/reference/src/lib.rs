@@ -12,6 +12,7 @@
 pub mod calls;
 pub mod console;
 pub mod counts;
+pub mod faults;
 pub mod figures;
 pub mod image;
 pub mod numbers;

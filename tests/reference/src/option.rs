@@ -70,29 +70,45 @@ pub fn read220(option: &[u8]) -> Result<Vec<Suboption>, Refusal> {
     let mut list = Vec::new();
     let mut place = 3;
     while place < option.len() {
-        // "Each suboption is a number, a Len without those two bytes, and a body."
-        if place + 2 > option.len() {
-            return Err(bad_suboption(place));
-        }
-        let end = place + 2 + usize::from(option[place + 1]);
-        if end > option.len() {
-            return Err(bad_suboption(place));
-        }
-        match read_suboption(option[place], &option[place + 2..end]) {
-            Some(suboption) => list.push(suboption),
-            None => return Err(bad_suboption(place)),
-        }
+        let (suboption, end) = read_suboption(option, place)?;
+        list.push(suboption);
+        // "between suboptions the first still wins".
         place = end;
     }
     Ok(list)
 }
 
-/// One suboption from its number and body; nothing if it is a bad one.
-fn read_suboption(number: u8, body: &[u8]) -> Option<Suboption> {
+/// The suboption at a place, and the place after it.
+fn read_suboption(option: &[u8], place: usize) -> Result<(Suboption, usize), Refusal> {
+    // Document 02, M-104: "7 for framing (no Len byte, Len past the end, a Len that the
+    // suboption can't have, an entry cut short, a figure length odd or past the end)".
+    let framing = bad_suboption(7, place);
+    // "Each suboption is a number, a Len without those two bytes, and a body."
+    if place + 2 > option.len() {
+        return Err(framing);
+    }
+    let (number, end) = (option[place], place + 2 + usize::from(option[place + 1]));
+    if end > option.len() {
+        return Err(framing);
+    }
+    let body = &option[place + 2..end];
+    // "Within one suboption framing is checked first, over the whole of it".
+    let Some(suboption) = framed(number, body) else {
+        return Err(framing);
+    };
+    // Row 16: "field outside the rules, in 7's row, with the same place".
+    if !fields_within_rules(&suboption) {
+        return Err(bad_suboption(16, place));
+    }
+    Ok((suboption, end))
+}
+
+/// A suboption's parts, whatever its fields say; nothing if its framing is bad.
+fn framed(number: u8, body: &[u8]) -> Option<Suboption> {
     match number {
         REQUEST => {
             // "Request (1): Len 2, flags ..., prefix length 0 to 30".
-            if body.len() != 2 || body[1] > LONGEST {
+            if body.len() != 2 {
                 return None;
             }
             Some(Suboption::Request(Request {
@@ -107,7 +123,7 @@ fn read_suboption(number: u8, body: &[u8]) -> Option<Suboption> {
             let mut entries = Vec::new();
             let mut rest = &body[1..];
             while !rest.is_empty() {
-                let (entry, after) = read_entry(rest)?;
+                let (entry, after) = framed_entry(rest)?;
                 entries.push(entry);
                 rest = after;
             }
@@ -121,8 +137,8 @@ fn read_suboption(number: u8, body: &[u8]) -> Option<Suboption> {
             }))
         }
         NAME => {
-            // "Name (3): Len at least 1; not ended by a zero byte."
-            if body.is_empty() || body[body.len() - 1] == 0 {
+            // "Name (3): Len at least 1".
+            if body.is_empty() {
                 return None;
             }
             Some(Suboption::Name(body.to_vec()))
@@ -132,20 +148,15 @@ fn read_suboption(number: u8, body: &[u8]) -> Option<Suboption> {
     }
 }
 
-/// The entry at the start of `bytes`, and the bytes after it; nothing if it is bad.
-fn read_entry(bytes: &[u8]) -> Option<(Entry, &[u8])> {
+/// The entry at the start of `bytes`, and the bytes after it; nothing if its framing is
+/// bad.
+fn framed_entry(bytes: &[u8]) -> Option<(Entry, &[u8])> {
     // "network (4 bytes, high byte first), prefix, flags ..., stat-len".
     if bytes.len() < 7 {
         return None;
     }
-    let network = u32::from_be_bytes([bytes[0], bytes[1], bytes[2], bytes[3]]);
-    let length = bytes[4];
     let flags = bytes[5];
     let stat_len = usize::from(bytes[6]);
-    // "An entry's prefix is 1 to 30, and network bits past the prefix are 0."
-    if !good_entry_prefix(network, length) {
-        return None;
-    }
     // "Stat-len is even and within the suboption."
     if stat_len % 2 != 0 || stat_len > bytes.len() - 7 {
         return None;
@@ -159,8 +170,8 @@ fn read_entry(bytes: &[u8]) -> Option<(Entry, &[u8])> {
         .map(|pair| u16::from_be_bytes([pair[0], pair[1]]))
         .collect();
     let entry = Entry {
-        network,
-        prefix: length,
+        network: u32::from_be_bytes([bytes[0], bytes[1], bytes[2], bytes[3]]),
+        prefix: bytes[4],
         h: flags & ENTRY_H != 0,
         d: flags & ENTRY_D != 0,
         figures,
@@ -168,6 +179,23 @@ fn read_entry(bytes: &[u8]) -> Option<(Entry, &[u8])> {
     Some((entry, after))
 }
 
+/// Document 02, M-104: "a field outside the rules (prefix, network bits past it, a
+/// name's final zero)". Of a framed suboption.
+fn fields_within_rules(suboption: &Suboption) -> bool {
+    match suboption {
+        // "prefix length 0 to 30".
+        Suboption::Request(request) => request.prefix <= LONGEST,
+        Suboption::Information(information) => {
+            let mut entries = information.entries.iter();
+            entries.all(|entry| good_entry_prefix(entry.network, entry.prefix))
+        }
+        // "not ended by a zero byte."
+        Suboption::Name(name) => name.last() != Some(&0),
+        Suboption::Unknown => true,
+    }
+}
+
+/// "An entry's prefix is 1 to 30, and network bits past the prefix are 0."
 fn good_entry_prefix(network: u32, length: u8) -> bool {
     (SHORTEST..=LONGEST).contains(&length) && prefix(network, length).aligned()
 }

@@ -11,7 +11,7 @@ use Rattle.call_rows.proofs.option_refusal.Statement.{statement}
 use Rattle.call_rows.proofs.option_refusal.Tie as tie
 
 cast-refused : tie.Need-cast-refused
-cast-refused c = let small = subst (λ (x : Checked). placeOf x ≤ 257) (c .before .c .given .1) (c .before .before .before .pre) in omega (arith, small)
+cast-refused c = let small = subst (λ (x : Checked). placeOf x ≤ 257) (c .before .before .c .given .1) (c .before .before .before .before .pre) in omega (arith, small)
 
 returns : tie.Need-returns
 returns c = c .refused .ensures ∙ sym (ap checkedAnswer (c .before .enum-told .given .1))
@@ -20,10 +20,10 @@ returns-2 : tie.Need-returns-2
 returns-2 c = c .refused2 .ensures ∙ sym (ap checkedAnswer (c .before .enum-told2 .given .1))
 
 returns-3 : tie.Need-returns-3
-returns-3 c = c .refused3 .ensures ∙ sym (ap checkedAnswer (c .before .before .c .given .1))
+returns-3 c = rw (c .before .number .ensures) at (c .refused3 .ensures) ∙ sym (ap checkedAnswer (c .before .before .before .c .given .1))
 
 pub option-refusal-spec : {M : Type 1} → statement M
 option-refusal-spec =
     tie.close
-    (tie.spec (λ c. search needs) (λ c κs. search needs) (λ c. search needs) (λ c κs. search needs) (λ c. search needs) cast-refused
+    (tie.spec (λ c. search needs) (λ c κs. search needs) (λ c. search needs) (λ c κs. search needs) (λ c. search needs) (λ c κs. search needs) cast-refused
     (λ c κs. search needs) returns returns-2 returns-3)

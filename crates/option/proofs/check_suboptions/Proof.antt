@@ -52,7 +52,7 @@ loop-again c =
 returns : tie.Need-returns Inv-loop μ-loop
 returns c =
     let l = c .before .before .before .before .loop .inv in
-    answer _ _ (badAt _) (l .0) (l .1) (told-bad _ _ _ (sym (c .before .place .given .1) ∙ c .before .before .before .step .ensures))
+    answer _ _ (badAt _ _) (l .0) (l .1) (told-bad _ _ _ _ (sym (c .before .fault .given .1) ∙ c .before .before .before .step .ensures))
 
 returns-2 : tie.Need-returns-2 Inv-loop μ-loop
 returns-2 c =

@@ -9,6 +9,7 @@ use borrow.Author.Tests.{lt-ltb, le-ltb, not-true, not-false}
 use Rattle.option.specs.Values.{information}
 use Rattle.option.specs.Rules.{fields?}
 use Rattle.option.specs.Reading.{bit1, bit2, readEntries, readInformation, whenGood}
+use Rattle.option.specs.declared.Fault.the-variants.{Framing, Field}
 use Rattle.option.specs.declared.Scan.{Scan}
 use Rattle.option.proofs.StepLaws.{body-bad, body-good}
 use borrow.Author.Needs.{needs}
@@ -17,7 +18,7 @@ use Rattle.option.proofs.information_at.Tie as tie
 
 returns : tie.Need-returns
 unfolding readInformation whenGood
-returns c = body-bad _ (simp (le-ltb _ _ (c .if1 .taken)))
+returns c = body-bad Framing _ (simp (le-ltb _ _ (c .if1 .taken)))
 
 returns-2 : tie.Need-returns-2
 unfolding readInformation whenGood
@@ -25,14 +26,16 @@ returns-2 c =
     let k = c .before .before .before .before .before .before in
     let a = k .before .before .before .before .before .before .before .args in
     let cut : readEntries (now (a .s)) (a .end) (a .at + 3) .1 ≡ false = sym (ap (λ (r : Scan). r .framed) (k .scan-entries .ensures .0)) ∙ not-true _ (c .if2 .taken) in
-    body-bad _ (simp (cut, and-false))
+    body-bad Framing _ (simp (cut, and-false))
 
 returns-3 : tie.Need-returns-3
 unfolding readInformation whenGood fields?
 returns-3 c =
     let k = c .before .before .before .before .before .before .before .before in
-    let bad = sym (ap (λ (r : Scan). r .fields) (k .scan-entries .ensures .0)) ∙ not-true _ (c .if3 .taken) in
-    body-bad _ (simp (bad, and-false))
+    let found = k .scan-entries .ensures .0 in
+    let framed = sym (ap (λ (r : Scan). r .framed) found) ∙ not-false _ (c .before .before .if2 .left) in
+    let bad = sym (ap (λ (r : Scan). r .fields) found) ∙ not-true _ (c .if3 .taken) in
+    body-bad Field _ (simp (lt-ltb _ _ (k .before .before .before .if1 .left), framed, bad))
 
 returns-4 : tie.Need-returns-4
 unfolding readInformation whenGood fields?

@@ -3,7 +3,6 @@
 use Prim.Native.Nat.{_+_}
 use native.Mathlib.Omega.{arith}
 use denote.Ref.{now}
-use mathlib.Core.Bool.{and-false}
 use Rattle.option.proofs.SuboptionLaws.{final-byte}
 use borrow.Author.Tests.{eq-eqb, ne-eqb, lt-ltb, le-ltb}
 use Rattle.option.specs.Rules.{fields?}
@@ -11,9 +10,6 @@ use Rattle.option.specs.Reading.{readName, whenGood}
 use borrow.Author.Needs.{needs}
 use Rattle.option.proofs.name_at.Statement.{statement}
 use Rattle.option.proofs.name_at.Tie as tie
-
--- `name_at` meets its contract: the framing, then the final octet.
--- Assumes nothing.
 
 returns : tie.Need-returns
 unfolding readName whenGood
@@ -24,7 +20,7 @@ unfolding readName whenGood fields?
 returns-2 c =
     let a = c .before .before .before .args in
     let last = final-byte (now (a .s)) (a .at + 2) (a .end) (omega arith) (omega arith) in
-    simp (last, eq-eqb _ _ (c .if2 .taken), and-false)
+    simp (lt-ltb _ _ (c .before .before .if1 .left), last, eq-eqb _ _ (c .if2 .taken))
 
 returns-3 : tie.Need-returns-3
 unfolding readName whenGood fields?

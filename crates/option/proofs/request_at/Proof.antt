@@ -1,6 +1,5 @@
 -- `request_at` meets its contract: the framing, then the length.
 -- Assumes nothing.
-use mathlib.Core.Bool.{and-false}
 use borrow.Author.Tests.{eq-eqb, ne-eqb, le-leb, lt-leb}
 use Rattle.option.specs.Rules.{fields?}
 use Rattle.option.specs.Reading.{readRequest, whenGood}
@@ -14,7 +13,7 @@ returns c = simp (ne-eqb _ _ (c .if1 .taken))
 
 returns-2 : tie.Need-returns-2
 unfolding readRequest whenGood fields?
-returns-2 c = simp (lt-leb _ _ (c .if2 .taken), and-false)
+returns-2 c = simp (eq-eqb _ _ (c .before .before .if1 .left), lt-leb _ _ (c .if2 .taken))
 
 returns-3 : tie.Need-returns-3
 unfolding readRequest whenGood fields?

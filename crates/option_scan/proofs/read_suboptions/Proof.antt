@@ -77,7 +77,7 @@ returns c =
     let k = p .before .before .before .before .before .before in
     let l = k .before .before .before in
     let start = l .before .before .before .before .before .before .before .before in
-    reading-bad _ _ _ _ _ (l .loop .inv) (start .pre .0) _ _ (told-bad _ _ _ (sym (p .place .given .1) ∙ k .step-into .ensures .0)) (c .contents-of .ensures) _
+    reading-bad _ _ _ _ _ (l .loop .inv) (start .pre .0) _ _ _ (told-bad _ _ _ _ (sym (p .fault .given .1) ∙ k .step-into .ensures .0)) (c .contents-of .ensures) _
 
 same-length-5 : tie.Need-same-length-5 Inv-loop μ-loop
 same-length-5 c = column-long _ _ _ _ (c .before .before .before .before .before .before .before .before .before .before .loop .inv .askLengths)

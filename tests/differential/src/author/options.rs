@@ -104,6 +104,9 @@ impl Author {
             pieces.pop();
             bytes = option(flags, &pieces);
         }
+        if self.numbers.once_in(profile.bad) {
+            bytes = self.bad_option(flags, pieces);
+        }
         if self.fault(profile) {
             for _ in 0..self.numbers.between(1, 2) {
                 damage_option(&mut self.numbers, &mut bytes);

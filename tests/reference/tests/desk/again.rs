@@ -476,7 +476,8 @@ fn rows_1_to_8_come_before() {
         (&start, 7, 999, &good, 257, 3),
         (&start, 7, LATEST + 1, &good, 257, 4),
         (&start, 7, 1001, &good[1..], 257, 6),
-        (&start, 7, 1001, &hex("DC 05 00 01 02 00 1F"), 257, 7),
+        (&start, 7, 1001, &hex("DC 05 00 01 03 00 1E"), 257, 7),
+        (&start, 7, 1001, &hex("DC 05 00 01 02 00 1F"), 257, 16),
         (&start, 7, 1001, &long, 257, 8),
         (&start, 7, 1001, &listing, 257, 8),
     ] {

@@ -32,6 +32,7 @@ fn read_writes_a_line_for_each_piece() {
                    read 76040a000100\n\
                    read 760300000000\n\
                    read dc05000102001f\n\
+                   read dc050001030018\n\
                    read dc0500010200 18\n\
                    read -\n";
     assert_eq!(
@@ -48,8 +49,9 @@ fn read_writes_a_line_for_each_piece() {
          address 10.0.1.0\n\
          ok\n\
          refused 6\n\
+         refused 16 place=3\n\
          refused 7 place=3\n\
-         error line 6\n\
+         error line 7\n\
          refused 6\n"
     );
 }

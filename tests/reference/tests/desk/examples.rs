@@ -55,7 +55,8 @@ fn p2_offer_of_24() {
 #[test]
 fn p3_prefix_30_and_31() {
     assert!(read220(&hex("DC 05 00 01 02 00 1E")).is_ok());
-    assert_eq!(read220(&hex("DC 05 00 01 02 00 1F")), Err(no(7, 3)));
+    // Document 02, M-104: "In P3 and P10, `1F` and 10.0.1.1/24 now get 16."
+    assert_eq!(read220(&hex("DC 05 00 01 02 00 1F")), Err(no(16, 3)));
 }
 
 #[test]
@@ -107,7 +108,7 @@ fn p9_an_end_does_not_count_at_its_own_second() {
 fn p10_network_bits_past_the_prefix() {
     assert_eq!(
         read220(&hex("DC 0B 00 02 08 00 0A 00 01 01 18 00 00")),
-        Err(no(7, 3))
+        Err(no(16, 3))
     );
 }
 

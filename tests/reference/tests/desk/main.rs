@@ -6,6 +6,7 @@ mod common;
 mod console;
 mod counts;
 mod examples;
+mod faults;
 mod figures;
 mod images;
 mod ledger;

@@ -118,8 +118,13 @@ fn any_bytes_are_read_without_harm() {
             bytes[1] = (length - 2) as u8;
         }
         if let Err(refusal) = read220(&bytes) {
-            assert!(refusal.number == 6 && refusal.place == 0 || refusal.number == 7);
-            assert!(refusal.number == 6 || (3..length).contains(&usize::from(refusal.place)));
+            assert!([6, 7, 16].contains(&refusal.number));
+            let inside = (3..length).contains(&usize::from(refusal.place));
+            assert!(if refusal.number == 6 {
+                refusal.place == 0
+            } else {
+                inside
+            });
         }
         let _ = read118(&bytes);
     }
@@ -166,48 +171,51 @@ fn input_that_is_not_exactly_the_option() {
 
 #[test]
 fn bad_suboptions_and_their_places() {
-    for (text, place) in [
-        // Framing.
-        ("DC 02 00 01", 3),
-        ("DC 02 00 09", 3),
-        ("DC 03 00 09 01", 3),
-        ("DC 05 00 01 03 00 18", 3),
-        ("DC 06 00 01 02 00 18 01", 7),
-        ("DC 05 00 09 00 01 00", 5),
-        ("DC 07 00 09 02 00 00 03 00", 7),
-        // Request.
-        ("DC 04 00 01 01 00", 3),
-        ("DC 06 00 01 03 00 18 00", 3),
-        ("DC 05 00 01 02 00 1F", 3),
-        ("DC 05 00 01 02 02 1F", 3),
-        ("DC 05 00 01 02 00 FF", 3),
+    for (text, number, place) in [
+        // No Len byte, Len past the end.
+        ("DC 02 00 01", 7, 3),
+        ("DC 02 00 09", 7, 3),
+        ("DC 03 00 09 01", 7, 3),
+        ("DC 05 00 01 03 00 18", 7, 3),
+        ("DC 06 00 01 02 00 18 01", 7, 7),
+        ("DC 05 00 09 00 01 00", 7, 5),
+        ("DC 07 00 09 02 00 00 03 00", 7, 7),
+        // Request: its Len, its prefix.
+        ("DC 04 00 01 01 00", 7, 3),
+        ("DC 06 00 01 03 00 18 00", 7, 3),
+        ("DC 05 00 01 02 00 1F", 16, 3),
+        ("DC 05 00 01 02 02 1F", 16, 3),
+        ("DC 05 00 01 02 00 FF", 16, 3),
         // Information: without flags, without entry, a cut entry, a cut second one.
-        ("DC 03 00 02 00", 3),
-        ("DC 04 00 02 01 00", 3),
-        ("DC 0A 00 02 07 00 0A 00 01 00 18 00", 3),
-        ("DC 0C 00 02 09 00 0A 00 01 00 18 00 00 0A", 3),
+        ("DC 03 00 02 00", 7, 3),
+        ("DC 04 00 02 01 00", 7, 3),
+        ("DC 0A 00 02 07 00 0A 00 01 00 18 00", 7, 3),
+        ("DC 0C 00 02 09 00 0A 00 01 00 18 00 00 0A", 7, 3),
         // Prefix 0 and 31, network bits past the prefix, also in the second entry.
-        ("DC 0B 00 02 08 00 00 00 00 00 00 00 00", 3),
-        ("DC 0B 00 02 08 00 0A 00 01 00 1F 00 00", 3),
-        ("DC 0B 00 02 08 00 0A 00 01 00 17 00 00", 3),
-        ("DC 0B 00 02 08 00 0A 00 01 01 1E 00 00", 3),
+        ("DC 0B 00 02 08 00 00 00 00 00 00 00 00", 16, 3),
+        ("DC 0B 00 02 08 00 0A 00 01 00 1F 00 00", 16, 3),
+        ("DC 0B 00 02 08 00 0A 00 01 00 17 00 00", 16, 3),
+        ("DC 0B 00 02 08 00 0A 00 01 01 1E 00 00", 16, 3),
         (
             "DC 12 00 02 0F 00 0A 00 01 00 18 00 00 0A 00 02 01 18 00 00",
+            16,
             3,
         ),
         // Stat-len odd, and past the suboption.
-        ("DC 0C 00 02 09 00 0A 00 01 00 18 00 01 00", 3),
-        ("DC 0B 00 02 08 00 0A 00 01 00 18 00 02", 3),
-        ("DC 0C 00 02 09 00 0A 00 01 00 18 00 02 00", 3),
-        ("DC 0F 00 02 08 00 0A 00 01 00 18 00 04 01 02 03 04", 3),
+        ("DC 0C 00 02 09 00 0A 00 01 00 18 00 01 00", 7, 3),
+        ("DC 0B 00 02 08 00 0A 00 01 00 18 00 02", 7, 3),
+        ("DC 0C 00 02 09 00 0A 00 01 00 18 00 02 00", 7, 3),
+        ("DC 0F 00 02 08 00 0A 00 01 00 18 00 04 01 02 03 04", 7, 3),
         // Name: empty, ended by a zero byte.
-        ("DC 03 00 03 00", 3),
-        ("DC 05 00 03 02 77 00", 3),
-        // The first bad one is told.
-        ("DC 07 00 03 00 01 02 00 1F", 3),
-        ("DC 09 00 01 02 00 18 01 02 00 1F", 7),
+        ("DC 03 00 03 00", 7, 3),
+        ("DC 04 00 03 01 00", 16, 3),
+        ("DC 05 00 03 02 77 00", 16, 3),
+        // The first bad one is told, whatever its number.
+        ("DC 07 00 03 00 01 02 00 1F", 7, 3),
+        ("DC 07 00 01 02 00 1F 03 00", 16, 3),
+        ("DC 09 00 01 02 00 18 01 02 00 1F", 16, 7),
     ] {
-        assert_eq!(read220(&hex(text)), Err(no(7, place)), "{text}");
+        assert_eq!(read220(&hex(text)), Err(no(number, place)), "{text}");
     }
     // A lone number byte as the last byte of the longest option: place 256.
     let mut longest = vec![220, 255, 0, 9, 251];

@@ -10,8 +10,8 @@ use reference::table::{State, Table, LATEST};
 
 use crate::common::*;
 
-/// "The first that applies, in this row order"; 15 is "after 5".
-const ROWS: [u8; 15] = [1, 5, 15, 2, 3, 4, 6, 7, 8, 9, 10, 11, 12, 13, 14];
+/// "The first that applies, in this row order"; 15 is "after 5", 16 "in 7's row".
+const ROWS: [u8; 16] = [1, 5, 15, 2, 3, 4, 6, 7, 16, 8, 9, 10, 11, 12, 13, 14];
 
 fn first_row(applying: &[u8]) -> Option<u8> {
     ROWS.into_iter().find(|row| applying.contains(row))
@@ -26,7 +26,7 @@ struct Case {
     client: u32,
     /// 0, 3 or 4.
     time: u8,
-    /// 0, 6, 7 or 8.
+    /// 0, 6, 7, 16 or 8.
     option: u8,
     /// 0, 9, 10 or 11.
     outcome: u8,
@@ -94,7 +94,7 @@ fn cases(outcomes: &[u8]) -> Vec<Case> {
     let mut cases = Vec::new();
     for [short_buffer, unsound, wrong_sheet, no_client] in yes_and_no() {
         for time in [0, 3, 4] {
-            for option in [0, 6, 7, 8] {
+            for option in [0, 6, 7, 16, 8] {
                 for &outcome in outcomes {
                     cases.push(Case {
                         short_buffer,
@@ -117,8 +117,9 @@ fn yes_and_no() -> impl Iterator<Item = [bool; 4]> {
     (0..16).map(|bits| [8, 4, 2, 1].map(|bit| bits & bit != 0))
 }
 
-/// Bytes that rows 6, 7 and 8 apply to; the last two with a piece that the call
-/// demands as well, so that 7 is tried before 8.
+/// Bytes that rows 6, 7, 16 and 8 apply to; those for 7 and 16 have the wrong piece of 8 as
+/// well, so that they are tried before 8, and a suboption after the bad one that is bad in
+/// the other way.
 fn bad_option(row: u8, good: &[u8], wrong_piece: &[u8]) -> Vec<u8> {
     let mut bytes = good.to_vec();
     match row {
@@ -127,7 +128,12 @@ fn bad_option(row: u8, good: &[u8], wrong_piece: &[u8]) -> Vec<u8> {
         }
         7 => {
             bytes.extend(wrong_piece);
-            bytes.extend([1, 2, 0, 31]);
+            bytes.extend([1, 3, 0, 31, 0, 1, 2, 0, 31]);
+            bytes[1] = (bytes.len() - 2) as u8;
+        }
+        16 => {
+            bytes.extend(wrong_piece);
+            bytes.extend([1, 2, 0, 31, 1, 3, 0, 31, 0]);
             bytes[1] = (bytes.len() - 2) as u8;
         }
         8 => {
@@ -144,7 +150,7 @@ fn expect(case: Case, answer: Result<Answer, Refusal>) -> bool {
         Some(number) => {
             let refusal = answer.unwrap_err();
             assert_eq!(refusal.number, number);
-            assert_eq!(refusal.place != 0, number == 7);
+            assert_eq!(refusal.place != 0, number == 7 || number == 16);
             false
         }
         None => {

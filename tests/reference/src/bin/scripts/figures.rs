@@ -206,7 +206,7 @@ pub fn numbers() -> String {
         line_of(&rows)
     };
     let options = |good: &str, wrong_piece: &str| -> Vec<(u8, String)> {
-        [0, 6, 7, 8]
+        [0, 6, 7, 16, 8]
             .into_iter()
             .map(|row| (row, option_for(row, good, wrong_piece)))
             .collect()

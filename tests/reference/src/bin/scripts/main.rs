@@ -4,6 +4,7 @@
 
 mod again;
 mod counts;
+mod faults;
 mod figures;
 mod writing;
 
@@ -65,6 +66,11 @@ fn main() -> io::Result<()> {
         ("counts-numbers", counts::numbers()),
         ("random-calls-counts", counts::random_calls()),
         ("console-counts", counts::console()),
+        ("faults-read", faults::reading()),
+        ("faults-two-suboptions", faults::two()),
+        ("faults-places-up-to-256", faults::places()),
+        ("faults-calls", faults::calls()),
+        ("random-calls-faults", faults::random()),
         ("rfc6656-options-written", writing::rfc6656_options(&fs::read_to_string(folder.join("rfc6656.options"))?)),
         ("write-lengths", writing::lengths()),
         ("write-buffer", writing::buffers()),
@@ -347,16 +353,17 @@ fn pools_at_both_ends() -> String {
 // Every number in every call, and the row order.
 
 /// Rows in the order of the table of numbers.
-const ROWS: [u8; 12] = [1, 5, 15, 2, 3, 4, 6, 7, 8, 9, 10, 11];
+const ROWS: [u8; 13] = [1, 5, 15, 2, 3, 4, 6, 7, 16, 8, 9, 10, 11];
 
-/// The option for row 6, 7 or 8, or the good one. The one for 7 has the wrong piece
-/// of 8 as well.
+/// The option for row 6, 7, 16 or 8, or the good one. Those for 7 and 16 have the wrong
+/// piece of 8 as well.
 fn option_for(row: u8, good: &str, wrong_piece: &str) -> String {
     let with_len = |body: String| format!("dc{:02x}{}", body.len() / 2, body);
     let body = &good[4..];
     match row {
         6 => format!("{good}090900"),
-        7 => with_len(format!("{body}{wrong_piece}0102001f")),
+        7 => with_len(format!("{body}{wrong_piece}0103001f00")),
+        16 => with_len(format!("{body}{wrong_piece}0102001f")),
         8 => with_len(format!("{body}{wrong_piece}")),
         _ => good.to_string(),
     }
@@ -432,7 +439,7 @@ fn numbers_ask() -> String {
         "ask: every number, every combination of rows; the first that applies is given.",
     );
     let good = asking(&[30]);
-    let options: Vec<(u8, String)> = [0, 6, 7, 8]
+    let options: Vec<(u8, String)> = [0, 6, 7, 16, 8]
         .into_iter()
         .map(|row| (row, option_for(row, &good, "01020200")))
         .collect();
@@ -476,7 +483,7 @@ fn numbers_with_entries(name: &str) -> String {
     ));
     let call = |client: u32, now: u32, option: &str| format!("{name} {client} {now} {option}");
     let options = |at: Prefix| -> Vec<(u8, String)> {
-        [0, 6, 7, 8]
+        [0, 6, 7, 16, 8]
             .into_iter()
             .map(|row| (row, option_for(row, &entries(&[at]), "01020018")))
             .collect()
@@ -510,7 +517,7 @@ fn numbers_list() -> String {
         "list: every number, every combination of rows; the first that applies is given.",
     );
     let good = "dc050001020200";
-    let options: Vec<(u8, String)> = [0, 6, 7, 8]
+    let options: Vec<(u8, String)> = [0, 6, 7, 16, 8]
         .into_iter()
         .map(|row| (row, option_for(row, good, "01020018")))
         .collect();
