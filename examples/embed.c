@@ -4,8 +4,9 @@
  *     cc -std=c99 -Iinclude examples/embed.c target/staticlib/libflockdrift.a -o embed
  *     ./embed DIRECTORY [STOP-AFTER] < messages
  *
- * The book is the file `leases` in DIRECTORY, as the library saves it: without the figures that clients told, which are
- * all untold after a start. Each line of standard input stands for a message or for a word from the operator, and its
+ * The book is the file `leases` in DIRECTORY, as the library saves it, in the second form: without the figures that
+ * clients told, which are all untold after a start. A file of the first form is loaded as well, and the next change puts
+ * one of the second in its place. Each line of standard input stands for a message or for a word from the operator, and its
  * answer goes to standard output, both in the console's words:
  *
  *     open TERM DEFAULT START PREFIX..       a new book, where there is none yet
@@ -180,7 +181,8 @@ static int put_in_place(struct server *s, int first)
  */
 static int write_book(struct server *s, int first)
 {
-    struct flockdrift_answer a = flockdrift_book_save(&s->book, s->saved, sizeof s->saved);
+    struct flockdrift_answer a =
+        flockdrift_book_save(&s->book, FLOCKDRIFT_SECOND_FORM, s->saved, sizeof s->saved);
 
     if (a.number != 0)
         return complain_refused(s, a);

@@ -16,7 +16,7 @@ use std::os::unix::fs::OpenOptionsExt;
 use std::path::{Path, PathBuf};
 use std::process::{self, ExitCode};
 
-use flockdrift::{Book, Refusal, Reply};
+use flockdrift::{Book, Form, Refusal, Reply};
 
 /// Bytes for one write: few, so that a kill can leave half an image in the new file.
 const PIECE: usize = 32;
@@ -98,7 +98,9 @@ impl Directory {
 
     /// Puts the book's image in the place of the old one: after a crash or a failure it is one of the two.
     fn write(&self, book: &Book, first: bool, steps: &mut Steps) -> Result<(), String> {
-        let saved = book.save().map_err(|e| named(&self.leases(), e))?;
+        let saved = book
+            .save(Form::Second)
+            .map_err(|e| named(&self.leases(), e))?;
         self.write_new(&saved, steps)
             .map_err(|e| named(&self.new_leases(), e))?;
         self.put_in_place(first, steps)

@@ -3,7 +3,7 @@
  *
  * The server holds the lease table as a book: its image, at the front of a buffer, the image's length, the figures
  * sheet with what clients told of the use of their leases, and the counts of what is left. They are lent to each call:
- * one that accepts leaves the new ones in them, one that refuses has changed none. The image is also the saved form,
+ * one that accepts leaves the new ones in them, one that refuses has changed none. The image is also a saved form,
  * which the server writes to a file and loads from it; figures and counts are not saved.
  *
  *     static struct flockdrift_book book;            all zeros: no table yet, open or load makes one
@@ -24,7 +24,7 @@
  *   null, nor are counts or a book. What a call writes overlaps no other argument.
  * - Nothing is kept between two calls: no pointer, no allocation, no global. Any number of threads may call at once,
  *   each with buffers of its own; two calls on one book need a lock around them, unless both only read it (list, save,
- *   sheet, check, whole, head, pool, lease, figures). A call takes up to 6 KiB of stack (measured on x86-64; a proof
+ *   sheet, check, whole, head, pool, lease, figures). A call takes up to 18 KiB of stack (measured on x86-64; a proof
  *   says nothing of the stack).
  *
  * Networks are IPv4 addresses as numbers, 10.0.1.0 being 0x0a000100, and lengths are prefix lengths. Times are seconds
@@ -35,14 +35,29 @@
  * with libflockdrift.a, which `rt staticlib flockdrift` makes in target/staticlib.
  *
  * THE IMAGE is records, one after another with nothing between or after them: one head, then 1 to 8 pools, then up to
- * 256 leases, pools and leases each ascending by network. All numbers are little-endian. One table has one image.
+ * 256 leases, pools and leases each ascending by network. All numbers are little-endian. It has two forms, and one
+ * table has one image in each.
  *
- * A record is its length (2 bytes, which count what follows them), its kind (2 bytes) and its fields:
+ * A record is its length (2 bytes, which count what follows them), its kind (2 bytes) and its fields. The second form:
  *
  *     kind       length  fields, with the bytes of each
- *     1, head    11      term 4, default length 1, last time 4
+ *     5, head    11      term 4, default length 1, last time 4
  *     2, pool    7       network 4, prefix length 1
- *     3, lease   17      network 4, prefix length 1, state 1 (1 held, 2 leased), flags 1 (h 1 + d 2), client 4, end 4
+ *     4, lease   42      network 4, prefix length 1, state 1 (1 held, 2 leased), flags 1 (h 1 + d 2), client 4, end 4,
+ *                        name length 1 (0 to 24), name 24: its octets, the last not zero, then zeros
+ *
+ * The first form, that of versions before 0.14, has no names:
+ *
+ *     1, head    11      as kind 5
+ *     2, pool    7       the same
+ *     3, lease   17      as kind 4 up to and with the end
+ *
+ * The head tells the form, and records of both forms in one image are no image. Every call works on the second form: a
+ * book's image is never of the first. The first is for files: flockdrift_load and flockdrift_sheet read both, a lease of
+ * the first getting an empty name, and flockdrift_save writes either, the first exactly if no lease has a name.
+ *
+ * A lease's name is that of the ask that made it, for an operator to read; it is in no reply. It stays with the lease,
+ * and goes with it.
  *
  * flockdrift_head, flockdrift_pool and flockdrift_lease answer the fields as numbers, so that a server need not read
  * them itself.
@@ -82,14 +97,20 @@ extern "C" {
 #endif
 
 /* Of this header and of the library that belongs to it. */
-#define FLOCKDRIFT_VERSION "0.13.0"
+#define FLOCKDRIFT_VERSION "0.14.0"
 
 /*
- * The image of a full table: 8 pools and 256 leases. No image is longer, and an image buffer must not be smaller. After
+ * The image of a full table: 8 pools and 256 leases. No image is longer, and a book's buffer must not be smaller. After
  * open and load the rest of a buffer of this size is zeros, and every other call that accepts zeroes what the new image
  * leaves of the old one: of a removed lease, or of an older table, nothing stays behind. No call writes past this size.
  */
-#define FLOCKDRIFT_IMAGE_CAPACITY 4949
+#define FLOCKDRIFT_IMAGE_CAPACITY 11349
+
+/* The same in the first form: a buffer of this size holds what flockdrift_save writes in that form. */
+#define FLOCKDRIFT_FIRST_FORM_CAPACITY 4949
+
+/* A name has at most so many octets. */
+#define FLOCKDRIFT_NAME_CAPACITY 24
 
 /* A figures sheet has exactly this size: so many bytes in a row, and 256 rows. */
 #define FLOCKDRIFT_FIGURES_ROW 11
@@ -105,8 +126,12 @@ extern "C" {
 /* An option 118 has this size. */
 #define FLOCKDRIFT_SELECTION_CAPACITY 6
 
-/* A text buffer of this size holds every sheet; most are far shorter. */
-#define FLOCKDRIFT_TEXT_CAPACITY 150746
+/*
+ * A text buffer of this size holds every sheet; most are far shorter. It is a first line of 26 bytes, 256 leases of at
+ * most 90 (a name of 24 octets makes 30 of them) and 5,640 free prefixes of at most 24: each pool has one, and each lease
+ * at most 22 more, one for each length from 9 to 30.
+ */
+#define FLOCKDRIFT_TEXT_CAPACITY 158426
 
 /*
  * The answer of every call. After a refusal all but `number` and `place` are 0, and nothing that was lent has changed:
@@ -122,9 +147,9 @@ struct flockdrift_answer {
 };
 
 /*
- * Why a call is refused. If several apply, the answer is the first in this order: 1, 5, 15, 2, 3, 4, 6, 7 and 16, 8, 9,
- * 10, 11, 12, 14. 7 and 16 stand in one row: the first bad suboption decides which, and of one that is bad in both ways
- * the framing, all of which is looked at before any field.
+ * Why a call is refused. If several apply, the answer is the first in this order: 1, 5, 15, 2, 3, 4, 6, 7 and 16, 8, 17,
+ * 9, 10, 11, 12, 18, 14. 7 and 16 stand in one row: the first bad suboption decides which, and of one that is bad in both
+ * ways the framing, all of which is looked at before any field.
  */
 enum {
     FLOCKDRIFT_ACCEPTED = 0,
@@ -132,9 +157,10 @@ enum {
     FLOCKDRIFT_NO_CLIENT = 2,         /* client 0 */
     FLOCKDRIFT_TOO_EARLY = 3,         /* now is before the time of the last accepted call that changed the table */
     FLOCKDRIFT_TOO_LATE = 4,          /* now is above 4,292,375,295 */
-    FLOCKDRIFT_NOT_AN_IMAGE = 5,      /* the bytes are not the image of a table, whole and sound; or their buffer is
-                                         below FLOCKDRIFT_IMAGE_CAPACITY or below image_bytes; or, where counts are
-                                         lent to be read, one of them is not the table's */
+    FLOCKDRIFT_NOT_AN_IMAGE = 5,      /* the bytes are not the image of a table, whole and sound; or, but for load and
+                                         sheet, it is of the first form; or their buffer is below
+                                         FLOCKDRIFT_IMAGE_CAPACITY or below image_bytes; or, where counts are lent to be
+                                         read, one of them is not the table's */
     FLOCKDRIFT_NOT_THE_OPTION = 6,    /* the input is not exactly one option 220; read_selection: one option 118 */
     FLOCKDRIFT_BAD_SUBOPTION = 7,     /* a suboption's framing is bad, as of a message that was cut: no Len byte, a Len
                                          past the end or one that the suboption cannot have, an entry cut short, a
@@ -149,9 +175,12 @@ enum {
                                          write_selection: what is written is longer than its buffer */
     FLOCKDRIFT_FIGURES_UNSOUND = 15,  /* ask, take, release, mark: the figures sheet does not match the table, as it is
                                          lent, with the leases that have ended; or it is of another size */
-    FLOCKDRIFT_BAD_FIELD = 16         /* a suboption's framing is good, and a field of it outside the rules: a request's
+    FLOCKDRIFT_BAD_FIELD = 16,        /* a suboption's framing is good, and a field of it outside the rules: a request's
                                          prefix above 30, an entry's prefix 0 or above 30, a network bit past the
                                          prefix, a name's last octet zero; `place` says which suboption */
+    FLOCKDRIFT_NAME_TOO_LONG = 17,    /* ask: the option's first name has more than FLOCKDRIFT_NAME_CAPACITY octets,
+                                         whatever would be offered */
+    FLOCKDRIFT_NAMES_LOST = 18        /* save in the first form: a lease has a name */
 };
 
 /* A number in words, for a log; never null. */
@@ -174,6 +203,8 @@ static inline const char *flockdrift_text(uint32_t number)
     case FLOCKDRIFT_BUFFER_TOO_SMALL: return "the buffer is too small";
     case FLOCKDRIFT_FIGURES_UNSOUND: return "the figures sheet does not match the table";
     case FLOCKDRIFT_BAD_FIELD: return "a field outside the rules in the suboption";
+    case FLOCKDRIFT_NAME_TOO_LONG: return "the name is too long";
+    case FLOCKDRIFT_NAMES_LOST: return "names would be lost in the first form";
     default: return "no number of this library";
     }
 }
@@ -201,9 +232,11 @@ struct flockdrift_answer flockdrift_open(uint8_t *image, size_t capacity, size_t
  * What the client was offered before and has not taken, if it has not ended, it is offered again: a request gets the
  * lease of its length and h that the client holds, of several the lowest, each only once in a call. It is held for 120
  * seconds from now on, even if it would have ended later; its d stays and is in the reply, and its row of the figures
- * sheet stays. This needs no place in the table and no free prefix. Only the other requests get free prefixes. So a
- * client whose answer was lost, and who asks again, gets the same prefixes. Numbers: 1, 5, 15, 2, 3, 4, 6, 7, 16, 8, 9,
- * 10.
+ * sheet and its name stay. This needs no place in the table and no free prefix. Only the other requests get free
+ * prefixes. So a client whose answer was lost, and who asks again, gets the same prefixes.
+ *
+ * The leases that this call makes get the octets of the option's first name, or an empty name where it has none; names
+ * after the first are not looked at. Numbers: 1, 5, 15, 2, 3, 4, 6, 7, 16, 8, 17, 9, 10.
  */
 struct flockdrift_answer flockdrift_ask(uint8_t *image, size_t capacity, size_t *image_bytes, uint8_t *figures,
                                         size_t figures_capacity, uint16_t *counts, uint32_t client, uint32_t now,
@@ -243,27 +276,33 @@ struct flockdrift_answer flockdrift_mark(uint8_t *image, size_t capacity, size_t
                                          uint32_t deprecated, uint32_t now);
 
 /*
- * Makes saved bytes the table's image, makes its figures sheet, nothing told, and works out its counts, whatever these
- * held before. They must be an image exactly, with nothing missing and nothing after it; but an image has no checksum,
- * so bytes that were changed may be the image of another table: keep a checksum beside a file that may be. Numbers, 5
- * being for the saved bytes: 5, 14.
+ * Makes the table of the saved bytes, which are of either form, the book's: its image, of the second form, its figures
+ * sheet, nothing told, and its counts, whatever these held before. They must be an image exactly, with nothing missing
+ * and nothing after it; but an image has no checksum, so bytes that were changed may be the image of another table: keep
+ * a checksum beside a file that may be. Numbers, 5 being for the saved bytes: 5, 14.
  */
 struct flockdrift_answer flockdrift_load(uint8_t *image, size_t capacity, size_t *image_bytes, uint8_t *figures,
                                          size_t figures_capacity, uint16_t *counts, const uint8_t *saved,
                                          size_t saved_bytes);
 
+/* The two forms of an image, for flockdrift_save. */
+enum { FLOCKDRIFT_FIRST_FORM = 1, FLOCKDRIFT_SECOND_FORM = 2 };
+
 /*
- * Checks the image and copies it into a buffer, from which it can be written while other calls go on. Changes nothing
- * else. Numbers: 5, 14.
+ * Checks the image and writes the table into a buffer, in the first form where `form` is 1 and in the second where it is
+ * ANY other number; from there it can be written to a file while other calls go on. Changes nothing else. Numbers: 5, 18
+ * (the first form only), 14.
  */
 struct flockdrift_answer flockdrift_save(const uint8_t *image, size_t capacity, size_t image_bytes,
-                                         const uint16_t *counts, uint8_t *buffer, size_t buffer_capacity);
+                                         const uint16_t *counts, uint32_t form, uint8_t *buffer,
+                                         size_t buffer_capacity);
 
 /*
  * Writes the table as text for an operator: a line `sheet lines=LEASES free=ROWS`, then a line for each lease and each
- * free prefix, ascending, each ended by a newline, with no 0 after the last. The image may stand anywhere: it needs no
- * room after it. Saved bytes have no counts, so it takes none. Changes nothing else, and refuses with 5 exactly what is
- * no image, so that it also tells whether a file is one. Numbers: 5, 14.
+ * free prefix, ascending, each ended by a newline, with no 0 after the last. The line of a lease with a name ends with
+ * ` name ` and its octets, `?` for each that is not 0x20 to 0x7e. The image may be of either form and stand anywhere: it
+ * needs no room after it. Saved bytes have no counts, so it takes none. Changes nothing else, and refuses with 5 exactly
+ * what is no image, so that it also tells whether a file is one. Numbers: 5, 14.
  */
 struct flockdrift_answer flockdrift_sheet(const uint8_t *image, size_t image_bytes, char *text, size_t text_capacity);
 
@@ -321,6 +360,8 @@ struct flockdrift_lease_answer {
     uint32_t h;       /* 1 if its request had h set, otherwise 0 */
     uint32_t d;       /* 1 if it is deprecated, otherwise 0 */
     uint32_t expires; /* the time of its end: from then on it is none */
+    uint32_t name_bytes;                    /* how long its name is, 0 to FLOCKDRIFT_NAME_CAPACITY */
+    uint8_t name[FLOCKDRIFT_NAME_CAPACITY]; /* its octets, any but for the last, which is not zero; then zeros */
 };
 
 /* The lease with this index, which counts from 0; they ascend by network. Numbers: 5, 11. */
@@ -407,10 +448,11 @@ static inline struct flockdrift_answer flockdrift_book_load(struct flockdrift_bo
                            book->counts[0], saved, saved_bytes);
 }
 
-static inline struct flockdrift_answer flockdrift_book_save(const struct flockdrift_book *book, uint8_t *buffer,
-                                                            size_t buffer_capacity)
+static inline struct flockdrift_answer flockdrift_book_save(const struct flockdrift_book *book, uint32_t form,
+                                                            uint8_t *buffer, size_t buffer_capacity)
 {
-    return flockdrift_save(book->image, sizeof book->image, book->bytes, book->counts[0], buffer, buffer_capacity);
+    return flockdrift_save(book->image, sizeof book->image, book->bytes, book->counts[0], form, buffer,
+                           buffer_capacity);
 }
 
 static inline struct flockdrift_answer flockdrift_book_check(const struct flockdrift_book *book)

@@ -1,8 +1,15 @@
 //! include/flockdrift.h for Rust, as it is: raw pointers with their sizes. What each function does, and what it needs of
 //! its caller, is in the header. The crate rust/flockdrift is a safe wrapper.
 
-/// The image of a full table.
-pub const IMAGE_CAPACITY: usize = 4949;
+/// The image of a full table, in the second form.
+pub const IMAGE_CAPACITY: usize = 11349;
+/// The image of a full table in the first form.
+pub const FIRST_FORM_CAPACITY: usize = 4949;
+/// The forms that `flockdrift_save` writes: every number but that of the first is the second.
+pub const FIRST_FORM: u32 = 1;
+pub const SECOND_FORM: u32 = 2;
+/// A name has at most so many octets.
+pub const NAME_CAPACITY: usize = 24;
 /// A figures sheet has exactly this size.
 pub const FIGURES_CAPACITY: usize = 2816;
 /// The counts have a row for each of so many pools.
@@ -14,7 +21,7 @@ pub const REPLY_CAPACITY: usize = 257;
 /// An option 118 has this size.
 pub const SELECTION_CAPACITY: usize = 6;
 /// A text buffer of this size holds every sheet.
-pub const TEXT_CAPACITY: usize = 150746;
+pub const TEXT_CAPACITY: usize = 158426;
 
 /// The answer of every call: number and place of a refusal, or the counts of an accepted call.
 #[repr(C)]
@@ -47,7 +54,8 @@ pub struct PoolAnswer {
     pub length: u32,
 }
 
-/// A lease of a table: its state is 1 for held and 2 for leased, h and d are 0 or 1.
+/// A lease of a table: its state is 1 for held and 2 for leased, h and d are 0 or 1, its name is the first `name_bytes`
+/// of `name`, and zeros follow.
 #[repr(C)]
 #[derive(Clone, Copy, Debug, Default, PartialEq, Eq)]
 pub struct LeaseAnswer {
@@ -59,6 +67,8 @@ pub struct LeaseAnswer {
     pub h: u32,
     pub d: u32,
     pub expires: u32,
+    pub name_bytes: u32,
+    pub name: [u8; NAME_CAPACITY],
 }
 
 /// The address of an option 118.
@@ -164,6 +174,7 @@ unsafe extern "C" {
         capacity: usize,
         image_bytes: usize,
         counts: *const u16,
+        form: u32,
         buffer: *mut u8,
         buffer_capacity: usize,
     ) -> Answer;

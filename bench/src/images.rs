@@ -1,9 +1,10 @@
 //! Images, figures sheets and counts made by hand, sound or not.
 
-use crate::desk::{Counts, LENGTHS, SHORTEST};
+use crate::desk::{Counts, LENGTHS, NAME, SHORTEST};
 
-/// A lease's record.
-pub const LEASE: usize = 19;
+/// A lease's record in the first form, and in the second.
+pub const FIRST_LEASE: usize = 19;
+pub const LEASE: usize = FIRST_LEASE + 1 + NAME;
 /// A row of a figures sheet.
 pub const ROW: usize = 11;
 pub const ROWS: usize = 256;
@@ -20,7 +21,22 @@ pub struct Lease {
     pub flags: u8,
     pub client: u32,
     pub expires: u32,
+    /// Length and octets as the record has them, which may be outside the rules.
+    pub name: Name,
 }
+
+pub type Name = [u8; 1 + NAME];
+
+/// A name of these octets, of which there are at most 24.
+pub fn name(octets: &[u8]) -> Name {
+    let mut name = [0; 1 + NAME];
+    name[0] = octets.len() as u8;
+    name[1..=octets.len()].copy_from_slice(octets);
+    name
+}
+
+/// A name of none.
+pub const NO_NAME: Name = [0; 1 + NAME];
 
 #[derive(Clone, Debug)]
 pub struct Table {
@@ -32,10 +48,19 @@ pub struct Table {
 }
 
 impl Table {
-    /// The image; nothing is checked or sorted.
+    /// The image in the second form; nothing is checked or sorted.
     pub fn image(&self) -> Vec<u8> {
+        self.image_in(false)
+    }
+
+    /// The image in the first form, which leaves names out.
+    pub fn first_image(&self) -> Vec<u8> {
+        self.image_in(true)
+    }
+
+    pub fn image_in(&self, first: bool) -> Vec<u8> {
         let mut image = Vec::new();
-        image.extend([11, 0, 1, 0]);
+        image.extend([11, 0, if first { 1 } else { 5 }, 0]);
         image.extend(self.term.to_le_bytes());
         image.push(self.default_length);
         image.extend(self.last.to_le_bytes());
@@ -45,11 +70,14 @@ impl Table {
             image.push(*length);
         }
         for lease in &self.leases {
-            image.extend([17, 0, 3, 0]);
+            image.extend(if first { [17, 0, 3, 0] } else { [42, 0, 4, 0] });
             image.extend(lease.network.to_le_bytes());
             image.extend([lease.length, lease.state, lease.flags]);
             image.extend(lease.client.to_le_bytes());
             image.extend(lease.expires.to_le_bytes());
+            if !first {
+                image.extend(lease.name);
+            }
         }
         image
     }
@@ -88,7 +116,11 @@ impl Table {
         counts
     }
 
-    /// Reads a sound image back; what is not sound makes no sense here.
+    pub fn has_names(&self) -> bool {
+        self.leases.iter().any(|lease| lease.name != NO_NAME)
+    }
+
+    /// Reads a sound image of either form back; what is not sound makes no sense here.
     pub fn of_image(image: &[u8]) -> Table {
         let word = |at: usize| u32::from_le_bytes(image[at..at + 4].try_into().unwrap());
         let mut table =
@@ -106,8 +138,12 @@ impl Table {
                     flags: image[at + 10],
                     client: word(at + 11),
                     expires: word(at + 15),
+                    name: match image[at] {
+                        17 => NO_NAME,
+                        _ => image[at + FIRST_LEASE..at + LEASE].try_into().unwrap(),
+                    },
                 });
-                at += LEASE;
+                at += 2 + usize::from(image[at]);
             }
         }
         table

@@ -27,6 +27,14 @@ pub fn ask(lengths: &[u8]) -> Vec<u8> {
     option(&requests)
 }
 
+/// An ask for these lengths, with a name before them.
+pub fn ask_as(name: &[u8], lengths: &[u8]) -> Vec<u8> {
+    let mut pieces = vec![3, name.len() as u8];
+    pieces.extend(name);
+    pieces.extend(lengths.iter().flat_map(|&length| request(0, length)));
+    option(&pieces)
+}
+
 /// A take or a return of these prefixes.
 pub fn entries(prefixes: &[(u32, u8)]) -> Vec<u8> {
     let entries: Vec<(u32, u8, u8)> = prefixes.iter().map(|&(network, length)| (network, length, 0)).collect();

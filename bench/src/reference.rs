@@ -2,13 +2,13 @@
 
 use ::reference::calls;
 use ::reference::counts;
-use ::reference::image;
+use ::reference::image::{self, Form};
 use ::reference::prefix::Prefix;
 use ::reference::refusal::{Refusal, refusal};
 use ::reference::sheet::sheet as rows_of;
 use ::reference::table::Table;
 
-use crate::desk::{Answer, Counts, Desk, FULL, Lent};
+use crate::desk::{Answer, Counts, Desk, FIRST_FORM, FULL, Lent};
 
 pub const REFERENCE: Desk = Desk { name: "reference", open, ask, take, list, release, mark, load, save, whole, sheet };
 
@@ -34,15 +34,17 @@ fn table_of(image: &[u8]) -> Table {
 }
 
 /// The table of the image in a buffer, with these counts, whatever they say; one that is too small for every image, or for
-/// this one, has none.
+/// this one, has none. "The calls work on the second form only": an image of the first, told by its head, is none here.
 fn table_in(image: &[u8], bytes: usize, counts: &Counts) -> Table {
     let image = if image.len() < FULL { &[] } else { image.get(..bytes).unwrap_or(&[]) };
-    Table { counts: *counts, ..table_of(image) }
+    let second = image.get(2..4) == Some(&Form::Second.head().to_le_bytes());
+    Table { counts: *counts, ..table_of(if second { image } else { &[] }) }
 }
 
 /// Saves the table over an image of `old` bytes, and zeroes what is left of that.
 fn store(table: &Table, image: &mut [u8], old: usize) -> usize {
-    let bytes = image::save(table, image).expect("an accepted call leaves a sound table, and a full one fits");
+    let bytes =
+        image::save(table, Form::Second, image).expect("an accepted call leaves a sound table, and a full one fits");
     if bytes < old {
         image[bytes..old].fill(0);
     }
@@ -119,8 +121,9 @@ fn whole(image: &[u8], bytes: usize, counts: &Counts, length: u32) -> Answer {
     }
 }
 
-fn save(image: &[u8], bytes: usize, counts: &Counts, buffer: &mut [u8]) -> Answer {
-    match image::save(&table_in(image, bytes, counts), buffer) {
+fn save(image: &[u8], bytes: usize, counts: &Counts, form: u32, buffer: &mut [u8]) -> Answer {
+    let form = if form == FIRST_FORM { Form::First } else { Form::Second };
+    match image::save(&table_in(image, bytes, counts), form, buffer) {
         Ok(written) => Answer::accepted(written, 0),
         Err(refusal) => refused(refusal),
     }

@@ -1,7 +1,7 @@
 //! The calls that are measured, each on eight different tables, so that no branch is learnt by heart.
 
-use crate::desk::{Answer, Counts, Desk, FIGURES, FULL, LENGTHS, Lent, REPLY, SHEET};
-use crate::images::{EMPTY_ROW, LEASE, Lease, ROW, Table};
+use crate::desk::{Answer, Counts, Desk, FIGURES, FIRST_FORM, FULL, LENGTHS, Lent, REPLY, SECOND_FORM, SHEET};
+use crate::images::{self, EMPTY_ROW, LEASE, Lease, NO_NAME, ROW, Table};
 use crate::options;
 use crate::random::Random;
 
@@ -44,6 +44,8 @@ pub struct Case {
     /// A buffer that holds a full image, zeros after the image.
     pub image: Vec<u8>,
     pub bytes: usize,
+    /// The same table in the first form, without names.
+    pub first: Vec<u8>,
     /// A sheet that matches, with something told in every row of a lease.
     pub figures: Vec<u8>,
     /// Those of the table, but where a row is about others.
@@ -164,8 +166,16 @@ fn load(desk: &Desk, case: &Case, buffers: &mut Buffers) -> Answer {
     (desk.load)(buffers.lent().0, &case.image[..case.bytes])
 }
 
+fn load_first(desk: &Desk, case: &Case, buffers: &mut Buffers) -> Answer {
+    (desk.load)(buffers.lent().0, &case.first)
+}
+
 fn save(desk: &Desk, _: &Case, buffers: &mut Buffers) -> Answer {
-    (desk.save)(&buffers.image, buffers.bytes, &buffers.counts, &mut buffers.saved)
+    (desk.save)(&buffers.image, buffers.bytes, &buffers.counts, SECOND_FORM, &mut buffers.saved)
+}
+
+fn save_first(desk: &Desk, _: &Case, buffers: &mut Buffers) -> Answer {
+    (desk.save)(&buffers.image, buffers.bytes, &buffers.counts, FIRST_FORM, &mut buffers.saved)
 }
 
 fn whole(desk: &Desk, case: &Case, buffers: &mut Buffers) -> Answer {
@@ -191,7 +201,13 @@ fn lease(random: &mut Random, network: u32, length: u8) -> Lease {
         flags: random.below(4) as u8,
         client: CLIENT + random.below(2) as u32,
         expires: NOW + 1 + random.below(3000) as u32,
+        name: NO_NAME,
     }
+}
+
+/// 5 to 13 letters.
+fn letters(random: &mut Random) -> Vec<u8> {
+    (0..5 + random.below(9)).map(|_| b'a' + random.below(26) as u8).collect()
 }
 
 fn table(pools: Vec<(u32, u8)>, leases: Vec<Lease>) -> Table {
@@ -295,6 +311,8 @@ struct Plan {
     option: fn(&mut Random, &Table) -> Vec<u8>,
     /// Mark looks for a lease that there is.
     found: bool,
+    /// Every lease has a name.
+    names: bool,
 }
 
 fn row(plan: &Plan, shape: Shape, scale: usize, leases: usize) -> Row {
@@ -314,6 +332,12 @@ fn row(plan: &Plan, shape: Shape, scale: usize, leases: usize) -> Row {
         if !plan.found {
             prefix.1 = 26;
         }
+        let first = table.first_image();
+        if plan.names {
+            for lease in &mut table.leases {
+                lease.name = images::name(&letters(&mut told));
+            }
+        }
         let mut image = table.image();
         let bytes = image.len();
         image.resize(FULL, 0);
@@ -325,7 +349,7 @@ fn row(plan: &Plan, shape: Shape, scale: usize, leases: usize) -> Row {
         if plan.number == 5 {
             counts[7][LENGTHS - 1] ^= 1;
         }
-        cases.push(Case { image, bytes, figures, counts, client: plan.client, option, prefix });
+        cases.push(Case { image, bytes, first, figures, counts, client: plan.client, option, prefix });
     }
     Row {
         call: plan.call,
@@ -385,6 +409,20 @@ fn ask_25(random: &mut Random, _: &Table) -> Vec<u8> {
     options::ask(&lengths)
 }
 
+fn ask_20_as(random: &mut Random, _: &Table) -> Vec<u8> {
+    options::ask_as(&letters(random), &[20])
+}
+
+fn ask_25_as(random: &mut Random, _: &Table) -> Vec<u8> {
+    let lengths: Vec<u8> = (0..25).map(|_| 22 + random.below(9) as u8).collect();
+    options::ask_as(&letters(random), &lengths)
+}
+
+fn ask_25_too_long(random: &mut Random, _: &Table) -> Vec<u8> {
+    let lengths: Vec<u8> = (0..25).map(|_| 22 + random.below(9) as u8).collect();
+    options::ask_as(&[b'a'; 25], &lengths)
+}
+
 fn entries_1(random: &mut Random, table: &Table) -> Vec<u8> {
     options::entries(&named(random, table, 1))
 }
@@ -427,6 +465,7 @@ pub fn rows(desks: &[&Desk]) -> Vec<Row> {
         grows: None,
         option: listing,
         found: true,
+        names: false,
     };
     let plan = |call, command, run, option| Plan { call, command, run, option, ..plain };
     let mut rows = vec![row(&plan("open", "open", open, listing), Empty, 0, 0)];
@@ -453,6 +492,8 @@ pub fn rows(desks: &[&Desk]) -> Vec<Row> {
         &plan("whole", "whole", whole, listing),
         &plan("load", "load", load, listing),
         &plan("save", "save", save, listing),
+        &plan("load, first form", "load", load_first, listing),
+        &plan("save, first form", "save", save_first, listing),
     ] {
         add(plan, &zero);
         add(plan, &some);
@@ -505,6 +546,25 @@ pub fn rows(desks: &[&Desk]) -> Vec<Row> {
     let text = plan("sheet", "sheet", sheet, listing);
     add(&text, &zero);
     add(&text, &some);
+
+    // Every lease with a name, and asks with one.
+    let packed = [(Packed, 64, 64), (Packed, 256, 256)];
+    let named = |plan| Plan { names: true, ..plan };
+    add(&named(Plan { client: 0, number: 2, ..plan("list, names", "list", list, listing) }), &packed);
+    for (call, command, run, option) in [
+        ("load, names", "load", load as Run, listing as fn(&mut Random, &Table) -> Vec<u8>),
+        ("save, names", "save", save, listing),
+        ("list, names", "list", list, listing),
+        ("take 25, names", "take", take, entries_25),
+        ("return 25, names", "return", release, entries_25),
+        ("sheet, names", "sheet", sheet, listing),
+    ] {
+        add(&named(plan(call, command, run, option)), &packed);
+    }
+    add(&named(refused(plan("save, first form", "save", save_first, listing), 18)), &packed);
+    add(&named(plan_ask("ask 1, names", ask_20_as)), &[(Packed, 64, 64), (Packed, 256, 255)]);
+    add(&named(plan_ask("ask 25, names", ask_25_as)), &[(Packed, 64, 64), (Packed, 256, 231)]);
+    add(&named(refused(plan_ask("ask 25, names", ask_25_too_long), 17)), &[(Packed, 64, 64), (Packed, 256, 231)]);
 
     for row in &mut rows {
         check(row, desks);

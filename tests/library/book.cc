@@ -7,7 +7,7 @@ int main()
 {
     const uint32_t network = 0x0a000100;
     const uint8_t length = 24;
-    const uint8_t ask[] = {0xdc, 5, 0, 1, 2, 0, 26};
+    const uint8_t ask[] = {0xdc, 9, 0, 1, 2, 0, 26, 3, 2, 'a', 'b'};
     const uint8_t name[] = {0xdc, 11, 0, 2, 8, 0, 10, 0, 1, 0, 26, 0, 0};
     const uint8_t told[] = {0xdc, 13, 0, 2, 10, 0, 10, 0, 1, 0, 26, 0, 2, 1, 10};
     const uint8_t all[] = {0xdc, 5, 0, 1, 2, 2, 0};
@@ -28,9 +28,13 @@ int main()
     good = good && flockdrift_book_list(&book, 7, 1020, all, sizeof all, reply, sizeof reply).count == 1;
     good = good && flockdrift_book_mark(&book, network, 26, 1, 1030).number == 0;
     good = good && flockdrift_book_head(&book).leases == 1 && flockdrift_book_pool(&book, 0).network == network;
-    good = good && flockdrift_book_lease(&book, 0).state == FLOCKDRIFT_LEASED;
+    const flockdrift_lease_answer lease = flockdrift_book_lease(&book, 0);
+    good = good && lease.state == FLOCKDRIFT_LEASED && lease.name_bytes == 2 && std::memcmp(lease.name, "ab", 3) == 0;
+    good = good && flockdrift_book_save(&book, FLOCKDRIFT_FIRST_FORM, saved, sizeof saved).number == FLOCKDRIFT_NAMES_LOST;
+    good = good && flockdrift_book_save(&before, FLOCKDRIFT_FIRST_FORM, saved, sizeof saved).bytes == 22;
+    good = good && FLOCKDRIFT_FIRST_FORM_CAPACITY < sizeof saved;
     good = good && flockdrift_book_whole(&before, 24).count == 1 && flockdrift_book_whole(&book, 26).count == 1;
-    const uint32_t bytes = flockdrift_book_save(&book, saved, sizeof saved).bytes;
+    const uint32_t bytes = flockdrift_book_save(&book, FLOCKDRIFT_SECOND_FORM, saved, sizeof saved).bytes;
     good = good && flockdrift_book_sheet(&book, text, sizeof text).number == 0;
     good = good && flockdrift_book_release(&book, 7, 1040, name, sizeof name).count == 1;
     good = good && flockdrift_book_load(&book, saved, bytes).number == 0;

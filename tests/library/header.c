@@ -1,8 +1,8 @@
 /*
  * What include/flockdrift.h says, tried from C: the layout of the answers, sizes at their limits, null pointers, the
  * order of the refusals, what a refusal leaves, what an accepted call leaves behind the image, the figures sheet, the
- * counts, load and save, what a book holds, options with no book, the struct of a book, and several threads. Prints a
- * line for each difference.
+ * counts, load and save, names and the two forms, what a book holds, options with no book, the struct of a book, and
+ * several threads. Prints a line for each difference.
  */
 #define _POSIX_C_SOURCE 200809L
 
@@ -15,6 +15,15 @@
 
 enum {
     FULL = FLOCKDRIFT_IMAGE_CAPACITY,
+    FIRST_FULL = FLOCKDRIFT_FIRST_FORM_CAPACITY,
+    SECOND = FLOCKDRIFT_SECOND_FORM,
+    RECORD = 44, /* of a lease; in the first form 19 */
+    /* images of two pools and so many leases */
+    NONE = 31,
+    ONE = NONE + RECORD,
+    TWO = ONE + RECORD,
+    THREE = TWO + RECORD,
+    FOUR = THREE + RECORD,
     BUFFER = FULL + 64, /* the last bytes stand outside of every image */
     FIGURES = FLOCKDRIFT_FIGURES_CAPACITY,
     ROW = FLOCKDRIFT_FIGURES_ROW,
@@ -56,6 +65,7 @@ static void same(int line, const char *what, unsigned long got, unsigned long wa
 #define POOL(a, number, network, length) pool_is(__LINE__, a, (const uint32_t[3]){number, network, length})
 #define LEASE(a, number, network, length, client, state, h, d, expires) \
     lease_is(__LINE__, a, (const uint32_t[8]){number, network, length, client, state, h, d, expires})
+#define NAME(a, octets, n) name_is(__LINE__, a, octets, n)
 #define FIGURES_OF(a, network, length, high_water, in_use, unusable) \
     figures_are(__LINE__, a, (const uint32_t[5]){network, length, high_water, in_use, unusable})
 #define ROWS(s, rows, n) rows_are(__LINE__, s, rows, n)
@@ -90,6 +100,8 @@ static const uint8_t name_and_bad[] = {0xdc, 13, 0, 2, 8, 0, 10, 0, 8, 0, 26, 0,
 static const uint8_t network_and_cut[] = {0xdc, 12, 0, 2, 9, 0, 10, 0, 8, 1, 26, 0, 0, 10};
 static const uint8_t network_and_bad[] = {0xdc, 13, 0, 2, 8, 0, 10, 0, 8, 1, 26, 0, 0, 1, 0};
 static const uint8_t name_of_zero[] = {0xdc, 8, 0, 1, 2, 0, 26, 3, 1, 0};
+/* a /26, the name `west hall` before it and `x` after it */
+static const uint8_t ask_west[] = {0xdc, 19, 0, 3, 9, 'w', 'e', 's', 't', ' ', 'h', 'a', 'l', 'l', 1, 2, 0, 26, 3, 1, 'x'};
 
 /* What stands in s[0] is what the next refusal has to leave. */
 static void keep(struct lent *s)
@@ -178,9 +190,20 @@ static void pool_is(int line, struct flockdrift_pool_answer a, const uint32_t *w
     same_fields(line, &a, 3, wanted);
 }
 
+/* Of a lease without a name, or of a refusal. */
 static void lease_is(int line, struct flockdrift_lease_answer a, const uint32_t *wanted)
 {
     same_fields(line, &a, 8, wanted);
+    same(line, "the length of no name", a.name_bytes, 0);
+    filled(line, a.name, sizeof a.name, 0);
+}
+
+static void name_is(int line, struct flockdrift_lease_answer a, const void *octets, size_t n)
+{
+    same(line, "number", a.number, 0);
+    same(line, "the name's length", a.name_bytes, n);
+    same(line, "whether the name differs", memcmp(a.name, octets, n) != 0, 0);
+    filled(line, a.name + n, sizeof a.name - n, 0);
 }
 
 static void figures_are(int line, struct flockdrift_figures a, const uint32_t *wanted)
@@ -245,7 +268,12 @@ static struct flockdrift_answer load(struct lent *s, size_t capacity, size_t sav
 
 static struct flockdrift_answer save(struct lent *s, size_t buffer_capacity)
 {
-    return flockdrift_save(s->image, BUFFER, s->bytes, s->counts, s->saved, buffer_capacity);
+    return flockdrift_save(s->image, BUFFER, s->bytes, s->counts, SECOND, s->saved, buffer_capacity);
+}
+
+static struct flockdrift_answer save_first(struct lent *s, size_t buffer_capacity)
+{
+    return flockdrift_save(s->image, BUFFER, s->bytes, s->counts, FLOCKDRIFT_FIRST_FORM, s->saved, buffer_capacity);
 }
 
 static struct flockdrift_answer check(const struct lent *s)
@@ -280,12 +308,12 @@ static struct flockdrift_answer load_of_own(struct lent *s)
     return load(s, BUFFER, s->bytes);
 }
 
-/* The table that most trials begin with: one lease, at 10.0.8.0/26, an image of 50 bytes. */
+/* The table that most trials begin with: one lease, at 10.0.8.0/26, an image of 75 bytes. */
 static void begin(struct lent *s)
 {
     fill(s);
-    ACCEPTED(s, open_at(s, BUFFER), 0, 0, 31);
-    ACCEPTED(s, ask(s, 7, 1000, ask_26, sizeof ask_26), 13, 1, 50);
+    ACCEPTED(s, open_at(s, BUFFER), 0, 0, NONE);
+    ACCEPTED(s, ask(s, 7, 1000, ask_26, sizeof ask_26), 13, 1, ONE);
 }
 
 /* An image that the caller puts into the buffer, with other bytes after it, its figures and its counts. */
@@ -311,9 +339,13 @@ static void layout(void)
     SAME("the offset of leases", offsetof(struct flockdrift_head_answer, leases), 20);
     SAME("the pool's size", sizeof(struct flockdrift_pool_answer), 12);
     SAME("the offset of length", offsetof(struct flockdrift_pool_answer, length), 8);
-    SAME("the lease's size", sizeof(struct flockdrift_lease_answer), 32);
+    SAME("the lease's size", sizeof(struct flockdrift_lease_answer), 60);
     SAME("the offset of state", offsetof(struct flockdrift_lease_answer, state), 16);
     SAME("the offset of expires", offsetof(struct flockdrift_lease_answer, expires), 28);
+    SAME("the offset of name_bytes", offsetof(struct flockdrift_lease_answer, name_bytes), 32);
+    SAME("the offset of name", offsetof(struct flockdrift_lease_answer, name), 36);
+    SAME("a full image", FULL, 13 + 8 * 9 + 256 * RECORD);
+    SAME("a full image of the first form", FIRST_FULL, 13 + 8 * 9 + 256 * 19);
     SAME("the figures sheet's size", FIGURES, 256 * ROW);
     SAME("the counts' size", sizeof(((struct flockdrift_book *)NULL)->counts), 368);
     SAME("the selection's size", sizeof(struct flockdrift_selection_answer), 8);
@@ -337,17 +369,18 @@ static void nulls(struct lent *s)
     REFUSED(s, flockdrift_release(NULL, 0, b, NULL, 0, s->counts, 0, 0, NULL, 0), 5, 0);
     REFUSED(s, flockdrift_mark(NULL, 0, b, NULL, 0, s->counts, 0, 0, 0, 0), 5, 0);
     REFUSED(s, flockdrift_load(NULL, 0, b, NULL, 0, s->counts, NULL, 0), 5, 0);
-    REFUSED(s, flockdrift_load(NULL, 0, b, NULL, 0, s->counts, s->image, 50), 14, 0);
+    REFUSED(s, flockdrift_load(NULL, 0, b, NULL, 0, s->counts, s->image, ONE), 14, 0);
     REFUSED(s, flockdrift_open(s->image, BUFFER, b, NULL, 0, s->counts, network, 2, length, 2, 3600, 28, 1000), 14, 0);
     REFUSED(s, flockdrift_ask(s->image, BUFFER, b, NULL, 0, s->counts, 0, 0, NULL, 0, s->reply, REPLY), 15, 0);
     REFUSED(s, flockdrift_take(s->image, BUFFER, b, NULL, 0, s->counts, 0, 0, NULL, 0, s->reply, REPLY), 15, 0);
     REFUSED(s, flockdrift_release(s->image, BUFFER, b, NULL, 0, s->counts, 0, 0, NULL, 0), 15, 0);
     REFUSED(s, flockdrift_mark(s->image, BUFFER, b, NULL, 0, s->counts, 0, 0, 0, 0), 15, 0);
-    REFUSED(s, flockdrift_save(NULL, 0, 0, s->counts, NULL, 0), 5, 0);
+    REFUSED(s, flockdrift_save(NULL, 0, 0, s->counts, SECOND, NULL, 0), 5, 0);
     REFUSED(s, save(s, 0), 14, 0);
-    REFUSED(s, flockdrift_save(s->image, BUFFER, 50, s->counts, NULL, 0), 14, 0);
+    REFUSED(s, flockdrift_save(s->image, BUFFER, ONE, s->counts, SECOND, NULL, 0), 14, 0);
+    REFUSED(s, flockdrift_save(s->image, BUFFER, ONE, s->counts, FLOCKDRIFT_FIRST_FORM, NULL, 0), 14, 0);
     REFUSED(s, flockdrift_sheet(NULL, 0, NULL, 0), 5, 0);
-    REFUSED(s, flockdrift_sheet(s->image, 50, NULL, 0), 14, 0);
+    REFUSED(s, flockdrift_sheet(s->image, ONE, NULL, 0), 14, 0);
     REFUSED(s, flockdrift_check(NULL, 0, 0, s->counts), 5, 0);
     SAME("the head of nothing", flockdrift_head(NULL, 0, 0, s->counts).number, 5);
     SAME("a pool of nothing", flockdrift_pool(NULL, 0, 0, s->counts, 0).number, 5);
@@ -361,7 +394,7 @@ static void nulls(struct lent *s)
 /* A buffer below the size of a full image holds none, nor does one below the length that the image is said to have. */
 static void sizes(struct lent *s)
 {
-    static const size_t no_image[] = {0, 1, 30, 32, 49, 51, FULL, BUFFER, BUFFER + 1, SIZE_MAX};
+    static const size_t no_image[] = {0, 1, NONE - 1, NONE + 1, ONE - 1, ONE + 1, FULL, BUFFER, BUFFER + 1, SIZE_MAX};
     size_t *b = &s->bytes, i;
     uint8_t *f = s->figures;
 
@@ -372,13 +405,13 @@ static void sizes(struct lent *s)
     REFUSED(s, flockdrift_take(s->image, FULL - 1, b, f, FIGURES, s->counts, 7, 1000, name_26, sizeof name_26,
             s->reply, REPLY), 5,
             0);
-    REFUSED(s, flockdrift_list(s->image, FULL - 1, 50, s->counts, 7, 1000, list_all, sizeof list_all, s->reply,
+    REFUSED(s, flockdrift_list(s->image, FULL - 1, ONE, s->counts, 7, 1000, list_all, sizeof list_all, s->reply,
             REPLY), 5, 0);
     REFUSED(s, flockdrift_release(s->image, FULL - 1, b, f, FIGURES, s->counts, 7, 1000, name_26, sizeof name_26), 5,
             0);
     REFUSED(s, flockdrift_mark(s->image, FULL - 1, b, f, FIGURES, s->counts, network[0], 26, 1, 1000), 5, 0);
-    REFUSED(s, flockdrift_save(s->image, FULL - 1, 50, s->counts, s->saved, BUFFER), 5, 0);
-    REFUSED(s, flockdrift_check(s->image, FULL - 1, 50, s->counts), 5, 0);
+    REFUSED(s, flockdrift_save(s->image, FULL - 1, ONE, s->counts, SECOND, s->saved, BUFFER), 5, 0);
+    REFUSED(s, flockdrift_check(s->image, FULL - 1, ONE, s->counts), 5, 0);
     HEAD(head(s, FULL - 1), 5, 0, 0, 0, 0, 0);
     POOL(pool(s, FULL - 1, 0), 5, 0, 0);
     LEASE(lease(s, FULL - 1, 0), 5, 0, 0, 0, 0, 0, 0, 0);
@@ -397,24 +430,24 @@ static void sizes(struct lent *s)
     }
 
     /* in a buffer of a full image's size and no more all of them work */
-    set_bytes(s, 50);
-    READ(s, flockdrift_check(s->image, FULL, 50, s->counts), 0, 0);
+    set_bytes(s, ONE);
+    READ(s, flockdrift_check(s->image, FULL, ONE, s->counts), 0, 0);
     HEAD(head(s, FULL), 0, 3600, 28, 1000, 2, 1);
     POOL(pool(s, FULL, 1), 0, 0x0a000800, 26);
     LEASE(lease(s, FULL, 0), 0, 0x0a000800, 26, 7, 1, 0, 0, 1120);
-    ACCEPTED(s, flockdrift_mark(s->image, FULL, b, f, FIGURES, s->counts, network[0], 26, 1, 1000), 0, 0, 50);
+    ACCEPTED(s, flockdrift_mark(s->image, FULL, b, f, FIGURES, s->counts, network[0], 26, 1, 1000), 0, 0, ONE);
     ACCEPTED(s, flockdrift_ask(s->image, FULL, b, f, FIGURES, s->counts, 8, 1000, ask_two, sizeof ask_two, s->reply,
              REPLY), 23, 2,
-             88);
+             THREE);
     ACCEPTED(s, flockdrift_take(s->image, FULL, b, f, FIGURES, s->counts, 7, 1000, name_26, sizeof name_26, s->reply,
              REPLY), 13,
-             1, 88);
-    READ(s, flockdrift_list(s->image, FULL, 88, s->counts, 7, 1000, list_all, sizeof list_all, s->reply, REPLY), 13, 1);
-    READ(s, flockdrift_save(s->image, FULL, 88, s->counts, s->saved, 88), 88, 0);
+             1, THREE);
+    READ(s, flockdrift_list(s->image, FULL, THREE, s->counts, 7, 1000, list_all, sizeof list_all, s->reply, REPLY), 13, 1);
+    READ(s, flockdrift_save(s->image, FULL, THREE, s->counts, SECOND, s->saved, THREE), THREE, 0);
     ACCEPTED(s, flockdrift_release(s->image, FULL, b, f, FIGURES, s->counts, 7, 1000, name_26, sizeof name_26), 0, 1,
-             69);
-    ACCEPTED(s, load(s, FULL, 88), 0, 0, 88);
-    ACCEPTED(s, open_at(s, FULL), 0, 0, 31);
+             TWO);
+    ACCEPTED(s, load(s, FULL, THREE), 0, 0, THREE);
+    ACCEPTED(s, open_at(s, FULL), 0, 0, NONE);
 }
 
 /* Several things are wrong with each call, one less from line to line: the first row that applies is given. */
@@ -436,21 +469,21 @@ static void order(struct lent *s)
             1000), 12, 0);
     REFUSED(s, flockdrift_open(s->image, BUFFER, b, f, FIGURES, s->counts, network, 2, length, 2, 3600, 28, late),
             12, 0);
-    REFUSED(s, load(s, FULL - 1, 50), 5, 0);
+    REFUSED(s, load(s, FULL - 1, ONE), 5, 0);
 
     begin(s);
-    set_bytes(s, 49);
+    set_bytes(s, ONE - 1);
     REFUSED(s, flockdrift_ask(s->image, BUFFER, b, f, FIGURES, s->counts, 0, 999, NULL, 0, s->reply, REPLY - 1), 1, 0);
     REFUSED(s, ask(s, 0, 999, NULL, 0), 5, 0);
     REFUSED(s, flockdrift_take(s->image, BUFFER, b, f, FIGURES, s->counts, 0, 999, NULL, 0, s->reply, REPLY - 1), 1, 0);
     REFUSED(s, take(s, 0, 999, NULL, 0), 5, 0);
-    REFUSED(s, flockdrift_list(s->image, BUFFER, 49, s->counts, 0, 999, NULL, 0, s->reply, REPLY - 1), 1, 0);
+    REFUSED(s, flockdrift_list(s->image, BUFFER, ONE - 1, s->counts, 0, 999, NULL, 0, s->reply, REPLY - 1), 1, 0);
     REFUSED(s, list(s, 0, 999, NULL, 0), 5, 0);
     REFUSED(s, release(s, 0, 999, NULL, 0), 5, 0);
     REFUSED(s, mark(s, 0, 0, 0, 999), 5, 0);
     REFUSED(s, save(s, 0), 5, 0);
-    REFUSED(s, flockdrift_sheet(s->image, 49, s->text, 0), 5, 0);
-    set_bytes(s, 50);
+    REFUSED(s, flockdrift_sheet(s->image, ONE - 1, s->text, 0), 5, 0);
+    set_bytes(s, ONE);
     REFUSED(s, ask(s, 0, 999, NULL, 0), 2, 0);
     REFUSED(s, ask(s, 7, 999, NULL, 0), 3, 0);
     REFUSED(s, ask(s, 7, late, NULL, 0), 4, 0);
@@ -492,27 +525,27 @@ static void order(struct lent *s)
     REFUSED(s, mark(s, network[0], 25, 1, late), 4, 0);
     REFUSED(s, mark(s, network[0], 25, 1, 1000), 11, 0);
     REFUSED(s, mark(s, network[0], 256 + 26, 1, 1000), 11, 0);
-    REFUSED(s, save(s, 49), 14, 0);
+    REFUSED(s, save(s, ONE - 1), 14, 0);
 }
 
 /* Each call, what it leaves in the buffers, and nothing of what was removed. */
 static void calls(struct lent *s)
 {
     fill(s);
-    ACCEPTED(s, open_at(s, BUFFER), 0, 0, 31);
-    FILLED(s->image + 31, FULL - 31, 0);
-    ACCEPTED(s, ask(s, 7, 1000, ask_26, sizeof ask_26), 13, 1, 50);
+    ACCEPTED(s, open_at(s, BUFFER), 0, 0, NONE);
+    FILLED(s->image + NONE, FULL - NONE, 0);
+    ACCEPTED(s, ask(s, 7, 1000, ask_26, sizeof ask_26), 13, 1, ONE);
     SAME("the reply", memcmp(s->reply, name_26, sizeof name_26) != 0, 0);
     FILLED(s->reply + 13, sizeof s->reply - 13, REPLY_FILL);
-    ACCEPTED(s, ask(s, 8, 1000, ask_two, sizeof ask_two), 23, 2, 88);
-    FILLED(s->image + 88, FULL - 88, 0);
-    ACCEPTED(s, take(s, 7, 1010, name_26, sizeof name_26), 13, 1, 88);
+    ACCEPTED(s, ask(s, 8, 1000, ask_two, sizeof ask_two), 23, 2, THREE);
+    FILLED(s->image + THREE, FULL - THREE, 0);
+    ACCEPTED(s, take(s, 7, 1010, name_26, sizeof name_26), 13, 1, THREE);
     READ(s, list(s, 7, 1020, list_all, sizeof list_all), 13, 1);
 
-    ACCEPTED(s, mark(s, network[0], 26, 256, 1030), 0, 0, 88);
+    ACCEPTED(s, mark(s, network[0], 26, 256, 1030), 0, 0, THREE);
     READ(s, list(s, 7, 1030, list_all, sizeof list_all), 13, 1);
     SAME("the entry's flags", s->reply[11], 1);
-    ACCEPTED(s, mark(s, network[0], 26, 0, 1030), 0, 0, 88);
+    ACCEPTED(s, mark(s, network[0], 26, 0, 1030), 0, 0, THREE);
     READ(s, list(s, 7, 1030, list_all, sizeof list_all), 13, 1);
     SAME("the entry's flags", s->reply[11], 0);
     FILLED(s->reply + 23, sizeof s->reply - 23, REPLY_FILL);
@@ -527,38 +560,38 @@ static void calls(struct lent *s)
  */
 static void removed(struct lent *s)
 {
-    uint8_t image[88], figures[FIGURES];
+    uint8_t image[THREE], figures[FIGURES];
     uint16_t counts[COUNTS];
 
     begin(s);
-    ACCEPTED(s, take(s, 7, 1010, name_26, sizeof name_26), 13, 1, 50);
-    ACCEPTED(s, ask(s, 8, 1010, ask_two, sizeof ask_two), 23, 2, 88);
+    ACCEPTED(s, take(s, 7, 1010, name_26, sizeof name_26), 13, 1, ONE);
+    ACCEPTED(s, ask(s, 8, 1010, ask_two, sizeof ask_two), 23, 2, THREE);
     memcpy(image, s->image, sizeof image);
     memcpy(figures, s->figures, sizeof figures);
     memcpy(counts, s->counts, sizeof counts);
 
     put(s, image, sizeof image, figures, counts);
-    ACCEPTED(s, ask(s, 9, 1130, ask_25, sizeof ask_25), 13, 1, 69);
-    FILLED(s->image + 69, 88 - 69, 0);
-    FILLED(s->image + 88, BUFFER - 88, IMAGE_FILL);
+    ACCEPTED(s, ask(s, 9, 1130, ask_25, sizeof ask_25), 13, 1, TWO);
+    FILLED(s->image + TWO, THREE - TWO, 0);
+    FILLED(s->image + THREE, BUFFER - THREE, IMAGE_FILL);
     put(s, image, sizeof image, figures, counts);
-    ACCEPTED(s, take(s, 7, 1130, name_26, sizeof name_26), 13, 1, 50);
-    FILLED(s->image + 50, 88 - 50, 0);
-    FILLED(s->image + 88, BUFFER - 88, IMAGE_FILL);
+    ACCEPTED(s, take(s, 7, 1130, name_26, sizeof name_26), 13, 1, ONE);
+    FILLED(s->image + ONE, THREE - ONE, 0);
+    FILLED(s->image + THREE, BUFFER - THREE, IMAGE_FILL);
     put(s, image, sizeof image, figures, counts);
-    ACCEPTED(s, mark(s, network[0], 26, 1, 1130), 0, 0, 50);
-    FILLED(s->image + 50, 88 - 50, 0);
-    FILLED(s->image + 88, BUFFER - 88, IMAGE_FILL);
+    ACCEPTED(s, mark(s, network[0], 26, 1, 1130), 0, 0, ONE);
+    FILLED(s->image + ONE, THREE - ONE, 0);
+    FILLED(s->image + THREE, BUFFER - THREE, IMAGE_FILL);
     /* removes three and counts the one that its entry names */
     put(s, image, sizeof image, figures, counts);
-    ACCEPTED(s, release(s, 7, 1130, name_26, sizeof name_26), 0, 1, 31);
-    FILLED(s->image + 31, 88 - 31, 0);
-    FILLED(s->image + 88, BUFFER - 88, IMAGE_FILL);
+    ACCEPTED(s, release(s, 7, 1130, name_26, sizeof name_26), 0, 1, NONE);
+    FILLED(s->image + NONE, THREE - NONE, 0);
+    FILLED(s->image + THREE, BUFFER - THREE, IMAGE_FILL);
 
     /* of an older image, and of what is past it, open leaves nothing up to a full image's size */
     put(s, image, sizeof image, figures, counts);
-    ACCEPTED(s, open_at(s, BUFFER), 0, 0, 31);
-    FILLED(s->image + 31, FULL - 31, 0);
+    ACCEPTED(s, open_at(s, BUFFER), 0, 0, NONE);
+    FILLED(s->image + NONE, FULL - NONE, 0);
     FILLED(s->image + FULL, BUFFER - FULL, IMAGE_FILL);
     set_bytes(s, sizeof image);
     REFUSED(s, save(s, BUFFER), 5, 0);
@@ -575,29 +608,29 @@ static void again(struct lent *s)
     begin(s);
     memcpy(s->figures + 5, rows + ROW + 5, 6);
     keep(s);
-    ACCEPTED(s, ask(s, 7, 1060, ask_26, sizeof ask_26), 13, 1, 50);
+    ACCEPTED(s, ask(s, 7, 1060, ask_26, sizeof ask_26), 13, 1, ONE);
     SAME("the reply", memcmp(s->reply, name_26, sizeof name_26) != 0, 0);
     LEASE(lease(s, BUFFER, 0), 0, network[0], 26, 7, FLOCKDRIFT_HELD, 0, 0, 1180);
     ROWS(s, rows + ROW, 1);
 
     /* d stays and is in the reply; nothing else of it differs */
-    ACCEPTED(s, mark(s, network[0], 26, 1, 1070), 0, 0, 50);
-    ACCEPTED(s, ask(s, 7, 1070, ask_26, sizeof ask_26), 13, 1, 50);
+    ACCEPTED(s, mark(s, network[0], 26, 1, 1070), 0, 0, ONE);
+    ACCEPTED(s, ask(s, 7, 1070, ask_26, sizeof ask_26), 13, 1, ONE);
     memcpy(reply, name_26, sizeof reply);
     reply[11] = 1;
     SAME("the reply", memcmp(s->reply, reply, sizeof reply) != 0, 0);
     LEASE(lease(s, BUFFER, 0), 0, network[0], 26, 7, FLOCKDRIFT_HELD, 0, 1, 1190);
 
     /* another h, another client: a lease more, and the row of the first moves with it */
-    ACCEPTED(s, ask(s, 7, 1070, ask_h, sizeof ask_h), 13, 1, 69);
+    ACCEPTED(s, ask(s, 7, 1070, ask_h, sizeof ask_h), 13, 1, TWO);
     ROWS(s, rows, 2);
-    ACCEPTED(s, ask(s, 8, 1070, ask_default, sizeof ask_default), 13, 1, 88);
-    ACCEPTED(s, ask(s, 8, 1080, ask_default, sizeof ask_default), 13, 1, 88);
+    ACCEPTED(s, ask(s, 8, 1070, ask_default, sizeof ask_default), 13, 1, THREE);
+    ACCEPTED(s, ask(s, 8, 1080, ask_default, sizeof ask_default), 13, 1, THREE);
     LEASE(lease(s, BUFFER, 1), 0, 0x0a000140, 28, 8, FLOCKDRIFT_HELD, 0, 0, 1200);
 
     /* leased, it is offered to nobody */
-    ACCEPTED(s, take(s, 7, 1080, name_26, sizeof name_26), 13, 1, 88);
-    ACCEPTED(s, ask(s, 7, 1080, ask_26, sizeof ask_26), 13, 1, 107);
+    ACCEPTED(s, take(s, 7, 1080, name_26, sizeof name_26), 13, 1, THREE);
+    ACCEPTED(s, ask(s, 7, 1080, ask_26, sizeof ask_26), 13, 1, FOUR);
     LEASE(lease(s, BUFFER, 3), 0, network[0], 26, 7, FLOCKDRIFT_LEASED, 0, 1, 4680);
 }
 
@@ -622,7 +655,7 @@ static void not_the_sheet(struct lent *s, size_t size)
     if (size != FIGURES) {
         REFUSED(s, flockdrift_open(s->image, BUFFER, b, f, size, s->counts, network, 2, length, 2, 3600, 28, 1000),
                 14, 0);
-        REFUSED(s, flockdrift_load(s->image, BUFFER, b, f, size, s->counts, s->saved, 50), 14, 0);
+        REFUSED(s, flockdrift_load(s->image, BUFFER, b, f, size, s->counts, s->saved, ONE), 14, 0);
     }
     set_bytes(s, bytes - 1);
     REFUSED(s, flockdrift_ask(s->image, BUFFER, b, f, size, s->counts, 0, 999, NULL, 0, s->reply, REPLY), 5, 0);
@@ -641,8 +674,8 @@ static void unsound_figures(struct lent *s)
     size_t i;
 
     begin(s);
-    ACCEPTED(s, take(s, 7, 1010, name_26, sizeof name_26), 13, 1, 50);
-    READ(s, save(s, BUFFER), 50, 0);
+    ACCEPTED(s, take(s, 7, 1010, name_26, sizeof name_26), 13, 1, ONE);
+    READ(s, save(s, BUFFER), ONE, 0);
     for (i = 0; i < sizeof sizes / sizeof sizes[0]; i++)
         not_the_sheet(s, sizes[i]);
     /* network and length of the lease, every byte of the first row without one and of the last */
@@ -655,7 +688,7 @@ static void unsound_figures(struct lent *s)
     /* the lease's figures may be any */
     memset(s->figures + 5, 0, 6);
     keep(s);
-    ACCEPTED(s, take(s, 7, 1010, name_26, sizeof name_26), 13, 1, 50);
+    ACCEPTED(s, take(s, 7, 1010, name_26, sizeof name_26), 13, 1, ONE);
 }
 
 /* Every call that takes the book, with rows that would apply after 5. */
@@ -703,16 +736,16 @@ static void counts(struct lent *s)
     s->counts[24 - 8] = 0;
     s->counts[LENGTHS + 24 - 8] = swapped;
     not_the_counts(s);
-    ACCEPTED(s, load_of_own(s), 0, 0, 50);
+    ACCEPTED(s, load_of_own(s), 0, 0, ONE);
     READ(s, whole(s, 24), 0, 1);
 
-    ACCEPTED(s, ask(s, 8, 1010, ask_two, sizeof ask_two), 23, 2, 88);
+    ACCEPTED(s, ask(s, 8, 1010, ask_two, sizeof ask_two), 23, 2, THREE);
     READ(s, whole(s, 24), 0, 0);
     READ(s, whole(s, 26), 0, 1);
     READ(s, whole(s, 28), 0, 1);
     /* at 1130 all have ended, and are counted when they are removed */
     READ(s, whole(s, 25), 0, 0);
-    ACCEPTED(s, ask(s, 9, 1130, ask_25, sizeof ask_25), 13, 1, 50);
+    ACCEPTED(s, ask(s, 9, 1130, ask_25, sizeof ask_25), 13, 1, ONE);
     READ(s, whole(s, 25), 0, 1);
     READ(s, whole(s, 26), 0, 1);
 }
@@ -728,77 +761,77 @@ static void figures(struct lent *s)
     uint8_t *row = rows + 2 * ROW;
 
     fill(s);
-    ACCEPTED(s, open_at(s, BUFFER), 0, 0, 31);
+    ACCEPTED(s, open_at(s, BUFFER), 0, 0, NONE);
     ROWS(s, row, 0);
-    ACCEPTED(s, ask(s, 7, 1000, ask_26, sizeof ask_26), 13, 1, 50);
+    ACCEPTED(s, ask(s, 7, 1000, ask_26, sizeof ask_26), 13, 1, ONE);
     ROWS(s, row, 1);
-    ACCEPTED(s, ask(s, 8, 1000, ask_two, sizeof ask_two), 23, 2, 88);
+    ACCEPTED(s, ask(s, 8, 1000, ask_two, sizeof ask_two), 23, 2, THREE);
     ROWS(s, rows, 3);
-    ACCEPTED(s, take(s, 7, 1010, tell_26, sizeof tell_26), 13, 1, 88);
+    ACCEPTED(s, take(s, 7, 1010, tell_26, sizeof tell_26), 13, 1, THREE);
     memcpy(row + 5, once, sizeof once);
     ROWS(s, rows, 3);
     REFUSED(s, take(s, 8, 1010, tell_twice, sizeof tell_twice), 11, 0);
-    ACCEPTED(s, take(s, 7, 1020, tell_twice, sizeof tell_twice), 20, 2, 88);
+    ACCEPTED(s, take(s, 7, 1020, tell_twice, sizeof tell_twice), 20, 2, THREE);
     memcpy(row + 5, twice, sizeof twice);
     ROWS(s, rows, 3);
 
     /* what is not told stays, in a take with no figures and in a mark */
-    ACCEPTED(s, take(s, 7, 1030, name_26, sizeof name_26), 13, 1, 88);
-    ACCEPTED(s, mark(s, network[0], 26, 1, 1030), 0, 0, 88);
+    ACCEPTED(s, take(s, 7, 1030, name_26, sizeof name_26), 13, 1, THREE);
+    ACCEPTED(s, mark(s, network[0], 26, 1, 1030), 0, 0, THREE);
     ROWS(s, rows, 3);
     READ(s, list(s, 7, 1030, list_all, sizeof list_all), 13, 1);
-    READ(s, save(s, BUFFER), 88, 0);
+    READ(s, save(s, BUFFER), THREE, 0);
 
     /* at 1130 the two others have ended: their rows go, and the third moves to the front */
-    ACCEPTED(s, mark(s, network[0], 26, 0, 1130), 0, 0, 50);
+    ACCEPTED(s, mark(s, network[0], 26, 0, 1130), 0, 0, ONE);
     ROWS(s, row, 1);
-    ACCEPTED(s, release(s, 7, 1140, tell_26, sizeof tell_26), 0, 1, 31);
+    ACCEPTED(s, release(s, 7, 1140, tell_26, sizeof tell_26), 0, 1, NONE);
     ROWS(s, row, 0);
     /* the same prefix again has nothing of what was told before; nor has a book that was saved */
     memcpy(row + 5, untold, sizeof untold);
-    ACCEPTED(s, ask(s, 9, 1140, ask_26, sizeof ask_26), 13, 1, 50);
+    ACCEPTED(s, ask(s, 9, 1140, ask_26, sizeof ask_26), 13, 1, ONE);
     ROWS(s, row, 1);
-    ACCEPTED(s, load(s, BUFFER, 88), 0, 0, 88);
+    ACCEPTED(s, load(s, BUFFER, THREE), 0, 0, THREE);
     ROWS(s, rows, 3);
 }
 
 static void load_and_save(struct lent *s)
 {
-    uint8_t image[50];
+    uint8_t image[ONE];
     struct flockdrift_answer a;
     size_t i;
 
     begin(s);
     memcpy(image, s->image, sizeof image);
-    REFUSED(s, save(s, 49), 14, 0);
-    READ(s, save(s, 50), 50, 0);
+    REFUSED(s, save(s, ONE - 1), 14, 0);
+    READ(s, save(s, ONE), ONE, 0);
     SAME("what is saved", memcmp(s->saved, image, sizeof image) != 0, 0);
-    FILLED(s->saved + 50, sizeof s->saved - 50, SAVED_FILL);
-    READ(s, save(s, BUFFER), 50, 0);
-    FILLED(s->saved + 50, sizeof s->saved - 50, SAVED_FILL);
+    FILLED(s->saved + ONE, sizeof s->saved - ONE, SAVED_FILL);
+    READ(s, save(s, BUFFER), ONE, 0);
+    FILLED(s->saved + ONE, sizeof s->saved - ONE, SAVED_FILL);
 
     /* over a longer image, which need not even be one */
     memset(s->image, IMAGE_FILL, sizeof s->image);
     set_bytes(s, SIZE_MAX);
-    REFUSED(s, load(s, BUFFER, 49), 5, 0);
-    REFUSED(s, load(s, BUFFER, 51), 5, 0);
+    REFUSED(s, load(s, BUFFER, ONE - 1), 5, 0);
+    REFUSED(s, load(s, BUFFER, ONE + 1), 5, 0);
     REFUSED(s, load(s, BUFFER, BUFFER), 5, 0);
-    REFUSED(s, load(s, FULL - 1, 49), 5, 0);
-    REFUSED(s, load(s, FULL - 1, 50), 14, 0);
-    ACCEPTED(s, load(s, BUFFER, 50), 0, 0, 50);
+    REFUSED(s, load(s, FULL - 1, ONE - 1), 5, 0);
+    REFUSED(s, load(s, FULL - 1, ONE), 14, 0);
+    ACCEPTED(s, load(s, BUFFER, ONE), 0, 0, ONE);
     SAME("what is loaded", memcmp(s->image, image, sizeof image) != 0, 0);
-    FILLED(s->image + 50, FULL - 50, 0);
+    FILLED(s->image + ONE, FULL - ONE, 0);
 
     /* an image has no checksum: without its last record, or with another bit, it may be that of another table */
-    ACCEPTED(s, load(s, BUFFER, 31), 0, 0, 31);
-    FILLED(s->image + 31, FULL - 31, 0);
+    ACCEPTED(s, load(s, BUFFER, NONE), 0, 0, NONE);
+    FILLED(s->image + NONE, FULL - NONE, 0);
     for (i = 0; i < 8 * sizeof image; i++) {
         s->saved[i / 8] ^= (uint8_t)(1 << i % 8);
         keep(s);
-        a = load(s, BUFFER, 50);
+        a = load(s, BUFFER, ONE);
         if (a.number == 0) {
-            ACCEPTED(s, a, 0, 0, 50);
-            SAME("what is loaded", memcmp(s->image, s->saved, 50) != 0, 0);
+            ACCEPTED(s, a, 0, 0, ONE);
+            SAME("what is loaded", memcmp(s->image, s->saved, ONE) != 0, 0);
         } else {
             REFUSED(s, a, 5, 0);
         }
@@ -806,19 +839,153 @@ static void load_and_save(struct lent *s)
     }
 }
 
+/* Names: whose they are, what keeps them, and 17 in its place. */
+static void names(struct lent *s)
+{
+    uint8_t asked[40] = {0xdc, 32, 0, 3, 25};
+    uint8_t octets[FLOCKDRIFT_NAME_CAPACITY];
+    size_t i;
+
+    fill(s);
+    ACCEPTED(s, open_at(s, BUFFER), 0, 0, NONE);
+    ACCEPTED(s, ask(s, 7, 1000, ask_west, sizeof ask_west), 13, 1, ONE);
+    SAME("the reply", memcmp(s->reply, name_26, sizeof name_26) != 0, 0);
+    NAME(lease(s, BUFFER, 0), "west hall", 9);
+    /* given again, marked, taken */
+    ACCEPTED(s, ask(s, 7, 1010, ask_26, sizeof ask_26), 13, 1, ONE);
+    ACCEPTED(s, mark(s, network[0], 26, 1, 1010), 0, 0, ONE);
+    ACCEPTED(s, take(s, 7, 1010, name_26, sizeof name_26), 13, 1, ONE);
+    NAME(lease(s, BUFFER, 0), "west hall", 9);
+
+    /* a name of 25 octets: after 8, before 10 and where there is room; of 24, with zeros inside, it is one */
+    memset(asked + 5, 0xff, 25);
+    asked[1] = 28;
+    REFUSED(s, ask(s, 8, 1010, asked, 30), 8, 0);
+    asked[1] = 32;
+    memcpy(asked + 30, ask_8 + 3, 4);
+    REFUSED(s, ask(s, 8, 1010, asked, 34), 17, 0);
+    memcpy(asked + 30, ask_25 + 3, 4);
+    REFUSED(s, ask(s, 8, 1010, asked, 34), 17, 0);
+    memset(octets, 0, sizeof octets);
+    octets[0] = octets[FLOCKDRIFT_NAME_CAPACITY - 1] = 0x80;
+    asked[1] = 31;
+    asked[4] = FLOCKDRIFT_NAME_CAPACITY;
+    memcpy(asked + 5, octets, sizeof octets);
+    memcpy(asked + 29, ask_25 + 3, 4);
+    ACCEPTED(s, ask(s, 8, 1010, asked, 33), 13, 1, TWO);
+    NAME(lease(s, BUFFER, 0), octets, sizeof octets);
+    NAME(lease(s, BUFFER, 1), "west hall", 9);
+
+    /* it goes with its lease, and leaves nothing */
+    ACCEPTED(s, release(s, 7, 1020, name_26, sizeof name_26), 0, 1, ONE);
+    FILLED(s->image + ONE, FULL - ONE, 0);
+    ACCEPTED(s, ask(s, 9, 1020, ask_26, sizeof ask_26), 13, 1, TWO);
+    LEASE(lease(s, BUFFER, 1), 0, network[0], 26, 9, FLOCKDRIFT_HELD, 0, 0, 1140);
+
+    /* a name outside the rules: its length, its last octet, an octet after it */
+    for (i = NONE + 19; i < TWO; i++)
+        if (i == NONE + 19 || i == ONE - 1 || i >= ONE + 19) {
+            s->image[i] ^= 0x80;
+            keep(s);
+            REFUSED(s, check(s), 5, 0);
+            REFUSED(s, save(s, BUFFER), 5, 0);
+            REFUSED(s, flockdrift_sheet(s->image, TWO, s->text, sizeof s->text), 5, 0);
+            s->image[i] ^= 0x80;
+            keep(s);
+        }
+    READ(s, check(s), 0, 0);
+}
+
+/* The two forms: load takes both, save writes either, the calls work on the second. */
+static void forms(struct lent *s)
+{
+    static const uint32_t seconds[] = {0, 2, 3, 257, UINT32_MAX};
+    static const uint8_t first_head[] = {11, 0, 1, 0}, first_lease[] = {17, 0, 3, 0};
+    static const char rows[] = "sheet lines=1 free=1\nfree 10.0.1.0/24\n"
+                               "used 10.0.8.0/26 station 7 until 1120 name west hall\n";
+    enum { FIRST = NONE + 19 };
+    uint8_t image[ONE], first[FIRST];
+    size_t i;
+
+    begin(s);
+    memcpy(image, s->image, sizeof image);
+    for (i = 0; i < sizeof seconds / sizeof seconds[0]; i++) {
+        READ(s, flockdrift_save(s->image, BUFFER, ONE, s->counts, seconds[i], s->saved, ONE), ONE, 0);
+        SAME("what is saved", memcmp(s->saved, image, ONE) != 0, 0);
+    }
+    memset(s->saved, SAVED_FILL, sizeof s->saved);
+    keep(s);
+    REFUSED(s, save_first(s, FIRST - 1), 14, 0);
+    READ(s, save_first(s, FIRST), FIRST, 0);
+    FILLED(s->saved + FIRST, sizeof s->saved - FIRST, SAVED_FILL);
+    memcpy(first, image, FIRST);
+    memcpy(first, first_head, sizeof first_head);
+    memcpy(first + NONE, first_lease, sizeof first_lease);
+    SAME("the first form", memcmp(s->saved, first, FIRST) != 0, 0);
+    READ(s, flockdrift_sheet(first, FIRST, s->text, sizeof s->text), sizeof rows - 1 - 15, 0);
+
+    /* loaded, it is the second */
+    REFUSED(s, load(s, FULL - 1, FIRST), 14, 0);
+    REFUSED(s, load(s, BUFFER, FIRST - 1), 5, 0);
+    memset(s->image, IMAGE_FILL, sizeof s->image);
+    keep(s);
+    ACCEPTED(s, load(s, BUFFER, FIRST), 0, 0, ONE);
+    SAME("what is loaded", memcmp(s->image, image, ONE) != 0, 0);
+    FILLED(s->image + ONE, FULL - ONE, 0);
+    ACCEPTED(s, load(s, BUFFER, NONE), 0, 0, NONE);
+
+    /* a mixture is none */
+    memcpy(s->saved, image, ONE);
+    memcpy(s->saved, first_head, sizeof first_head);
+    keep(s);
+    REFUSED(s, load(s, BUFFER, ONE), 5, 0);
+    memcpy(s->saved, first, FIRST);
+    s->saved[2] = 5;
+    keep(s);
+    REFUSED(s, load(s, BUFFER, FIRST), 5, 0);
+
+    /* and bytes of the first form are no book */
+    ACCEPTED(s, open_at(s, BUFFER), 0, 0, NONE);
+    s->image[2] = 1;
+    keep(s);
+    REFUSED(s, check(s), 5, 0);
+    REFUSED(s, ask(s, 7, 1000, ask_26, sizeof ask_26), 5, 0);
+    REFUSED(s, list(s, 7, 1000, list_all, sizeof list_all), 5, 0);
+    REFUSED(s, save_first(s, BUFFER), 5, 0);
+    HEAD(head(s, BUFFER), 5, 0, 0, 0, 0, 0);
+    s->image[2] = 5;
+    keep(s);
+
+    /* a name is lost in the first form: 18 before 14, 5 before it */
+    ACCEPTED(s, ask(s, 7, 1000, ask_west, sizeof ask_west), 13, 1, ONE);
+    READ(s, flockdrift_sheet(s->image, ONE, s->text, sizeof s->text), sizeof rows - 1, 0);
+    SAME("the sheet", memcmp(s->text, rows, sizeof rows - 1) != 0, 0);
+    REFUSED(s, save_first(s, BUFFER), 18, 0);
+    REFUSED(s, save_first(s, 0), 18, 0);
+    REFUSED(s, save(s, 0), 14, 0);
+    s->counts[0]++;
+    keep(s);
+    REFUSED(s, save_first(s, 0), 5, 0);
+    s->counts[0]--;
+    keep(s);
+    READ(s, save(s, BUFFER), ONE, 0);
+    ACCEPTED(s, load(s, BUFFER, ONE), 0, 0, ONE);
+    NAME(lease(s, BUFFER, 0), "west hall", 9);
+}
+
 /* The sheet, in a text buffer of no byte less than it has, and in one of one byte less. */
 static void sheet(struct lent *s)
 {
     static const char rows[] = "sheet lines=1 free=1\nfree 10.0.1.0/24\nused 10.0.8.0/26 station 7 until 1120\n";
     size_t n = sizeof rows - 1;
-    uint8_t image[50];
+    uint8_t image[ONE];
 
     begin(s);
     memcpy(image, s->image, sizeof image);
-    REFUSED(s, flockdrift_sheet(image, 49, s->text, sizeof s->text), 5, 0);
-    REFUSED(s, flockdrift_sheet(s->image, 51, s->text, sizeof s->text), 5, 0);
-    REFUSED(s, flockdrift_sheet(image, 50, s->text, n - 1), 14, 0);
-    READ(s, flockdrift_sheet(image, 50, s->text, n), n, 0);
+    REFUSED(s, flockdrift_sheet(image, ONE - 1, s->text, sizeof s->text), 5, 0);
+    REFUSED(s, flockdrift_sheet(s->image, ONE + 1, s->text, sizeof s->text), 5, 0);
+    REFUSED(s, flockdrift_sheet(image, ONE, s->text, n - 1), 14, 0);
+    READ(s, flockdrift_sheet(image, ONE, s->text, n), n, 0);
     SAME("the sheet", memcmp(s->text, rows, n) != 0, 0);
     FILLED(s->text + n, sizeof s->text - n, TEXT_FILL);
 }
@@ -839,9 +1006,9 @@ static void queries(struct lent *s)
     LEASE(lease(s, BUFFER, SIZE_MAX), 11, 0, 0, 0, 0, 0, 0, 0);
     READ(s, check(s), 0, 0);
 
-    ACCEPTED(s, ask(s, 8, 1005, ask_h, sizeof ask_h), 13, 1, 69);
-    ACCEPTED(s, take(s, 7, 1010, name_26, sizeof name_26), 13, 1, 69);
-    ACCEPTED(s, mark(s, 0x0a000100, 25, 1, 1015), 0, 0, 69);
+    ACCEPTED(s, ask(s, 8, 1005, ask_h, sizeof ask_h), 13, 1, TWO);
+    ACCEPTED(s, take(s, 7, 1010, name_26, sizeof name_26), 13, 1, TWO);
+    ACCEPTED(s, mark(s, 0x0a000100, 25, 1, 1015), 0, 0, TWO);
     HEAD(head(s, BUFFER), 0, 3600, 28, 1015, 2, 2);
     LEASE(lease(s, BUFFER, 0), 0, 0x0a000100, 25, 8, FLOCKDRIFT_HELD, 1, 1, 1125);
     LEASE(lease(s, BUFFER, 1), 0, 0x0a000800, 26, 7, FLOCKDRIFT_LEASED, 0, 0, 4610);
@@ -850,7 +1017,7 @@ static void queries(struct lent *s)
     /* the first has ended at 1125 and stands there until a call that changes the table */
     READ(s, list(s, 7, 1200, list_all, sizeof list_all), 13, 1);
     LEASE(lease(s, BUFFER, 0), 0, 0x0a000100, 25, 8, FLOCKDRIFT_HELD, 1, 1, 1125);
-    ACCEPTED(s, take(s, 7, 1200, name_26, sizeof name_26), 13, 1, 50);
+    ACCEPTED(s, take(s, 7, 1200, name_26, sizeof name_26), 13, 1, ONE);
     LEASE(lease(s, BUFFER, 0), 0, 0x0a000800, 26, 7, FLOCKDRIFT_LEASED, 0, 0, 4800);
     LEASE(lease(s, BUFFER, 1), 11, 0, 0, 0, 0, 0, 0, 0);
 }
@@ -907,17 +1074,17 @@ static void book(struct lent *s)
     fill(s);
     SAME("no book", flockdrift_book_check(&held).number, 5);
     SAME("no book", flockdrift_book_head(&held).number, 5);
-    ACCEPTED(s, open_at(s, BUFFER), 0, 0, 31);
+    ACCEPTED(s, open_at(s, BUFFER), 0, 0, NONE);
     SAME("open", flockdrift_book_open(&held, network, 2, length, 2, 3600, 28, 1000).number, 0);
-    ACCEPTED(s, ask(s, 7, 1000, ask_26, sizeof ask_26), 13, 1, 50);
+    ACCEPTED(s, ask(s, 7, 1000, ask_26, sizeof ask_26), 13, 1, ONE);
     before = held;
     SAME("ask", flockdrift_book_ask(&held, 7, 1000, ask_26, sizeof ask_26, s->reply, REPLY).bytes, 13);
     held = before;
     SAME("ask again", flockdrift_book_ask(&held, 7, 1000, ask_26, sizeof ask_26, s->reply, REPLY).count, 1);
-    ACCEPTED(s, take(s, 7, 1010, tell_26, sizeof tell_26), 13, 1, 50);
+    ACCEPTED(s, take(s, 7, 1010, tell_26, sizeof tell_26), 13, 1, ONE);
     SAME("take", flockdrift_book_take(&held, 7, 1010, tell_26, sizeof tell_26, s->reply, REPLY).count, 1);
     SAME("list", flockdrift_book_list(&held, 7, 1020, list_all, sizeof list_all, s->reply, REPLY).count, 1);
-    ACCEPTED(s, mark(s, 0x0a000800, 26, 1, 1030), 0, 0, 50);
+    ACCEPTED(s, mark(s, 0x0a000800, 26, 1, 1030), 0, 0, ONE);
     SAME("mark", flockdrift_book_mark(&held, 0x0a000800, 26, 1, 1030).number, 0);
     SAME("the length", held.bytes, s->bytes);
     SAME("the image", memcmp(held.image, s->image, FULL) != 0, 0);
@@ -933,10 +1100,10 @@ static void book(struct lent *s)
     FIGURES_OF(flockdrift_book_figures(&held, 255), 0, 0, 65535, 65535, 65535);
     FIGURES_OF(flockdrift_book_figures(&held, 256), 0, 0, 65535, 65535, 65535);
     FIGURES_OF(flockdrift_book_figures(&held, SIZE_MAX), 0, 0, 65535, 65535, 65535);
-    SAME("save", flockdrift_book_save(&held, s->saved, sizeof s->saved).bytes, 50);
+    SAME("save", flockdrift_book_save(&held, SECOND, s->saved, sizeof s->saved).bytes, ONE);
     SAME("sheet", flockdrift_book_sheet(&held, s->text, sizeof s->text).number, 0);
     SAME("release", flockdrift_book_release(&held, 7, 1040, name_26, sizeof name_26).count, 1);
-    SAME("load", flockdrift_book_load(&held, s->saved, 50).number, 0);
+    SAME("load", flockdrift_book_load(&held, s->saved, ONE).number, 0);
     SAME("what is loaded", memcmp(held.image, s->image, FULL) != 0, 0);
     FIGURES_OF(flockdrift_book_figures(&held, 0), 0x0a000800, 26, 65535, 65535, 65535);
     held.figures[4] = 25;
@@ -950,13 +1117,15 @@ static void book(struct lent *s)
     SAME("a length past the buffer", flockdrift_book_sheet(&held, s->text, sizeof s->text).number, 5);
     SAME("a length past the buffer", flockdrift_book_check(&held).number, 5);
 
-    for (i = 0; i <= 17; i++)
+    for (i = 0; i <= 19; i++)
         SAME("no words", flockdrift_text(i)[0] == '\0', 0);
     SAME("words", strcmp(flockdrift_text(FLOCKDRIFT_BAD_FIELD), "a field outside the rules in the suboption") != 0, 0);
+    SAME("words", strcmp(flockdrift_text(FLOCKDRIFT_NAME_TOO_LONG), "the name is too long") != 0, 0);
+    SAME("words", strcmp(flockdrift_text(18), "names would be lost in the first form") != 0, 0);
     SAME("words", strcmp(flockdrift_text(5), "not the image of a sound table, or not its counts") != 0, 0);
 }
 
-/* A full table: 256 leases, an image of 4,949 bytes in a buffer that has no byte more. */
+/* A full table: 256 leases, an image of 11,349 bytes in a buffer that has no byte more. */
 static void full(struct lent *s)
 {
     static const uint32_t pools[8] = {0, 1u << 30, 2u << 30, 3u << 30, 5u << 28, 6u << 28, 7u << 28, 9u << 28};
@@ -970,7 +1139,7 @@ static void full(struct lent *s)
     ACCEPTED(s, flockdrift_open(s->image, FULL, b, f, FIGURES, s->counts, pools, 8, eights, 8, 60, 30, 0), 0, 0, 85);
     for (i = 1; i <= 256; i++) {
         a = flockdrift_ask(s->image, FULL, b, f, FIGURES, s->counts, i, 0, ask_26, sizeof ask_26, s->reply, REPLY);
-        ACCEPTED(s, a, 13, 1, 85 + 19 * i);
+        ACCEPTED(s, a, 13, 1, 85 + RECORD * i);
     }
     SAME("the length of a full image", s->bytes, FULL);
     HEAD(head(s, FULL), 0, 60, 30, 0, 8, 256);
@@ -988,6 +1157,13 @@ static void full(struct lent *s)
     REFUSED(s, save(s, FULL - 1), 14, 0);
     READ(s, save(s, FULL), FULL, 0);
     FILLED(s->saved + FULL, sizeof s->saved - FULL, SAVED_FILL);
+    REFUSED(s, save_first(s, FIRST_FULL - 1), 14, 0);
+    READ(s, save_first(s, FIRST_FULL), FIRST_FULL, 0);
+    REFUSED(s, load(s, FULL, FIRST_FULL - 1), 5, 0);
+    REFUSED(s, load(s, FULL, FIRST_FULL + 1), 5, 0);
+    ACCEPTED(s, load(s, FULL, FIRST_FULL), 0, 0, FULL);
+    READ(s, save(s, FULL), FULL, 0);
+    SAME("there and back", memcmp(s->saved, s->image, FULL) != 0, 0);
     REFUSED(s, load(s, FULL, FULL - 1), 5, 0);
     REFUSED(s, load(s, FULL, FULL + 1), 5, 0);
     ACCEPTED(s, load(s, FULL, FULL), 0, 0, FULL);
@@ -997,12 +1173,12 @@ static void full(struct lent *s)
 
     /* all of them end at 120 */
     a = flockdrift_ask(s->image, FULL, b, f, FIGURES, s->counts, 7, 120, ask_26, sizeof ask_26, s->reply, REPLY);
-    ACCEPTED(s, a, 13, 1, 104);
-    FILLED(s->image + 104, FULL - 104, 0);
+    ACCEPTED(s, a, 13, 1, 129);
+    FILLED(s->image + 129, FULL - 129, 0);
     ACCEPTED(s, load(s, FULL, FULL), 0, 0, FULL);
-    ACCEPTED(s, open_at(s, FULL), 0, 0, 31);
-    FILLED(s->image + 31, FULL - 31, 0);
-    ACCEPTED(s, ask(s, 7, 1000, ask_26, sizeof ask_26), 13, 1, 50);
+    ACCEPTED(s, open_at(s, FULL), 0, 0, NONE);
+    FILLED(s->image + NONE, FULL - NONE, 0);
+    ACCEPTED(s, ask(s, 7, 1000, ask_26, sizeof ask_26), 13, 1, ONE);
 }
 
 /* The same history on an image of each thread's own, on a small stack. */
@@ -1049,6 +1225,8 @@ int main(void)
     counts(s);
     figures(s);
     load_and_save(s);
+    names(s);
+    forms(s);
     sheet(s);
     queries(s);
     options(s);

@@ -9,13 +9,13 @@
 use std::collections::BTreeMap;
 use std::process::exit;
 
-use bench::desk::{Answer, Counts, Desk, FIGURES, FULL, LENGTHS, Lent, REPLY, SHEET};
-use bench::images::{EMPTY_ROW, Lease, ROW, ROWS, Table};
+use bench::desk::{Answer, Counts, Desk, FIGURES, FIRST_FULL, FULL, LENGTHS, Lent, NAME, REPLY, SHEET};
+use bench::images::{EMPTY_ROW, FIRST_LEASE, LEASE, Lease, NO_NAME, Name, ROW, ROWS, Table, name};
 use bench::options::{information, option, request};
 use bench::peer::PEER;
 use bench::random::Random;
 use bench::reference::REFERENCE;
-use reference::option::read220;
+use reference::option::{Suboption, read220};
 
 const CALLS: u64 = 200_000;
 const SEED: u64 = 6656;
@@ -33,7 +33,7 @@ enum Call {
     Release { client: u32, now: u32, option: Vec<u8> },
     Mark { network: u32, length: u32, deprecated: u32, now: u32 },
     Load { saved: Vec<u8> },
-    Save,
+    Save { form: u32 },
     Whole { length: u32 },
     Sheet,
 }
@@ -48,7 +48,7 @@ impl Call {
             Call::Release { .. } => "return",
             Call::Mark { .. } => "mark",
             Call::Load { .. } => "load",
-            Call::Save => "save",
+            Call::Save { .. } => "save",
             Call::Whole { .. } => "whole",
             Call::Sheet => "sheet",
         }
@@ -59,7 +59,7 @@ impl Call {
         let size = *bytes;
         match self {
             Call::List { client, now, option } => return (desk.list)(image, size, counts, *client, *now, option, out),
-            Call::Save => return (desk.save)(image, size, counts, out),
+            Call::Save { form } => return (desk.save)(image, size, counts, *form, out),
             Call::Whole { length } => return (desk.whole)(image, size, counts, *length),
             // The sheet has no capacity of the image: what is lent is the image.
             Call::Sheet => return (desk.sheet)(image.get(..size).unwrap_or(image), out),
@@ -75,7 +75,7 @@ impl Call {
             Call::Release { client, now, option } => (desk.release)(lent, *client, *now, option),
             Call::Mark { network, length, deprecated, now } => (desk.mark)(lent, *network, *length, *deprecated, *now),
             Call::Load { saved } => (desk.load)(lent, saved),
-            Call::List { .. } | Call::Save | Call::Whole { .. } | Call::Sheet => unreachable!("they are above"),
+            Call::List { .. } | Call::Save { .. } | Call::Whole { .. } | Call::Sheet => unreachable!("they are above"),
         }
     }
 
@@ -92,7 +92,7 @@ impl Call {
 
     /// It changes nothing of the table.
     fn only_reads(&self) -> bool {
-        matches!(self, Call::List { .. } | Call::Save | Call::Whole { .. } | Call::Sheet)
+        matches!(self, Call::List { .. } | Call::Save { .. } | Call::Whole { .. } | Call::Sheet)
     }
 }
 
@@ -150,13 +150,34 @@ fn offers(reply: &[u8]) -> Vec<(u32, u8, u8)> {
     reply[3..].chunks(10).map(entry).collect()
 }
 
-/// What an accepted ask offers is the client's in the table after it, until then, and each only once.
-fn offers_are_there(client: u32, now: u32, reply: &[u8], table: &Table) -> Result<(), String> {
+/// The octets of the first name of an option that is read.
+fn first_name(option: &[u8]) -> Name {
+    let list = read220(option).unwrap_or_default();
+    let mut names = list.iter().filter_map(|suboption| match suboption {
+        Suboption::Name(octets) => Some(name(octets)),
+        _ => None,
+    });
+    names.next().unwrap_or(NO_NAME)
+}
+
+/// What an accepted ask offers is the client's in the table after it, until then, and each only once; with the name that it
+/// had before, or where it is new the option's.
+fn offers_are_there(
+    client: u32,
+    now: u32,
+    option: &[u8],
+    reply: &[u8],
+    before: &Table,
+    table: &Table,
+) -> Result<(), String> {
     let mut offers = offers(reply);
+    let asked = first_name(option);
     for &(network, length, flags) in &offers {
         // h and d are the other way round in a record.
         let flags = flags >> 1 | flags << 1 & 2;
-        let offer = Lease { network, length, state: 1, flags, client, expires: now + 120 };
+        let held = before.leases.iter().find(|lease| lease.network == network && lease.expires > now);
+        let name = held.map_or(asked, |lease| lease.name);
+        let offer = Lease { network, length, state: 1, flags, client, expires: now + 120, name };
         if !table.leases.contains(&offer) {
             return Err(format!("what is offered is not in the table: {offer:?}"));
         }
@@ -193,6 +214,13 @@ fn plausible(call: &Call, given: &Buffers, answer: &Answer, left: &Buffers) -> R
     if left.out[answer.bytes as usize..] != given.out[answer.bytes as usize..] {
         return Err("bytes after those written have changed".into());
     }
+    if let Call::Save { form } = call {
+        // Load and save undo each other in each form.
+        let table = Table::of_image(&given.image[..given.bytes]);
+        if left.out[..answer.bytes as usize] != table.image_in(*form == 1) || (*form == 1 && table.has_names()) {
+            return Err("what is saved is not the table in that form".into());
+        }
+    }
     if call.only_reads() {
         let same = left.counts == given.counts && left.figures == given.figures;
         return if same && (left.bytes, &left.image) == (given.bytes, &given.image) {
@@ -212,8 +240,9 @@ fn plausible(call: &Call, given: &Buffers, answer: &Answer, left: &Buffers) -> R
         return Err("bytes past the image have changed".into());
     }
     let table = Table::of_image(&left.image[..left.bytes]);
-    if let Call::Ask { client, now, .. } = call {
-        offers_are_there(*client, *now, &left.out[..answer.bytes as usize], &table)?;
+    if let Call::Ask { client, now, option } = call {
+        let before = Table::of_image(&given.image[..given.bytes]);
+        offers_are_there(*client, *now, option, &left.out[..answer.bytes as usize], &before, &table)?;
     }
     // "Every call that changes lines keeps it equal to what a fresh walk would find".
     if left.counts != table.counts() {
@@ -290,6 +319,25 @@ fn random_expires(random: &mut Random, last: u32, stays: bool) -> u32 {
     (u64::from(last) + after).clamp(u64::from(last) + 1, u64::from(u32::MAX)) as u32
 }
 
+/// Octets of a name, of a length at which a rule or a word turns, the last not zero.
+fn random_octets(random: &mut Random, most: u64) -> Vec<u8> {
+    let any = 1 + random.below(most);
+    let length = random.pick(&[1, 2, 7, 8, 9, 15, 16, 17, 23, 24, 25, any, any]).min(most);
+    let mut octets = vec![0; length as usize];
+    if random.once_in(2) {
+        random.fill(&mut octets);
+    } else {
+        octets.iter_mut().for_each(|octet| *octet = random.pick(&[0, 0, b'a', b'z', 0xff]));
+    }
+    *octets.last_mut().unwrap() |= random.pick(&[1, 0x20, 0x80]);
+    octets
+}
+
+/// That of a lease: none once in three times.
+fn random_name(random: &mut Random) -> Name {
+    if random.once_in(3) { NO_NAME } else { name(&random_octets(random, NAME as u64)) }
+}
+
 fn random_client(random: &mut Random) -> u32 {
     if random.once_in(40) { random.pick(&[0, u32::MAX]) } else { 1 + random.below(4) as u32 }
 }
@@ -312,6 +360,7 @@ fn random_table(random: &mut Random) -> Table {
     let holes = random.pick(&[0, 0, 1, 3, 8]);
     let one_client = random.once_in(3);
     let stays = random.once_in(2);
+    let names = random.once_in(2);
     let pools = table.pools.clone();
     for (index, (network, length)) in pools.iter().enumerate() {
         // Leases of this many sizes, such that the last pools have some too.
@@ -337,6 +386,7 @@ fn random_table(random: &mut Random) -> Table {
                 flags: random.below(4) as u8,
                 client: if one_client { 1 } else { 1 + random.below(4) as u32 },
                 expires: random_expires(random, last, stays),
+                name: if names { random_name(random) } else { NO_NAME },
             });
             at += size;
         }
@@ -403,6 +453,15 @@ fn random_information(random: &mut Random, table: &Table, flags: u8, most: u64) 
     }
     let mut bytes = vec![2, body.len() as u8];
     bytes.extend(body);
+    bytes
+}
+
+/// A name, of which an ask's first counts and one above 24 octets is too long.
+fn random_named(random: &mut Random) -> Vec<u8> {
+    let most = random.pick(&[24, 24, 24, 30, 30, 240]);
+    let octets = random_octets(random, most);
+    let mut bytes = vec![3, octets.len() as u8];
+    bytes.extend(octets);
     bytes
 }
 
@@ -523,6 +582,10 @@ fn random_pieces(random: &mut Random, table: &Table, kind: u64) -> Vec<u8> {
                 let flags = random.below(4) as u8;
                 pieces.push(random_information(random, table, flags, 2));
             }
+            while random.once_in(3) {
+                let at = random.below(pieces.len() as u64 + 1) as usize;
+                pieces.insert(at, random_named(random));
+            }
         }
         // Take and return.
         1 => {
@@ -601,6 +664,12 @@ fn random_again(random: &mut Random, table: &Table) -> Option<(u32, Vec<u8>)> {
             _ => request(h, if default { 0 } else { offer.length }),
         });
     }
+    if random.once_in(2) {
+        let name = random_named(random);
+        if pieces.len() + name.len() <= 254 {
+            pieces.extend(name);
+        }
+    }
     Some((client, option(&pieces)))
 }
 
@@ -647,11 +716,49 @@ fn damage_option(random: &mut Random, option: &mut Vec<u8>) {
     }
 }
 
-/// One change to the bytes of an image.
+/// A name outside the rules, or a lease of the other form among the rest, or the other form's head.
+fn damage_form(random: &mut Random, table: &Table, image: &mut Vec<u8>) {
+    let first = image[2] == 1;
+    let leases = table.leases.len() as u64;
+    if leases == 0 || random.once_in(4) {
+        image[2] = if first { 5 } else { 1 };
+        return;
+    }
+    let place = random.below(leases) as usize;
+    let at = image.len() - if first { FIRST_LEASE } else { LEASE } * (table.leases.len() - place);
+    if first || random.once_in(3) {
+        // The same lease in the other form, or with the other's kind or length.
+        let (size, other) = if first { (FIRST_LEASE, LEASE) } else { (LEASE, FIRST_LEASE) };
+        let mut record = image[at..at + size].to_vec();
+        if !random.once_in(4) {
+            record.resize(other, 0);
+            record[0] = other as u8 - 2;
+        }
+        record[2] = if random.once_in(8) { record[2] } else { 7 - record[2] };
+        image.splice(at..at + size, record);
+        return;
+    }
+    let at = at + FIRST_LEASE;
+    let length = usize::from(image[at]);
+    match random.below(8) {
+        0 => image[at] = random.pick(&[25, 26, 32, 128, 255]),
+        1 => image[at] = image[at].wrapping_add(1),
+        2 => image[at] = image[at].wrapping_sub(1),
+        3 if length > 0 => image[at + length] = 0,
+        4 if length < NAME => image[at + length + 1] = 1,
+        5 => image[at + NAME] = random.pick(&[0, 1, 0x80]),
+        6 => image[at + 1..at + 1 + NAME].fill(0),
+        _ => image[at + 1 + random.below(NAME as u64) as usize] ^= 1 << random.below(8),
+    }
+}
+
+/// One change to the bytes of an image, which is of either form.
 fn damage_image(random: &mut Random, image: &mut Vec<u8>) {
     let at = random.below(image.len() as u64) as usize;
+    let first = image[2] == 1;
     let table = Table::of_image(image);
-    match random.below(11) {
+    match random.below(14) {
+        11.. => damage_form(random, &table, image),
         0..=2 => image[at] ^= 1 << random.below(8),
         3 => image[at] = random.word() as u8,
         4 => image.truncate(at),
@@ -673,7 +780,7 @@ fn damage_image(random: &mut Random, image: &mut Vec<u8>) {
                     _ => lease.network = random.word() as u32 & !3,
                 }
             }
-            *image = table.image();
+            *image = table.image_in(first);
         }
         7 => {
             let mut table = table;
@@ -692,7 +799,7 @@ fn damage_image(random: &mut Random, image: &mut Vec<u8>) {
                     table.pools.remove(at);
                 }
             }
-            *image = table.image();
+            *image = table.image_in(first);
         }
         8 => {
             // Leases in another order, or twice.
@@ -706,7 +813,7 @@ fn damage_image(random: &mut Random, image: &mut Vec<u8>) {
                     _ => table.leases.reverse(),
                 }
             }
-            *image = table.image();
+            *image = table.image_in(first);
         }
         9 => {
             // Pools after the last one: sound but for their number, where that is above 8.
@@ -716,7 +823,7 @@ fn damage_image(random: &mut Random, image: &mut Vec<u8>) {
                 let Some(next) = network.checked_add(1 << (32 - length)) else { break };
                 table.pools.push((next, 30));
             }
-            *image = table.image();
+            *image = table.image_in(first);
         }
         _ => {
             // Leases after the last one: sound but for their number, where that is above 256.
@@ -736,9 +843,10 @@ fn damage_image(random: &mut Random, image: &mut Vec<u8>) {
                     flags: 0,
                     client: 1,
                     expires: u32::MAX,
+                    name: NO_NAME,
                 });
             }
-            *image = table.image();
+            *image = table.image_in(first);
         }
     }
 }
@@ -797,7 +905,7 @@ fn random_call(random: &mut Random, table: &Table) -> Call {
         }
         88..=89 => Call::Sheet,
         90..=91 => Call::Whole { length: random_length(random) },
-        92..=93 => Call::Save,
+        92..=93 => Call::Save { form: random.pick(&[1, 1, 1, 1, 2, 2, 0, 3, 257, u32::MAX]) },
         94..=96 => random_load(random, table),
         _ => random_open(random),
     }
@@ -815,11 +923,13 @@ fn random_length(random: &mut Random) -> u32 {
 
 /// The bytes of this table or of another, as they are or damaged.
 fn random_load(random: &mut Random, table: &Table) -> Call {
-    let mut saved = if random.once_in(2) { table.image() } else { random_table(random).image() };
+    let table = if random.once_in(2) { table.clone() } else { random_table(random) };
+    // In the first form names are lost; it is an image all the same.
+    let mut saved = table.image_in(random.once_in(2));
     match random.below(16) {
         0..=3 => damage_image(random, &mut saved),
-        // Longer than every image.
-        4 => saved.resize(FULL + random.below(40) as usize, 0),
+        // Longer than every image of a form.
+        4 => saved.resize(random.pick(&[FIRST_FULL, FULL]) + random.below(40) as usize, 0),
         5 => saved.clear(),
         _ => {}
     }
@@ -896,7 +1006,8 @@ fn damage_counts(random: &mut Random, table: &Table, counts: &mut Counts) {
 /// Whether a call was refused because of the counts alone: the image loads, with others.
 fn by_counts(call: &Call, given: &Buffers, answer: &Answer) -> bool {
     let saves = matches!(call, Call::Open { .. } | Call::Load { .. } | Call::Sheet);
-    if answer.number != 5 || saves || given.image.len() < FULL || given.bytes > given.image.len() {
+    let first = given.image.get(2) == Some(&1);
+    if answer.number != 5 || saves || first || given.image.len() < FULL || given.bytes > given.image.len() {
         return false;
     }
     let mut right = given.clone();
@@ -920,6 +1031,10 @@ fn random_given(random: &mut Random, image: &[u8], figures: &[u8]) -> (Call, Buf
     if random.once_in(8) {
         damage_image(random, &mut image);
     }
+    // A book of the first form, which only load and the sheet take.
+    if random.once_in(40) {
+        image = table.first_image();
+    }
     let mut bytes = image.len();
     let mut capacity = match random.below(30) {
         0 => random.pick(&[0, 13, bytes, FULL - 1]),
@@ -927,15 +1042,25 @@ fn random_given(random: &mut Random, image: &[u8], figures: &[u8]) -> (Call, Buf
         _ => FULL.max(bytes),
     };
     if random.once_in(40) {
-        bytes =
-            random.pick(&[0, bytes.saturating_sub(1), bytes + 1, bytes.saturating_sub(19), FULL, FULL + 1, usize::MAX]);
+        bytes = random.pick(&[
+            0,
+            bytes.saturating_sub(1),
+            bytes + 1,
+            bytes.saturating_sub(LEASE),
+            FULL,
+            FULL + 1,
+            usize::MAX,
+        ]);
     }
     let mut buffer = vec![0; FULL + 64];
     random.fill(&mut buffer);
     let end = image.len().min(buffer.len());
     buffer[..end].copy_from_slice(&image[..end]);
     let room = match &call {
-        Call::Save => random.pick(&[end, end, end + 1, FULL, end.saturating_sub(1), 0]),
+        Call::Save { form } => {
+            let size = if *form == 1 { table.first_image().len() } else { end };
+            random.pick(&[size, size, size + 1, FULL, size.saturating_sub(1), 0])
+        }
         Call::Sheet => {
             // The sheet is of these bytes, whatever holds them.
             bytes = bytes.min(end);
@@ -985,6 +1110,8 @@ fn main() {
     let (mut most, mut full, mut filing, mut again, mut again_full) = (0, 0, 0, 0, 0);
     let (mut differing, mut counted) = (0u64, 0u64);
     let (mut in_one, mut in_two, mut last_place) = (0u64, 0u64, 0u64);
+    let (mut named, mut kept, mut first_loads, mut first_saves) = (0u64, 0u64, 0u64, 0u64);
+    let (mut in_place, mut lost_and_short) = (0u64, 0u64);
     let (mut image, mut figures) = (Vec::new(), Vec::new());
     for index in 0..calls {
         if index % HISTORY == 0 {
@@ -1010,12 +1137,29 @@ fn main() {
                     in_two += u64::from(both_in_two(option, number, place));
                     last_place += u64::from(place == 256);
                 }
+                if let Call::Save { form: 1 } = call {
+                    first_saves += u64::from(answer.number == 0);
+                    lost_and_short += u64::from(answer.number == 18 && given.out.is_empty());
+                }
+                if !matches!(call, Call::Open { .. } | Call::Load { .. } | Call::Sheet) {
+                    in_place += u64::from(answer.number == 5 && given.image.get(2) == Some(&1));
+                }
                 if answer.number == 0 {
                     full += u64::from(left.bytes == FULL);
+                    if let Call::Load { saved } = &call {
+                        first_loads += u64::from(saved[2] == 1);
+                    }
                     filing += u64::from(matches!(call, Call::Take { .. }) && filed(&given, &left));
                     if let Call::Ask { now, .. } = call {
                         let before = Table::of_image(&given.image[..given.bytes]);
                         let gave = gave_again(now, &before, &left.out[..answer.bytes as usize]);
+                        let after = Table::of_image(&left.image[..left.bytes]);
+                        for lease in after.leases.iter().filter(|lease| lease.name != NO_NAME) {
+                            let mut there = before.leases.iter();
+                            let old = there.any(|old| old.network == lease.network && old.expires > now);
+                            named += u64::from(!old);
+                            kept += u64::from(old);
+                        }
                         again += u64::from(gave);
                         again_full += u64::from(gave && before.leases.len() == ROWS);
                     }
@@ -1058,6 +1202,13 @@ fn main() {
         "options refused with 7: {}, with 16: {}; both in one suboption: {in_one}, in two: {in_two}; at 256: {last_place}",
         refused(7),
         refused(16)
+    );
+    println!(
+        "asks refused with 17: {}, leases made with a name: {named}, that kept theirs in an ask: {kept}; saves refused with \
+         18: {}, without room too: {lost_and_short}, accepted in the first form: {first_saves}; loads of the first form \
+         accepted: {first_loads}; calls refused on a book of the first form: {in_place}",
+        refused(17),
+        refused(18)
     );
     println!("agree: {calls} calls, the same answer, image, figures, counts and output by all {}", names.len());
 }

@@ -26,6 +26,8 @@ pub trait Pieces {
     fn request(&mut self, flags: u8, length: u8);
     /// An entry, and the flags of its information.
     fn entry(&mut self, information: u8, network: u32, length: u8, figures: &[u8]);
+    /// Only an ask looks at names.
+    fn name(&mut self, _: &[u8]) {}
 }
 
 /// Reads the option; a refusal is 6, or 7 or 16 with the place of the first bad suboption.
@@ -81,7 +83,7 @@ fn suboption(bytes: &[u8], pieces: &mut impl Pieces) -> Result<usize, u32> {
         }
         NAME => match body.last() {
             Some(0) => return Err(FIELD),
-            Some(_) => {}
+            Some(_) => pieces.name(body),
             None => return Err(FRAMING),
         },
         _ => {}

@@ -1,8 +1,8 @@
 //! The sheet: every pool as used and free rows. One walk counts, a second one writes, so that text that does not fit
 //! leaves the buffer as it was.
 
-use super::image::{self, Met, Notes, Pools, Record};
-use crate::desk::Answer;
+use super::image::{self, FIRST, LEASE, Met, Notes, Pools};
+use crate::desk::{Answer, NAME};
 
 /// Where the rows go: counted, or written.
 trait Rows {
@@ -20,6 +20,19 @@ trait Rows {
             }
         }
         self.text(&digits[from..]);
+    }
+
+    /// The octets of a name, `?` for each that is no printing character.
+    fn name(&mut self, octets: &[u8]) {
+        if octets.is_empty() {
+            return;
+        }
+        let mut shown = [0; NAME];
+        for (shown, octet) in shown.iter_mut().zip(octets) {
+            *shown = if matches!(octet, 0x20..=0x7e) { *octet } else { b'?' };
+        }
+        self.text(b" name ");
+        self.text(&shown[..octets.len()]);
     }
 
     fn prefix(&mut self, network: u32, length: u32) {
@@ -82,7 +95,7 @@ impl Notes for Pools {
 }
 
 /// The rows of all pools; how many of them are free.
-fn walk(rows: &mut impl Rows, pools: &Pools, leases: &[Record]) -> u32 {
+fn walk<const N: usize>(rows: &mut impl Rows, pools: &Pools, leases: &[[u8; N]]) -> u32 {
     let mut count = 0;
     let mut leases = leases.iter().peekable();
     for (&from, &to) in pools.from.iter().zip(&pools.to).take(pools.count) {
@@ -96,6 +109,7 @@ fn walk(rows: &mut impl Rows, pools: &Pools, leases: &[Record]) -> u32 {
             rows.number(image::client(lease));
             rows.text(b" until ");
             rows.number(image::expires(lease));
+            rows.name(image::name(lease));
             rows.text(b"\n");
             at = u64::from(network) + (1 << (32 - length));
         }
@@ -112,20 +126,28 @@ fn head(rows: &mut impl Rows, leases: usize, free: u32) {
     rows.text(b"\n");
 }
 
+/// Of saved bytes of either form.
 pub fn sheet(image: &[u8], text: &mut [u8]) -> Answer {
     let mut pools = Pools::default();
-    let Some(summary) = image::check(image, &mut pools) else {
-        return Answer::refusal(5);
-    };
-    let leases = image::leases(image, &summary);
+    if image::is_first(image) {
+        let summary = image::check::<FIRST>(image, &mut pools);
+        summary.map(|summary| write(&pools, image::first_leases(image, &summary), text))
+    } else {
+        let summary = image::check::<LEASE>(image, &mut pools);
+        summary.map(|summary| write(&pools, image::leases(image, &summary), text))
+    }
+    .unwrap_or(Answer::refusal(5))
+}
+
+fn write<const N: usize>(pools: &Pools, leases: &[[u8; N]], text: &mut [u8]) -> Answer {
     let mut size = Count { bytes: 0 };
-    let free = walk(&mut size, &pools, leases);
-    head(&mut size, summary.leases, free);
+    let free = walk(&mut size, pools, leases);
+    head(&mut size, leases.len(), free);
     if size.bytes > text.len() {
         return Answer::refusal(14);
     }
     let mut rows = Write { out: text, at: 0 };
-    head(&mut rows, summary.leases, free);
-    walk(&mut rows, &pools, leases);
+    head(&mut rows, leases.len(), free);
+    walk(&mut rows, pools, leases);
     Answer::accepted(size.bytes, 0)
 }

@@ -20,7 +20,7 @@ use Rattle.lists.proofs.IndexLaws.{all-at}
 use Rattle.lists.proofs.PartLaws.{catMaybes-append}
 use Rattle.table.specs.declared.Lease.{Lease}
 use Rattle.table.specs.Table.{noLease}
-use Rattle.image.specs.Image.{le16, le32, leaseSize, leaseRecord}
+use Rattle.image.specs.Image.{le16, le32, leaseSize, leaseRecordIn, leaseRecord}
 use Rattle.image.specs.Reading.{expiresAt}
 use Rattle.image.proofs.ImageLaws.{length-lease}
 use Rattle.image_records.specs.Records.{Records, Ascending}
@@ -35,7 +35,7 @@ use Rattle.ask_again.proofs.GiveLaws.{getD-image}
 -- ONE RECORD
 
 written : (x : Lease) (q : List ℕ) (now : ℕ) → put (leaseRecord x ++ q) expiresAt (le32 (now + holdTime)) ≡ leaseRecord (holdAgain now x) ++ q
-unfolding leaseRecord le16 le32 put
+unfolding leaseRecordIn le16 le32 put
 written x q now = refl
 
 end-in-place : (l : List ℕ) (at : ℕ) (x : Lease) (q : List ℕ) (now : ℕ) → at ≤ length l → drop at l ≡ leaseRecord x ++ q

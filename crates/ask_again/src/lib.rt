@@ -2,6 +2,7 @@
 // first request that it is for, and held anew in place.
 use image::EXPIRES;
 use image::LEASE;
+use names::Name;
 use option::MOST_REQUESTS;
 ghost use mathlib.Core.Path.{_≡_};
 ghost use mathlib.Core.Bool.{true, cond};
@@ -23,10 +24,11 @@ ghost use Rattle.ask_again.specs.Places.{noPlace, Within, InBuffer, give
 ghost use Rattle.ask_again.specs.InnerGiving.{heldAt?, NextHeld, OthersAt};
 ghost use Rattle.ask_again.specs.InnerChains.{keys, noRequest, keyOf, keyIn, Heads, Linked, Gave};
 
-// Who asks, and when.
+// Who asks, when, and under which name.
 pub struct Asker {
     pub client: u32,
     pub time: u32,
+    pub name: Name,
 }
 
 // The place of a request that gets no lease again.

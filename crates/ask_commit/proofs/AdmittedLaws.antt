@@ -16,6 +16,7 @@ use Rattle.lists.proofs.Tests.{bool-cases, cond-false}
 use Rattle.lists.proofs.FilterLaws.{filter-yes, filter-no}
 use Rattle.prefix.specs.declared.Prefix.{Prefix}
 use Rattle.prefix.specs.Prefixes.{longest, end}
+use Rattle.names.specs.declared.Name.{Name}
 use Rattle.table.specs.declared.{Lease.Lease}
 use Rattle.table.specs.Table.{poolSlots, leaseSlots, addresses, noLease, prefixOf, poolsOf, present}
 use Rattle.table.proofs.TableLaws.{sound-default, present-yes, present-no}
@@ -141,7 +142,7 @@ module _ (image : List ℕ) (now client : ℕ) (summary : ImageSummary) (q : OfA
 
   -- NOTHING TO SERVE: each request has a place, or no slot is empty. No place of the columns has a lease.
 
-  module _ (us : List Lease) (rs : List Request) (askLengths places networks lengths : List ℕ) (asked : askLengths ≡ map (λ r. r .length) rs) (same : length places ≡ length askLengths)
+  module _ (name : Name) (us : List Lease) (rs : List Request) (askLengths places networks lengths : List ℕ) (asked : askLengths ≡ map (λ r. r .length) rs) (same : length places ≡ length askLengths)
       (hn : length askLengths ≤ length networks) (hl : length askLengths ≤ length lengths) (none-yet : leasesIn lengths (length askLengths) ≡ 0) where
     many : length rs ≡ length askLengths
     many = sym (ap length asked ∙ length-map rs (λ (r : Request). r .length))
@@ -149,18 +150,18 @@ module _ (image : List ℕ) (now client : ℕ) (summary : ImageSummary) (q : OfA
     given-many : length (givenIn us places) ≡ length rs
     given-many = length-map places (leaseAt us) ∙ omega (arith, many)
 
-    nothing-there : offersIn client (now + holdTime) networks lengths (flagsOf rs) ≡ map (λ r. none) rs
+    nothing-there : offersIn client (now + holdTime) name networks lengths (flagsOf rs) ≡ map (λ r. none) rs
     nothing-there =
         let long = flags-length rs in
-        offers-none client (now + holdTime) networks lengths (flagsOf rs) (omega (arith, long, many)) (omega (arith, long, many)) (ap (leasesIn lengths) (long ∙ many) ∙ none-yet)
+        offers-none client (now + holdTime) name networks lengths (flagsOf rs) (omega (arith, long, many)) (omega (arith, long, many)) (ap (leasesIn lengths) (long ∙ many) ∙ none-yet)
         ∙ none-each rs
 
-    pub rest-given : othersIn noPlace places (length askLengths) ≡ length askLengths → Granted (tableIn h) now client (here h now) (givenIn us places) rs networks lengths
+    pub rest-given : othersIn noPlace places (length askLengths) ≡ length askLengths → Granted (tableIn h) now client name (here h now) (givenIn us places) rs networks lengths
     rest-given all =
         let each : All (λ p. p ≡ noPlace → ⊥) places =
         subst (All (λ p. p ≡ noPlace → ⊥)) (take-all (length askLengths) places (omega arith))
         (others-all noPlace (take (length askLengths) places) (all ∙ sym (ap length (take-all (length askLengths) places (omega arith)) ∙ same))) in
-        record { held = nothing-there ∙ sym (rest-none (tableIn h) now client (givenIn us places) rs (here h now) given-many (all-given us places each)) }
+        record { held = nothing-there ∙ sym (rest-none (tableIn h) now client name (givenIn us places) rs (here h now) given-many (all-given us places each)) }
 
-    pub rest-refused : leaseSlots ≤ summary .leases - summary .expired → Granted (tableIn h) now client (here h now) (givenIn us places) rs networks lengths
-    rest-refused full = record { held = nothing-there ∙ sym (rest-full (tableIn h) now client (givenIn us places) rs (here h now) given-many (omega (arith, present-many))) }
+    pub rest-refused : leaseSlots ≤ summary .leases - summary .expired → Granted (tableIn h) now client name (here h now) (givenIn us places) rs networks lengths
+    rest-refused full = record { held = nothing-there ∙ sym (rest-full (tableIn h) now client name (givenIn us places) rs (here h now) given-many (omega (arith, present-many))) }

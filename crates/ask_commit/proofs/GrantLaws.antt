@@ -20,6 +20,7 @@ use Rattle.lists.proofs.PutLaws.{put-fits}
 use Rattle.option.specs.Values.{SuboptionValue}
 use Rattle.option.specs.Contents.{Request, requestsIn}
 use Rattle.option.specs.Writing.{optionBytes}
+use Rattle.names.specs.declared.Name.{Name}
 use Rattle.table.specs.declared.{Lease.Lease, LeaseTable.LeaseTable}
 use Rattle.table.specs.Table.{leaseSlots, poolsOf, empty?, present, store}
 use Rattle.table.proofs.TableLaws.{sound-fewer, sound-fine, fine-long, long-not-empty}
@@ -32,7 +33,7 @@ use Rattle.image_records.proofs.RecordLaws.{length-leases, put-records}
 use Rattle.image_records.proofs.SoundLaws.{ascending-prefixes}
 use Rattle.figures.specs.Figures.{followed}
 use Rattle.image_figures.specs.Sheets.{sheetOf}
-use Rattle.ledger.specs.Ledger.{State, left, Call, call, Result, result, refusal, acceptance, accept, firstOf, refusalPlace, nothing?, holdTime, offers, addAll, again, restOf, heldAgain, inTurn, askHeld, askOffers, askGives, askLeases, informationFor, grantRows, askRows, ask}
+use Rattle.ledger.specs.Ledger.{State, left, Call, call, Result, result, refusal, acceptance, accept, firstOf, refusalPlace, nothing?, askName, holdTime, offers, addAll, again, restOf, heldAgain, inTurn, askHeld, askOffers, askGives, askLeases, informationFor, grantRows, askRows, ask}
 use Rattle.ledger.proofs.AgainLaws.{again-length, held-fine, held-length, rest-all, rest-fills, turn-length, turn-count, rest-offers}
 use Rattle.ledger.proofs.OfferLaws as offer-laws
 use Rattle.ledger.proofs.RowLaws.{nothing-none, nothing-some}
@@ -89,12 +90,15 @@ module _ (h : Lent) (now client : ℕ) (reply : List ℕ) (summary : ImageSummar
   many-present : summary .leases - summary .expired ≡ length (here h now)
   many-present = present-many (h .image) now client summary admitted-image
 
-  module _ (option : List ℕ) (k : Asking h now (call client option reply) askLengths askH) where
+  module _ (name : Name) (option : List ℕ) (k : Asking h now name (call client option reply) askLengths askH) where
     abbrev c : Call
     c = call client option reply
 
     abbrev rs : List Request
     rs = requestsIn option
+
+    abbrev label : Name
+    label = askName (call client option reply)
 
     pub asks-are : Asks (tableIn h) (requestsIn option) (summary .«default_length») askLengths askH
     asks-are = record { byDefault = a .admitted .default; lengths = k .lengths; flags = k .flags }
@@ -104,10 +108,10 @@ module _ (h : Lent) (now client : ℕ) (reply : List ℕ) (summary : ImageSummar
     gs = again t client xs rs
 
     abbrev asked : List (Option Lease)
-    asked = askGives t now client xs rs
+    asked = askGives t now client label xs rs
 
     abbrev after : List Lease
-    after = askLeases t now client xs rs
+    after = askLeases t now client label xs rs
 
     abbrev outcome : Result State
     outcome = accept (left (stateIn h) now after) (optionBytes (map informationFor (catMaybes asked))) (length (catMaybes asked)) reply
@@ -118,52 +122,52 @@ module _ (h : Lent) (now client : ℕ) (reply : List ℕ) (summary : ImageSummar
         ap (λ (m : ℕ). result (refusal n m) h reply) (sym p) ∙ row-refuses h (askRows (stateIn h) now c) (refusalPlace option) reply outcome n some-row (k .left-rows ∙ e)
 
     -- The leases after it are good, and fit the table.
-    after-good : offer-laws.Inv t now client (offer-laws.pools-good t (a .admitted .sound)) after
+    after-good : offer-laws.Inv t now client label (offer-laws.pools-good t (a .admitted .sound)) after
     after-good =
-        offer-laws.offers-inv t now client (offer-laws.pools-good t (a .admitted .sound)) (a .admitted .sound) (eqb-false client 0 (a .admitted .some-client)) (restOf gs rs) (askHeld t now client xs rs)
+        offer-laws.offers-inv t now client label (offer-laws.pools-good t (a .admitted .sound)) (a .admitted .sound) (eqb-false client 0 (a .admitted .some-client)) (restOf gs rs) (askHeld t now client xs rs)
         (rest-all (λ r. r .length ≤ 30) gs rs (requests-short option))
         (record { fine = held-fine now (catMaybes gs) (poolsOf t) xs (sound-fine t (a .admitted .sound) now); fit = omega (arith, held-length now (catMaybes gs) xs, sound-fewer t (a .admitted .sound) now) })
 
     -- THE PLACES of what is given again, and THE COLUMNS of what is offered.
     module _ (places : List ℕ) (same : length places ≡ length askLengths) (found : givenIn us places ≡ again t client (present now us) rs)
-        (networks lengths : List ℕ) (hn : length askLengths ≤ length networks) (hl : length askLengths ≤ length lengths) (granted : Granted t now client xs (givenIn us places) rs networks lengths)
+        (networks lengths : List ℕ) (hn : length askLengths ≤ length networks) (hl : length askLengths ≤ length lengths) (granted : Granted t now client name xs (givenIn us places) rs networks lengths)
         (m n : ℕ) (m-is : m ≡ othersIn noPlace places (length askLengths)) (n-is : n ≡ leasesIn lengths (length askLengths)) where
       given-is : givenIn us places ≡ gs
       given-is = found ∙ ap (λ (ys : List Lease). again t client ys rs) (sym (a .admitted .present-used))
 
       abbrev os : List (Option Lease)
-      os = offersIn client (now + holdTime) networks lengths askH
+      os = offersIn client (now + holdTime) name networks lengths askH
 
-      offered-is : os ≡ restOffers t now client xs gs rs
+      offered-is : os ≡ restOffers t now client label xs gs rs
       offered-is =
-          ap (offersIn client (now + holdTime) networks lengths) (k .flags) ∙ granted .held ∙ ap (λ (ps : List (Option Lease)). restOffers t now client xs ps rs) given-is
+          ap (offersIn client (now + holdTime) name networks lengths) (k .flags) ∙ granted .held ∙ ap₂ (λ (ps : List (Option Lease)) (n : Name). restOffers t now client n xs ps rs) given-is (k .named)
 
       same-many : length gs ≡ length rs
       same-many = again-length t client rs xs
 
       -- What is added is what the ledger offers the rest.
-      added-is : (ys : List Lease) → addAll os ys ≡ addAll (askOffers t now client xs rs) ys
+      added-is : (ys : List Lease) → addAll os ys ≡ addAll (askOffers t now client label xs rs) ys
       added-is ys =
           ap (λ (ps : List (Option Lease)). addAll ps ys) offered-is
-          ∙ rest-added t now client gs rs xs ys same-many
-          ∙ ap (λ (ps : List (Option Lease)). addAll ps ys) (sym (rest-offers t now client xs rs))
+          ∙ rest-added t now client label gs rs xs ys same-many
+          ∙ ap (λ (ps : List (Option Lease)). addAll ps ys) (sym (rest-offers t now client label xs rs))
 
-      offered-many : length (catMaybes (askOffers t now client xs rs)) ≡ n
+      offered-many : length (catMaybes (askOffers t now client label xs rs)) ≡ n
       offered-many =
           let e = ap length (added-is []) in
-          let here-many = offers-many client (now + holdTime) networks lengths askH (omega (arith, a .same)) (omega (arith, a .same)) ∙ ap (leasesIn lengths) (a .same) in
-          omega (arith, e, added-length os [], added-length (askOffers t now client xs rs) [], here-many, n-is)
+          let here-many = offers-many client (now + holdTime) name networks lengths askH (omega (arith, a .same)) (omega (arith, a .same)) ∙ ap (leasesIn lengths) (a .same) in
+          omega (arith, e, added-length os [], added-length (askOffers t now client label xs rs) [], here-many, n-is)
 
       given-many : length (catMaybes gs) ≡ m
       given-many = sym (ap (λ (ps : List (Option Lease)). length (catMaybes ps)) given-is) ∙ given-count us places (length askLengths) same ∙ sym m-is
 
       gets-many : length (catMaybes asked) ≡ m + n
-      gets-many = turn-count now gs (askOffers t now client xs rs) (rest-fills t now client xs (askHeld t now client xs rs) rs) ∙ omega (arith, given-many, offered-many)
+      gets-many = turn-count now gs (askOffers t now client label xs rs) (rest-fills t now client label xs (askHeld t now client xs rs) rs) ∙ omega (arith, given-many, offered-many)
 
       -- No more than ask.
       gets-few : m + n ≤ length askLengths
       gets-few =
-          omega (arith, gets-many, catMaybes-few asked, turn-length now gs (askOffers t now client xs rs), same-many, ap length (k .lengths), length-map rs (λ (r : Request). r .length))
+          omega (arith, gets-many, catMaybes-few asked, turn-length now gs (askOffers t now client label xs rs), same-many, ap length (k .lengths), length-map rs (λ (r : Request). r .length))
 
       -- Rows 9 and 10: no request gets anything.
       module _ (nothing : m + n ≡ 0) where
@@ -250,8 +254,8 @@ module _ (h : Lent) (now client : ℕ) (reply : List ℕ) (summary : ImageSummar
           shown-is : map informationFor (catMaybes (eachOf (givenIn us places) os)) ≡ map informationFor (catMaybes asked)
           shown-is =
               ap₂ (λ (ps qs : List (Option Lease)). map informationFor (catMaybes (eachOf ps qs))) given-is offered-is
-              ∙ sym (turn-shown t now client gs rs xs same-many)
-              ∙ ap (λ (ps : List (Option Lease)). map informationFor (catMaybes (inTurn now gs ps))) (sym (rest-offers t now client xs rs))
+              ∙ sym (turn-shown t now client label gs rs xs same-many)
+              ∙ ap (λ (ps : List (Option Lease)). map informationFor (catMaybes (inTurn now gs ps))) (sym (rest-offers t now client label xs rs))
 
           reply-is : offered ≡ written ++ drop (length written) reply
           unfolding written
@@ -275,7 +279,7 @@ module _ (h : Lent) (now client : ℕ) (reply : List ℕ) (summary : ImageSummar
               ∙ ap sheetOf (held-followed t (a .admitted .sound) now (a .admitted .since) (a .admitted .early) given alone (stateIn h .rows) after)
 
           after-many : length after ≡ summary .leases - summary .expired + n
-          after-many = omega (arith, added-length (askOffers t now client xs rs) (askHeld t now client xs rs), held-length now (catMaybes gs) xs, offered-many, many-present)
+          after-many = omega (arith, added-length (askOffers t now client label xs rs) (askHeld t now client xs rs), held-length now (catMaybes gs) xs, offered-many, many-present)
 
           pub ask-granted : (bytes : ℕ) → bytes ≡ leasesFrom summary + leaseSize * (summary .leases - summary .expired + n)
               → result (acceptance (3 + 10 * (m + n)) (m + n)) (lent image₁ bytes sheet) offered ≡ askImage h now c

@@ -22,6 +22,7 @@ use Rattle.option.specs.Values.{SuboptionValue}
 use Rattle.option.specs.Contents.{Request}
 use Rattle.option.specs.Writing.{entryHead, entryBytes, entriesBytes, informationHead, suboptionBytes, suboptionsBytes, optionHead, optionBytes}
 use Rattle.option.proofs.WritingLaws.{entry-head-length, entries-one, suboptions-none, suboptions-append, suboptions-one, option-length}
+use Rattle.names.specs.declared.Name.{Name}
 use Rattle.table.specs.declared.{Lease.Lease, LeaseTable.LeaseTable}
 use Rattle.table.specs.Table.{noLease}
 use Rattle.image.specs.Image.{leaseSize}
@@ -120,76 +121,77 @@ each-snoc (h ∷ gs) [] g o e = absurd (omega arith)
 each-snoc (h ∷ gs) (p ∷ os) g o e = ap (λ (l : List (Option Lease)). eitherOf h p ∷ l) (each-snoc gs os g o (omega arith))
 
 -- As the code tells them apart.
-either-is : (us : List Lease) (place client expires network len flag : ℕ) (old : Lease) → ((place ≡ noPlace → ⊥) → old ≡ getD us place noLease)
-    → eitherOf (leaseAt us place) (offerIn client expires network len flag) ≡ givenOr place old (grantedLease client expires network len flag)
-either-is us place client expires network len flag old e =
+either-is : (us : List Lease) (place client expires : ℕ) (name : Name) (network len flag : ℕ) (old : Lease) → ((place ≡ noPlace → ⊥) → old ≡ getD us place noLease)
+    → eitherOf (leaseAt us place) (offerIn client expires name network len flag) ≡ givenOr place old (grantedLease client expires name network len flag)
+either-is us place client expires name network len flag old e =
     ⊎-elim
     (λ (b : eqb place noPlace ≡ true). rw b)
     (λ (b : eqb place noPlace ≡ false). rw b (ap some (sym (e (eqb-false place noPlace b)))))
     (bool-cases (eqb place noPlace))
 
 -- One request more.
-module _ (us : List Lease) (places ns ls fs : List ℕ) (j : ℕ) (same : length places ≡ length fs) (low : j < length fs) (hn : length fs ≤ length ns) (hl : length fs ≤ length ls) where
+module _ (client expires : ℕ) (name : Name) (us : List Lease) (places ns ls fs : List ℕ) (j : ℕ) (same : length places ≡ length fs) (low : j < length fs) (hn : length fs ≤ length ns) (hl : length fs ≤ length ls) where
   abbrev gives : ℕ → List (Option Lease)
-  gives k = eachOf (givenIn us (take k places)) (offersIn 0 0 ns ls (take k fs))
+  gives k = eachOf (givenIn us (take k places)) (offersIn client expires name ns ls (take k fs))
 
-  gives-next : gives (j + 1) ≡ gives j ++ (eitherOf (leaseAt us (getD places j 0)) (offerIn 0 0 (getD ns j 0) (getD ls j 0) (getD fs j 0)) ∷ [])
+  gives-next : gives (j + 1) ≡ gives j ++ (eitherOf (leaseAt us (getD places j 0)) (offerIn client expires name (getD ns j 0) (getD ls j 0) (getD fs j 0)) ∷ [])
   gives-next =
       let p : ℕ = getD places j 0 in
-      let o : Option Lease = offerIn 0 0 (getD ns j 0) (getD ls j 0) (getD fs j 0) in
+      let o : Option Lease = offerIn client expires name (getD ns j 0) (getD ls j 0) (getD fs j 0) in
       let first : length (take j fs) ≡ j = length-take-le j fs (omega arith) in
       let more-given : givenIn us (take (j + 1) places) ≡ givenIn us (take j places) ++ (leaseAt us p ∷ []) =
       ap (λ (k : ℕ). givenIn us (take k places)) (add-one j) ∙ ap (givenIn us) (take-suc places j 0 (omega arith)) ∙ map-append (leaseAt us) (take j places) (p ∷ []) in
-      let more-offered : offersIn 0 0 ns ls (take (j + 1) fs) ≡ offersIn 0 0 ns ls (take j fs) ++ (o ∷ []) =
-      ap (λ (k : ℕ). offersIn 0 0 ns ls (take k fs)) (add-one j) ∙ ap (offersIn 0 0 ns ls) (take-suc fs j 0 low) ∙ offers-in-snoc 0 0 ns ls (take j fs) (getD fs j 0) j first (omega arith) (omega arith) in
+      let more-offered : offersIn client expires name ns ls (take (j + 1) fs) ≡ offersIn client expires name ns ls (take j fs) ++ (o ∷ []) =
+      ap (λ (k : ℕ). offersIn client expires name ns ls (take k fs)) (add-one j) ∙ ap (offersIn client expires name ns ls) (take-suc fs j 0 low) ∙ offers-in-snoc client expires name ns ls (take j fs) (getD fs j 0) j first (omega arith) (omega arith) in
       ap₂ eachOf more-given more-offered
-      ∙ each-snoc (givenIn us (take j places)) (offersIn 0 0 ns ls (take j fs)) (leaseAt us p) o
-      (length-map (take j places) (leaseAt us) ∙ length-take-le j places (omega arith) ∙ sym (offers-in-length 0 0 ns ls (take j fs) (omega (arith, first)) (omega (arith, first)) ∙ first))
+      ∙ each-snoc (givenIn us (take j places)) (offersIn client expires name ns ls (take j fs)) (leaseAt us p) o
+      (length-map (take j places) (leaseAt us) ∙ length-take-le j places (omega arith) ∙ sym (offers-in-length client expires name ns ls (take j fs) (omega (arith, first)) (omega (arith, first)) ∙ first))
 
   pub shown-next : (image : List ℕ) (from : ℕ) → Records image from us → All (Within (length us)) places → (before l₁ : List ℕ) (at₁ : ℕ)
-      → Shown before l₁ at₁ (catMaybes (gives j) ++ catMaybes (givenOr (getD places j 0) (leaseIn (drop (from + leaseSize * getD places j 0) image)) (grantedLease 0 0 (getD ns j 0) (getD ls j 0) (getD fs j 0)) ∷ []))
+      → Shown before l₁ at₁ (catMaybes (gives j) ++ catMaybes (givenOr (getD places j 0) (leaseIn (drop (from + leaseSize * getD places j 0) image)) (grantedLease client expires name (getD ns j 0) (getD ls j 0) (getD fs j 0)) ∷ []))
       → Shown before l₁ at₁ (catMaybes (gives (j + 1)))
   shown-next image from stand within before l₁ at₁ k =
       let p : ℕ = getD places j 0 in
       let inside = all-at (Within (length us)) places within j 0 (omega arith) in
       subst (Shown before l₁ at₁)
       (sym (ap catMaybes gives-next
-      ∙ catMaybes-append (gives j) (eitherOf (leaseAt us p) (offerIn 0 0 (getD ns j 0) (getD ls j 0) (getD fs j 0)) ∷ [])
+      ∙ catMaybes-append (gives j) (eitherOf (leaseAt us p) (offerIn client expires name (getD ns j 0) (getD ls j 0) (getD fs j 0)) ∷ [])
       ∙ ap (λ (o : Option Lease). catMaybes (gives j) ++ catMaybes (o ∷ []))
-      (either-is us p 0 0 (getD ns j 0) (getD ls j 0) (getD fs j 0) (leaseIn (drop (from + leaseSize * p) image)) (λ some-place. lease-in-place image from us stand p (inside some-place)))))
+      (either-is us p client expires name (getD ns j 0) (getD ls j 0) (getD fs j 0) (leaseIn (drop (from + leaseSize * p) image)) (λ some-place. lease-in-place image from us stand p (inside some-place)))))
       k
 
--- An entry shows neither the client nor the end.
-same-shown : (client expires network len flag : ℕ) (g : Option Lease) (os ps : List (Option Lease)) → map informationFor (catMaybes os) ≡ map informationFor (catMaybes ps)
-    → map informationFor (catMaybes (eitherOf g (offerIn 0 0 network len flag) ∷ os)) ≡ map informationFor (catMaybes (eitherOf g (offerIn client expires network len flag) ∷ ps))
-same-shown client expires network len flag (some x) os ps e = ap (λ (xs : List SuboptionValue). informationFor x ∷ xs) e
-same-shown client expires network len flag none os ps e =
-    ⊎-elim
-    (λ (z : eqb len 0 ≡ true). rw z e)
-    (λ (z : eqb len 0 ≡ false). rw z (ap (λ (xs : List SuboptionValue). informationFor (grantedLease client expires network len flag) ∷ xs) e))
-    (bool-cases (eqb len 0))
+-- An entry shows neither the client nor the end nor the name.
+module _ (client expires client₁ expires₁ : ℕ) (name name₁ : Name) where
+  same-shown : (network len flag : ℕ) (g : Option Lease) (os ps : List (Option Lease)) → map informationFor (catMaybes os) ≡ map informationFor (catMaybes ps)
+      → map informationFor (catMaybes (eitherOf g (offerIn client expires name network len flag) ∷ os)) ≡ map informationFor (catMaybes (eitherOf g (offerIn client₁ expires₁ name₁ network len flag) ∷ ps))
+  same-shown network len flag (some x) os ps e = ap (λ (xs : List SuboptionValue). informationFor x ∷ xs) e
+  same-shown network len flag none os ps e =
+      ⊎-elim
+      (λ (z : eqb len 0 ≡ true). rw z e)
+      (λ (z : eqb len 0 ≡ false). rw z (ap (λ (xs : List SuboptionValue). informationFor (grantedLease client₁ expires₁ name₁ network len flag) ∷ xs) e))
+      (bool-cases (eqb len 0))
 
-pub shown-same : (client expires : ℕ) (gs : List (Option Lease)) (ns ls fs : List ℕ)
-    → map informationFor (catMaybes (eachOf gs (offersIn 0 0 ns ls fs))) ≡ map informationFor (catMaybes (eachOf gs (offersIn client expires ns ls fs)))
-shown-same client expires [] ns ls fs = refl
-shown-same client expires (g ∷ gs) ns ls [] = refl
-shown-same client expires (g ∷ gs) [] ls (f ∷ fs) = refl
-shown-same client expires (g ∷ gs) (n ∷ ns) [] (f ∷ fs) = refl
-shown-same client expires (g ∷ gs) (n ∷ ns) (l ∷ ls) (f ∷ fs) =
-    same-shown client expires n l f g (eachOf gs (offersIn 0 0 ns ls fs)) (eachOf gs (offersIn client expires ns ls fs)) (shown-same client expires gs ns ls fs)
+  pub shown-same : (gs : List (Option Lease)) (ns ls fs : List ℕ)
+      → map informationFor (catMaybes (eachOf gs (offersIn client expires name ns ls fs))) ≡ map informationFor (catMaybes (eachOf gs (offersIn client₁ expires₁ name₁ ns ls fs)))
+  shown-same [] ns ls fs = refl
+  shown-same (g ∷ gs) ns ls [] = refl
+  shown-same (g ∷ gs) [] ls (f ∷ fs) = refl
+  shown-same (g ∷ gs) (n ∷ ns) [] (f ∷ fs) = refl
+  shown-same (g ∷ gs) (n ∷ ns) (l ∷ ls) (f ∷ fs) =
+      same-shown n l f g (eachOf gs (offersIn client expires name ns ls fs)) (eachOf gs (offersIn client₁ expires₁ name₁ ns ls fs)) (shown-same gs ns ls fs)
 
 -- The same is shown of what the ledger gives in turn.
 turn-one : (o : Option Lease) (os ps : List (Option Lease)) → map informationFor (catMaybes os) ≡ map informationFor (catMaybes ps) → map informationFor (catMaybes (o ∷ os)) ≡ map informationFor (catMaybes (o ∷ ps))
 turn-one none os ps e = e
 turn-one (some x) os ps e = ap (λ (xs : List SuboptionValue). informationFor x ∷ xs) e
 
-pub turn-shown : (t : LeaseTable) (now client : ℕ) (gs : List (Option Lease)) (rs : List Request) (xs : List Lease) → length gs ≡ length rs
-    → map informationFor (catMaybes (inTurn now gs (offers t now client xs (restOf gs rs)))) ≡ map informationFor (catMaybes (eachOf gs (restOffers t now client xs gs rs)))
+pub turn-shown : (t : LeaseTable) (now client : ℕ) (name : Name) (gs : List (Option Lease)) (rs : List Request) (xs : List Lease) → length gs ≡ length rs
+    → map informationFor (catMaybes (inTurn now gs (offers t now client name xs (restOf gs rs)))) ≡ map informationFor (catMaybes (eachOf gs (restOffers t now client name xs gs rs)))
 unfolding inTurn offers restOf restOffers
-turn-shown t now client [] [] xs e = refl
-turn-shown t now client [] (r ∷ rs) xs e = absurd (omega arith)
-turn-shown t now client (g ∷ gs) [] xs e = absurd (omega arith)
-turn-shown t now client (some x ∷ gs) (r ∷ rs) xs e = ap (λ (ys : List SuboptionValue). informationFor x ∷ ys) (turn-shown t now client gs rs xs (omega arith))
-turn-shown t now client (none ∷ gs) (r ∷ rs) xs e =
-    let o : Option Lease = offer t now client xs r in
-    turn-one o (inTurn now gs (offers t now client (add o xs) (restOf gs rs))) (eachOf gs (restOffers t now client (add o xs) gs rs)) (turn-shown t now client gs rs (add o xs) (omega arith))
+turn-shown t now client name [] [] xs e = refl
+turn-shown t now client name [] (r ∷ rs) xs e = absurd (omega arith)
+turn-shown t now client name (g ∷ gs) [] xs e = absurd (omega arith)
+turn-shown t now client name (some x ∷ gs) (r ∷ rs) xs e = ap (λ (ys : List SuboptionValue). informationFor x ∷ ys) (turn-shown t now client name gs rs xs (omega arith))
+turn-shown t now client name (none ∷ gs) (r ∷ rs) xs e =
+    let o : Option Lease = offer t now client name xs r in
+    turn-one o (inTurn now gs (offers t now client name (add o xs) (restOf gs rs))) (eachOf gs (restOffers t now client name (add o xs) gs rs)) (turn-shown t now client name gs rs (add o xs) (omega arith))

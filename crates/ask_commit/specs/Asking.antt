@@ -6,8 +6,9 @@ use mathlib.Core.List.{List, map}
 use lib.ListN.{length}
 use Rattle.option.specs.Values.{mostRequests}
 use Rattle.option.specs.Contents.{requestsIn}
+use Rattle.names.specs.declared.Name.{Name}
 use Rattle.image_check.specs.declared.ImageSummary.{ImageSummary}
-use Rattle.ledger.specs.Ledger.{Call, firstOf, leastReply, grantRows, askRows}
+use Rattle.ledger.specs.Ledger.{Call, askName, firstOf, leastReply, grantRows, askRows}
 use Rattle.option_scan.specs.Scanned.{flagOf}
 use Rattle.call_spec.specs.ImageCalls.{Lent, stateIn}
 use Rattle.call_rows.specs.Admission.{Admitted}
@@ -25,8 +26,9 @@ pub record Ready (h : Lent) (now client : ℕ) (reply : List ℕ) (summary : Ima
   pub few : length askLengths ≤ mostRequests
   pub same : length askH ≡ length askLengths
 
--- Rows 9 and 10 are left, and the columns hold the requests.
-pub record Asking (h : Lent) (now : ℕ) (c : Call) (askLengths askH : List ℕ) : Type 0 where
+-- Rows 9 and 10 are left, the columns hold the requests, and the name is that of the ask.
+pub record Asking (h : Lent) (now : ℕ) (name : Name) (c : Call) (askLengths askH : List ℕ) : Type 0 where
   pub left-rows : firstOf (askRows (stateIn h) now c) ≡ firstOf (grantRows (stateIn h) now c)
+  pub named : name ≡ askName c
   pub lengths : askLengths ≡ map (λ r. r .length) (requestsIn (c .option))
   pub flags : askH ≡ map (λ r. flagOf (r .h)) (requestsIn (c .option))

@@ -22,6 +22,7 @@ ghost use Rattle.prefix.specs.Prefixes.{longest};
 ghost use Rattle.option.specs.Values.{mostRequests};
 ghost use Rattle.option.specs.Contents.{Request};
 ghost use Rattle.option.specs.Writing.{suboptionBytes, optionBytes};
+ghost use Rattle.names.specs.declared.Name.{Name};
 ghost use Rattle.table.specs.declared.Lease.{Lease};
 ghost use Rattle.table.specs.Table.{leaseSlots, present};
 ghost use Rattle.image.specs.Image.{leaseSize};
@@ -71,7 +72,7 @@ fn put_one(reply: &mut [u8], at: usize, image: &[u8], from: usize, place: u16, x
 }
 
 // An information for each request that gets something, in order, and the option's head before them. An entry shows neither the
-// client nor the end.
+// client nor the end nor the name.
 fn put_offers(
     reply: &mut [u8],
     image: &[u8],
@@ -83,14 +84,19 @@ fn put_offers(
 )
     requires { ⌜ (lengthOf (now flags) ≤ mostRequests) × (3 + 10 * lengthOf (now flags) ≤ lengthOf (now reply)) × (lengthOf (now places) ≡ lengthOf (now flags)) × (lengthOf (now flags) ≤ lengthOf (now networks))
         × (lengthOf (now flags) ≤ lengthOf (now lengths)) × All (InBuffer from (lengthOf (now image))) (now places) ⌝ }
-    ensures { λ _. ⌜ ((client expires : ℕ) (us : List Lease) → Records (now (image .entry)) from us → All (Within (lengthOf us)) (now (places .entry))
+    ensures { λ _. ⌜ ((client expires : ℕ) (name : Name) (us : List Lease) → Records (now (image .entry)) from us → All (Within (lengthOf us)) (now (places .entry))
         → now (reply .exit) ≡ put (now (reply .entry)) 0
-        (optionBytes (map informationFor (catMaybes (eachOf (givenIn us (now (places .entry))) (offersIn client expires (now (networks .entry)) (now (lengths .entry)) (now (flags .entry)))))))) ⌝ }
+        (optionBytes (map informationFor (catMaybes (eachOf (givenIn us (now (places .entry))) (offersIn client expires name (now (networks .entry)) (now (lengths .entry)) (now (flags .entry)))))))) ⌝ }
 {
+    let nobody = Asker {
+        client: 0,
+        time: 0,
+        name: names::no_name(),
+    };
     let mut at: usize = 3;
     let mut j: usize = 0;
     while j < flags.len() {
-        let x = ask_insert::granted_at(networks, lengths, flags, j, 0, 0);
+        let x = ask_insert::granted_at(networks, lengths, flags, j, nobody, 0);
         at = put_one(reply, at, image, from, places[j], x);
         j = j + 1;
     }
@@ -116,7 +122,7 @@ fn serve_rest(
     ensures { λ r. ⌜ (r ≤ lengthOf (now («ask_lengths» .entry))) × (r ≤ leaseSlots - (summary .leases - summary .expired)) × (r ≡ leasesIn (now (lengths .exit)) (lengthOf (now («ask_lengths» .entry)))) ⌝ }
     ensures { λ _. ⌜ ((o : OfAdmitted (now (image .entry)) (asker .time) (asker .client) summary) (us : List Lease) (rs : List Request)
         → now («ask_lengths» .entry) ≡ map (λ r. r .length) rs → All (λ r. r .length ≤ longest) rs
-        → Granted (tableIn (o .lent)) (asker .time) (asker .client) (present (asker .time) (tableIn (o .lent) .leases)) (givenIn us (now (places .entry))) rs (now (networks .exit)) (now (lengths .exit))) ⌝ }
+        → Granted (tableIn (o .lent)) (asker .time) (asker .client) (asker .name) (present (asker .time) (tableIn (o .lent) .leases)) (givenIn us (now (places .entry))) rs (now (networks .exit)) (now (lengths .exit))) ⌝ }
 {
     if again == ask_lengths.len() {
         return 0;
@@ -165,7 +171,7 @@ pub fn grant(
 ) -> Answer
     requires { ⌜ Ready (lent (now image) (now «image_bytes») (now figures)) (asker .time) (asker .client) (now reply) summary (now «ask_lengths») (now «ask_h») ⌝ }
     ensures { λ r. ⌜ ((option : List ℕ)
-        → Asking (lent (now (image .entry)) (now («image_bytes» .entry)) (now (figures .entry))) (asker .time) (call (asker .client) option (now (reply .entry))) (now («ask_lengths» .entry)) (now («ask_h» .entry))
+        → Asking (lent (now (image .entry)) (now («image_bytes» .entry)) (now (figures .entry))) (asker .time) (asker .name) (call (asker .client) option (now (reply .entry))) (now («ask_lengths» .entry)) (now («ask_h» .entry))
         → result r (lent (now (image .exit)) (now («image_bytes» .exit)) (now (figures .exit))) (now (reply .exit))
         ≡ askImage (lent (now (image .entry)) (now («image_bytes» .entry)) (now (figures .entry))) (asker .time) (call (asker .client) option (now (reply .entry)))) ⌝ }
 {
@@ -215,8 +221,7 @@ pub fn grant(
         image,
         figures,
         summary,
-        asker.client,
-        asker.time,
+        asker,
         &networks,
         &lengths,
         ask_h,

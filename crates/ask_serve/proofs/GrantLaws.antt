@@ -23,6 +23,7 @@ use Rattle.gap_list.specs.Gaps.{Gap, gapsOf, fitIn, without, LiesIn}
 use Rattle.gap_list.specs.Columns.{heldIn, Kept, fitOf, Fitted}
 use Rattle.gap_list.proofs.FitLaws.{fit-grants}
 use Rattle.gap_list.proofs.SplitLaws.{gaps-split}
+use Rattle.names.specs.declared.Name.{Name}
 use Rattle.table.specs.declared.Lease.{Lease}
 use Rattle.table.specs.declared.LeaseTable.{LeaseTable}
 use Rattle.table.specs.Table.{leaseSlots, networkOf, prefixOf, poolsOf}
@@ -52,24 +53,24 @@ module _ (place l j : ℕ) (c : Columns) (p : Progress) (hn : j < length (c .net
   cleared = columns (c .starts) (c .lasts) (c .networks) (set (c .lengths) j 0)
 
   -- The request gets nothing, and the gaps are as before.
-  left-out : (t : LeaseTable) (time client : ℕ) (ys : List Lease) (fs : List ℕ) (os : List (Option Lease)) (f : ℕ) → length fs ≡ j → OffersHeld t time client ys fs os c p
-      → OffersHeld t time client ys (fs ++ (f ∷ [])) (os ++ (none ∷ [])) cleared p
-  left-out t time client ys fs os f e k = record {
+  left-out : (t : LeaseTable) (time client : ℕ) (name : Name) (ys : List Lease) (fs : List ℕ) (os : List (Option Lease)) (f : ℕ) → length fs ≡ j → OffersHeld t time client name ys fs os c p
+      → OffersHeld t time client name ys (fs ++ (f ∷ [])) (os ++ (none ∷ [])) cleared p
+  left-out t time client name ys fs os f e k = record {
     gaps = k .gaps;
     left = k .left;
     held =
-        offers-in-snoc client (time + holdTime) (c .networks) (set (c .lengths) j 0) fs f j e hn (omega (arith, length-set (c .lengths) j 0))
-        ∙ ap₂ (λ (qs : List (Option Lease)) (m : ℕ). qs ++ (offerIn client (time + holdTime) (getD (c .networks) j 0) m f ∷ []))
-        (lengths-behind client (time + holdTime) (c .networks) (c .lengths) fs j 0 (omega arith) ∙ k .held) (getD-set-same (c .lengths) j 0 0 hl);
+        offers-in-snoc client (time + holdTime) name (c .networks) (set (c .lengths) j 0) fs f j e hn (omega (arith, length-set (c .lengths) j 0))
+        ∙ ap₂ (λ (qs : List (Option Lease)) (m : ℕ). qs ++ (offerIn client (time + holdTime) name (getD (c .networks) j 0) m f ∷ []))
+        (lengths-behind client (time + holdTime) name (c .networks) (c .lengths) fs j 0 (omega arith) ∙ k .held) (getD-set-same (c .lengths) j 0 0 hl);
   }
 
   nothing-granted : (place ≡ noPlace
-      → (t : LeaseTable) (time client : ℕ) (ys : List Lease) (fs : List ℕ) (os : List (Option Lease)) (r : Request) → Asked t ys r l → OffersHeld t time client ys fs os c p → offer t time client ys r ≡ none)
+      → (t : LeaseTable) (time client : ℕ) (name : Name) (ys : List Lease) (fs : List ℕ) (os : List (Option Lease)) (r : Request) → Asked t ys r l → OffersHeld t time client name ys fs os c p → offer t time client name ys r ≡ none)
       → Served place l j c p cleared p
   nothing-granted none-offered = record {
-    offered = λ e t time client ys fs os r s a k.
-        subst (λ (o : Option Lease). OffersHeld t time client (add o ys) (fs ++ (flagOf (r .h) ∷ [])) (os ++ (o ∷ [])) cleared p) (sym (none-offered e t time client ys fs os r a k))
-        (left-out t time client ys fs os (flagOf (r .h)) s k);
+    offered = λ e t time client name ys fs os r s a k.
+        subst (λ (o : Option Lease). OffersHeld t time client name (add o ys) (fs ++ (flagOf (r .h) ∷ [])) (os ++ (o ∷ [])) cleared p) (sym (none-offered e t time client name ys fs os r a k))
+        (left-out t time client name ys fs os (flagOf (r .h)) s k);
     passed = λ some-place. left-out;
     counted = λ long e. e ∙ sym (others-same 0 (c .lengths) j 0 hl refl);
     room = omega arith;
@@ -83,13 +84,13 @@ module _ (place l j : ℕ) (c : Columns) (p : Progress) (hn : j < length (c .net
 
   -- No slot is left.
   pub served-full : p .left ≡ 0 → Served place l j c p cleared p
-  served-full e = nothing-granted (λ z t time client ys fs os r a k. offer-full t time client ys r (omega (arith, k .left)))
+  served-full e = nothing-granted (λ z t time client name ys fs os r a k. offer-full t time client name ys r (omega (arith, k .left)))
 
   module _ (r : Choice) (fitted : Fitted (heldIn (c .starts) (c .lasts) (p .gaps)) l r) where
     -- The fit is what the ledger grants.
-    grant-is : (t : LeaseTable) (time client : ℕ) (ys : List Lease) (fs : List ℕ) (os : List (Option Lease)) (q : Request) → Asked t ys q l → OffersHeld t time client ys fs os c p
+    grant-is : (t : LeaseTable) (time client : ℕ) (name : Name) (ys : List Lease) (fs : List ℕ) (os : List (Option Lease)) (q : Request) → Asked t ys q l → OffersHeld t time client name ys fs os c p
         → grant (poolsOf t) (map prefixOf ys) (askLength t q) ≡ fitOf r l
-    grant-is t time client ys fs os q a k =
+    grant-is t time client name ys fs os q a k =
         ap (grant (poolsOf t) (map prefixOf ys)) (a .asked)
         ∙ sym (fit-grants (poolsOf t) (map prefixOf ys) (a .ordered) l (a .block))
         ∙ sym (fitted .best (omega (arith, a .block .1)) ∙ ap (λ (gs : List Gap). lowestPart l (fitIn l gs)) (k .gaps))
@@ -97,11 +98,11 @@ module _ (place l j : ℕ) (c : Columns) (p : Progress) (hn : j < length (c .net
     -- Nothing fits.
     pub served-none : not (r .found) ≡ true → Served place l j c p cleared p
     served-none e =
-        nothing-granted (λ z t time client ys fs os q a k.
-        by-cases (decLe leaseSlots (length ys)) (λ full. offer-full t time client ys q full)
+        nothing-granted (λ z t time client name ys fs os q a k.
+        by-cases (decLe leaseSlots (length ys)) (λ full. offer-full t time client name ys q full)
         (λ room.
-        offer-room t time client ys q (omega arith)
-        ∙ ap (offered time client (q .h)) (grant-is t time client ys fs os q a k ∙ cond-false (r .found) (some (prefix (r .network) l)) none (not-back (r .found) true e))))
+        offer-room t time client name ys q (omega arith)
+        ∙ ap (offered time client name (q .h)) (grant-is t time client name ys fs os q a k ∙ cond-false (r .found) (some (prefix (r .network) l)) none (not-back (r .found) true e))))
 
     -- A REQUEST THAT IS GRANTED
 
@@ -114,22 +115,22 @@ module _ (place l j : ℕ) (c : Columns) (p : Progress) (hn : j < length (c .net
       on = record { gaps = n; granted = p .granted + 1; left = p .left - 1 }
 
       -- The lease in its place.
-      stored : (client expires : ℕ) (fs : List ℕ) (f : ℕ) → length fs ≡ j → 1 ≤ l
-          → offersIn client expires (after .networks) (after .lengths) (fs ++ (f ∷ [])) ≡ offersIn client expires (c .networks) (c .lengths) fs ++ (some (grantedLease client expires (r .network) l f) ∷ [])
-      stored client expires fs f s long =
+      stored : (client expires : ℕ) (name : Name) (fs : List ℕ) (f : ℕ) → length fs ≡ j → 1 ≤ l
+          → offersIn client expires name (after .networks) (after .lengths) (fs ++ (f ∷ [])) ≡ offersIn client expires name (c .networks) (c .lengths) fs ++ (some (grantedLease client expires name (r .network) l f) ∷ [])
+      stored client expires name fs f s long =
           let ns : List ℕ = set (c .networks) j (r .network) in
-          let there : offerIn client expires (getD ns j 0) (getD (set (c .lengths) j l) j 0) f ≡ some (grantedLease client expires (r .network) l f) =
-          ap₂ (λ (m k : ℕ). offerIn client expires m k f) (getD-set-same (c .networks) j (r .network) 0 hn) (getD-set-same (c .lengths) j l 0 hl)
-          ∙ cond-false (eqb l 0) none (some (grantedLease client expires (r .network) l f)) (ne-eqb l 0 (λ z. omega arith)) in
-          ap (λ (ls : List ℕ). offersIn client expires ns ls (fs ++ (f ∷ []))) (set-set (c .lengths) j 0 l)
-          ∙ offers-in-snoc client expires ns (set (c .lengths) j l) fs f j s (omega (arith, length-set (c .networks) j (r .network))) (omega (arith, length-set (c .lengths) j l))
+          let there : offerIn client expires name (getD ns j 0) (getD (set (c .lengths) j l) j 0) f ≡ some (grantedLease client expires name (r .network) l f) =
+          ap₂ (λ (m k : ℕ). offerIn client expires name m k f) (getD-set-same (c .networks) j (r .network) 0 hn) (getD-set-same (c .lengths) j l 0 hl)
+          ∙ cond-false (eqb l 0) none (some (grantedLease client expires name (r .network) l f)) (ne-eqb l 0 (λ z. omega arith)) in
+          ap (λ (ls : List ℕ). offersIn client expires name ns ls (fs ++ (f ∷ []))) (set-set (c .lengths) j 0 l)
+          ∙ offers-in-snoc client expires name ns (set (c .lengths) j l) fs f j s (omega (arith, length-set (c .networks) j (r .network))) (omega (arith, length-set (c .lengths) j l))
           ∙ ap₂ (λ (os : List (Option Lease)) (o : Option Lease). os ++ (o ∷ []))
-          (networks-behind client expires (c .networks) (set (c .lengths) j l) fs j (r .network) (omega arith) ∙ lengths-behind client expires (c .networks) (c .lengths) fs j l (omega arith)) there
+          (networks-behind client expires name (c .networks) (set (c .lengths) j l) fs j (r .network) (omega arith) ∙ lengths-behind client expires name (c .networks) (c .lengths) fs j l (omega arith)) there
 
-      holds-more : (t : LeaseTable) (time client : ℕ) (ys : List Lease) (fs : List ℕ) (os : List (Option Lease)) (q : Request) → length fs ≡ j → Asked t ys q l → OffersHeld t time client ys fs os c p
-          → OffersHeld t time client (add (offered time client (q .h) (some (prefix (r .network) l))) ys) (fs ++ (flagOf (q .h) ∷ [])) (os ++ (offered time client (q .h) (some (prefix (r .network) l)) ∷ [])) after on
-      holds-more t time client ys fs os q s a k =
-          let x : Lease = record { network = r .network; length = l; client = client; leased = false; h = q .h; d = false; expires = time + holdTime } in
+      holds-more : (t : LeaseTable) (time client : ℕ) (name : Name) (ys : List Lease) (fs : List ℕ) (os : List (Option Lease)) (q : Request) → length fs ≡ j → Asked t ys q l → OffersHeld t time client name ys fs os c p
+          → OffersHeld t time client name (add (offered time client name (q .h) (some (prefix (r .network) l))) ys) (fs ++ (flagOf (q .h) ∷ [])) (os ++ (offered time client name (q .h) (some (prefix (r .network) l)) ∷ [])) after on
+      holds-more t time client name ys fs os q s a k =
+          let x : Lease = record { network = r .network; length = l; client = client; leased = false; h = q .h; d = false; expires = time + holdTime; name = name } in
           let lies : LiesIn (prefix (r .network) l) (r .index) (gapsOf (poolsOf t) (map prefixOf ys)) =
           subst (LiesIn (prefix (r .network) l) (r .index)) (k .gaps) (fitted .place (not-back (r .found) false e)) in
           record {
@@ -140,18 +141,18 @@ module _ (place l j : ℕ) (c : Columns) (p : Progress) (hn : j < length (c .net
                 ∙ ap (gapsOf (poolsOf t)) (sym (insertBy-image prefixOf networkOf (λ (y : Prefix). y .network) x ys refl (all-every (λ y. refl) ys)));
             left = omega (arith, k .left, insertBy-longer networkOf x ys);
             held =
-                stored client (time + holdTime) fs (flagOf (q .h)) s (a .block .0)
-                ∙ ap₂ (λ (qs : List (Option Lease)) (b : Bool). qs ++ (some (record { network = r .network; length = l; client = client; leased = false; h = b; d = false; expires = time + holdTime }) ∷ []))
+                stored client (time + holdTime) name fs (flagOf (q .h)) s (a .block .0)
+                ∙ ap₂ (λ (qs : List (Option Lease)) (b : Bool). qs ++ (some (record { network = r .network; length = l; client = client; leased = false; h = b; d = false; expires = time + holdTime; name = name }) ∷ []))
                 (k .held) (flag-back (q .h));
           }
 
       pub served-granted : Served place l j c p after on
       served-granted = record {
-        offered = λ z t time client ys fs os q s a k.
-            subst (λ (o : Option Lease). OffersHeld t time client (add o ys) (fs ++ (flagOf (q .h) ∷ [])) (os ++ (o ∷ [])) after on)
-            (sym (offer-room t time client ys q (omega (arith, k .left))
-            ∙ ap (offered time client (q .h)) (grant-is t time client ys fs os q a k ∙ cond-true (r .found) (some (prefix (r .network) l)) none (not-back (r .found) false e))))
-            (holds-more t time client ys fs os q s a k);
+        offered = λ z t time client name ys fs os q s a k.
+            subst (λ (o : Option Lease). OffersHeld t time client name (add o ys) (fs ++ (flagOf (q .h) ∷ [])) (os ++ (o ∷ [])) after on)
+            (sym (offer-room t time client name ys q (omega (arith, k .left))
+            ∙ ap (offered time client name (q .h)) (grant-is t time client name ys fs os q a k ∙ cond-true (r .found) (some (prefix (r .network) l)) none (not-back (r .found) false e))))
+            (holds-more t time client name ys fs os q s a k);
         passed = λ some-place. absurd (some-place no-place);
         counted = λ long e. omega (arith, e, ap (λ (ls : List ℕ). leasesIn ls (j + 1)) (set-set (c .lengths) j 0 l), others-more 0 (c .lengths) j l hl (λ z. omega arith));
         room = omega (arith, kept .few);

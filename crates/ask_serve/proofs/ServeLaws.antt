@@ -16,6 +16,7 @@ use Rattle.lists.specs.Lists.{All}
 use Rattle.lists.proofs.Tests.{bool-cases, cond-true, cond-false}
 use Rattle.lists.proofs.IndexLaws.{all-at}
 use Rattle.prefix.specs.Prefixes.{longest}
+use Rattle.names.specs.declared.Name.{Name}
 use Rattle.table.specs.declared.{Lease.Lease, LeaseTable.LeaseTable}
 use Rattle.table.specs.Table.{leaseSlots, noLease, poolsOf}
 use Rattle.table.proofs.TableLaws.{Fine, sound-fine, sound-fewer}
@@ -48,16 +49,16 @@ all-take zero l b = tt
 all-take (suc j) [] b = tt
 all-take (suc j) (x ∷ l) b = (b .0, all-take j l (b .1))
 
-module _ (t : LeaseTable) (time client : ℕ) (xs us : List Lease) (places : List ℕ) (rs : List Request) where
+module _ (t : LeaseTable) (time client : ℕ) (name : Name) (xs us : List Lease) (places : List ℕ) (rs : List Request) where
   -- What the first j requests get again and are offered, and the columns after them.
   abbrev given : ℕ → List (Option Lease)
   given j = givenIn us (take j places)
 
   abbrev offered : ℕ → List (Option Lease)
-  offered j = restOffers t time client xs (given j) (take j rs)
+  offered j = restOffers t time client name xs (given j) (take j rs)
 
   abbrev pub After : ℕ → Columns → Progress → Type 0
-  After j c p = OffersHeld t time client (addAll (offered j) xs) (flagsOf (take j rs)) (offered j) c p
+  After j c p = OffersHeld t time client name (addAll (offered j) xs) (flagsOf (take j rs)) (offered j) c p
 
   module _ (starts lasts : List ℕ) (start : Start) (ask-lengths : List ℕ) (ready : Serving t time client xs rs starts lasts start ask-lengths) (same : length places ≡ length ask-lengths) where
     pub serve-start : (networks lengths : List ℕ) → After 0 (columns starts lasts networks lengths) (record { gaps = start .gaps; granted = 0; left = start .slots })
@@ -72,8 +73,8 @@ module _ (t : LeaseTable) (time client : ℕ) (xs us : List Lease) (places : Lis
 
     fine-so-far : (j : ℕ) → j ≤ length rs → Fine (poolsOf t) time 0 (addAll (offered j) xs)
     fine-so-far j h =
-        subst (Fine (poolsOf t) time 0) (sym (rest-added t time client (given j) (take j rs) xs xs (given-many j h)))
-        (offer-laws.offers-inv t time client (offer-laws.pools-good t (ready .soundTable)) (ready .soundTable) (ready .named) (restOf (given j) (take j rs)) xs
+        subst (Fine (poolsOf t) time 0) (sym (rest-added t time client name (given j) (take j rs) xs xs (given-many j h)))
+        (offer-laws.offers-inv t time client name (offer-laws.pools-good t (ready .soundTable)) (ready .soundTable) (ready .named) (restOf (given j) (take j rs)) xs
         (rest-all (λ r. r .length ≤ longest) (given j) (take j rs) (all-take j rs (ready .long)))
         (record {
           fine = subst (Fine (poolsOf t) time 0) (sym (ready .presentLeases)) (sound-fine t (ready .soundTable) time);
@@ -116,15 +117,15 @@ module _ (t : LeaseTable) (time client : ℕ) (xs us : List Lease) (places : Lis
       more-given =
           ap given (add-one j) ∙ ap (givenIn us) (take-suc places j 0 (omega (arith, lt, requests-many))) ∙ map-append (leaseAt us) (take j places) (getD places j 0 ∷ [])
 
-      next : (o : Option Lease) → offered (j + 1) ≡ offered j ++ (o ∷ []) → OffersHeld t time client (add o (addAll (offered j) xs)) (flagsOf (take j rs) ++ (flagOf (r .h) ∷ [])) (offered j ++ (o ∷ [])) d q
+      next : (o : Option Lease) → offered (j + 1) ≡ offered j ++ (o ∷ []) → OffersHeld t time client name (add o (addAll (offered j) xs)) (flagsOf (take j rs) ++ (flagOf (r .h) ∷ [])) (offered j ++ (o ∷ [])) d q
           → After (j + 1) d q
       next o e k =
-          subst (λ (fs : List ℕ). OffersHeld t time client (addAll (offered (j + 1)) xs) fs (offered (j + 1)) d q) (sym more-flags)
-          (subst (λ (os : List (Option Lease)). OffersHeld t time client (addAll os xs) (flagsOf (take j rs) ++ (flagOf (r .h) ∷ [])) os d q) (sym e)
-          (subst (λ (ls : List Lease). OffersHeld t time client ls (flagsOf (take j rs) ++ (flagOf (r .h) ∷ [])) (offered j ++ (o ∷ [])) d q) (sym (offer-laws.addAll-snoc (offered j) o xs)) k))
+          subst (λ (fs : List ℕ). OffersHeld t time client name (addAll (offered (j + 1)) xs) fs (offered (j + 1)) d q) (sym more-flags)
+          (subst (λ (os : List (Option Lease)). OffersHeld t time client name (addAll os xs) (flagsOf (take j rs) ++ (flagOf (r .h) ∷ [])) os d q) (sym e)
+          (subst (λ (ls : List Lease). OffersHeld t time client name ls (flagsOf (take j rs) ++ (flagOf (r .h) ∷ [])) (offered j ++ (o ∷ [])) d q) (sym (offer-laws.addAll-snoc (offered j) o xs)) k))
 
-      more-offered : (g : Option Lease) → leaseAt us (getD places j 0) ≡ g → offered (j + 1) ≡ restOffers t time client xs (given j ++ (g ∷ [])) (take j rs ++ (r ∷ []))
-      more-offered g e = ap₂ (restOffers t time client xs) (more-given ∙ ap (λ (o : Option Lease). given j ++ (o ∷ [])) e) more-requests
+      more-offered : (g : Option Lease) → leaseAt us (getD places j 0) ≡ g → offered (j + 1) ≡ restOffers t time client name xs (given j ++ (g ∷ [])) (take j rs ++ (r ∷ []))
+      more-offered g e = ap₂ (restOffers t time client name xs) (more-given ∙ ap (λ (o : Option Lease). given j ++ (o ∷ [])) e) more-requests
 
       pub serve-turn : After (j + 1) d q
       serve-turn =
@@ -132,22 +133,22 @@ module _ (t : LeaseTable) (time client : ℕ) (xs us : List Lease) (places : Lis
           let many = given-many j (omega (arith, lt)) in
           ⊎-elim
           (λ (b : eqb place noPlace ≡ true).
-          next (offer t time client (addAll (offered j) xs) r)
-          (more-offered none (cond-true (eqb place noPlace) none (some (getD us place noLease)) b) ∙ rest-next t time client (given j) (take j rs) xs r many)
-          (served .offered (eqb-true place noPlace b) t time client (addAll (offered j) xs) (flagsOf (take j rs)) (offered j) r flags-many (asked j lt) holds))
+          next (offer t time client name (addAll (offered j) xs) r)
+          (more-offered none (cond-true (eqb place noPlace) none (some (getD us place noLease)) b) ∙ rest-next t time client name (given j) (take j rs) xs r many)
+          (served .offered (eqb-true place noPlace b) t time client name (addAll (offered j) xs) (flagsOf (take j rs)) (offered j) r flags-many (asked j lt) holds))
           (λ (b : eqb place noPlace ≡ false).
           next none
-          (more-offered (some (getD us place noLease)) (cond-false (eqb place noPlace) none (some (getD us place noLease)) b) ∙ rest-again t time client (given j) (take j rs) xs (getD us place noLease) r many)
-          (served .passed (eqb-false place noPlace b) t time client (addAll (offered j) xs) (flagsOf (take j rs)) (offered j) (flagOf (r .h)) flags-many holds))
+          (more-offered (some (getD us place noLease)) (cond-false (eqb place noPlace) none (some (getD us place noLease)) b) ∙ rest-again t time client name (given j) (take j rs) xs (getD us place noLease) r many)
+          (served .passed (eqb-false place noPlace b) t time client name (addAll (offered j) xs) (flagsOf (take j rs)) (offered j) (flagOf (r .h)) flags-many holds))
           (bool-cases (eqb place noPlace))
 
-    pub serve-end : (j : ℕ) (c : Columns) (p : Progress) → length ask-lengths ≤ j → After j c p → Granted t time client xs (givenIn us places) rs (c .networks) (c .lengths)
+    pub serve-end : (j : ℕ) (c : Columns) (p : Progress) → length ask-lengths ≤ j → After j c p → Granted t time client name xs (givenIn us places) rs (c .networks) (c .lengths)
     serve-end j c p past holds =
         let all : take j rs ≡ rs = take-all j rs (omega (arith, requests-many)) in
         let every : take j places ≡ places = take-all j places (omega arith) in
         record {
           held =
-              sym (ap (λ (qs : List Request). offersIn client (time + holdTime) (c .networks) (c .lengths) (flagsOf qs)) all)
+              sym (ap (λ (qs : List Request). offersIn client (time + holdTime) name (c .networks) (c .lengths) (flagsOf qs)) all)
               ∙ holds .held
-              ∙ ap₂ (λ (ps : List ℕ) (qs : List Request). restOffers t time client xs (givenIn us ps) qs) every all;
+              ∙ ap₂ (λ (ps : List ℕ) (qs : List Request). restOffers t time client name xs (givenIn us ps) qs) every all;
         }

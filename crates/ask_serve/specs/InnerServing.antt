@@ -7,6 +7,7 @@ use lib.ListN.{length}
 use Rattle.free_space.specs.Serving.{Length, Ordered}
 use Rattle.gap_list.specs.Gaps.{gapsOf}
 use Rattle.gap_list.specs.Columns.{heldIn}
+use Rattle.names.specs.declared.Name.{Name}
 use Rattle.table.specs.declared.{Lease.Lease, LeaseTable.LeaseTable}
 use Rattle.table.specs.Table.{leaseSlots, prefixOf, poolsOf}
 use Rattle.option.specs.Contents.{Request}
@@ -27,10 +28,10 @@ abbrev pub columns : List ℕ → List ℕ → List ℕ → List ℕ → Columns
 columns starts lasts networks lengths = record { starts = starts; lasts = lasts; networks = networks; lengths = lengths }
 
 -- The columns hold the gaps of a table's pools and of the leases ys, and what the first requests, those with the h fs, are offered.
-pub record OffersHeld (t : LeaseTable) (time client : ℕ) (ys : List Lease) (fs : List ℕ) (os : List (Option Lease)) (c : Columns) (p : Progress) : Type 0 where
+pub record OffersHeld (t : LeaseTable) (time client : ℕ) (name : Name) (ys : List Lease) (fs : List ℕ) (os : List (Option Lease)) (c : Columns) (p : Progress) : Type 0 where
   pub gaps : heldIn (c .starts) (c .lasts) (p .gaps) ≡ gapsOf (poolsOf t) (map prefixOf ys)
   pub left : p .left ≡ leaseSlots - length ys
-  pub held : offersIn client (time + holdTime) (c .networks) (c .lengths) fs ≡ os
+  pub held : offersIn client (time + holdTime) name (c .networks) (c .lengths) fs ≡ os
 
 -- A request on leases in order, and the length that it comes to.
 pub record Asked (t : LeaseTable) (ys : List Lease) (r : Request) (l : ℕ) : Type 0 where
@@ -40,10 +41,10 @@ pub record Asked (t : LeaseTable) (ys : List Lease) (r : Request) (l : ℕ) : Ty
 
 -- The request in place j of the columns served, which has this place among the leases that are given again: what it leaves, and that there is room for it.
 pub record Served (place l j : ℕ) (c : Columns) (p : Progress) (d : Columns) (q : Progress) : Type 0 where
-  pub offered : place ≡ noPlace → (t : LeaseTable) (time client : ℕ) (ys : List Lease) (fs : List ℕ) (os : List (Option Lease)) (r : Request) → length fs ≡ j → Asked t ys r l → OffersHeld t time client ys fs os c p
-      → OffersHeld t time client (add (offer t time client ys r) ys) (fs ++ (flagOf (r .h) ∷ [])) (os ++ (offer t time client ys r ∷ [])) d q
-  pub passed : (place ≡ noPlace → ⊥) → (t : LeaseTable) (time client : ℕ) (ys : List Lease) (fs : List ℕ) (os : List (Option Lease)) (f : ℕ) → length fs ≡ j → OffersHeld t time client ys fs os c p
-      → OffersHeld t time client ys (fs ++ (f ∷ [])) (os ++ (none ∷ [])) d q
+  pub offered : place ≡ noPlace → (t : LeaseTable) (time client : ℕ) (name : Name) (ys : List Lease) (fs : List ℕ) (os : List (Option Lease)) (r : Request) → length fs ≡ j → Asked t ys r l → OffersHeld t time client name ys fs os c p
+      → OffersHeld t time client name (add (offer t time client name ys r) ys) (fs ++ (flagOf (r .h) ∷ [])) (os ++ (offer t time client name ys r ∷ [])) d q
+  pub passed : (place ≡ noPlace → ⊥) → (t : LeaseTable) (time client : ℕ) (name : Name) (ys : List Lease) (fs : List ℕ) (os : List (Option Lease)) (f : ℕ) → length fs ≡ j → OffersHeld t time client name ys fs os c p
+      → OffersHeld t time client name ys (fs ++ (f ∷ [])) (os ++ (none ∷ [])) d q
   pub counted : 1 ≤ l → p .granted ≡ leasesIn (c .lengths) j → q .granted ≡ leasesIn (d .lengths) (j + 1)
   pub room : q .gaps + q .left ≤ p .gaps + p .left
   pub few : q .granted ≤ p .granted + 1

@@ -4,6 +4,7 @@ ghost use mathlib.Core.Path.{_≡_};
 ghost use mathlib.Core.List.{List};
 ghost use Prim.Native.Nat.{ℕ, _+_, _≤_, _<_};
 ghost use lib.ListN.{length as lengthOf};
+ghost use Rattle.names.specs.declared.Name.{Name};
 ghost use Rattle.table.specs.declared.Lease.{Lease};
 ghost use Rattle.table.specs.declared.LeaseTable.{LeaseTable};
 ghost use Rattle.option.specs.Contents.{Request};
@@ -79,9 +80,9 @@ pub fn serve(
     ensures { λ r. ⌜ r ≤ lengthOf (now («ask_lengths» .entry)) ⌝ }
     ensures { λ r. ⌜ r ≤ start .slots ⌝ }
     ensures { λ r. ⌜ r ≡ leasesIn (now (lengths .exit)) (lengthOf (now («ask_lengths» .entry))) ⌝ }
-    ensures { λ _. ⌜ ((t : LeaseTable) (time client : ℕ) (xs us : List Lease) (rs : List Request)
+    ensures { λ _. ⌜ ((t : LeaseTable) (time client : ℕ) (name : Name) (xs us : List Lease) (rs : List Request)
         → Serving t time client xs rs (now (starts .entry)) (now (lasts .entry)) start (now («ask_lengths» .entry))
-        → Granted t time client xs (givenIn us (now (places .entry))) rs (now (networks .exit)) (now (lengths .exit))) ⌝ }
+        → Granted t time client name xs (givenIn us (now (places .entry))) rs (now (networks .exit)) (now (lengths .exit))) ⌝ }
 {
     let default_length = start.default_length;
     let mut at = Progress {

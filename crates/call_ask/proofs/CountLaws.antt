@@ -14,6 +14,7 @@ use Rattle.lists.proofs.Tests.{and-to}
 use Rattle.lists.specs.Lists.{All, any?, catMaybes}
 use Rattle.lists.proofs.SortingLaws.{insertBy-longer}
 use Rattle.lists.proofs.FilterLaws.{filter-pass, filter-yes}
+use Rattle.names.specs.declared.Name.{Name}
 use Rattle.table.specs.declared.Lease.{Lease}
 use Rattle.table.specs.declared.Pool.{Pool}
 use Rattle.table.specs.declared.LeaseTable.{LeaseTable}
@@ -25,7 +26,7 @@ use Rattle.image_check.specs.declared.ImageSummary.{ImageSummary}
 use Rattle.counts.specs.Counts.{countsOf}
 use Rattle.option.specs.Contents.{Request, requestsIn}
 use Rattle.ledger.specs.declared.Answer.{Answer}
-use Rattle.ledger.specs.Ledger.{State, left, Call, Result, result, orElse, refuse, accept, refusalPlace, holdTime, offers, addAll, restOf, again, holdAgain, heldAgain, askHeld, askOffers, askGives, askLeases, informationFor, askRows, ask}
+use Rattle.ledger.specs.Ledger.{State, left, Call, Result, result, orElse, refuse, accept, refusalPlace, askName, holdTime, offers, addAll, restOf, again, holdAgain, heldAgain, askHeld, askOffers, askGives, askLeases, informationFor, askRows, ask}
 use Rattle.option.specs.Writing.{optionBytes}
 use Rattle.ledger.proofs.RowLaws.{accepted-none, numbered-ask}
 use Rattle.ledger.proofs.OfferLaws.{pools-good, offers-all, addAll-all}
@@ -65,9 +66,9 @@ any-request : (rs : List Request) → All (λ r. Unit {0}) rs
 any-request [] = tt
 any-request (r ∷ rs) = (tt, any-request rs)
 
-offers-late : (t : LeaseTable) (now client : ℕ) → sound t ≡ true → (xs : List Lease) (rs : List Request) → All (Late now) (catMaybes (offers t now client xs rs))
-offers-late t now client so xs rs =
-    offers-all t now client (pools-good t so) (λ r. Unit {0}) (Late now) (λ us r x q f. lt-ltb now (x .expires) (omega (arith, f .until))) rs xs (any-request rs)
+offers-late : (t : LeaseTable) (now client : ℕ) (name : Name) → sound t ≡ true → (xs : List Lease) (rs : List Request) → All (Late now) (catMaybes (offers t now client name xs rs))
+offers-late t now client name so xs rs =
+    offers-all t now client name (pools-good t so) (λ r. Unit {0}) (Late now) (λ us r x q f. lt-ltb now (x .expires) (omega (arith, f .until))) rs xs (any-request rs)
 
 -- What becomes of each lease that is present.
 abbrev heldOne : ℕ → List Lease → Lease → Lease
@@ -92,11 +93,11 @@ module _ (s : State) (now : ℕ) (c : Call) (z : ask s now c .answer .number ≡
   abbrev here : List Lease
   here = present now (s .table .leases)
 
-  ask-leaves : ask s now c .state .table ≡ store (s .table) now (askLeases (s .table) now (c .client) here (requestsIn (c .option)))
+  ask-leaves : ask s now c .state .table ≡ store (s .table) now (askLeases (s .table) now (c .client) (askName c) here (requestsIn (c .option)))
   unfolding ask left
   ask-leaves =
-      let granted : List Lease = catMaybes (askGives (s .table) now (c .client) here (requestsIn (c .option))) in
-      let accepted : Result State = accept (left s now (askLeases (s .table) now (c .client) here (requestsIn (c .option)))) (optionBytes (map informationFor granted)) (length granted) (c .reply) in
+      let granted : List Lease = catMaybes (askGives (s .table) now (c .client) (askName c) here (requestsIn (c .option))) in
+      let accepted : Result State = accept (left s now (askLeases (s .table) now (c .client) (askName c) here (requestsIn (c .option)))) (optionBytes (map informationFor granted)) (length granted) (c .reply) in
       ap (λ (o : Option ℕ). orElse o (λ number. refuse number (refusalPlace (c .option) number) s (c .reply)) accepted .state .table)
       (accepted-none (askRows s now c) (refusalPlace (c .option)) s (c .reply) accepted (numbered-ask s now c) z)
 
@@ -115,10 +116,10 @@ module _ (h : Lent) (now : ℕ) (c : Call) (summary : ImageSummary) (o : Admitte
   given = catMaybes (again t (c .client) xs rs)
 
   abbrev os : List (Option Lease)
-  os = askOffers t now (c .client) xs rs
+  os = askOffers t now (c .client) (askName c) xs rs
 
   abbrev zs : List Lease
-  zs = askLeases t now (c .client) xs rs
+  zs = askLeases t now (c .client) (askName c) xs rs
 
   zero : ask (stateIn h) now c .answer .number ≡ 0
   zero = sym (ap (λ (w : Answer). w .number) (ap (λ (w : Result Lent). w .answer) is ∙ follows-all .asks h now c .answer)) ∙ z
@@ -139,7 +140,7 @@ module _ (h : Lent) (now : ℕ) (c : Call) (summary : ImageSummary) (o : Admitte
   here-late = filter-pass (λ x. ltb now (x .expires)) (t .leases)
 
   all-here : present now zs ≡ zs
-  all-here = all-late now zs (addAll-all (Late now) os (askHeld t now (c .client) xs rs) (offers-late t now (c .client) (o .sound) (askHeld t now (c .client) xs rs) (restOf (again t (c .client) xs rs) rs)) (held-all now given xs here-late))
+  all-here = all-late now zs (addAll-all (Late now) os (askHeld t now (c .client) xs rs) (offers-late t now (c .client) (askName c) (o .sound) (askHeld t now (c .client) xs rs) (restOf (again t (c .client) xs rs) rs)) (held-all now given xs here-late))
 
   -- How many leases are left.
   used-are : usedLeases (tableIn g) ≡ zs

@@ -83,12 +83,18 @@ pub fn ask(
     if !for_ask(n, contents.listing) {
         return call_spec::refused(8, 0);
     }
+    // Row 17, whatever would be granted.
+    let name_bytes = contents.name_bytes;
+    if names::LONGEST < name_bytes {
+        return call_spec::refused(17, 0);
+    }
+    let name = names::name_in(option, contents.name, name_bytes);
     let summary = admission.summary;
     let answer = ask_commit::grant(
         image,
         image_bytes,
         figures,
-        Asker { client, time },
+        Asker { client, time, name },
         reply,
         summary,
         &ask_lengths[..n],

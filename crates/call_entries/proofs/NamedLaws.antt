@@ -14,7 +14,7 @@ use Rattle.lists.specs.Put.{put}
 use Rattle.lists.proofs.Tests.{and-to, and-of, not-true⇒false, and-list-to, and-list-of}
 use Rattle.table.specs.declared.Lease.{Lease}
 use Rattle.table.specs.Table.{noLease}
-use Rattle.image.specs.Image.{le16, le32, leaseSize, leaseRecord, stateByte}
+use Rattle.image.specs.Image.{le16, le32, leaseSize, leaseRecordIn, leaseRecord, stateByte}
 use Rattle.image.specs.Reading.{leaseIn}
 use Rattle.image.proofs.ImageLaws.{length-lease}
 use Rattle.image_records.specs.Records.{Records, Ascending}
@@ -87,7 +87,7 @@ module _ (now client network len : ℕ) (l : List ℕ) (from n r : ℕ)
 -- CHANGING IT
 
 written : (x : Lease) (q : List ℕ) (expires : ℕ) → put (set (leaseRecord x ++ q) 9 (stateByte true)) 15 (le32 expires) ≡ leaseRecord (leasedUntil expires x) ++ q
-unfolding leaseRecord le16 le32 put
+unfolding leaseRecordIn le16 le32 put
 written x q expires = refl
 
 leased-in-place : (l : List ℕ) (at : ℕ) (x : Lease) (q : List ℕ) (expires : ℕ) → at ≤ length l → drop at l ≡ leaseRecord x ++ q

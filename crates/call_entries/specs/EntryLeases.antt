@@ -29,7 +29,7 @@ pub record FoundAt (g : Lease → Bool) (xs : List Lease) (r : ℕ) : Type 0 whe
 
 -- Take renews a lease so, and release ends it, by a time that has passed.
 abbrev pub leasedUntil : ℕ → Lease → Lease
-leasedUntil expires x = record { network = x .network; length = x .length; client = x .client; leased = true; h = x .h; d = x .d; expires = expires }
+leasedUntil expires x = record { network = x .network; length = x .length; client = x .client; leased = true; h = x .h; d = x .d; expires = expires; name = x .name }
 
 -- What becomes of a lease by one entry, and by several.
 abbrev pub changedIf : (Lease → Bool) → ℕ → Lease → Lease

@@ -19,7 +19,7 @@ use Rattle.table.specs.declared.Lease.{Lease}
 use Rattle.table.specs.declared.LeaseTable.{LeaseTable}
 use Rattle.table.specs.Table.{poolSlots, noPool, sound, padded, paddedPools}
 use Rattle.table.proofs.TableLaws.{GoodPool, long-not-unused, sound-default}
-use Rattle.image.specs.Image.{headSize, poolSize, fullImage, headRecord, poolRecord, leaseRecord, usedPools, usedLeases, headOf, imageOf}
+use Rattle.image.specs.Image.{headSize, poolSize, fullImage, headRecord, poolRecord, leaseRecord, usedPools, usedLeases, headOf, imageAs, imageOf}
 use Rattle.image.proofs.ImageLaws.{used-pools, length-head, length-image, table-whole}
 use Rattle.image.proofs.WriteLaws.{then-put}
 use Rattle.table_open.specs.Open.{given, poolNetwork, sortPools, openOk, fresh}
@@ -41,7 +41,7 @@ use Rattle.call_spec.proofs.BookLaws.{refuses-book, accepts-book}
 
 module _ (t : LeaseTable) (ps : List Pool) (pools : usedPools t ≡ ps) (none : usedLeases t ≡ []) where
   image-is : imageOf t ≡ headRecord (headOf t) ++ concatMap poolRecord ps
-  unfolding imageOf
+  unfolding imageAs
   image-is =
       ap₂ (λ (qs : List Pool) (xs : List Lease). headRecord (headOf t) ++ (concatMap poolRecord qs ++ concatMap leaseRecord xs)) pools none
       ∙ ap (λ (s : List ℕ). headRecord (headOf t) ++ s) (append-nil (concatMap poolRecord ps))

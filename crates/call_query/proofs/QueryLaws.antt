@@ -15,7 +15,7 @@ use Rattle.table.specs.declared.Lease.{Lease}
 use Rattle.table.specs.declared.LeaseTable.{LeaseTable}
 use Rattle.table.specs.Table.{poolSlots, leaseSlots, noPool, noLease, sound}
 use Rattle.image.specs.Fields.{number32}
-use Rattle.image.specs.Image.{le16, le32, headSize, poolSize, leaseSize, headRecord, poolRecord, leaseRecord, usedPools, usedLeases, headOf, imageOf}
+use Rattle.image.specs.Image.{le16, le32, headSize, poolSize, leaseSize, headRecord, poolRecord, leaseRecord, usedPools, usedLeases, headOf, imageAs, imageOf}
 use Rattle.image.specs.Reading.{poolIn, leaseIn, loadImage}
 use Rattle.image.proofs.FieldLaws.{spell32}
 use Rattle.image.proofs.ImageLaws.{length-image, length-head, length-pool}
@@ -54,7 +54,7 @@ pool-place (p ∷ ps) q (suc k) h =
     ∙ pool-place ps q k (omega arith)
 
 image-pools : (t : LeaseTable) (l : List ℕ) (bytes : ℕ) → imageOf t ≡ take bytes l → (k : ℕ) → k < length (usedPools t) → poolIn (drop (headSize + poolSize * k) l) ≡ getD (usedPools t) k noPool
-unfolding imageOf
+unfolding imageAs
 image-pools t l bytes e k h =
     let head : List ℕ = headRecord (headOf t) in
     let pools : List ℕ = concatMap poolRecord (usedPools t) in

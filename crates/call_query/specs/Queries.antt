@@ -2,6 +2,7 @@
 -- of what stands in the image some may have ended since.
 -- Each goes by its rows. "A refusal returns its number (7 also its place), all counts 0": so every field but the number is 0 then.
 use Rattle.lists.specs.Basics.{ℕ, List, [], _∷_, _++_, length, getD, leb}
+use Rattle.names.specs.Names.{nameOctets, nameLength}
 use Rattle.table.specs.declared.{Pool.Pool, Lease.Lease, LeaseTable.LeaseTable}
 use Rattle.table.specs.Table.{noPool, noLease}
 use Rattle.image.specs.Image.{stateByte, bit, usedPools, usedLeases}
@@ -44,7 +45,7 @@ poolImage h index =
     let ps = usedPools (tableIn h) in
     orElse (firstOf (indexRows h (length ps) index)) (λ number. poolAnswer number noPool) (poolAnswer 0 (getD ps index noPool))
 
--- A LEASE, likewise; its state is the image's: "1 held or 2 leased".
+-- A LEASE, likewise; its state is the image's: "1 held or 2 leased", and its name has zeros after it.
 abbrev pub leaseAnswer : ℕ → ℕ → Lease → LeaseAnswer
 leaseAnswer number state x = record {
   number = number;
@@ -55,6 +56,8 @@ leaseAnswer number state x = record {
   h = bit (x .h);
   d = bit (x .d);
   expires = x .expires;
+  «name_bytes» = nameLength (x .name);
+  name = nameOctets (x .name);
 }
 
 abbrev pub leaseOf : Lease → LeaseAnswer

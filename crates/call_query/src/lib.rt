@@ -50,6 +50,8 @@ pub struct LeaseAnswer {
     pub h: u32,
     pub d: u32,
     pub expires: u32,
+    pub name_bytes: u32,
+    pub name: [u8; names::LONGEST],
 }
 
 // No query looks at which leases have expired, so the time of the summary is 0, here and below.
@@ -131,6 +133,8 @@ fn lease_answer(number: u32, state: u8, x: Lease) -> LeaseAnswer
         h: bit(x.h),
         d: bit(x.d),
         expires: x.expires,
+        name_bytes: names::length(x.name) as u32,
+        name: names::octets(x.name),
     }
 }
 

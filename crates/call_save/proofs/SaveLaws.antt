@@ -1,70 +1,159 @@
--- Laws of save as a call: its rows, and that what is copied is the image of the table.
+-- Laws of save as a call: its rows, whether a form has a place for the names, and what the check tells of an open book.
 -- Assumes nothing.
-use Prim.Native.Nat.{ℕ, _≤_, _<_}
-use mathlib.Core.Path.{_≡_, sym, ap, ap₂, subst, _∙_}
-use mathlib.Core.Bool.{true, false}
-use mathlib.Core.List.{List, _++_}
+use Prim.Native.Nat.{ℕ, _+_, _*_, _≤_, _<_}
+use mathlib.Core.Path.{_≡_, refl, sym, ap, ap₂, subst, _∙_}
+use mathlib.Core.Logic.{⊎-elim}
+use mathlib.Core.Bool.{Bool, true, false, not, cond, _&&_, _||_}
+use mathlib.Core.List.{List, [], _∷_, _++_}
+use mathlib.Core.Option.{Option, none, some}
 use native.Mathlib.Omega.{arith}
 use lib.ListN.{length, take, drop}
 use borrow.Author.Tests.{lt-ltb, le-ltb}
-use Rattle.table.specs.Table.{sound}
-use Rattle.image.specs.Image.{fullImage, imageOf}
-use Rattle.image.proofs.ImageLaws.{longest-image}
+use Rattle.lists.specs.Lists.{all?, any?, filter}
+use Rattle.lists.proofs.Tests.{bool-cases}
+use Rattle.lists.proofs.FilterLaws.{filter-yes, filter-no}
+use Rattle.names.specs.Names.{unnamed?}
+use Rattle.names.proofs.NameLaws.{unnamed-of}
+use Rattle.table.specs.declared.Lease.{Lease}
+use Rattle.table.specs.declared.LeaseTable.{LeaseTable}
+use Rattle.table.specs.Table.{poolSlots, leaseSlots, empty?, sound}
+use Rattle.table.proofs.TableLaws.{empty-to}
+use Rattle.image.specs.declared.Form.{Form}
+use Rattle.image.specs.declared.Form.the-variants.{First}
+use Rattle.image.specs.Image.{fullImage, headSize, poolSize, leaseSize, firstLeaseSize, usedPools, usedLeases, imageAs, imageOf, fitsForm}
+use Rattle.image.proofs.ImageLaws.{length-image-in, longest-image}
+use Rattle.image_check.specs.declared.ImageSummary.{ImageSummary}
+use Rattle.image_check.specs.ImageSummary.{summaryOf}
+use Rattle.image_records.specs.Records.{Records}
+use Rattle.image_records.proofs.SoundLaws.{used-few, image-records}
 use Rattle.ledger.specs.declared.Answer.{Answer}
 use Rattle.ledger.specs.Sizes.{Bytes}
-use Rattle.ledger.specs.Ledger.{Result, result, refusal, acceptance}
+use Rattle.ledger.specs.Ledger.{Result, result, refusal, acceptance, firstOf, orElse, refuse, accept}
 use Rattle.call_spec.specs.ImageCalls.{Lent, tableIn, saveFrom}
 use Rattle.call_spec.specs.Books.{Book, lentIn, saveBook}
-use Rattle.call_spec.proofs.TableLaws.{held-within, held-image, held-length}
-use Rattle.call_spec.proofs.BookLaws.{sound-lent}
+use Rattle.call_spec.proofs.TableLaws.{held-loads, held-within, held-image}
+use Rattle.call_spec.proofs.BookLaws.{same-buffers, sound-lent}
+use Rattle.call_rows.specs.InnerSummary.{SummaryIn}
+use Rattle.call_rows.proofs.AdmitLaws.{book-measured}
+use Rattle.call_save.specs.InnerSaving.{laterRows, savedTo}
 
-module _ (h : Lent) (buffer : List ℕ) where
-  save-unsound : sound (tableIn h) ≡ false → result (refusal 5 0) h buffer ≡ saveFrom h buffer
+-- NAMES: all leases have none exactly if no lease that is used has one.
+
+abbrev pub named? : Lease → Bool
+named? x = not (unnamed? (x .name))
+
+not-or : (a b : Bool) → (a && not b) ≡ not (not a || b)
+not-or true b = refl
+not-or false b = refl
+
+none-named : (xs : List Lease) → all? (λ x. unnamed? (x .name)) xs ≡ not (any? named? (filter (λ x. not (empty? x)) xs))
+none-named [] = refl
+none-named (x ∷ xs) =
+    let used : Lease → Bool = λ y. not (empty? y) in
+    let later : all? (λ y. unnamed? (y .name)) xs ≡ not (any? named? (filter used xs)) = none-named xs in
+    ⊎-elim
+    (λ (e : empty? x ≡ true).
+    let bare : unnamed? (x .name) ≡ true = ap (λ (y : Lease). unnamed? (y .name)) (empty-to x e) ∙ unnamed-of in
+    ap₂ (λ (a b : Bool). a && b) bare later
+    ∙ ap (λ (l : List Lease). not (any? named? l)) (sym (filter-no used x xs (ap not e))))
+    (λ (e : empty? x ≡ false).
+    ap (λ (b : Bool). unnamed? (x .name) && b) later
+    ∙ not-or (unnamed? (x .name)) (any? named? (filter used xs))
+    ∙ ap (λ (l : List Lease). not (any? named? l)) (sym (filter-yes used x xs (ap not e))))
+    (bool-cases (empty? x))
+
+pub fits-told : (t : LeaseTable) (b : Bool) → any? named? (usedLeases t) ≡ b → fitsForm First t ≡ not b
+fits-told t b e = none-named (t .leases) ∙ ap not e
+
+-- ROWS 18 AND 14, of one form
+
+module _ (form : Form) (t : LeaseTable) (buffer : List ℕ) where
+  pub names-lost : fitsForm form t ≡ false → (refusal 18 0, buffer) ≡ savedTo form t buffer
+  unfolding savedTo
+  names-lost e = rw e
+
+  pub no-room : fitsForm form t ≡ true → length buffer < length (imageAs form t) → (refusal 14 0, buffer) ≡ savedTo form t buffer
+  unfolding savedTo
+  no-room e small = rw (e, lt-ltb (length buffer) (length (imageAs form t)) small)
+
+  pub made : fitsForm form t ≡ true → length (imageAs form t) ≤ length buffer → (n : ℕ) → n ≡ length (imageAs form t)
+      → (l : List ℕ) → l ≡ imageAs form t ++ drop (length (imageAs form t)) buffer → (acceptance n 0, l) ≡ savedTo form t buffer
+  unfolding savedTo
+  made e fits n size l is =
+      ap₂ (λ (k : ℕ) (ys : List ℕ). (acceptance k 0, ys)) size is
+      ∙ rw (e, le-ltb (length buffer) (length (imageAs form t)) fits)
+
+-- The leases of an image that is the front of a buffer, and how long it is in the first form.
+pub first-records : (t : LeaseTable) (l : List ℕ) (bytes : ℕ) → imageOf t ≡ take bytes l → (pools : ℕ) → pools ≡ length (usedPools t) → Records l (headSize + poolSize * pools) (usedLeases t)
+first-records t l bytes image pools e = subst (λ (n : ℕ). Records l (headSize + poolSize * n) (usedLeases t)) (sym e) (image-records t l bytes image)
+
+pub first-size : (t : LeaseTable) (pools leases : ℕ) → pools ≡ length (usedPools t) → leases ≡ length (usedLeases t) → headSize + poolSize * pools + firstLeaseSize * leases ≡ length (imageAs First t)
+first-size t pools leases p l = omega (arith, length-image-in First t, p, l)
+
+-- A SAVE, where row 5 does not apply
+
+abbrev seen : Result Lent → Answer × List ℕ
+seen r = (r .answer, r .reply)
+
+module _ (h : Lent) (form : Form) (buffer : List ℕ) where
+  abbrev image : List ℕ
+  image = imageAs form (tableIn h)
+
+  abbrev served : Option ℕ → Result Lent
+  served o = orElse o (λ number. refuse number 0 h buffer) (accept h image 0 buffer)
+
+  by-rows : (o : Option ℕ) → seen (served o) ≡ orElse o (λ number. (refusal number 0, buffer)) (acceptance (length image) 0, image ++ drop (length image) buffer)
+  by-rows none = refl
+  by-rows (some n) = refl
+
+  later-only : sound (tableIn h) ≡ true → seen (saveFrom h form buffer) ≡ savedTo form (tableIn h) buffer
+  unfolding saveFrom savedTo
+  later-only s =
+      let later : Option ℕ = firstOf (laterRows form (tableIn h) buffer) in
+      ap (λ (b : Bool). seen (served (cond (not b) (some 5) later))) s ∙ by-rows later
+
+  save-unsound : sound (tableIn h) ≡ false → (refusal 5 0, buffer) ≡ seen (saveFrom h form buffer)
   unfolding saveFrom
   save-unsound e = rw e
 
-  module _ (b : Bytes (h .image)) (s : sound (tableIn h) ≡ true) where
-    save-small : length buffer < h .bytes → result (refusal 14 0) h buffer ≡ saveFrom h buffer
-    unfolding saveFrom
-    save-small small = rw (s, lt-ltb (length buffer) (length (imageOf (tableIn h))) (omega (arith, held-length h s b)))
-
-    save-made : h .bytes ≤ length buffer → result (acceptance (length (imageOf (tableIn h))) 0) h (imageOf (tableIn h) ++ drop (length (imageOf (tableIn h))) buffer) ≡ saveFrom h buffer
-    unfolding saveFrom
-    save-made fits = rw (s, le-ltb (length buffer) (length (imageOf (tableIn h))) (omega (arith, held-length h s b)))
-
-    save-accepted : h .bytes ≤ length buffer → (n : ℕ) → n ≡ length (take (h .bytes) (h .image)) → (l : List ℕ)
-        → l ≡ take (h .bytes) (h .image) ++ drop (length (take (h .bytes) (h .image))) buffer
-        → result (acceptance n 0) h l ≡ saveFrom h buffer
-    save-accepted fits n size l copied =
-        let xs : List ℕ = take (h .bytes) (h .image) in
-        let same : xs ≡ imageOf (tableIn h) = sym (held-image h s b) in
-        ap₂ (λ (k : ℕ) (ys : List ℕ). result (acceptance k 0) h ys) (size ∙ ap length same) (copied ∙ ap (λ (ys : List ℕ). ys ++ drop (length ys) buffer) same)
-        ∙ save-made fits
-
 -- ON AN OPEN BOOK, which a save leaves as it was.
 
-module _ (b : Book) (buffer : List ℕ) where
-  pub book-unsound : sound (tableIn (lentIn b)) ≡ false → result (refusal 5 0) b buffer ≡ saveBook b buffer
-  book-unsound e = ap (λ (w : Result Lent). result (w .answer) b (w .reply)) (save-unsound (lentIn b) buffer e)
+module _ (b : Book) (form : Form) (buffer : List ℕ) where
+  pub book-unsound : sound (tableIn (lentIn b)) ≡ false → result (refusal 5 0) b buffer ≡ saveBook b form buffer
+  book-unsound e = ap (λ (w : Answer × List ℕ). result (w .0) b (w .1)) (save-unsound (lentIn b) form buffer e)
 
-  module _ (bytes : Bytes (b .lent .image)) (s : sound (tableIn (lentIn b)) ≡ true) where
-    is-sound : sound (tableIn (b .lent)) ≡ true
-    is-sound = subst (λ (h : Lent). sound (tableIn h) ≡ true) (sound-lent b s) s
+  pub book-saved : sound (tableIn (lentIn b)) ≡ true → (a : Answer) (l : List ℕ) → (a, l) ≡ savedTo form (tableIn (lentIn b)) buffer → result a b l ≡ saveBook b form buffer
+  book-saved s a l e = ap (λ (w : Answer × List ℕ). result (w .0) b (w .1)) (e ∙ sym (later-only (lentIn b) form buffer s))
 
-    on-book : (a : Answer) (l : List ℕ) → result a (b .lent) l ≡ saveFrom (b .lent) buffer → result a b l ≡ saveBook b buffer
-    on-book a l is = ap (λ (w : Result Lent). result (w .answer) b (w .reply)) (subst (λ (h : Lent). result a h l ≡ saveFrom h buffer) (sym (sound-lent b s)) is)
+-- What the check tells of it.
+module _ (b : Book) (bytes : Bytes (b .lent .image)) (summary : ImageSummary) (i : SummaryIn (lentIn b) 0 summary) (yes : summary .sound ≡ true) where
+  abbrev t : LeaseTable
+  t = tableIn (lentIn b)
 
-    -- The image lies in its buffer.
-    pub book-within : b .lent .bytes ≤ length (b .lent .image)
-    book-within = held-within (b .lent) is-sound
+  pub is-sound : sound t ≡ true
+  is-sound = sym (i .sound) ∙ yes
 
-    pub book-few : b .lent .bytes ≤ fullImage
-    book-few = omega (arith, held-length (b .lent) is-sound bytes, longest-image (tableIn (b .lent)) is-sound)
+  given-bytes : Bytes (lentIn b .image)
+  given-bytes = subst Bytes (sym (same-buffers b .0)) bytes
 
-    pub book-small : length buffer < b .lent .bytes → result (refusal 14 0) b buffer ≡ saveBook b buffer
-    book-small small = on-book (refusal 14 0) buffer (save-small (b .lent) buffer bytes is-sound small)
+  summary-is : summary ≡ summaryOf 0 (some t)
+  summary-is = i .is ∙ ap (summaryOf 0) (held-loads (lentIn b) is-sound)
 
-    pub book-accepted : b .lent .bytes ≤ length buffer → (n : ℕ) → n ≡ length (take (b .lent .bytes) (b .lent .image)) → (l : List ℕ)
-        → l ≡ take (b .lent .bytes) (b .lent .image) ++ drop (length (take (b .lent .bytes) (b .lent .image))) buffer
-        → result (acceptance n 0) b l ≡ saveBook b buffer
-    book-accepted fits n size l copied = on-book (acceptance n 0) l (save-accepted (b .lent) buffer bytes is-sound fits n size l copied)
+  pub pools-are : summary .pools ≡ length (usedPools t)
+  pools-are = ap (λ (x : ImageSummary). x .pools) summary-is
+
+  pub leases-are : summary .leases ≡ length (usedLeases t)
+  leases-are = ap (λ (x : ImageSummary). x .leases) summary-is
+
+  -- The image lies in its buffer, and is no longer than a full one.
+  pub image-is : imageOf t ≡ take (b .lent .bytes) (b .lent .image)
+  image-is = held-image (lentIn b) is-sound given-bytes ∙ ap (λ (h : Lent). take (h .bytes) (h .image)) (sound-lent b is-sound)
+
+  pub within : b .lent .bytes ≤ length (b .lent .image)
+  within = subst (λ (h : Lent). h .bytes ≤ length (h .image)) (sound-lent b is-sound) (held-within (lentIn b) is-sound)
+
+  pub few : length (take (b .lent .bytes) (b .lent .image)) ≤ fullImage
+  few = omega (arith, ap length image-is, longest-image t is-sound)
+
+  pub measured : (summary .pools ≤ poolSlots) × (summary .leases ≤ leaseSlots) × (headSize + poolSize * summary .pools + leaseSize * summary .leases ≤ length (b .lent .image))
+  measured = let m = book-measured b 0 bytes summary i yes in (omega (arith, pools-are, used-few t is-sound .0), m .0, m .1)

@@ -17,7 +17,7 @@ use Rattle.table.specs.declared.Lease.{Lease}
 use Rattle.table.specs.declared.LeaseTable.{LeaseTable}
 use Rattle.table.specs.Table.{leaseSlots, noLease, empty?, sound, store}
 use Rattle.table.proofs.TableLaws.{empty-of}
-use Rattle.image.specs.Image.{le16, le32, headSize, poolSize, leaseSize, fullImage, headRecord, poolRecord, leaseRecord, usedPools, usedLeases, headOf, imageOf}
+use Rattle.image.specs.Image.{le16, le32, headSize, poolSize, leaseSize, fullImage, headRecordIn, headRecord, poolRecord, leaseRecord, usedPools, usedLeases, headOf, imageAs, imageOf}
 use Rattle.image.specs.Reading.{lastAt}
 use Rattle.image.proofs.ImageLaws.{length-head, length-pool, length-concatMap, length-image}
 use Rattle.image_records.proofs.PutForms.{put-inside}
@@ -42,19 +42,19 @@ module _ (t : LeaseTable) (now : ℕ) (zs : List Lease) (a : All (λ x. empty? x
 
   -- Its image, spelled out.
   spelled : imageOf (store t now zs) ≡ headRecord (headOf (store t now zs)) ++ (concatMap poolRecord (usedPools t) ++ concatMap leaseRecord zs)
-  unfolding imageOf store
+  unfolding imageAs store
   spelled = ap (λ (xs : List Lease). headRecord (headOf (store t now zs)) ++ (concatMap poolRecord (usedPools t) ++ concatMap leaseRecord xs)) stored-leases
 
 -- A head with another last time.
 head-last : (t : LeaseTable) (now : ℕ) (zs : List Lease) (rest : List ℕ) → put (headRecord (headOf t) ++ rest) lastAt (le32 now) ≡ headRecord (headOf (store t now zs)) ++ rest
-unfolding headRecord store le16 le32
+unfolding headRecordIn store le16 le32
 head-last t now zs rest =
-    put-inside lastAt (le32 now) (le16 (headSize - 2) ++ le16 1 ++ le32 (t .term) ++ (t .«default_length» ∷ [])) (le32 (t .last)) rest refl refl
+    put-inside lastAt (le32 now) (le16 (headSize - 2) ++ le16 5 ++ le32 (t .term) ++ (t .«default_length» ∷ [])) (le32 (t .last)) rest refl refl
 
 module _ (t : LeaseTable) (s : sound t ≡ true) (buffer : List ℕ) (bytes : ℕ) (held : imageOf t ≡ take bytes buffer) (within : bytes ≤ length buffer) (room : fullImage ≤ length buffer) where
   -- What stands before the leases.
   front : take (headSize + poolSize * length (usedPools t)) buffer ≡ headRecord (headOf t) ++ concatMap poolRecord (usedPools t)
-  unfolding imageOf
+  unfolding imageAs
   front =
       let h : List ℕ = headRecord (headOf t) in
       let ps : List ℕ = concatMap poolRecord (usedPools t) in
@@ -70,7 +70,7 @@ module _ (t : LeaseTable) (s : sound t ≡ true) (buffer : List ℕ) (bytes : �
   pub stored-in-place : (now : ℕ) (zs : List Lease) → length zs ≤ leaseSlots → All (λ x. empty? x ≡ false) zs
       → stored (store t now zs) bytes buffer
       ≡ put (put buffer (headSize + poolSize * length (usedPools t)) (concatMap leaseRecord zs ++ replicate (bytes - (headSize + poolSize * length (usedPools t) + leaseSize * length zs)) 0)) lastAt (le32 now)
-  unfolding stored imageOf
+  unfolding stored imageAs
   stored-in-place now zs few a =
       let u : LeaseTable = store t now zs in
       let from : ℕ = headSize + poolSize * length (usedPools t) in

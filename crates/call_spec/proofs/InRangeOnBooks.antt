@@ -12,10 +12,13 @@ use lib.ListN.{length, drop, replicate}
 use lib.Dec.{eqb}
 use borrow.Author.Tests.{eqb-true, eqb-false, not-false}
 use Rattle.lists.specs.Lists.{All, concatMap}
-use Rattle.lists.proofs.Tests.{bool-cases}
-use Rattle.lists.proofs.ListLaws.{all-map, all-append, all-left, all-right}
+use Rattle.lists.proofs.Tests.{bool-cases, all?-to}
+use Rattle.lists.proofs.ListLaws.{all-map, all-map₂, all-every, all-append, all-left, all-right}
 use Rattle.lists.proofs.DropLaws.{all-drop}
 use Rattle.lists.proofs.FilterLaws.{filter-all, all-replicate}
+use Rattle.names.specs.declared.Name.{Name}
+use Rattle.names.specs.Names.{unnamed?, nameOctets}
+use Rattle.names.proofs.NameLaws.{name-reads, unnamed-to, name-short, name-bytes, name-words}
 use Rattle.table.specs.declared.Pool.{Pool}
 use Rattle.table.specs.declared.Lease.{Lease}
 use Rattle.table.specs.declared.LeaseTable.{LeaseTable}
@@ -26,17 +29,19 @@ use Rattle.counts.specs.Counts.{countsOf}
 use Rattle.counts.proofs.SmallLaws.{counts-small}
 use Rattle.figures.specs.declared.FigureRow.{FigureRow}
 use Rattle.image.specs.declared.Head.{Head}
+use Rattle.image.specs.declared.Form.{Form}
+use Rattle.image.specs.declared.Form.the-variants.{First, Second}
 use Rattle.image.specs.Fields.{number16, number32}
-use Rattle.image.specs.Image.{le16, le32, headSize, poolSize, leaseSize, fullImage, stateByte, flagsByte, headRecord, poolRecord, leaseRecord, usedPools, usedLeases, headOf, imageOf, loadedTable}
-use Rattle.image.specs.Reading.{loadImage}
+use Rattle.image.specs.Image.{le16, le32, headSize, poolSize, leaseSize, fullImage, stateByte, flagsByte, nameRecord, headRecordIn, headRecord, poolRecord, leaseRecordIn, leaseRecord, usedPools, usedLeases, headOf, imageAs, imageOf, fitsForm, loadedTable}
+use Rattle.image.specs.Reading.{nameLengthAt, loadIn, formOf, loadSaved}
 use Rattle.image.proofs.FieldLaws.{bytes-of}
-use Rattle.image.proofs.ImageLaws.{table-whole, image-loaded, longest-image}
+use Rattle.image.proofs.ImageLaws.{nameFits, table-whole, image-loaded-in, longest-image}
 use Rattle.image_figures.specs.Sheets.{rowSize, figuresSize, rowBytes, rowIn, rowsIn, sheetRows}
 use Rattle.ledger.specs.Ledger.{State, filled, Result, Row, openRows, ask, take, release, mark}
 use Rattle.ledger.specs.Demand3.{none?}
 use Rattle.ledger.specs.Sizes.{Byte, Bytes}
 use Rattle.ledger.specs.declared.Answer.{Answer}
-use Rattle.ledger.specs.InRange.{Word, PoolInRange, LeaseInRange, TableInRange, RowInRange, StateInRange, ResultInRange, OpenInRange, InRange, StaysInRange}
+use Rattle.ledger.specs.InRange.{Word, PoolInRange, NameInRange, LeaseInRange, TableInRange, RowInRange, StateInRange, ResultInRange, OpenInRange, InRange, StaysInRange}
 use Rattle.ledger.proofs.RowLaws.{first-none}
 use Rattle.ledger.proofs.Counts.{upTo-all}
 use Rattle.ledger.proofs.Following.{Follows}
@@ -77,10 +82,10 @@ pieces : (ls : List (List ℕ)) → All Bytes ls → Bytes (concatMap (λ l. l) 
 pieces ls a = all-concatMap (λ l. l) Byte ls a
 
 head-bytes : (x : Head) → Word (x .term) → Byte (x .«default_length») → Word (x .last) → Bytes (headRecord x)
-unfolding headRecord le16 le32
+unfolding headRecordIn le16 le32
 head-bytes x term len last =
-    pieces (le16 (headSize - 2) ∷ le16 1 ∷ le32 (x .term) ∷ (x .«default_length» ∷ []) ∷ le32 (x .last) ∷ [])
-    (two-bytes (headSize - 2) (omega arith), (two-bytes 1 (omega arith), (four-bytes (x .term) term, ((len, tt), (four-bytes (x .last) last, tt)))))
+    pieces (le16 (headSize - 2) ∷ le16 5 ∷ le32 (x .term) ∷ (x .«default_length» ∷ []) ∷ le32 (x .last) ∷ [])
+    (two-bytes (headSize - 2) (omega arith), (two-bytes 5 (omega arith), (four-bytes (x .term) term, ((len, tt), (four-bytes (x .last) last, tt)))))
 
 pool-bytes : (p : Pool) → PoolInRange p → Bytes (poolRecord p)
 unfolding poolRecord le16 le32
@@ -89,32 +94,50 @@ pool-bytes p f =
     (two-bytes (poolSize - 2) (omega arith), (two-bytes 2 (omega arith), (four-bytes (p .network) (f .network), ((f .length, tt), tt))))
 
 lease-bytes : (x : Lease) → LeaseInRange x → Bytes (leaseRecord x)
-unfolding leaseRecord le16 le32
+unfolding leaseRecordIn le16 le32
 lease-bytes x f =
-    pieces (le16 (leaseSize - 2) ∷ le16 3 ∷ le32 (x .network) ∷ (x .length ∷ stateByte (x .leased) ∷ flagsByte (x .h) (x .d) ∷ []) ∷ le32 (x .client) ∷ le32 (x .expires) ∷ []) (
+    let fields : List (List ℕ) =
+    le16 (leaseSize - 2) ∷ le16 4 ∷ le32 (x .network) ∷ (x .length ∷ stateByte (x .leased) ∷ flagsByte (x .h) (x .d) ∷ []) ∷ le32 (x .client) ∷ le32 (x .expires) ∷ [] in
+    let n : NameInRange (x .name) = f .name in
+    all-append Byte (concatMap (λ l. l) fields) (nameRecord Second (x .name))
+    (pieces fields (
       two-bytes (leaseSize - 2) (omega arith),
       (
-        two-bytes 3 (omega arith),
+        two-bytes 4 (omega arith),
         (
           four-bytes (x .network) (f .network),
           ((f .length, (state-byte (x .leased), (flags-byte (x .h) (x .d), tt))), (four-bytes (x .client) (f .client), (four-bytes (x .expires) (f .expires), tt))),
         ),
       ),
-    )
+    ))
+    (omega (arith, name-short (x .name)), name-bytes (x .name) (n .first) (n .second) (n .third))
 
-bytes-head : (x : Head) → Bytes (headRecord x) → Word (x .term) × Byte (x .«default_length») × Word (x .last)
-unfolding headRecord le16 le32
-bytes-head x a = let b = bytes-of (headRecord x) a in (four-word (x .term) (b 7), b 8, four-word (x .last) (b 12))
+-- Of either form.
+bytes-head : (form : Form) (x : Head) → Bytes (headRecordIn form x) → Word (x .term) × Byte (x .«default_length») × Word (x .last)
+unfolding headRecordIn le16 le32
+bytes-head form x a = let b = bytes-of (headRecordIn form x) a in (four-word (x .term) (b 7), b 8, four-word (x .last) (b 12))
 
 bytes-pool : (p : Pool) → Bytes (poolRecord p) → PoolInRange p
 unfolding poolRecord le16 le32
 bytes-pool p a = let b = bytes-of (poolRecord p) a in record { network = four-word (p .network) (b 7); length = b 8 }
 
-bytes-lease : (x : Lease) → Bytes (leaseRecord x) → LeaseInRange x
-unfolding leaseRecord le16 le32
-bytes-lease x a =
-    let b = bytes-of (leaseRecord x) a in
-    record { network = four-word (x .network) (b 7); length = b 8; client = four-word (x .client) (b 14); expires = four-word (x .expires) (b 18) }
+bytes-name : (form : Form) (n : Name) → nameFits form n ≡ true → Bytes (nameRecord form n) → NameInRange n
+bytes-name First n e a = subst NameInRange (sym (unnamed-to n e)) (record { first = omega arith; second = omega arith; third = omega arith })
+bytes-name Second n e a =
+    let w = name-words (nameOctets n ++ []) (all-append Byte (nameOctets n) [] (a .1) tt) in
+    subst NameInRange (name-reads n []) (record { first = w .0; second = w .1; third = w .2 })
+
+bytes-lease : (form : Form) (x : Lease) → nameFits form (x .name) ≡ true → Bytes (leaseRecordIn form x) → LeaseInRange x
+unfolding leaseRecordIn le16 le32
+bytes-lease form x e a =
+    let b = bytes-of (leaseRecordIn form x) a in
+    record {
+      network = four-word (x .network) (b 7);
+      length = b 8;
+      client = four-word (x .client) (b 14);
+      expires = four-word (x .expires) (b 18);
+      name = bytes-name form (x .name) e (all-drop Byte nameLengthAt (leaseRecordIn form x) a);
+    }
 
 -- TABLES AND IMAGES
 
@@ -123,7 +146,7 @@ concatMap-all f P [] a = tt
 concatMap-all f P (x ∷ xs) a = (all-left P (f x) (concatMap f xs) a, concatMap-all f P xs (all-right P (f x) (concatMap f xs) a))
 
 pub image-bytes : (t : LeaseTable) → TableInRange t → Bytes (imageOf t)
-unfolding imageOf
+unfolding imageAs
 image-bytes t f =
     let ps : List Pool = usedPools t in
     let xs : List Lease = usedLeases t in
@@ -132,30 +155,38 @@ image-bytes t f =
     (all-concatMap poolRecord Byte ps (all-map pool-bytes ps (filter-all (λ p. not (unused? p)) PoolInRange (t .pools) (f .pools))))
     (all-concatMap leaseRecord Byte xs (all-map lease-bytes xs (filter-all (λ x. not (empty? x)) LeaseInRange (t .leases) (f .leases)))))
 
-pub bytes-image : (t : LeaseTable) → sound t ≡ true → Bytes (imageOf t) → TableInRange t
-unfolding imageOf
-bytes-image t s a =
+-- The names of the used leases fit where all do.
+used-fit : (form : Form) (t : LeaseTable) → fitsForm form t ≡ true → All (λ x. nameFits form (x .name) ≡ true) (usedLeases t)
+used-fit First t e = filter-all (λ x. not (empty? x)) (λ x. unnamed? (x .name) ≡ true) (t .leases) (all?-to (λ x. unnamed? (x .name)) (λ x f. f) (t .leases) e)
+used-fit Second t e = all-every (λ x. refl) (usedLeases t)
+
+pub bytes-image : (form : Form) (t : LeaseTable) → sound t ≡ true → fitsForm form t ≡ true → Bytes (imageAs form t) → TableInRange t
+unfolding imageAs
+bytes-image form t s fits a =
     let ps : List Pool = usedPools t in
     let xs : List Lease = usedLeases t in
-    let body : List ℕ = concatMap poolRecord ps ++ concatMap leaseRecord xs in
-    let head = bytes-head (headOf t) (all-left Byte (headRecord (headOf t)) body a) in
-    let b : Bytes body = all-right Byte (headRecord (headOf t)) body a in
+    let rec : Lease → List ℕ = leaseRecordIn form in
+    let body : List ℕ = concatMap poolRecord ps ++ concatMap rec xs in
+    let head = bytes-head form (headOf t) (all-left Byte (headRecordIn form (headOf t)) body a) in
+    let b : Bytes body = all-right Byte (headRecordIn form (headOf t)) body a in
     subst TableInRange (sym (table-whole t s))
     (record {
-      pools = pools-padded ps (poolSlots - length ps) (all-map bytes-pool ps (concatMap-all poolRecord Byte ps (all-left Byte (concatMap poolRecord ps) (concatMap leaseRecord xs) b)));
-      leases = leases-padded xs (leaseSlots - length xs) (all-map bytes-lease xs (concatMap-all leaseRecord Byte xs (all-right Byte (concatMap poolRecord ps) (concatMap leaseRecord xs) b)));
+      pools = pools-padded ps (poolSlots - length ps) (all-map bytes-pool ps (concatMap-all poolRecord Byte ps (all-left Byte (concatMap poolRecord ps) (concatMap rec xs) b)));
+      leases =
+          leases-padded xs (leaseSlots - length xs)
+          (all-map₂ (bytes-lease form) xs (used-fit form t fits) (concatMap-all rec Byte xs (all-right Byte (concatMap poolRecord ps) (concatMap rec xs) b)));
       term = head .0;
       default = head .1;
       last = head .2;
     })
 
 -- What loads from bytes is in range, and so is what stands for bytes that do not load.
-loaded-in-range : (s : List ℕ) → Bytes s → TableInRange (loadedTable (loadImage s))
-loaded-in-range s b = go (loadImage s) refl
+loaded-in-range : (form : Form) (s : List ℕ) → Bytes s → TableInRange (loadedTable (loadIn form s))
+loaded-in-range form s b = go (loadIn form s) refl
   where
-    go : (o : Option LeaseTable) → loadImage s ≡ o → TableInRange (loadedTable o)
+    go : (o : Option LeaseTable) → loadIn form s ≡ o → TableInRange (loadedTable o)
     go none e = blank-in-range
-    go (some t) e = let k = image-loaded s t b e in bytes-image t (k .0) (subst Bytes (sym (k .1)) b)
+    go (some t) e = let k = image-loaded-in form s t b e in bytes-image form t (k .0) (k .1 .0) (subst Bytes (sym (k .1 .1)) b)
 
 -- ROWS AND SHEETS
 
@@ -197,7 +228,7 @@ bytes-sheet s a = go (eqb (length s) figuresSize)
 held-in-range : (h : Lent) → LentInRange h → StateInRange (stateIn h)
 unfolding tableIn
 held-in-range h f = record {
-  table = loaded-in-range (imageIn h) (upTo-all Byte (cond (holds? h) (h .bytes) 0) (h .image) (f .image));
+  table = loaded-in-range Second (imageIn h) (upTo-all Byte (cond (holds? h) (h .bytes) 0) (h .image) (f .image));
   rows = bytes-sheet (h .figures) (f .figures);
 }
 
@@ -299,12 +330,12 @@ opens-lent h networks lengths term defaultLength start f o =
 loads-lent : (h : Lent) (saved : List ℕ) → LentInRange h → Bytes saved → ResultInRange LentInRange (loadInto h saved)
 unfolding loadInto
 loads-lent h saved f b =
-    let rows : List Row = (5, none? (loadImage saved)) ∷ roomRows h in
-    let t : LeaseTable = loadedTable (loadImage saved) in
+    let rows : List Row = (5, none? (loadSaved saved)) ∷ roomRows h in
+    let t : LeaseTable = loadedTable (loadSaved saved) in
     rows-in-range LentInRange rows (λ n. 0) h [] _ refl (λ n. omega arith) f tt
     (λ e.
-    let s : sound t ≡ true = image-loaded saved t b (is-some (loadImage saved) (first-none rows e .0)) .0 in
-    accepted-in-range LentInRange (storedIn (filled t) fullImage h) [] 0 [] (stored-in-range (filled t) fullImage h s (filled-in-range t (loaded-in-range saved b)) f) tt (omega arith) (omega arith) tt)
+    let s : sound t ≡ true = image-loaded-in (formOf saved) saved t b (is-some (loadSaved saved) (first-none rows e .0)) .0 in
+    accepted-in-range LentInRange (storedIn (filled t) fullImage h) [] 0 [] (stored-in-range (filled t) fullImage h s (filled-in-range t (loaded-in-range (formOf saved) saved b)) f) tt (omega arith) (omega arith) tt)
 
 pub opens-in-range-on-books : OpensInRange
 opens-in-range-on-books b networks lengths term defaultLength start f o =

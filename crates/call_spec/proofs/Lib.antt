@@ -10,3 +10,4 @@ pub mod OnBooks
 pub mod RepliesOnBooks
 pub mod InRangeOnBooks
 pub mod CountsHold
+pub mod SavedFormsHold

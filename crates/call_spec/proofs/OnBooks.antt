@@ -14,7 +14,7 @@ use Rattle.table.specs.declared.LeaseTable.{LeaseTable}
 use Rattle.table.specs.Table.{sound}
 use Rattle.table_open.specs.Open.{given, fresh}
 use Rattle.image.specs.Image.{loadedTable}
-use Rattle.image.specs.Reading.{loadImage}
+use Rattle.image.specs.Reading.{loadSaved}
 use Rattle.ledger.specs.Sizes.{Bytes}
 use Rattle.ledger.specs.declared.Answer.{Answer}
 use Rattle.ledger.specs.Ledger.{State, filled, Call, Result, ledger, openTable}
@@ -107,7 +107,7 @@ module _ (b : Book) (saved : List ℕ) (bytes : Bytes saved) (z : loadBook b sav
   unfolding kept
   held-loaded = made-holds b (loadInto (b .lent) saved) z
 
-  pub loaded-book-holds : stateInBook (loadBook b saved .state) ≡ filled (loadedTable (loadImage saved))
+  pub loaded-book-holds : stateInBook (loadBook b saved .state) ≡ filled (loadedTable (loadSaved saved))
   unfolding kept
   loaded-book-holds = held-loaded ∙ loaded-holds (b .lent) saved bytes z
 

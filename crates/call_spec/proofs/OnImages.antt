@@ -16,8 +16,8 @@ use Rattle.table.specs.Table.{sound}
 use Rattle.table_open.specs.Open.{given, openOk, fresh}
 use Rattle.table_open.proofs.OpenLaws.{open-sound}
 use Rattle.image.specs.Image.{fullImage, loadedTable}
-use Rattle.image.specs.Reading.{loadImage}
-use Rattle.image.proofs.ImageLaws.{image-loaded}
+use Rattle.image.specs.Reading.{formOf, loadSaved}
+use Rattle.image.proofs.ImageLaws.{image-loaded-in}
 use Rattle.figures.proofs.RowsMatch.{filled-matches}
 use Rattle.image_figures.specs.Sheets.{figuresSize}
 use Rattle.ledger.specs.Sizes.{Bytes}
@@ -127,10 +127,10 @@ is-some (some t) e = refl
 
 module _ (h : Lent) (saved : List ℕ) (b : Bytes saved) (z : loadInto h saved .answer .number ≡ 0) where
   abbrev read : LeaseTable
-  read = loadedTable (loadImage saved)
+  read = loadedTable (loadSaved saved)
 
   load-rows : List Row
-  load-rows = (5, none? (loadImage saved)) ∷ roomRows h
+  load-rows = (5, none? (loadSaved saved)) ∷ roomRows h
 
   none-of-load : firstOf load-rows ≡ none
   unfolding loadInto load-rows
@@ -138,7 +138,7 @@ module _ (h : Lent) (saved : List ℕ) (b : Bytes saved) (z : loadInto h saved .
 
   read-sound : sound read ≡ true
   unfolding load-rows
-  read-sound = image-loaded saved read b (is-some (loadImage saved) (first-none load-rows none-of-load .0)) .0
+  read-sound = image-loaded-in (formOf saved) saved read b (is-some (loadSaved saved) (first-none load-rows none-of-load .0)) .0
 
   pub loaded-holds : stateIn (loadInto h saved .state) ≡ filled read
   unfolding loadInto load-rows

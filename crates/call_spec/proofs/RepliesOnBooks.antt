@@ -1,19 +1,19 @@
 -- WHAT EACH CALL ON IMAGES ANSWERS, by the law that whatever follows the ledger keeps its theorems: what take and list write reads back, a refusal leaves every
--- byte, a struck lease leaves nothing behind, usage figures are kept, and resuming a list skips and repeats nothing.
+-- byte, a struck lease leaves nothing behind, usage figures and names are kept, and resuming a list skips and repeats nothing.
 -- Assumes nothing.
 use Prim.Native.Nat.{ℕ}
 use mathlib.Core.Path.{_≡_, refl, sym, ap, subst, _∙_}
-use mathlib.Core.Bool.{Bool, true, false, not, cond}
+use mathlib.Core.Bool.{Bool, true, false, cond}
 use mathlib.Core.List.{List, [], _∷_, _++_}
 use mathlib.Core.Option.{Option, none, some}
 use lib.ListN.{length}
 use lib.ListN.{take as upTo}
-use lib.Dec.{ltb}
 use Rattle.table.specs.declared.LeaseTable.{LeaseTable}
 use Rattle.table.specs.Table.{sound}
 use Rattle.table_open.specs.Open.{given, fresh}
-use Rattle.image.specs.Image.{imageOf, loadedTable}
-use Rattle.image.specs.Reading.{loadImage}
+use Rattle.image.specs.declared.Form.{Form}
+use Rattle.image.specs.Image.{imageAs, imageOf, loadedTable}
+use Rattle.image.specs.Reading.{loadSaved}
 use Rattle.image_figures.specs.Sheets.{sheetOf, sheetRows}
 use Rattle.ledger.specs.Ledger.{Call, Result, result, refuse, accept, firstOf, orElse, openRows}
 use Rattle.ledger.specs.Demand3.{none?}
@@ -22,12 +22,13 @@ use Rattle.ledger.specs.ReadBack.{TakesReadBack, ListsReadBack}
 use Rattle.ledger.specs.Refusals.{Unchanged, UnchangedIfRefused, RefusalsLeave}
 use Rattle.ledger.specs.NothingBehind.{EndedForgotten, Clears}
 use Rattle.ledger.specs.FiguresKept.{Matched, FiguresKept, AlwaysMatched, AllUntold}
+use Rattle.ledger.specs.NamesKept.{NamesKept}
 use Rattle.ledger.specs.Resuming.{Resumes}
 use Rattle.ledger.proofs.SoundKept.{refused-by}
 use Rattle.ledger.proofs.ListDependsHolds.{list-without-rows}
 use Rattle.ledger.proofs.FiguresHold.{filled-untold}
-use Rattle.ledger.proofs.FollowingReplies.{takes-read-back-followed, lists-read-back-followed, refusals-leave-followed, ended-forgotten-followed, clears-followed, figures-kept-followed, always-matched-followed, resumes-followed}
-use Rattle.call_spec.specs.ImageCalls.{Lent, lent, tableIn, stateIn, listImage, openImage, loadInto, roomRows, saveFrom}
+use Rattle.ledger.proofs.FollowingReplies.{takes-read-back-followed, lists-read-back-followed, refusals-leave-followed, ended-forgotten-followed, clears-followed, figures-kept-followed, names-kept-followed, always-matched-followed, resumes-followed}
+use Rattle.call_spec.specs.ImageCalls.{Lent, lent, tableIn, stateIn, listImage, openImage, loadInto, roomRows, saveRows, saveFrom}
 use Rattle.call_spec.specs.Books.{Book, bookOf, counted?, lentIn, kept, bookCalls}
 use Rattle.call_spec.specs.OnBooks.{Begins, opened, loaded, StartsUntold, RefusalsLeaveBook, WithoutSheet}
 use Rattle.call_spec.proofs.TableLaws.{held-image, held-length, held-sheet}
@@ -59,10 +60,10 @@ refusals-leave-book = record {
   opens =
       λ b networks lengths term defaultLength start. book-unchanged b (openImage (b .lent) networks lengths term defaultLength start)
       (refused-by (openRows networks lengths term defaultLength start ++ roomRows (b .lent)) (λ n. 0) (b .lent) [] _ refl);
-  loads = λ b saved. book-unchanged b (loadInto (b .lent) saved) (refused-by ((5, none? (loadImage saved)) ∷ roomRows (b .lent)) (λ n. 0) (b .lent) [] _ refl);
+  loads = λ b saved. book-unchanged b (loadInto (b .lent) saved) (refused-by ((5, none? (loadSaved saved)) ∷ roomRows (b .lent)) (λ n. 0) (b .lent) [] _ refl);
   saves =
-      λ b buffer k. let h : Lent = lentIn b in
-      let w = refused-by ((5, not (sound (tableIn h))) ∷ (14, ltb (length buffer) (length (imageOf (tableIn h)))) ∷ []) (λ n. 0) h buffer (accept h (imageOf (tableIn h)) 0 buffer) refl k in
+      λ b form buffer k. let h : Lent = lentIn b in
+      let w = refused-by (saveRows (tableIn h) form buffer) (λ n. 0) h buffer (accept h (imageAs form (tableIn h)) 0 buffer) refl k in
       record { stays = refl; reply-stays = w .reply-stays; bytes = w .bytes; count = w .count };
 }
 
@@ -83,11 +84,11 @@ module _ (image : List ℕ) (bytes : ℕ) (figures : List ℕ) where
   unfolding tableIn
   lists-alike now c = list-without-rows (tableIn (lent image bytes [])) (sheetRows figures) (sheetRows []) now c
 
-  saves-alike : (buffer : List ℕ) → Alike (saveFrom (lent image bytes figures) buffer) (saveFrom (lent image bytes []) buffer)
+  saves-alike : (form : Form) (buffer : List ℕ) → Alike (saveFrom (lent image bytes figures) form buffer) (saveFrom (lent image bytes []) form buffer)
   unfolding tableIn saveFrom
-  saves-alike buffer =
+  saves-alike form buffer =
       let t : LeaseTable = tableIn (lent image bytes []) in
-      served-alike (lent image bytes figures) (lent image bytes []) (imageOf t) buffer (firstOf ((5, not (sound t)) ∷ (14, ltb (length buffer) (length (imageOf t))) ∷ []))
+      served-alike (lent image bytes figures) (lent image bytes []) (imageAs form t) buffer (firstOf (saveRows t form buffer))
 
 -- Whether or not the counts are right, which no sheet decides.
 module _ (image : List ℕ) (bytes : ℕ) (figures : List ℕ) (counts : List (List ℕ)) (f : Lent → Result Lent) (alike : (n : ℕ) → Alike (f (lent image n figures)) (f (lent image n []))) where
@@ -106,7 +107,7 @@ module _ (image : List ℕ) (bytes : ℕ) (figures : List ℕ) (counts : List (L
 pub without-sheet : WithoutSheet
 without-sheet = record {
   lists = λ image bytes figures counts now c. without image bytes figures counts (λ h. listImage h now c) (λ n. lists-alike image n figures now c);
-  saves = λ image bytes figures counts buffer. without image bytes figures counts (λ h. saveFrom h buffer) (λ n. saves-alike image n figures buffer);
+  saves = λ image bytes figures counts form buffer. without image bytes figures counts (λ h. saveFrom h form buffer) (λ n. saves-alike image n figures form buffer);
 }
 
 -- A STRUCK LEASE LEAVES NOTHING BEHIND: two images that differ only in ended leases get the same answers and replies, and accepted calls leave the same table.
@@ -133,9 +134,13 @@ clears-on-books = clears-followed bookCalls books-follow
 pub figures-kept-on-books : FiguresKept bookCalls
 figures-kept-on-books = figures-kept-followed bookCalls books-follow
 
+-- NAMES: the leases that an ask newly makes get the name of its message, and every other keeps its own.
+pub names-kept-on-books : NamesKept bookCalls
+names-kept-on-books = names-kept-followed bookCalls books-follow
+
 pub starts-untold : StartsUntold
 starts-untold b (opened g networks lengths term defaultLength start z) = subst AllUntold (sym (opened-book-holds g networks lengths term defaultLength start z)) (filled-untold (fresh (given networks lengths) term defaultLength start))
-starts-untold b (loaded g saved bytes z) = subst AllUntold (sym (loaded-book-holds g saved bytes z)) (filled-untold (loadedTable (loadImage saved)))
+starts-untold b (loaded g saved bytes z) = subst AllUntold (sym (loaded-book-holds g saved bytes z)) (filled-untold (loadedTable (loadSaved saved)))
 
 -- From an open or a load on, no call is refused with 15.
 pub always-matched-on-books : AlwaysMatched bookCalls Begins

@@ -18,7 +18,7 @@ use Rattle.table.specs.Table.{headOk, sound, blank}
 use Rattle.table.proofs.TableLaws.{sound-slots}
 use Rattle.figures.proofs.RowsMatch.{matches-length}
 use Rattle.image.specs.Image.{fullImage, imageOf, loadedTable}
-use Rattle.image.specs.Reading.{headAt, loadImage}
+use Rattle.image.specs.Reading.{headAtIn, loadIn, loadImage}
 use Rattle.image.proofs.FieldLaws.{bytes-of}
 pub use Rattle.image.proofs.FieldLaws.{bytes-all}
 use Rattle.image.proofs.ImageLaws.{image-loaded}
@@ -46,7 +46,7 @@ unfolding sound headOk
 blank-unsound = refl
 
 pub nothing-loads : loadImage [] ≡ none
-unfolding loadImage headAt
+unfolding loadIn headAtIn
 nothing-loads = refl
 
 is-loaded : (o : Option LeaseTable) → sound (loadedTable o) ≡ true → o ≡ some (loadedTable o)

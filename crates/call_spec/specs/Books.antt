@@ -1,6 +1,7 @@
 -- THE OPEN BOOK (document 02, M-102): what a server holds from call to call. Beside what is lent for the table it has "a count of whole free blocks for each
 -- root and each length 8 to 30, eight rows of twenty-three, in the open book". Each call is the one on what is lent (`ImageCalls`), and counts again.
 use Rattle.lists.specs.Basics.{ℕ, Bool, cond, List, [], eqb}
+use Rattle.image.specs.declared.Form.{Form}
 use Rattle.counts.specs.Counts.{countsOf, sameCounts?, sumAt}
 use Rattle.ledger.specs.declared.Answer.{Answer}
 use Rattle.ledger.specs.Ledger.{State, Call, Result, result, firstOf, orElse, refusal, acceptance, tableRows, Calls}
@@ -54,8 +55,8 @@ markBook b now network len d = kept (markImage (lentIn b) now network len d) b
 abbrev pub listBook : Book → ℕ → Call → Result Book
 listBook b now c = let r = listImage (lentIn b) now c in result (r .answer) b (r .reply)
 
-abbrev pub saveBook : Book → List ℕ → Result Book
-saveBook b buffer = let r = saveFrom (lentIn b) buffer in result (r .answer) b (r .reply)
+abbrev pub saveBook : Book → Form → List ℕ → Result Book
+saveBook b form buffer = let r = saveFrom (lentIn b) form buffer in result (r .answer) b (r .reply)
 
 abbrev pub bookCalls : Calls Book
 bookCalls = record { stateOf = stateInBook; asks = askBook; takes = takeBook; lists = listBook; releases = releaseBook; marks = markBook }

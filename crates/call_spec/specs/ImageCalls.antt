@@ -5,8 +5,9 @@ use Rattle.lists.specs.Basics.{ℕ, _-_, Bool, not, cond, _&&_, _||_, List, [],
 use Rattle.table.specs.declared.LeaseTable.{LeaseTable}
 use Rattle.table.specs.Table.{sound}
 use Rattle.table_open.specs.Open.{given, fresh}
-use Rattle.image.specs.Image.{fullImage, imageOf, loadedTable}
-use Rattle.image.specs.Reading.{loadImage}
+use Rattle.image.specs.declared.Form.{Form}
+use Rattle.image.specs.Image.{fullImage, imageAs, imageOf, fitsForm, loadedTable}
+use Rattle.image.specs.Reading.{loadImage, loadSaved}
 use Rattle.image_figures.specs.Sheets.{figuresSize, sheetRows, sheetOf}
 use Rattle.ledger.specs.Ledger.{State, state, filled, Call, Result, result, accept, Row, byRows, openRows, ask, take, list, release, mark, Calls}
 use Rattle.ledger.specs.Demand3.{none?}
@@ -87,14 +88,15 @@ openImage h networks lengths term defaultLength start =
     byRows (openRows networks lengths term defaultLength start ++ roomRows h) (λ number. 0) h []
     (accept (storedIn (filled (fresh (given networks lengths) term defaultLength start)) fullImage h) [] 0 [])
 
--- Row 5 is "for load and the sheet, the saved bytes only".
+-- Row 5 is "for load and the sheet, the saved bytes only". "Load accepts both forms": either way the second one is what is left.
 unfoldable pub loadInto : Lent → List ℕ → Result Lent
 loadInto h saved =
-    byRows ((5, none? (loadImage saved)) ∷ roomRows h) (λ number. 0) h []
-    (accept (storedIn (filled (loadedTable (loadImage saved))) fullImage h) [] 0 [])
+    byRows ((5, none? (loadSaved saved)) ∷ roomRows h) (λ number. 0) h []
+    (accept (storedIn (filled (loadedTable (loadSaved saved))) fullImage h) [] 0 [])
 
--- The image into a buffer, the reply of this call; nothing that is lent changes.
-unfoldable pub saveFrom : Lent → List ℕ → Result Lent
-saveFrom h buffer =
-    byRows ((5, not (sound (tableIn h))) ∷ (14, ltb (length buffer) (length (imageOf (tableIn h)))) ∷ []) (λ number. 0) h buffer
-    (accept h (imageOf (tableIn h)) 0 buffer)
+-- The image in a form into a buffer, the reply of this call; nothing that is lent changes. "18, names would be lost, in save, before 14."
+abbrev pub saveRows : LeaseTable → Form → List ℕ → List Row
+saveRows t form buffer = (5, not (sound t)) ∷ (18, not (fitsForm form t)) ∷ (14, ltb (length buffer) (length (imageAs form t))) ∷ []
+
+unfoldable pub saveFrom : Lent → Form → List ℕ → Result Lent
+saveFrom h form buffer = byRows (saveRows (tableIn h) form buffer) (λ number. 0) h buffer (accept h (imageAs form (tableIn h)) 0 buffer)

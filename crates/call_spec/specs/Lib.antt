@@ -3,3 +3,4 @@ pub mod Books
 pub mod OnBooks
 pub mod InRange
 pub mod CountsKept
+pub mod SavedForms

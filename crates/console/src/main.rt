@@ -20,7 +20,7 @@ ghost use Rattle.console_commands.specs.Commands.{given, Ran};
 ghost use Rattle.console.specs.Runs.{RanLine};
 ghost use Rattle.console.specs.InnerRuns.{Echoed, Buffered};
 
-const HELP: [u8; 819] = *b"usage: console [--echo] [FILE]
+const HELP: [u8; 826] = *b"usage: console [--echo] [FILE]
 
 Runs the commands in FILE, one to a line, and prints what each call answers. Without FILE,
 or where it is -, the commands are read from standard input.
@@ -32,7 +32,7 @@ or where it is -, the commands are read from standard input.
 
 Commands:
   open TERM DEFAULT START PREFIX..    ask, take, list, return STATION NOW OPTION
-  mark NOW PREFIX D                   save, load IMAGE, sheet
+  mark NOW PREFIX D                   save [FORM], load IMAGE, sheet
   read OPTION, write ITEM..           figures [SHEET], buffer N
   whole LENGTH                        counts [COUNTS]
 
@@ -98,7 +98,7 @@ fn run(
             let to = c.to;
             console_commands::load(s, &line[from..to], image, image_bytes, figures, counts, out)
         }
-        Command::Save => console_commands::save(s, image, *image_bytes, counts, out),
+        Command::Save(c) => { console_commands::save(s, c.form, image, *image_bytes, counts, out) }
         Command::Sheet => console_commands::sheet(s, image, *image_bytes, counts, out),
         Command::Read(c) => {
             let from = c.from;

@@ -16,7 +16,7 @@ use Rattle.text.specs.Wrote.{Wrote}
 use Rattle.ledger.specs.declared.Answer.{Answer}
 use Rattle.ledger.specs.Ledger.{Result, result}
 use Rattle.table.specs.Table.{sound}
-use Rattle.image.specs.Image.{fullImage}
+use Rattle.image.specs.Image.{fullImage, formNumbered}
 use Rattle.call_spec.specs.ImageCalls.{tableIn}
 use Rattle.call_spec.specs.Books.{Book, bookOf, lentIn, openBook, saveBook}
 use Rattle.call_spec.specs.OnBooks.{GivenAlike}
@@ -81,8 +81,8 @@ module _ (g : Given) (a : Answer) (h : Book) (old : List ℕ) (at : ℕ) (new : 
         wrote = appended old at _ new next inside w;
       }
 
-  pub save-ran : (buffer after : List ℕ) → length buffer ≡ fullImage → result a h after ≡ saveBook (g .book) buffer → Wrote old at (savedLine (result a h after)) new next → Ran save g h old at new next
-  save-ran buffer after size same w =
+  pub save-ran : (form : ℕ) (buffer after : List ℕ) → length buffer ≡ fullImage → result a h after ≡ saveBook (g .book) (formNumbered form) buffer → Wrote old at (savedLine (result a h after)) new next → Ran (save form) g h old at new next
+  save-ran form buffer after size same w =
       record {
         text = savedLine (result a h after);
         does = record { buffer = buffer; size = size; leaves = ap (λ (q : Result Book). q .state) same; says = ap savedLine same };

@@ -13,7 +13,7 @@ use Rattle.ledger.specs.Ledger.{call as message}
 use Rattle.image_figures.specs.Sheets.{sheetRows}
 use Rattle.call_spec.specs.ImageCalls.{tableIn}
 use Rattle.call_spec.specs.Books.{Book, bookOf, stateInBook, askBook, takeBook, listBook, releaseBook, markBook, openBook, loadBook, saveBook, wholeBook}
-use Rattle.image.specs.Image.{fullImage, usedPools}
+use Rattle.image.specs.Image.{fullImage, formNumbered, usedPools}
 use Rattle.call_sheet.specs.SheetImage.{sheetImage}
 use Rattle.console_script.specs.declared.OptionCall.{OptionCall}
 use Rattle.console_script.specs.declared.OptionCall.the-variants.{Ask, Take, List as ListCall, Return}
@@ -81,7 +81,7 @@ Does (call x client time option) g book text = With (g .replyLength) (callOn x (
 Does (mark time network len d) g book text = Done (markBook (g .book) time network len (not (eqb d 0))) book text
 Does («open» term len start networks lengths) g book text = Done (openBook (g .book) networks lengths term len start) book text
 Does (load image) g book text = Done (loadBook (g .book) image) book text
-Does save g book text = With fullImage (saveBook (g .book)) savedLine book text
+Does (save form) g book text = With fullImage (saveBook (g .book) (formNumbered form)) savedLine book text
 Does sheet g book text = (book ≡ g .book) × (text ≡ ofSound (g .book) (sheetText (sheetImage (take (g .book .lent .bytes) (g .book .lent .image)) (g .room))))
 Does (read octets) g book text = book ≡ g .book
 Does (write words) g book text = (book ≡ g .book) × ((text ≡ errorLine (g .line)) ⊎ Written (g .replyLength) text)

@@ -210,15 +210,28 @@ pub fn load(
 }
 
 // "save into a buffer that holds a full book". Neither this nor what follows has the figures sheet.
-pub fn save(s: State, image: &[u8], image_bytes: usize, counts: &Counts, out: &mut [u8]) -> usize
+pub fn save(
+    s: State,
+    form: u32,
+    image: &[u8],
+    image_bytes: usize,
+    counts: &Counts,
+    out: &mut [u8],
+) -> usize
     requires { ⌜ AnswerFits (s .at) (now out) ⌝ }
     ensures { λ r. ⌜ r ≤ length (now (out .entry)) ⌝ }
-    ensures { λ r. ⌜ ((figures : List ℕ) → Ran saveValue
+    ensures { λ r. ⌜ ((figures : List ℕ) → Ran (saveValue form)
         (given (bookOf (now (image .entry)) «image_bytes» figures (now (counts .entry))) (s .«reply_length») (s .lines) (drop (s .at) (now (out .entry))))
         (bookOf (now (image .entry)) «image_bytes» figures (now (counts .entry))) (now (out .entry)) (s .at) (now (out .exit)) r) ⌝ }
 {
     let mut buffer = [0u8; FULL_IMAGE];
-    let a = call_save::save(image, image_bytes, counts, &mut buffer);
+    let a = call_save::save(
+        image,
+        image_bytes,
+        counts,
+        image::form_numbered(form),
+        &mut buffer,
+    );
     console_lines::written(out, s.at, a, &buffer)
 }
 

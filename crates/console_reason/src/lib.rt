@@ -40,7 +40,7 @@ enum Fault {
 }
 
 // KINDS. What a word should be is told by a letter:
-// n a number, b a number below 256, r a length of the reply buffer, f 0 or 1, p a prefix, a an address, x octets, t those of a figures sheet, u those of counts;
+// n a number, b a number below 256, r a length of the reply buffer, f 0 or 1, v the form of a saved book, p a prefix, a an address, x octets, t those of a figures sheet, u those of counts;
 // of `write` h, i, c, s and d a bit behind its key, l `prefix=` and a length, g `figures=` and figures, w a word that begins an item, e an entry in its place.
 
 fn is_number(n: Number) -> bool {
@@ -134,6 +134,7 @@ fn is_of(kind: u8, word: &[u8]) -> bool {
         b'b' => is_at_most(word, 255),
         b'r' => is_at_most(word, LONGEST_REPLY),
         b'f' => is_number(console_words::read_flag(word)),
+        b'v' => is_number(console_script::read_form(word)),
         b'p' => is_prefix(word),
         b'a' => is_number(console_words::read_network(word)),
         b'x' => is_octets(word),
@@ -269,7 +270,8 @@ fn command_fault(name: Name, s: &[u8], from: usize) -> Fault
         // Up to 16 prefixes.
         Name::Open => line_fault(s, from, b"nbnpppppppppppppppp", 3),
         Name::Load => line_fault(s, from, b"x", 1),
-        Name::Lone(_) => line_fault(s, from, b"", 0),
+        Name::Save => line_fault(s, from, b"v", 0),
+        Name::Sheet => line_fault(s, from, b"", 0),
         Name::Read => line_fault(s, from, b"x", 1),
         Name::Write => write_fault(s, from),
         Name::Figures => line_fault(s, from, b"t", 0),
@@ -352,6 +354,7 @@ fn put_kind(out: &mut [u8], at: usize, kind: u8) -> usize
         b'b' => console_text::text(out, at, b"a number below 256"),
         b'r' => console_text::fill(out, at, b"a number up to %", &[LONGEST_REPLY]),
         b'f' => console_text::text(out, at, b"0 or 1"),
+        b'v' => console_text::text(out, at, b"1 or 2"),
         b'p' => console_text::text(out, at, b"a prefix A.B.C.D/L"),
         b'a' => console_text::text(out, at, b"an address A.B.C.D"),
         b'x' => console_text::text(out, at, b"hexadecimal digits, two for each byte, or -"),
@@ -415,7 +418,8 @@ fn put_form(out: &mut [u8], at: usize, name: Name) -> usize
         Name::Mark => console_text::text(out, at, b" NOW PREFIX D)\n"),
         Name::Open => console_text::text(out, at, b" TERM DEFAULT START PREFIX.., 16 at most)\n"),
         Name::Load => console_text::text(out, at, b" IMAGE)\n"),
-        Name::Lone(_) => console_text::text(out, at, b" alone)\n"),
+        Name::Save => console_text::text(out, at, b" alone, or FORM)\n"),
+        Name::Sheet => console_text::text(out, at, b" alone)\n"),
         Name::Read => console_text::text(out, at, b" OPTION)\n"),
         Name::Write => console_text::text(out, at, b" ITEM.. or address A.B.C.D)\n"),
         Name::Figures => console_text::text(out, at, b" alone, or SHEET)\n"),

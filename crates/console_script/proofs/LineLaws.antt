@@ -21,11 +21,9 @@ use Rattle.console_words.specs.Numbers.{numberOf, flagOf, NextNumber}
 use Rattle.console_words.specs.Prefixes.{prefixOf, prefixesOf, NextPrefix}
 use Rattle.console_words.specs.Octets.{lastOctets, octetsIn}
 use Rattle.console_script.specs.declared.OptionCall.{OptionCall}
-use Rattle.console_script.specs.declared.Lone.{Lone}
-use Rattle.console_script.specs.declared.Lone.the-variants as lone
 use Rattle.console_script.specs.declared.Name.{Name}
 use Rattle.console_script.specs.Commands.{CommandValue, call, mark, «open», load, save, sheet, read, whole, buffer, nothing, bad, longestLine, longestReply, mostPrefixes, withPrefixes}
-use Rattle.console_script.specs.Parsing.{withNumber, withOctets, ofSize, aloneOr, atEnd, nameOf, parseCall, parseMark, parseOpen, parseLoad, parseRead, parseWhole, parseBuffer, parseLone, parseWords, parseLine, unreturned}
+use Rattle.console_script.specs.Parsing.{withNumber, withOctets, ofSize, aloneOr, atEnd, nameOf, parseCall, parseMark, parseOpen, formOf, parseLoad, parseSave, parseRead, parseWhole, parseBuffer, parseSheet, parseWords, parseLine, unreturned}
 
 -- What the next word spells, where xs is left of the line.
 pub spells : (spelt : List ℕ → Number) (s : List ℕ) (from : ℕ) (r : NumberAt) (xs : List ℕ) (n : Number) → NextNumber spelt s from r → drop from s ≡ xs → r .number ≡ n → spelt (firstWord xs) ≡ n
@@ -135,6 +133,29 @@ module _ (xs : List ℕ) where
   unfolding parseRead
   read-of option e = sym (ap (λ (o : Option (List ℕ)). withOctets o read) e)
 
+-- Nothing more, or FORM
+module _ (xs : List ℕ) where
+  pub save-alone : last? xs ≡ true → save 2 ≡ parseSave xs
+  unfolding parseSave
+  save-alone e = sym (ap (λ (b : Bool). cond b (save 2) (withNumber (formOf (firstWord xs)) (λ form. atEnd (afterWord xs) (save form)))) e)
+
+  module _ (more : last? xs ≡ false) where
+    with-form : (n : Number) → formOf (firstWord xs) ≡ n → withNumber n (λ form. atEnd (afterWord xs) (save form)) ≡ parseSave xs
+    unfolding parseSave
+    with-form n e =
+        sym (ap (λ (b : Bool). cond b (save 2) (withNumber (formOf (firstWord xs)) (λ form. atEnd (afterWord xs) (save form)))) more
+        ∙ ap (λ (m : Number). withNumber m (λ form. atEnd (afterWord xs) (save form))) e)
+
+    pub save-no-form : formOf (firstWord xs) ≡ number.Bad → bad ≡ parseSave xs
+    save-no-form e = with-form number.Bad e
+
+    module _ (n : ℕ) (e₁ : formOf (firstWord xs) ≡ number.Of n) where
+      pub save-more : last? (afterWord xs) ≡ false → bad ≡ parseSave xs
+      save-more e = sym (ap (λ (b : Bool). cond b (save n) bad) e) ∙ with-form (number.Of n) e₁
+
+      pub save-of : last? (afterWord xs) ≡ true → save n ≡ parseSave xs
+      save-of e = sym (ap (λ (b : Bool). cond b (save n) bad) e) ∙ with-form (number.Of n) e₁
+
 -- Nothing more, or so many octets
 module _ (alone : CommandValue) (n : ℕ) (f : List ℕ → CommandValue) (xs : List ℕ) where
   pub is-alone : last? xs ≡ true → alone ≡ aloneOr alone n f xs
@@ -195,18 +216,13 @@ module _ (xs : List ℕ) where
       buffer-of e = rw (e₁, le-ltb longestReply n short) (sym (ap (λ (b : Bool). cond b (buffer n) bad) e))
 
 -- Nothing more.
-pub lone-more : (n : Lone) (xs : List ℕ) → last? xs ≡ false → bad ≡ parseLone n xs
-unfolding parseLone
-lone-more lone.Save xs e = sym (ap (λ (b : Bool). cond b save bad) e)
-lone-more lone.Sheet xs e = sym (ap (λ (b : Bool). cond b sheet bad) e)
+pub sheet-more : (xs : List ℕ) → last? xs ≡ false → bad ≡ parseSheet xs
+unfolding parseSheet
+sheet-more xs e = sym (ap (λ (b : Bool). cond b sheet bad) e)
 
-pub lone-save : (n : Lone) (xs : List ℕ) → n ≡ lone.Save → last? xs ≡ true → save ≡ parseLone n xs
-unfolding parseLone
-lone-save n xs of e = sym (ap (λ (m : Lone). parseLone m xs) of ∙ ap (λ (b : Bool). cond b save bad) e)
-
-pub lone-sheet : (n : Lone) (xs : List ℕ) → n ≡ lone.Sheet → last? xs ≡ true → sheet ≡ parseLone n xs
-unfolding parseLone
-lone-sheet n xs of e = sym (ap (λ (m : Lone). parseLone m xs) of ∙ ap (λ (b : Bool). cond b sheet bad) e)
+pub sheet-of : (xs : List ℕ) → last? xs ≡ true → sheet ≡ parseSheet xs
+unfolding parseSheet
+sheet-of xs e = sym (ap (λ (b : Bool). cond b sheet bad) e)
 
 -- LINES
 

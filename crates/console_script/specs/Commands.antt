@@ -21,7 +21,8 @@ pub data CommandValue : Type 0 where
   «open» : ℕ → ℕ → ℕ → List ℕ → List ℕ → CommandValue
   -- the image's octets
   load : List ℕ → CommandValue
-  save : CommandValue
+  -- the number of the form
+  save : ℕ → CommandValue
   sheet : CommandValue
   -- the option's octets
   read : List ℕ → CommandValue
@@ -67,7 +68,7 @@ valueIn s (command.Call c) = call (c .call) (c .client) (c .time) (between (c .f
 valueIn s (command.Mark c) = mark (c .time) (c .network) (c .length) (c .deprecated)
 valueIn s (command.Open c) = withPrefixes (prefixesOf mostPrefixes (drop (c .from) s)) («open» (c .term) (c .«default_length») (c .start))
 valueIn s (command.Load c) = load (between (c .from) (c .to) s)
-valueIn s command.Save = save
+valueIn s (command.Save c) = save (c .form)
 valueIn s command.Sheet = sheet
 valueIn s (command.Read c) = read (between (c .from) (c .to) s)
 valueIn s (command.Write c) = write (drop (c .from) s)
@@ -86,7 +87,7 @@ Within n (command.Call c) = (c .from ≤ c .to) × (c .to ≤ n)
 Within n (command.Mark c) = Unit {0}
 Within n (command.Open c) = c .from ≤ n
 Within n (command.Load c) = (c .from ≤ c .to) × (c .to ≤ n)
-Within n command.Save = Unit {0}
+Within n (command.Save c) = Unit {0}
 Within n command.Sheet = Unit {0}
 Within n (command.Read c) = (c .from ≤ c .to) × (c .to ≤ n)
 Within n (command.Write c) = c .from ≤ n

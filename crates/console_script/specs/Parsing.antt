@@ -14,9 +14,8 @@ use Rattle.console_words.specs.Words.{firstWord, afterWord, empty?, last?}
 use Rattle.console_words.specs.Numbers.{numberOf, flagOf}
 use Rattle.console_words.specs.Prefixes.{prefixOf, prefixesOf}
 use Rattle.console_words.specs.Octets.{lastOctets}
-use Rattle.console_script.specs.declared.{OptionCall.OptionCall, Lone.Lone, Name.Name}
+use Rattle.console_script.specs.declared.{OptionCall.OptionCall, Name.Name}
 use Rattle.console_script.specs.declared.OptionCall.the-variants.{Ask, Take, List as ListCall, Return}
-use Rattle.console_script.specs.declared.Lone.the-variants as lone
 use Rattle.console_script.specs.declared.Name.the-variants as name
 use Rattle.console_script.specs.Commands.{CommandValue, call, mark, «open», load, save, sheet, read, write, figures, setFigures, counts, setCounts, whole, buffer, nothing, bad, longestLine, longestReply, countsSize, mostPrefixes, withPrefixes}
 
@@ -48,8 +47,8 @@ nameOf w =
     (cond (same? w (ascii "mark")) name.Mark
     (cond (same? w (ascii "open")) name.Open
     (cond (same? w (ascii "load")) name.Load
-    (cond (same? w (ascii "save")) (name.Lone lone.Save)
-    (cond (same? w (ascii "sheet")) (name.Lone lone.Sheet) (otherName w)))))))))
+    (cond (same? w (ascii "save")) name.Save
+    (cond (same? w (ascii "sheet")) name.Sheet (otherName w)))))))))
 
 -- ARGUMENTS: each of xs, what is left of a line behind the name.
 
@@ -97,6 +96,14 @@ parseOpen xs =
 unfoldable pub parseLoad : List ℕ → CommandValue
 parseLoad xs = withOctets (lastOctets xs) load
 
+-- FORM: the word 1 or the word 2.
+unfoldable pub formOf : List ℕ → Number
+formOf w = cond (same? w (ascii "1")) (number.Of 1) (cond (same? w (ascii "2")) (number.Of 2) number.Bad)
+
+-- Nothing more, or FORM: "`save` and `save 2` write the second form, `save 1` the first"
+unfoldable pub parseSave : List ℕ → CommandValue
+parseSave xs = cond (last? xs) (save 2) (withNumber (formOf (firstWord xs)) (λ form. atEnd (afterWord xs) (save form)))
+
 -- OPTION
 unfoldable pub parseRead : List ℕ → CommandValue
 parseRead xs = withOctets (lastOctets xs) read
@@ -125,16 +132,16 @@ unfoldable pub parseBuffer : List ℕ → CommandValue
 parseBuffer xs = withNumber (numberOf (firstWord xs)) (λ n. cond (ltb longestReply n) bad (atEnd (afterWord xs) (buffer n)))
 
 -- Nothing more.
-unfoldable pub parseLone : Lone → List ℕ → CommandValue
-parseLone lone.Save xs = atEnd xs save
-parseLone lone.Sheet xs = atEnd xs sheet
+unfoldable pub parseSheet : List ℕ → CommandValue
+parseSheet xs = atEnd xs sheet
 
 abbrev pub parseWords : Name → List ℕ → CommandValue
 parseWords (name.Call c) xs = parseCall c xs
 parseWords name.Mark xs = parseMark xs
 parseWords name.Open xs = parseOpen xs
 parseWords name.Load xs = parseLoad xs
-parseWords (name.Lone c) xs = parseLone c xs
+parseWords name.Save xs = parseSave xs
+parseWords name.Sheet xs = parseSheet xs
 parseWords name.Read xs = parseRead xs
 parseWords name.Write xs = write xs
 parseWords name.Figures xs = parseFigures xs

@@ -15,6 +15,7 @@ ghost use Rattle.console_script.specs.Parsing.{
   same?,
   otherName,
   nameOf,
+  formOf,
   parseCall,
   parseMark,
   parseOpen,
@@ -24,7 +25,8 @@ ghost use Rattle.console_script.specs.Parsing.{
   parseCounts,
   parseWhole,
   parseBuffer,
-  parseLone,
+  parseSave,
+  parseSheet,
   parseWords,
   parseLine,
   unreturned,
@@ -83,6 +85,11 @@ pub struct WriteLine {
     pub from: usize,
 }
 
+// FORM: 1 or 2.
+pub struct SaveLine {
+    pub form: u32,
+}
+
 // LENGTH
 pub struct WholeLine {
     pub length: u32,
@@ -99,7 +106,7 @@ pub enum Command {
     Mark(MarkLine),
     Open(OpenLine),
     Load(OctetLine),
-    Save,
+    Save(SaveLine),
     Sheet,
     Read(OctetLine),
     Write(WriteLine),
@@ -113,19 +120,14 @@ pub enum Command {
     Bad,
 }
 
-// The commands that are alone on their line.
-pub enum Lone {
-    Save,
-    Sheet,
-}
-
 // What the first word names.
 pub enum Name {
     Call(OptionCall),
     Mark,
     Open,
     Load,
-    Lone(Lone),
+    Save,
+    Sheet,
     Read,
     Write,
     Figures,
@@ -194,10 +196,10 @@ pub fn read_name(word: &[u8]) -> Name
         return Name::Load;
     }
     if is(word, b"save") {
-        return Name::Lone(Lone::Save);
+        return Name::Save;
     }
     if is(word, b"sheet") {
-        return Name::Lone(Lone::Sheet);
+        return Name::Sheet;
     }
     other_name(word)
 }
@@ -313,6 +315,41 @@ fn load_line(s: &mut [u8], from: usize) -> Command
     })
 }
 
+// The word 1 or the word 2.
+pub fn read_form(word: &[u8]) -> Number
+    ensures { λ r. ⌜ r ≡ formOf (now (word .entry)) ⌝ }
+{
+    if is(word, b"1") {
+        return Number::Of(1);
+    }
+    if is(word, b"2") {
+        return Number::Of(2);
+    }
+    Number::Bad
+}
+
+// Nothing more, which is the second form, or FORM.
+fn save_line(s: &[u8], from: usize) -> Command
+    requires { ⌜ from ≤ length (now s) ⌝ }
+    ensures { λ r. ⌜ Within (length (now (s .entry))) r ⌝ }
+    ensures { λ r. ⌜ valueIn (now (s .entry)) r ≡ parseSave (drop from (now (s .entry))) ⌝ }
+{
+    if console_words::ends(s, from) {
+        return Command::Save(SaveLine { form: 2 });
+    }
+    let w = console_words::next_word(s, from);
+    let start = w.start;
+    let end = w.end;
+    let number = read_form(&s[start..end]);
+    let Number::Of(form) = number else {
+        return Command::Bad;
+    };
+    if !console_words::ends(s, end) {
+        return Command::Bad;
+    }
+    Command::Save(SaveLine { form })
+}
+
 // OPTION
 fn read_line(s: &mut [u8], from: usize) -> Command
     requires { ⌜ from ≤ length (now s) ⌝ }
@@ -411,18 +448,15 @@ fn buffer_line(s: &[u8], from: usize) -> Command
 }
 
 // No further word.
-fn lone_line(name: Lone, s: &[u8], from: usize) -> Command
+fn sheet_line(s: &[u8], from: usize) -> Command
     requires { ⌜ from ≤ length (now s) ⌝ }
     ensures { λ r. ⌜ Within (length (now (s .entry))) r ⌝ }
-    ensures { λ r. ⌜ valueIn (now (s .entry)) r ≡ parseLone name (drop from (now (s .entry))) ⌝ }
+    ensures { λ r. ⌜ valueIn (now (s .entry)) r ≡ parseSheet (drop from (now (s .entry))) ⌝ }
 {
     if !console_words::ends(s, from) {
         return Command::Bad;
     }
-    match name {
-        Lone::Save => Command::Save,
-        Lone::Sheet => Command::Sheet,
-    }
+    Command::Sheet
 }
 
 // What the words after a name spell.
@@ -436,7 +470,8 @@ fn read_words(name: Name, s: &mut [u8], from: usize) -> Command
         Name::Mark => mark_line(s, from),
         Name::Open => open_line(s, from),
         Name::Load => load_line(s, from),
-        Name::Lone(c) => lone_line(c, s, from),
+        Name::Save => save_line(s, from),
+        Name::Sheet => sheet_line(s, from),
         Name::Read => read_line(s, from),
         Name::Write => Command::Write(WriteLine { from }),
         Name::Figures => figures_line(s, from),

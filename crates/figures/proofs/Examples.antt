@@ -5,12 +5,13 @@ use mathlib.Core.Path.{_≡_, refl}
 use mathlib.Core.Bool.{true, false}
 use mathlib.Core.List.{[], _∷_, map}
 use Rattle.option_entry.specs.Steps.{figuresOf}
+use Rattle.names.specs.Names.{noName}
 use Rattle.table.specs.declared.Lease.{Lease}
 use Rattle.figures.specs.declared.FigureRow.{FigureRow}
 use Rattle.figures.specs.Figures.{ofLease?, rowFor, keptRows, newerHighWater, newerInUse, newerUnusable, highWaterOf, inUseOf, unusableOf, filed}
 
 lease : ℕ → ℕ → ℕ → Lease
-lease network client expires = record { network = network; length = 26; client = client; leased = false; h = false; d = true; expires = expires }
+lease network client expires = record { network = network; length = 26; client = client; leased = false; h = false; d = true; expires = expires; name = noName }
 
 row : ℕ → ℕ → FigureRow
 row network n = record { network = network; length = 26; «high_water» = record { 0 = n }; «in_use» = record { 0 = n }; unusable = record { 0 = n } }

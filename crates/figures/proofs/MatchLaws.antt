@@ -10,6 +10,7 @@ use lib.Dec.{eqb}
 use borrow.Author.Tests.{eqb-true}
 use Rattle.lists.specs.Lists.{All, and, all?}
 use Rattle.lists.proofs.Tests.{and-to, and-of, and-list-to}
+use Rattle.names.specs.Names.{unnamed?}
 use Rattle.table.specs.declared.Lease.{Lease}
 use Rattle.table.specs.Table.{noLease, empty?}
 use Rattle.figures.specs.declared.FigureRow.{FigureRow}
@@ -30,7 +31,7 @@ and-true true = refl
 and-true false = refl
 
 pub empty-fits : (r : FigureRow) → fits? noLease r ≡ emptyRow? r
-unfolding fits? emptyRow? ofLease? untold? empty?
+unfolding fits? emptyRow? ofLease? untold? unnamed? empty?
 empty-fits r =
     shift-and (eqb (r .network) 0) (eqb (r .length) 0) (and (eqb (r .«high_water» .0) untold ∷ eqb (r .«in_use» .0) untold ∷ eqb (r .unusable .0) untold ∷ []))
 

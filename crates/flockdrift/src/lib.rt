@@ -12,6 +12,7 @@ ghost use mathlib.Core.Path.{_≡_};
 ghost use mathlib.Core.Bool.{not};
 ghost use mathlib.Core.List.{[]};
 ghost use lib.Dec.{eqb};
+ghost use Rattle.image.specs.Image.{formNumbered};
 ghost use Rattle.ledger.specs.Ledger.{call, result};
 ghost use Rattle.call_spec.specs.Books.{
   bookOf,
@@ -83,12 +84,19 @@ pub extern "C" fn flockdrift_save(
     image: &[u8],
     image_bytes: usize,
     counts: &Counts,
+    form: u32,
     buffer: &mut [u8],
 ) -> Answer
     ensures { λ r. ⌜ result r (bookOf (now (image .entry)) «image_bytes» [] (now (counts .entry))) (now (buffer .exit))
-        ≡ saveBook (bookOf (now (image .entry)) «image_bytes» [] (now (counts .entry))) (now (buffer .entry)) ⌝ }
+        ≡ saveBook (bookOf (now (image .entry)) «image_bytes» [] (now (counts .entry))) (formNumbered form) (now (buffer .entry)) ⌝ }
 {
-    call_save::save(image, image_bytes, counts, buffer)
+    call_save::save(
+        image,
+        image_bytes,
+        counts,
+        image::form_numbered(form),
+        buffer,
+    )
 }
 
 #[no_mangle]

@@ -1,5 +1,6 @@
 -- Laws that several proofs cite.
 pub mod FieldLaws
 pub mod ImageLaws
+pub mod FormLaws
 pub mod Examples
 pub mod WriteLaws

@@ -12,18 +12,19 @@ use Rattle.lists.specs.Lists.{concatMap}
 use Rattle.lists.specs.Put.{put}
 use Rattle.lists.proofs.ConcatMapLaws.{concatMap-append}
 use Rattle.lists.proofs.PutLaws.{put-one, put-append}
+use Rattle.names.specs.Names.{nameOctets, nameLength}
 use Rattle.table.specs.declared.Pool.{Pool}
 use Rattle.table.specs.declared.Lease.{Lease}
 use Rattle.image.specs.declared.Head.{Head}
-use Rattle.image.specs.Image.{le16, le32, headSize, poolSize, leaseSize, headRecord, poolRecord, leaseRecord, stateByte, flagsByte}
-use Rattle.image.specs.Reading.{startOf, lastAt, expiresAt}
+use Rattle.image.specs.Image.{le16, le32, headSize, poolSize, leaseSize, headRecordIn, headRecord, poolRecord, leaseRecordIn, leaseRecord, stateByte, flagsByte}
+use Rattle.image.specs.Reading.{startOf, lastAt, expiresAt, nameLengthAt, nameAt}
 use Rattle.image.proofs.ImageLaws.{length-concatMap}
 
 -- FIELDS, ONE AFTER ANOTHER
 
-pub head-put : (x : Head) (l l₁ l₂ l₃ : List ℕ) → l₁ ≡ put l 0 (le32 (startOf headSize 1)) → l₂ ≡ put l₁ 4 (le32 (x .term))
+pub head-put : (x : Head) (l l₁ l₂ l₃ : List ℕ) → l₁ ≡ put l 0 (le32 (startOf headSize 5)) → l₂ ≡ put l₁ 4 (le32 (x .term))
     → l₃ ≡ put (set l₂ 8 (x .«default_length»)) lastAt (le32 (x .last)) → l₃ ≡ put l 0 (headRecord x)
-unfolding put headRecord le16 le32
+unfolding put headRecordIn le16 le32
 head-put x l l₁ l₂ l₃ e₁ e₂ e₃ =
     e₃
     ∙ ap (λ (m : List ℕ). put (set m 8 (x .«default_length»)) lastAt (le32 (x .last)))
@@ -46,13 +47,13 @@ three : (l : List ℕ) (at x y z : ℕ) → set (set (set l (at + 8) x) (at + 9)
 unfolding put
 three l at x y z = simp add-assoc
 
-pub lease-put : (x : Lease) (at st fl : ℕ) (l l₁ l₂ l₃ l₄ : List ℕ) → st ≡ stateByte (x .leased) → fl ≡ flagsByte (x .h) (x .d)
-    → l₁ ≡ put l at (le32 (startOf leaseSize 3)) → l₂ ≡ put l₁ (at + 4) (le32 (x .network))
+pub lease-put : (x : Lease) (at st fl nl : ℕ) (l l₁ l₂ l₃ l₄ l₅ : List ℕ) → st ≡ stateByte (x .leased) → fl ≡ flagsByte (x .h) (x .d) → nl ≡ nameLength (x .name)
+    → l₁ ≡ put l at (le32 (startOf leaseSize 4)) → l₂ ≡ put l₁ (at + 4) (le32 (x .network))
     → l₃ ≡ put (set (set (set l₂ (at + 8) (x .length)) (at + 9) st) (at + 10) fl) (at + 11) (le32 (x .client)) → l₄ ≡ put l₃ (at + expiresAt) (le32 (x .expires))
-    → l₄ ≡ put l at (leaseRecord x)
-unfolding leaseRecord le16 le32
-lease-put x at st fl l l₁ l₂ l₃ l₄ es ef e₁ e₂ e₃ e₄ =
-    let first : List ℕ = le32 (startOf leaseSize 3) in
+    → l₅ ≡ put (set l₄ (at + nameLengthAt) nl) (at + nameAt) (nameOctets (x .name)) → l₅ ≡ put l at (leaseRecord x)
+unfolding leaseRecordIn le16 le32
+lease-put x at st fl nl l l₁ l₂ l₃ l₄ l₅ es ef en e₁ e₂ e₃ e₄ e₅ =
+    let first : List ℕ = le32 (startOf leaseSize 4) in
     let bytes : List ℕ = x .length ∷ stateByte (x .leased) ∷ flagsByte (x .h) (x .d) ∷ [] in
     let f₂ = then-put 4 l l₁ at first refl e₁ l₂ (le32 (x .network)) e₂ in
     let m₂ : List ℕ = put l₂ (at + 8) bytes in
@@ -61,7 +62,12 @@ lease-put x at st fl l l₁ l₂ l₃ l₄ es ef e₁ e₂ e₃ e₄ =
     e₃ ∙ ap₂ (λ (s f : ℕ). put (set (set (set l₂ (at + 8) (x .length)) (at + 9) s) (at + 10) f) (at + 11) (le32 (x .client))) es ef
     ∙ ap (λ (m : List ℕ). put m (at + 11) (le32 (x .client))) (three l₂ at (x .length) (stateByte (x .leased)) (flagsByte (x .h) (x .d))) in
     let f₄ = then-put 11 l m₂ at (first ++ le32 (x .network) ++ bytes) refl f₃ l₃ (le32 (x .client)) g₃ in
-    then-put 15 l l₃ at (first ++ le32 (x .network) ++ bytes ++ le32 (x .client)) refl f₄ l₄ (le32 (x .expires)) e₄
+    let f₅ = then-put 15 l l₃ at (first ++ le32 (x .network) ++ bytes ++ le32 (x .client)) refl f₄ l₄ (le32 (x .expires)) e₄ in
+    let body : List ℕ = first ++ le32 (x .network) ++ bytes ++ le32 (x .client) ++ le32 (x .expires) in
+    let m₄ : List ℕ = set l₄ (at + nameLengthAt) (nameLength (x .name)) in
+    let f₆ = then-put nameLengthAt l l₄ at body refl f₅ m₄ (nameLength (x .name) ∷ []) (sym (put-one l₄ (at + nameLengthAt) (nameLength (x .name)))) in
+    let g₅ : l₅ ≡ put m₄ (at + nameAt) (nameOctets (x .name)) = e₅ ∙ ap (λ (n : ℕ). put (set l₄ (at + nameLengthAt) n) (at + nameAt) (nameOctets (x .name))) en in
+    then-put nameAt l m₄ at (body ++ (nameLength (x .name) ∷ [])) refl f₆ l₅ (nameOctets (x .name)) g₅
 
 -- RECORDS, ONE AFTER ANOTHER
 

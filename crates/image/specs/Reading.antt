@@ -1,12 +1,15 @@
 -- What load reads: a record is read where the bytes have its length and its kind, and its fields are in range. Nobody has to believe it: what loads is
--- exactly the image of a sound table (`loads⇔image`).
-use Rattle.lists.specs.Basics.{ℕ, _+_, _-_, _*_, _/_, _%_, Bool, not, cond, List, [], _∷_, Option, none, some, length, drop, getD, leb, eqb}
+-- exactly the image of a sound table in a form that fits it (`loads⇔image`, `loads⇔saved`).
+use Rattle.lists.specs.Basics.{ℕ, _+_, _-_, _*_, _/_, _%_, Bool, true, not, cond, List, [], _∷_, Option, none, some, length, drop, getD, leb, eqb}
 use Rattle.lists.specs.Lists.{and}
+use Rattle.names.specs.declared.Name.{Name}
+use Rattle.names.specs.Names.{noName, nameIn, nameLength}
 use Rattle.table.specs.declared.{Pool.Pool, Lease.Lease, LeaseTable.LeaseTable}
 use Rattle.table.specs.Table.{poolSlots, leaseSlots, unused?, empty?, sound, padded, paddedPools}
-use Rattle.image.specs.declared.Head.{Head}
+use Rattle.image.specs.declared.{Head.Head, Form.Form}
+use Rattle.image.specs.declared.Form.the-variants.{First, Second}
 use Rattle.image.specs.Fields.{number16, number32, Run, records}
-use Rattle.image.specs.Image.{headSize, leaseSize, poolSize}
+use Rattle.image.specs.Image.{headSize, headKind, leaseSizeIn, leaseKind, poolSize}
 
 -- The first four bytes of a record as a number: its length, which counts what follows it, and its kind.
 abbrev pub startOf : ℕ → ℕ → ℕ
@@ -22,11 +25,11 @@ expiresAt = 15
 abbrev pub headIn : List ℕ → Head
 headIn s = record { term = number32 s 4; «default_length» = getD s 8 0; last = number32 s lastAt }
 
-abbrev pub headTests : List ℕ → List Bool
-headTests s = leb headSize (length s) ∷ eqb (number16 s 0) (headSize - 2) ∷ eqb (number16 s 2) 1 ∷ []
+abbrev pub headTestsIn : Form → List ℕ → List Bool
+headTestsIn form s = leb headSize (length s) ∷ eqb (number16 s 0) (headSize - 2) ∷ eqb (number16 s 2) (headKind form) ∷ []
 
-unfoldable pub headAt : List ℕ → Option Head
-headAt s = cond (and (headTests s)) (some (headIn s)) none
+unfoldable pub headAtIn : Form → List ℕ → Option Head
+headAtIn form s = cond (and (headTestsIn form s)) (some (headIn s)) none
 
 -- The fields of a lease's record, at their places. A pool's record begins as a lease's does.
 abbrev pub networkIn : List ℕ → ℕ
@@ -57,8 +60,24 @@ poolTests s = leb poolSize (length s) ∷ eqb (number16 s 0) (poolSize - 2) ∷ 
 unfoldable pub poolAt : List ℕ → Option Pool
 poolAt s = cond (and (poolTests s)) (some (poolIn s)) none
 
-abbrev pub leaseIn : List ℕ → Lease
-leaseIn s = record {
+-- Where the length of a name stands in a record of the second form, and the name.
+abbrev pub nameLengthAt : ℕ
+nameLengthAt = 19
+
+abbrev pub nameAt : ℕ
+nameAt = 20
+
+abbrev pub nameFieldIn : Form → List ℕ → Name
+nameFieldIn First s = noName
+nameFieldIn Second s = nameIn (drop nameAt s)
+
+-- A name has the length that it is said to have, so it is not above 24, does not end in zero, and zeros follow it.
+abbrev pub nameTest : Form → List ℕ → Bool
+nameTest First s = true
+nameTest Second s = eqb (getD s nameLengthAt 0) (nameLength (nameIn (drop nameAt s)))
+
+abbrev pub leaseFieldsIn : Form → List ℕ → Lease
+leaseFieldsIn form s = record {
   network = networkIn s;
   length = lengthIn s;
   client = clientIn s;
@@ -66,28 +85,30 @@ leaseIn s = record {
   h = eqb (flagsByteIn s % 2) 1;
   d = eqb (flagsByteIn s / 2 % 2) 1;
   expires = expiresIn s;
+  name = nameFieldIn form s;
 }
 
 -- Nor has an empty slot.
-abbrev pub leaseTests : List ℕ → List Bool
-leaseTests s =
-    leb leaseSize (length s)
-    ∷ eqb (number16 s 0) (leaseSize - 2)
-    ∷ eqb (number16 s 2) 3
+abbrev pub leaseTestsIn : Form → List ℕ → List Bool
+leaseTestsIn form s =
+    leb (leaseSizeIn form) (length s)
+    ∷ eqb (number16 s 0) (leaseSizeIn form - 2)
+    ∷ eqb (number16 s 2) (leaseKind form)
     ∷ leb 1 (stateByteIn s)
     ∷ leb (stateByteIn s) 2
     ∷ leb (flagsByteIn s) 3
-    ∷ not (empty? (leaseIn s))
+    ∷ nameTest form s
+    ∷ not (empty? (leaseFieldsIn form s))
     ∷ []
 
-unfoldable pub leaseAt : List ℕ → Option Lease
-leaseAt s = cond (and (leaseTests s)) (some (leaseIn s)) none
+unfoldable pub leaseAtIn : Form → List ℕ → Option Lease
+leaseAtIn form s = cond (and (leaseTestsIn form s)) (some (leaseFieldsIn form s)) none
 
 abbrev pub poolsAt : List ℕ → Run Pool
 poolsAt s = records poolAt poolSize poolSlots s
 
-abbrev pub leasesAt : List ℕ → Run Lease
-leasesAt s = records leaseAt leaseSize leaseSlots s
+abbrev pub leasesAtIn : Form → List ℕ → Run Lease
+leasesAtIn form s = records (leaseAtIn form) (leaseSizeIn form) leaseSlots s
 
 -- The table with a head, pools and leases, every other slot unused or empty.
 abbrev pub tableWith : Head → List Pool → List Lease → LeaseTable
@@ -103,12 +124,44 @@ tableWith x ps xs = record {
 abbrev pub whole : LeaseTable → List ℕ → Option LeaseTable
 whole t rest = cond (and (eqb (length rest) 0 ∷ sound t ∷ [])) (some t) none
 
-abbrev pub afterHead : Option Head → List ℕ → Option LeaseTable
-afterHead none s = none
-afterHead (some x) s =
+abbrev pub afterHeadIn : Form → Option Head → List ℕ → Option LeaseTable
+afterHeadIn form none s = none
+afterHeadIn form (some x) s =
     let ps = poolsAt s in
-    let xs = leasesAt (ps .rest) in
+    let xs = leasesAtIn form (ps .rest) in
     whole (tableWith x (ps .items) (xs .items)) (xs .rest)
 
-unfoldable pub loadImage : List ℕ → Option LeaseTable
-loadImage s = afterHead (headAt s) (drop headSize s)
+unfoldable pub loadIn : Form → List ℕ → Option LeaseTable
+loadIn form s = afterHeadIn form (headAtIn form s) (drop headSize s)
+
+-- The form of bytes, told by the head's kind: "Load accepts both forms, never a mixture".
+abbrev pub formOf : List ℕ → Form
+formOf s = cond (and (headTestsIn First s)) First Second
+
+abbrev pub loadSaved : List ℕ → Option LeaseTable
+loadSaved s = loadIn (formOf s) s
+
+-- As the calls have them, in the second form.
+abbrev pub headTests : List ℕ → List Bool
+headTests = headTestsIn Second
+
+abbrev pub headAt : List ℕ → Option Head
+headAt = headAtIn Second
+
+abbrev pub leaseIn : List ℕ → Lease
+leaseIn = leaseFieldsIn Second
+
+abbrev pub leaseTests : List ℕ → List Bool
+leaseTests = leaseTestsIn Second
+
+abbrev pub leaseAt : List ℕ → Option Lease
+leaseAt = leaseAtIn Second
+
+abbrev pub leasesAt : List ℕ → Run Lease
+leasesAt = leasesAtIn Second
+
+abbrev pub afterHead : Option Head → List ℕ → Option LeaseTable
+afterHead = afterHeadIn Second
+
+abbrev pub loadImage : List ℕ → Option LeaseTable
+loadImage = loadIn Second

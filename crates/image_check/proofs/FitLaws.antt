@@ -18,9 +18,11 @@ use Rattle.prefix.proofs.PrefixLaws.{aligned-to, aligned-of}
 use Rattle.table.specs.declared.Lease.{Lease}
 use Rattle.table.specs.Table.{leaseRules, leaseOk, empty?}
 use Rattle.table.proofs.TableLaws.{long-not-empty}
+use Rattle.image.specs.declared.Form.{Form}
+use Rattle.image.specs.declared.Form.the-variants.{First, Second}
 use Rattle.image.specs.Fields.{number16, number32}
-use Rattle.image.specs.Image.{leaseSize}
-use Rattle.image.specs.Reading.{leaseIn, leaseTests, leaseAt, clientIn, expiresIn, flagsByteIn, lengthIn, networkIn, stateByteIn}
+use Rattle.image.specs.Image.{leaseSizeIn, leaseKind}
+use Rattle.image.specs.Reading.{leaseFieldsIn, leaseTestsIn, leaseAtIn, nameTest, clientIn, expiresIn, flagsByteIn, lengthIn, networkIn, stateByteIn}
 use Rattle.image.proofs.FieldLaws.{Bytes, start-of}
 use Rattle.image.proofs.ImageLaws.{some-same}
 use Rattle.image_check.specs.declared.Fit.{Fit}
@@ -81,8 +83,16 @@ pub word-bytes : (s : List ℕ) → Bytes s → (word : ℕ) → word ≡ number
 unfolding number32
 word-bytes s bytes word e = (omega (arith, bytes 8, bytes 9, bytes 10), omega (arith, bytes 8, bytes 9, bytes 10), omega (arith, bytes 8, bytes 9, bytes 10))
 
-pub record Fits (last : ℕ) (s : List ℕ) : Type 0 where
-  pub start : number32 s 0 ≡ leaseStart
+pub size-least : (form : Form) → 19 ≤ leaseSizeIn form
+size-least First = omega arith
+size-least Second = omega arith
+
+size-small : (form : Form) → leaseSizeIn form - 2 < 65536
+size-small First = omega arith
+size-small Second = omega arith
+
+pub record Fits (form : Form) (last : ℕ) (s : List ℕ) : Type 0 where
+  pub start : number32 s 0 ≡ leaseStart form
   pub short : 1 ≤ lengthIn s
   pub long : lengthIn s ≤ 30
   pub low : 1 ≤ stateByteIn s
@@ -91,10 +101,11 @@ pub record Fits (last : ℕ) (s : List ℕ) : Type 0 where
   pub client : clientIn s ≡ 0 → ⊥
   pub later : last < expiresIn s
   pub aligned : Aligned (prefixIn s)
+  pub named : nameTest form s ≡ true
 
 -- The fields that were read of a record that fits.
-pub record Met (last : ℕ) (s : List ℕ) (network to expires : ℕ) : Type 0 where
-  pub fits : Fits last s
+pub record Met (form : Form) (last : ℕ) (s : List ℕ) (network to expires : ℕ) : Type 0 where
+  pub fits : Fits form last s
   pub starts : network ≡ networkIn s
   pub ends : to ≡ end (prefixIn s)
   pub until : expires ≡ expiresIn s
@@ -102,12 +113,12 @@ pub record Met (last : ℕ) (s : List ℕ) (network to expires : ℕ) : Type 0 w
 abbrev lease : List ℕ → Fit
 lease s = Fit.Lease (networkIn s) (end (prefixIn s)) (expiresIn s)
 
-module _ (last : ℕ) (s : List ℕ) where
-  pub fits-to : and (fitTests last s) ≡ true → Fits last s
+module _ (form : Form) (last : ℕ) (s : List ℕ) where
+  pub fits-to : and (fitTests form last s) ≡ true → Fits form last s
   fits-to e =
-      let t = and-list-to (fitTests last s) e in
+      let t = and-list-to (fitTests form last s) e in
       record {
-        start = eqb-true (number32 s 0) leaseStart (t .0);
+        start = eqb-true (number32 s 0) (leaseStart form) (t .0);
         short = leb-true 1 (lengthIn s) (t .1 .0);
         long = leb-true (lengthIn s) 30 (t .1 .1 .0);
         low = leb-true 1 (stateByteIn s) (t .1 .1 .1 .0);
@@ -116,12 +127,13 @@ module _ (last : ℕ) (s : List ℕ) where
         client = eqb-false (clientIn s) 0 (not-true (eqb (clientIn s) 0) (t .1 .1 .1 .1 .1 .1 .0));
         later = ltb-true last (expiresIn s) (t .1 .1 .1 .1 .1 .1 .1 .0);
         aligned = aligned-to (prefixIn s) (t .1 .1 .1 .1 .1 .1 .1 .1 .0);
+        named = t .1 .1 .1 .1 .1 .1 .1 .1 .1 .0;
       }
 
-  pub fits-of : Fits last s → and (fitTests last s) ≡ true
+  pub fits-of : Fits form last s → and (fitTests form last s) ≡ true
   fits-of f =
       rw (
-        eq-eqb (number32 s 0) leaseStart (f .start),
+        eq-eqb (number32 s 0) (leaseStart form) (f .start),
         le-leb 1 (lengthIn s) (f .short),
         le-leb (lengthIn s) 30 (f .long),
         le-leb 1 (stateByteIn s) (f .low),
@@ -130,18 +142,19 @@ module _ (last : ℕ) (s : List ℕ) where
         ne-eqb (clientIn s) 0 (f .client),
         lt-ltb last (expiresIn s) (f .later),
         aligned-of (prefixIn s) (f .aligned),
+        f .named,
       )
 
-  pub fit-other : (Fits last s → ⊥) → Fit.Other ≡ fitAt last s
+  pub fit-other : (Fits form last s → ⊥) → Fit.Other ≡ fitAt form last s
   unfolding fitAt
-  fit-other h = sym (cond-false (and (fitTests last s)) (lease s) Fit.Other (not-true⇒false (and (fitTests last s)) (λ e. h (fits-to e))))
+  fit-other h = sym (cond-false (and (fitTests form last s)) (lease s) Fit.Other (not-true⇒false (and (fitTests form last s)) (λ e. h (fits-to e))))
 
-  pub fit-lease : Fits last s → lease s ≡ fitAt last s
+  pub fit-lease : Fits form last s → lease s ≡ fitAt form last s
   unfolding fitAt
-  fit-lease f = sym (cond-true (and (fitTests last s)) (lease s) Fit.Other (fits-of f))
+  fit-lease f = sym (cond-true (and (fitTests form last s)) (lease s) Fit.Other (fits-of f))
 
   -- State and flags of one that fits.
-  pub fits-bytes : Fits last s → (word : ℕ) → word / 256 % 256 ≡ stateByteIn s → word / 65536 % 256 ≡ flagsByteIn s → stateAndFlags? word ≡ true
+  pub fits-bytes : Fits form last s → (word : ℕ) → word / 256 % 256 ≡ stateByteIn s → word / 65536 % 256 ≡ flagsByteIn s → stateAndFlags? word ≡ true
   fits-bytes f word a b =
       and-list-of (bytesOk word) (
         le-leb 1 (word / 256 % 256) (omega (arith, f .low)),
@@ -149,62 +162,62 @@ module _ (last : ℕ) (s : List ℕ) where
       )
 
   -- What an answer tells.
-  pub other-unfit : fitAt last s ≡ Fit.Other → Fits last s → ⊥
+  pub other-unfit : fitAt form last s ≡ Fit.Other → Fits form last s → ⊥
   other-unfit e f = let b = fit-lease f in let z : _≡_ {A = ℕ} 0 1 = cc in omega arith
 
-  pub lease-met : (network to expires : ℕ) → fitAt last s ≡ Fit.Lease network to expires → Met last s network to expires
+  pub lease-met : (network to expires : ℕ) → fitAt form last s ≡ Fit.Lease network to expires → Met form last s network to expires
   lease-met network to expires e =
       ⊎-elim
-      (λ (b : and (fitTests last s) ≡ true).
+      (λ (b : and (fitTests form last s) ≡ true).
       let f = fits-to b in
       let g = fit-lease f in
       record { fits = f; starts = cc; ends = cc; until = cc })
-      (λ (b : and (fitTests last s) ≡ false).
+      (λ (b : and (fitTests form last s) ≡ false).
       let g = fit-other (λ f. true≢false (sym (fits-of f) ∙ b)) in
       let z : _≡_ {A = ℕ} 0 1 = cc in
       absurd (omega arith))
-      (bool-cases (and (fitTests last s)))
+      (bool-cases (and (fitTests form last s)))
 
   -- A record that fits is read.
-  module _ (bytes : Bytes s) (whole : leaseSize ≤ length s) where
-    pub fits-read : Fits last s → leaseAt s ≡ some (leaseIn s)
-    unfolding leaseAt number16 number32
+  module _ (bytes : Bytes s) (whole : leaseSizeIn form ≤ length s) where
+    pub fits-read : Fits form last s → leaseAtIn form s ≡ some (leaseFieldsIn form s)
+    unfolding leaseAtIn number16 number32
     fits-read f =
-        let start = start-of s bytes (leaseSize - 2) 3 (omega arith) (f .start) in
-        cond-true (and (leaseTests s)) (some (leaseIn s)) none
-        (and-list-of (leaseTests s) (
-          le-leb leaseSize (length s) whole,
+        let start = start-of s bytes (leaseSizeIn form - 2) (leaseKind form) (size-small form) (f .start) in
+        cond-true (and (leaseTestsIn form s)) (some (leaseFieldsIn form s)) none
+        (and-list-of (leaseTestsIn form s) (
+          le-leb (leaseSizeIn form) (length s) whole,
           (
-            eq-eqb (number16 s 0) (leaseSize - 2) (start .0),
+            eq-eqb (number16 s 0) (leaseSizeIn form - 2) (start .0),
             (
-              eq-eqb (number16 s 2) 3 (start .1),
+              eq-eqb (number16 s 2) (leaseKind form) (start .1),
               (
                 le-leb 1 (stateByteIn s) (f .low),
                 (
                   le-leb (stateByteIn s) 2 (f .high),
-                  (le-leb (flagsByteIn s) 3 (f .flags), (not-of (empty? (leaseIn s)) (long-not-empty (leaseIn s) (f .short)), tt)),
+                  (le-leb (flagsByteIn s) 3 (f .flags), (f .named, (not-of (empty? (leaseFieldsIn form s)) (long-not-empty (leaseFieldsIn form s) (f .short)), tt))),
                 ),
               ),
             ),
           ),
         ))
 
-  pub fits-ok : (qs : List Prefix) → Fits last s → any? (inside? (prefixIn s)) qs ≡ true → leaseOk qs last (leaseIn s) ≡ true
+  pub fits-ok : (qs : List Prefix) → Fits form last s → any? (inside? (prefixIn s)) qs ≡ true → leaseOk qs last (leaseFieldsIn form s) ≡ true
   unfolding leaseOk
   fits-ok qs f e =
-      and-list-of (leaseRules qs last (leaseIn s))
+      and-list-of (leaseRules qs last (leaseFieldsIn form s))
       (le-leb 1 (lengthIn s) (f .short), (le-leb (lengthIn s) 30 (f .long), (aligned-of (prefixIn s) (f .aligned), (not-of (eqb (clientIn s) 0) (ne-eqb (clientIn s) 0 (f .client)), (lt-ltb last (expiresIn s) (f .later), (e, tt))))))
 
   -- A record that is read and is as a sound table has it fits.
-  pub read-fits : (qs : List Prefix) (x : Lease) → leaseAt s ≡ some x → leaseOk qs last x ≡ true
-      → Fits last s × (x ≡ leaseIn s) × (any? (inside? (prefixIn s)) qs ≡ true)
-  unfolding leaseAt leaseOk number16 number32
+  pub read-fits : (qs : List Prefix) (x : Lease) → leaseAtIn form s ≡ some x → leaseOk qs last x ≡ true
+      → Fits form last s × (x ≡ leaseFieldsIn form s) × (any? (inside? (prefixIn s)) qs ≡ true)
+  unfolding leaseAtIn leaseOk number16 number32
   read-fits qs x r o =
-      let p = some-same (and (leaseTests s)) (leaseIn s) x r in
-      let t = and-list-to (leaseTests s) (p .0) in
-      let u = and-list-to (leaseRules qs last (leaseIn s)) (ap (leaseOk qs last) (p .1) ∙ o) in (
+      let p = some-same (and (leaseTestsIn form s)) (leaseFieldsIn form s) x r in
+      let t = and-list-to (leaseTestsIn form s) (p .0) in
+      let u = and-list-to (leaseRules qs last (leaseFieldsIn form s)) (ap (leaseOk qs last) (p .1) ∙ o) in (
         record {
-          start = omega (arith, eqb-true (number16 s 0) (leaseSize - 2) (t .1 .0), eqb-true (number16 s 2) 3 (t .1 .1 .0));
+          start = omega (arith, eqb-true (number16 s 0) (leaseSizeIn form - 2) (t .1 .0), eqb-true (number16 s 2) (leaseKind form) (t .1 .1 .0));
           short = leb-true 1 (lengthIn s) (u .0);
           long = leb-true (lengthIn s) 30 (u .1 .0);
           low = leb-true 1 (stateByteIn s) (t .1 .1 .1 .0);
@@ -213,6 +226,7 @@ module _ (last : ℕ) (s : List ℕ) where
           client = eqb-false (clientIn s) 0 (not-true (eqb (clientIn s) 0) (u .1 .1 .1 .0));
           later = ltb-true last (expiresIn s) (u .1 .1 .1 .1 .0);
           aligned = aligned-to (prefixIn s) (u .1 .1 .0);
+          named = t .1 .1 .1 .1 .1 .1 .0;
         },
         sym (p .1),
         u .1 .1 .1 .1 .1 .0,

@@ -15,10 +15,11 @@ use Rattle.lists.proofs.Tests.{and-list-to}
 use Rattle.table.specs.declared.Pool.{Pool}
 use Rattle.table.specs.declared.Lease.{Lease}
 use Rattle.table.specs.Table.{poolSlots, unused?, empty?}
+use Rattle.image.specs.declared.Form.{Form}
 use Rattle.image.specs.Fields.{Run, onItem, records}
-use Rattle.image.specs.Image.{poolSize, leaseSize}
-use Rattle.image.specs.Reading.{poolIn, poolTests, poolAt, leaseIn, leaseTests, leaseAt, poolsAt}
-use Rattle.image.proofs.ImageLaws.{some-same, pool-long, lease-long}
+use Rattle.image.specs.Image.{poolSize, leaseSizeIn}
+use Rattle.image.specs.Reading.{poolIn, poolTests, poolAt, leaseFieldsIn, leaseTestsIn, leaseAtIn, poolsAt}
+use Rattle.image.proofs.ImageLaws.{some-same, pool-long, lease-long-in}
 
 -- A part from a place to the end is the rest.
 pub part-rest : (s : List ℕ) (at : ℕ) → take (length s - at) (drop at s) ≡ drop at s
@@ -74,12 +75,13 @@ pool-known b p e =
 pub pools-taken : (s : List ℕ) → Taken poolSize poolIn (λ p. unused? p ≡ false) poolSlots s (poolsAt s)
 pools-taken s = taken poolAt poolSize poolIn (λ p. unused? p ≡ false) pool-known poolSlots s
 
-pub lease-known : (b : List ℕ) (x : Lease) → leaseAt b ≡ some x → (leaseSize ≤ length b) × (x ≡ leaseIn b) × (empty? x ≡ false)
-unfolding leaseAt
-lease-known b x e =
-    let q = some-same (and (leaseTests b)) (leaseIn b) x e in
-    let t = and-list-to (leaseTests b) (q .0) in
-    (lease-long b x e, sym (q .1), ap empty? (sym (q .1)) ∙ not-true (empty? (leaseIn b)) (t .1 .1 .1 .1 .1 .1 .0))
+pub lease-known : (form : Form) (b : List ℕ) (x : Lease) → leaseAtIn form b ≡ some x → (leaseSizeIn form ≤ length b) × (x ≡ leaseFieldsIn form b) × (empty? x ≡ false)
+unfolding leaseAtIn
+lease-known form b x e =
+    let q = some-same (and (leaseTestsIn form b)) (leaseFieldsIn form b) x e in
+    let t = and-list-to (leaseTestsIn form b) (q .0) in
+    (lease-long-in form b x e, sym (q .1), ap empty? (sym (q .1)) ∙ not-true (empty? (leaseFieldsIn form b)) (t .1 .1 .1 .1 .1 .1 .1 .0))
 
-pub leases-taken : (limit : ℕ) (s : List ℕ) → Taken leaseSize leaseIn (λ x. empty? x ≡ false) limit s (records leaseAt leaseSize limit s)
-leases-taken limit s = taken leaseAt leaseSize leaseIn (λ x. empty? x ≡ false) lease-known limit s
+pub leases-taken : (form : Form) (limit : ℕ) (s : List ℕ)
+    → Taken (leaseSizeIn form) (leaseFieldsIn form) (λ x. empty? x ≡ false) limit s (records (leaseAtIn form) (leaseSizeIn form) limit s)
+leases-taken form limit s = taken (leaseAtIn form) (leaseSizeIn form) (leaseFieldsIn form) (λ x. empty? x ≡ false) (lease-known form) limit s

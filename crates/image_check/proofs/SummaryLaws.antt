@@ -23,9 +23,10 @@ use Rattle.table.specs.Table.{poolSlots, leaseSlots, noPool, noLease, poolPrefi
 use Rattle.table.proofs.Ascending.{blanks}
 use Rattle.table.proofs.TableLaws.{unused-of, empty-of, sound-tests, length-padded}
 use Rattle.image.specs.declared.Head.{Head}
+use Rattle.image.specs.declared.Form.{Form}
 use Rattle.image.specs.Fields.{Run}
-use Rattle.image.specs.Image.{leaseSize, loadedTable, poolSize}
-use Rattle.image.specs.Reading.{leaseAt, poolsAt, leasesAt, tableWith, afterHead, networkIn}
+use Rattle.image.specs.Image.{leaseSizeIn, loadedTable, poolSize}
+use Rattle.image.specs.Reading.{leaseAtIn, poolsAt, leasesAtIn, tableWith, afterHeadIn, networkIn}
 use Rattle.image.proofs.FieldLaws.{records-none, records-some}
 use Rattle.image.proofs.ImageLaws.{used-pools, used-leases}
 use Rattle.image_check.specs.declared.ImageSummary.{ImageSummary}
@@ -33,7 +34,7 @@ use Rattle.image_check.specs.ImageSummary.{unsound, summaryOf}
 use Rattle.image_check.specs.Inner.{poolCount, prefixIn, due, Begun}
 use Rattle.image_check.specs.InnerPass.{summaryWith, due?, left?, ending, leasesFrom}
 use Rattle.image_check.proofs.RunLaws.{pools-taken, lease-known, leases-taken}
-use Rattle.image_check.proofs.FitLaws.{Fits, read-fits}
+use Rattle.image_check.proofs.FitLaws.{size-least, Fits, read-fits}
 
 -- WHAT IS READ AS A TABLE
 
@@ -79,25 +80,25 @@ module _ (x : Head) (ps : List Pool) (xs : List Lease) (few : length ps ≤ pool
 -- WHAT IS LEFT
 
 -- The bytes after a head: the pools, and the leases after them.
-module _ (x : Head) (s : List ℕ) where
+module _ (form : Form) (x : Head) (s : List ℕ) where
   abbrev ps : List Pool
   ps = poolsAt s .items
 
   abbrev xs : Run Lease
-  xs = leasesAt (poolsAt s .rest)
+  xs = leasesAtIn form (poolsAt s .rest)
 
-  read-summary : (time : ℕ) → summaryOf time (afterHead (some x) s)
+  read-summary : (time : ℕ) → summaryOf time (afterHeadIn form (some x) s)
       ≡ cond (and (eqb (length (xs .rest)) 0 ∷ (headOk (x .term) (x .«default_length») (x .last) && (ltb 0 (length ps) && (poolsAscend? ps && leasesAscend? (map poolPrefix ps) (x .last) 0 (xs .items)))) ∷ []))
       (summaryWith x (length ps) (length (xs .items)) (length (filter (due? time) (xs .items)))) unsound
   read-summary time =
       let p = pools-taken s in
-      let q = leases-taken leaseSlots (poolsAt s .rest) in
+      let q = leases-taken form leaseSlots (poolsAt s .rest) in
       table-summary x ps (xs .items) (p .few) (q .few) (p .each) (q .each) time (and (eqb (length (xs .rest)) 0 ∷ sound (tableWith x ps (xs .items)) ∷ []))
       ∙ ap (λ (b : Bool). cond (and (eqb (length (xs .rest)) 0 ∷ b ∷ [])) (summaryWith x (length ps) (length (xs .items)) (length (filter (due? time) (xs .items)))) unsound)
       (table-sound x ps (xs .items) (p .few) (q .few) (p .each) (q .each))
 
   -- A head or pools that no sound table has.
-  pub read-unsound : (time : ℕ) → (headOk (x .term) (x .«default_length») (x .last) ≡ false) ⊎ (poolCount ps ≡ 0) → summaryOf time (afterHead (some x) s) ≡ unsound
+  pub read-unsound : (time : ℕ) → (headOk (x .term) (x .«default_length») (x .last) ≡ false) ⊎ (poolCount ps ≡ 0) → summaryOf time (afterHeadIn form (some x) s) ≡ unsound
   read-unsound time bad =
       let rules : List Bool = eqb (length (xs .rest)) 0 ∷ (headOk (x .term) (x .«default_length») (x .last) && (ltb 0 (length ps) && (poolsAscend? ps && leasesAscend? (map poolPrefix ps) (x .last) 0 (xs .items)))) ∷ [] in
       read-summary time ∙ cond-false (and rules) _ _ (not-true⇒false (and rules) (λ e. none-sound (headOk (x .term) (x .«default_length») (x .last)) (poolsAscend? ps) (leasesAscend? (map poolPrefix ps) (x .last) 0 (xs .items)) (length ps) (and-list-to rules e .1 .0) bad))
@@ -112,7 +113,7 @@ module _ (x : Head) (s : List ℕ) where
           bad
 
   module _ (n : ℕ) (begun : Begun x s n) where
-    pub read-begun : (time : ℕ) → summaryOf time (afterHead (some x) s) ≡ ending x time n (map poolPrefix ps) 0 0 0 (leasesFrom leaseSlots (drop (poolSize * n) s))
+    pub read-begun : (time : ℕ) → summaryOf time (afterHeadIn form (some x) s) ≡ ending x time n (map poolPrefix ps) 0 0 0 (leasesFrom form leaseSlots (drop (poolSize * n) s))
     read-begun time =
         let qs : List Prefix = map poolPrefix ps in
         let rest : Bool = leasesAscend? qs (x .last) 0 (xs .items) in
@@ -122,7 +123,7 @@ module _ (x : Head) (s : List ℕ) where
         ∙ ap (λ (b : Bool). cond (and (eqb (length (xs .rest)) 0 ∷ b ∷ [])) (summaryWith x (length ps) (length (xs .items)) (length (filter (due? time) (xs .items)))) unsound) ok
         ∙ ap (λ (m : ℕ). cond (left? qs (x .last) 0 xs) (summaryWith x m (length (xs .items)) (length (filter (due? time) (xs .items)))) unsound) (sym (begun .counted))
         ∙ ap₂ (λ (l e : ℕ). cond (left? qs (x .last) 0 xs) (summaryWith x n l e) unsound) (omega arith) (omega arith)
-        ∙ ap (λ (u : List ℕ). ending x time n qs 0 0 0 (leasesFrom leaseSlots u)) (pools-taken s .rest ∙ ap (λ (m : ℕ). drop (poolSize * m) s) (sym (begun .counted)))
+        ∙ ap (λ (u : List ℕ). ending x time n qs 0 0 0 (leasesFrom form leaseSlots u)) (pools-taken s .rest ∙ ap (λ (m : ℕ). drop (poolSize * m) s) (sym (begun .counted)))
 
 -- One lease further.
 module _ (x : Head) (time n : ℕ) (qs : List Prefix) where
@@ -140,40 +141,40 @@ module _ (x : Head) (time n : ℕ) (qs : List Prefix) where
       (λ (t : due? time y ≡ false). omega (arith, ap length (filter-no (due? time) y ys t), cond-false {A = ℕ} (leb (y .expires) time) 1 0 t))
       (bool-cases (due? time y))
 
-  module _ (low k : ℕ) (u : List ℕ) (y : Lease) (read : leaseAt u ≡ some y) where
+  module _ (form : Form) (low k : ℕ) (u : List ℕ) (y : Lease) (read : leaseAtIn form u ≡ some y) where
     abbrev later : Run Lease
-    later = leasesFrom k (drop leaseSize u)
+    later = leasesFrom form k (drop (leaseSizeIn form) u)
 
     ascends-first : leasesAscend? qs (x .last) low (y ∷ later .items) ≡ leb low (y .network) && (leaseOk qs (x .last) y && leasesAscend? qs (x .last) (end (prefixOf y)) (later .items))
     unfolding ascends?
-    ascends-first = cond-false (empty? y) _ _ (lease-known u y read .2)
+    ascends-first = cond-false (empty? y) _ _ (lease-known form u y read .2)
 
     pub ending-next : (i e : ℕ) → low ≤ y .network → leaseOk qs (x .last) y ≡ true
-        → ending x time n qs i e low (leasesFrom (suc k) u) ≡ ending x time n qs (i + 1) (e + due (y .expires) time) (end (prefixOf y)) later
+        → ending x time n qs i e low (leasesFrom form (suc k) u) ≡ ending x time n qs (i + 1) (e + due (y .expires) time) (end (prefixOf y)) later
     ending-next i e l o =
         let rest : Bool = leasesAscend? qs (x .last) (end (prefixOf y)) (later .items) in
         let ok : (leb low (y .network) && (leaseOk qs (x .last) y && rest)) ≡ rest = rw (le-leb low (y .network) l, o) in
-        ap (ending x time n qs i e low) (records-some leaseAt leaseSize k u y read)
+        ap (ending x time n qs i e low) (records-some (leaseAtIn form) (leaseSizeIn form) k u y read)
         ∙ ap₂ (λ (b : Bool) (summary : ImageSummary). cond (and (eqb (length (later .rest)) 0 ∷ b ∷ [])) summary unsound)
         (ascends-first ∙ ok)
         (ap₂ (summaryWith x n) (omega arith) (one-more e y (later .items)))
 
-    left-some : left? qs (x .last) low (leasesFrom (suc k) u) ≡ true → Fits (x .last) u × (low ≤ networkIn u) × (any? (inside? (prefixIn u)) qs ≡ true)
+    left-some : left? qs (x .last) low (leasesFrom form (suc k) u) ≡ true → Fits form (x .last) u × (low ≤ networkIn u) × (any? (inside? (prefixIn u)) qs ≡ true)
     left-some e =
-        let t = and-list-to (eqb (length (later .rest)) 0 ∷ leasesAscend? qs (x .last) low (y ∷ later .items) ∷ []) (ap (left? qs (x .last) low) (sym (records-some leaseAt leaseSize k u y read)) ∙ e) in
+        let t = and-list-to (eqb (length (later .rest)) 0 ∷ leasesAscend? qs (x .last) low (y ∷ later .items) ∷ []) (ap (left? qs (x .last) low) (sym (records-some (leaseAtIn form) (leaseSizeIn form) k u y read)) ∙ e) in
         let a = and-to (leb low (y .network)) _ (sym ascends-first ∙ t .1 .0) in
-        let f = read-fits (x .last) u qs y read (and-to (leaseOk qs (x .last) y) _ (a .1) .0) in
+        let f = read-fits form (x .last) u qs y read (and-to (leaseOk qs (x .last) y) _ (a .1) .0) in
         (f .0, subst (λ (z : Lease). low ≤ z .network) (f .1) (leb-true low (y .network) (a .0)), f .2)
 
-  pub left-fits : (low k : ℕ) (u : List ℕ) → leaseSize ≤ length u → left? qs (x .last) low (leasesFrom (suc k) u) ≡ true
-      → Fits (x .last) u × (low ≤ networkIn u) × (any? (inside? (prefixIn u)) qs ≡ true)
-  left-fits low k u long e = cases (leaseAt u) refl
+  pub left-fits : (form : Form) (low k : ℕ) (u : List ℕ) → leaseSizeIn form ≤ length u → left? qs (x .last) low (leasesFrom form (suc k) u) ≡ true
+      → Fits form (x .last) u × (low ≤ networkIn u) × (any? (inside? (prefixIn u)) qs ≡ true)
+  left-fits form low k u long e = cases (leaseAtIn form u) refl
     where
-      cases : (o : Option Lease) → leaseAt u ≡ o → Fits (x .last) u × (low ≤ networkIn u) × (any? (inside? (prefixIn u)) qs ≡ true)
+      cases : (o : Option Lease) → leaseAtIn form u ≡ o → Fits form (x .last) u × (low ≤ networkIn u) × (any? (inside? (prefixIn u)) qs ≡ true)
       cases none read =
-          let t = and-list-to (eqb (length u) 0 ∷ leasesAscend? qs (x .last) low [] ∷ []) (ap (left? qs (x .last) low) (sym (records-none leaseAt leaseSize (suc k) u read)) ∙ e) in
-          absurd (omega (arith, eqb-true (length u) 0 (t .0)))
-      cases (some y) read = left-some low k u y read e
+          let t = and-list-to (eqb (length u) 0 ∷ leasesAscend? qs (x .last) low [] ∷ []) (ap (left? qs (x .last) low) (sym (records-none (leaseAtIn form) (leaseSizeIn form) (suc k) u read)) ∙ e) in
+          absurd (omega (arith, eqb-true (length u) 0 (t .0), size-least form))
+      cases (some y) read = left-some form low k u y read e
 
 -- WHAT A SUMMARY TELLS
 

@@ -11,9 +11,10 @@ use Rattle.prefix.specs.Prefixes.{shortest, longest, prefix, end, aligned?}
 use Rattle.table.specs.declared.Pool.{Pool}
 use Rattle.table.specs.Table.{poolPrefix, headOk, poolOk, poolsAscend?}
 use Rattle.image.specs.declared.Head.{Head}
+use Rattle.image.specs.declared.Form.{Form}
 use Rattle.image.specs.Fields.{number32}
-use Rattle.image.specs.Image.{poolSize, leaseSize}
-use Rattle.image.specs.Reading.{startOf, poolsAt, clientIn, expiresIn, flagsByteIn, lengthIn, networkIn, stateByteIn}
+use Rattle.image.specs.Image.{poolSize, leaseSizeIn, leaseKind}
+use Rattle.image.specs.Reading.{startOf, poolsAt, clientIn, expiresIn, flagsByteIn, lengthIn, networkIn, stateByteIn, nameTest}
 use Rattle.image_check.specs.declared.Fit.{Fit}
 
 -- The end of a pool, and 0 of one that is not as a sound table has it.
@@ -28,8 +29,8 @@ poolCount ps = cond (poolsAscend? ps) (length ps) 0
 abbrev pub poolStart : ℕ
 poolStart = startOf poolSize 2
 
-abbrev pub leaseStart : ℕ
-leaseStart = startOf leaseSize 3
+abbrev pub leaseStart : Form → ℕ
+leaseStart form = startOf (leaseSizeIn form) (leaseKind form)
 
 -- A pool record begins here, be it of an unused slot.
 abbrev pub poolBegins? : List ℕ → Bool
@@ -47,9 +48,9 @@ abbrev pub stateAndFlags? : ℕ → Bool
 stateAndFlags? word = and (leb 1 (word / 256 % 256) ∷ leb (word / 256 % 256) 2 ∷ leb (word / 65536 % 256) 3 ∷ [])
 
 -- A lease record whose fields are as a sound table has them, wherever the lease lies.
-abbrev pub fitTests : ℕ → List ℕ → List Bool
-fitTests last s =
-    eqb (number32 s 0) leaseStart
+abbrev pub fitTests : Form → ℕ → List ℕ → List Bool
+fitTests form last s =
+    eqb (number32 s 0) (leaseStart form)
     ∷ leb shortest (lengthIn s)
     ∷ leb (lengthIn s) longest
     ∷ leb 1 (stateByteIn s)
@@ -58,10 +59,11 @@ fitTests last s =
     ∷ not (eqb (clientIn s) 0)
     ∷ ltb last (expiresIn s)
     ∷ aligned? (prefixIn s)
+    ∷ nameTest form s
     ∷ []
 
-unfoldable pub fitAt : ℕ → List ℕ → Fit
-fitAt last s = cond (and (fitTests last s)) (Fit.Lease (networkIn s) (end (prefixIn s)) (expiresIn s)) Fit.Other
+unfoldable pub fitAt : Form → ℕ → List ℕ → Fit
+fitAt form last s = cond (and (fitTests form last s)) (Fit.Lease (networkIn s) (end (prefixIn s)) (expiresIn s)) Fit.Other
 
 -- 1 for a lease that has expired.
 abbrev pub due : ℕ → ℕ → ℕ

@@ -12,9 +12,10 @@ use Rattle.prefix.specs.Prefixes.{inside?}
 use Rattle.table.specs.declared.Lease.{Lease}
 use Rattle.table.specs.Table.{leaseSlots, poolPrefix, leasesAscend?}
 use Rattle.image.specs.declared.Head.{Head}
+use Rattle.image.specs.declared.Form.{Form}
 use Rattle.image.specs.Fields.{Run, records}
-use Rattle.image.specs.Image.{leaseSize, poolSize}
-use Rattle.image.specs.Reading.{leaseAt, poolsAt, afterHead, networkIn}
+use Rattle.image.specs.Image.{leaseSizeIn, poolSize}
+use Rattle.image.specs.Reading.{leaseAtIn, poolsAt, afterHeadIn, networkIn}
 use Rattle.image_check.specs.declared.{ImageSummary.ImageSummary, Pass.Pass}
 use Rattle.image_check.specs.ImageSummary.{unsound, summaryOf}
 use Rattle.image_check.specs.Inner.{prefixIn, nthPool, fitTests}
@@ -42,29 +43,30 @@ left? qs last low r = and (eqb (length (r .rest)) 0 ∷ leasesAscend? qs last lo
 abbrev pub ending : Head → ℕ → ℕ → List Prefix → ℕ → ℕ → ℕ → Run Lease → ImageSummary
 ending x time n qs i e low r = cond (left? qs (x .last) low r) (summaryWith x n (i + length (r .items)) (e + length (filter (due? time) (r .items)))) unsound
 
-abbrev pub leasesFrom : ℕ → List ℕ → Run Lease
-leasesFrom limit s = records leaseAt leaseSize limit s
+abbrev pub leasesFrom : Form → ℕ → List ℕ → Run Lease
+leasesFrom form limit s = records (leaseAtIn form) (leaseSizeIn form) limit s
 
 abbrev pub poolsIn : List ℕ → List Prefix
 poolsIn s = map poolPrefix (poolsAt s .items)
 
 -- After i leases, of which some have expired and which end at `low`, up to a position: the answer for the whole is that for what is left.
-abbrev pub Answered : Head → List ℕ → ℕ → ℕ → ℕ → ℕ → ℕ → ℕ → Type 0
-Answered x s n time low i expired at = summaryOf time (afterHead (some x) s) ≡ ending x time n (poolsIn s) i expired low (leasesFrom (leaseSlots - i) (drop at s))
+abbrev pub Answered : Form → Head → List ℕ → ℕ → ℕ → ℕ → ℕ → ℕ → ℕ → Type 0
+Answered form x s n time low i expired at =
+    summaryOf time (afterHeadIn form (some x) s) ≡ ending x time n (poolsIn s) i expired low (leasesFrom form (leaseSlots - i) (drop at s))
 
 -- What is left of the bytes has the size of so many leases.
-pub record Left (s : List ℕ) (p : Pass) : Type 0 where
+pub record Left (form : Form) (s : List ℕ) (p : Pass) : Type 0 where
   pub left : ℕ
-  pub ends : p .at + leaseSize * left ≡ length s
+  pub ends : p .at + leaseSizeIn form * left ≡ length s
   pub few : p .expired ≤ p .at
 
 -- A pass went through the leases of the first k pools: a lease that is left, in a sound table, lies in none of these.
-pub record Reached (x : Head) (s : List ℕ) (n time k : ℕ) (p : Pass) : Type 0 where
+pub record Reached (form : Form) (x : Head) (s : List ℕ) (n time k : ℕ) (p : Pass) : Type 0 where
   pub leases : ℕ
   pub low : ℕ
-  pub size : length s ≤ poolSize * n + leaseSize * leaseSlots
-  pub place : p .at ≡ poolSize * n + leaseSize * leases
+  pub size : length s ≤ poolSize * n + leaseSizeIn form * leaseSlots
+  pub place : p .at ≡ poolSize * n + leaseSizeIn form * leases
   pub below : k < n → low ≤ nthPool s k .network
-  pub passed : (j : ℕ) → j < k → p .at < length s → and (fitTests (x .last) (drop (p .at) s)) ≡ true → low ≤ networkIn (drop (p .at) s)
+  pub passed : (j : ℕ) → j < k → p .at < length s → and (fitTests form (x .last) (drop (p .at) s)) ≡ true → low ≤ networkIn (drop (p .at) s)
       → inside? (prefixIn (drop (p .at) s)) (nthPool s j) ≡ false
-  pub same : Answered x s n time low leases (p .expired) (p .at)
+  pub same : Answered form x s n time low leases (p .expired) (p .at)

@@ -1,4 +1,6 @@
 // Whether bytes are the image of a sound table, in one pass over the bytes: no table is made.
+use image::FIRST_LEASE;
+use image::Form;
 use image::HEAD;
 use image::Head;
 use image::LEASE;
@@ -11,12 +13,12 @@ use table::Pool;
 ghost use mathlib.Core.Path.{_≡_};
 ghost use mathlib.Core.Bool.{cond};
 ghost use mathlib.Core.Option.{some};
-ghost use Prim.Native.Nat.{ℕ, _+_, _*_, _≤_, _<_};
+ghost use Prim.Native.Nat.{ℕ, _+_, _*_, _/_, _≤_, _<_};
 ghost use lib.ListN.{length, drop};
 ghost use Rattle.image.specs.declared.Head.{Head};
 ghost use Rattle.table.specs.Table.{poolSlots, unused?};
-ghost use Rattle.image.specs.Image.{poolSize, leaseSize};
-ghost use Rattle.image.specs.Reading.{poolsAt, afterHead, loadImage};
+ghost use Rattle.image.specs.Image.{poolSize, leaseSizeIn};
+ghost use Rattle.image.specs.Reading.{poolsAt, nameTest, afterHeadIn, loadIn, loadImage};
 ghost use Rattle.image_check.specs.ImageSummary.{unsound, summaryOf};
 ghost use Rattle.image_check.specs.Inner.{poolEnd, poolCount, poolBegins?, nthPool, stateAndFlags?, fitAt, due, Begun};
 ghost use Rattle.image_check.specs.InnerPass.{Left, Reached};
@@ -137,12 +139,23 @@ fn state_and_flags(word: u32) -> bool
     next / 262144 % 64 == 0
 }
 
-// The lease record at the front of the bytes.
-fn fit_at(s: &[u8], last: u32) -> Fit
-    requires { ⌜ leaseSize ≤ length (now s) ⌝ }
-    ensures { λ r. ⌜ r ≡ fitAt last (now (s .entry)) ⌝ }
+// Whether the name in a record is as long as its length says.
+fn name_fits(form: Form, s: &[u8]) -> bool
+    requires { ⌜ leaseSizeIn form ≤ length (now s) ⌝ }
+    ensures { λ r. ⌜ r ≡ nameTest form (now (s .entry)) ⌝ }
 {
-    if image::read32(s, 0) != image::LEASE_START {
+    match form {
+        Form::First => true,
+        Form::Second => s[image::NAME_LENGTH] == names::length(names::name_at(s, image::NAME)),
+    }
+}
+
+// The lease record at the front of the bytes.
+fn fit_at(form: Form, s: &[u8], last: u32) -> Fit
+    requires { ⌜ leaseSizeIn form ≤ length (now s) ⌝ }
+    ensures { λ r. ⌜ r ≡ fitAt form last (now (s .entry)) ⌝ }
+{
+    if image::read32(s, 0) != image::lease_start(form) {
         return Fit::Other;
     }
     let word = image::read32(s, image::LENGTH);
@@ -157,6 +170,9 @@ fn fit_at(s: &[u8], last: u32) -> Fit
     }
     let expires = image::read32(s, image::EXPIRES);
     if expires <= last {
+        return Fit::Other;
+    }
+    if !name_fits(form, s) {
         return Fit::Other;
     }
     Fit::Lease {
@@ -180,12 +196,13 @@ struct Pass {
 }
 
 // The leases from a place on that lie in a pool, in order. The pass stops at the first record that is not one of them.
-fn in_pool(s: &[u8], p: Prefix, from: Pass, last: u32, time: u32) -> Pass
-    requires { ⌜ Left (now s) from ⌝ }
-    ensures { λ r. ⌜ Left (now (s .entry)) r ⌝ }
+fn in_pool(form: Form, s: &[u8], p: Prefix, from: Pass, last: u32, time: u32) -> Pass
+    requires { ⌜ Left form (now s) from ⌝ }
+    ensures { λ r. ⌜ Left form (now (s .entry)) r ⌝ }
     ensures { λ r. ⌜ ((x : Head) (n k : ℕ) → Begun x (now (s .entry)) n → x .last ≡ last → k < n → p ≡ nthPool (now (s .entry)) k
-        → Reached x (now (s .entry)) n time k from → Reached x (now (s .entry)) n time (k + 1) r) ⌝ }
+        → Reached form x (now (s .entry)) n time k from → Reached form x (now (s .entry)) n time (k + 1) r) ⌝ }
 {
+    let size = image::lease_size(form);
     let stop = p.end();
     let mut low = p.network as u64;
     let mut expired = from.expired;
@@ -195,7 +212,7 @@ fn in_pool(s: &[u8], p: Prefix, from: Pass, last: u32, time: u32) -> Pass
             network,
             end,
             expires,
-        } = fit_at(&s[at..], last)
+        } = fit_at(form, &s[at..], last)
         else {
             return Pass { at, expired };
         };
@@ -207,22 +224,32 @@ fn in_pool(s: &[u8], p: Prefix, from: Pass, last: u32, time: u32) -> Pass
         }
         low = end;
         expired = expired + due(expires, time);
-        at = at + LEASE;
+        at = at + size;
     }
     Pass { at, expired }
 }
 
+// How many leases so many bytes have, each division by a constant.
+fn leases_of(form: Form, bytes: usize) -> usize
+    ensures { λ r. ⌜ r ≡ bytes / leaseSizeIn form ⌝ }
+{
+    match form {
+        Form::First => bytes / FIRST_LEASE,
+        Form::Second => bytes / LEASE,
+    }
+}
+
 // The leases after n pools, and nothing after them. Pools and leases both ascend, so the leases of one pool stand together, before those of the next.
-fn leases_in(head: Head, s: &[u8], n: usize, time: u32) -> ImageSummary
+fn leases_in(form: Form, head: Head, s: &[u8], n: usize, time: u32) -> ImageSummary
     requires { ⌜ Begun head (now s) n ⌝ }
-    ensures { λ r. ⌜ r ≡ summaryOf time (afterHead (some head) (now (s .entry))) ⌝ }
+    ensures { λ r. ⌜ r ≡ summaryOf time (afterHeadIn form (some head) (now (s .entry))) ⌝ }
 {
     let from = POOL * n;
-    let count = (s.len() - from) / LEASE;
+    let count = leases_of(form, s.len() - from);
     if LEASES < count {
         return unsound();
     }
-    if from + LEASE * count != s.len() {
+    if from + image::lease_size(form) * count != s.len() {
         return unsound();
     }
     let mut pass = Pass {
@@ -234,7 +261,7 @@ fn leases_in(head: Head, s: &[u8], n: usize, time: u32) -> ImageSummary
         if n <= k {
             return unsound();
         }
-        pass = in_pool(s, pool(s, k), pass, head.last, time);
+        pass = in_pool(form, s, pool(s, k), pass, head.last, time);
         k = k + 1;
     }
     ImageSummary {
@@ -250,11 +277,11 @@ fn leases_in(head: Head, s: &[u8], n: usize, time: u32) -> ImageSummary
 
 // THE PASS
 
-// What the bytes are the image of, at a time.
-pub fn check(image: &[u8], time: u32) -> ImageSummary
-    ensures { λ r. ⌜ r ≡ summaryOf time (loadImage (now (image .entry))) ⌝ }
+// What the bytes are the image of in a form, at a time.
+pub fn check_in(form: Form, image: &[u8], time: u32) -> ImageSummary
+    ensures { λ r. ⌜ r ≡ summaryOf time (loadIn form (now (image .entry))) ⌝ }
 {
-    if !image::head_begins(image) {
+    if !image::head_begins(form, image) {
         return unsound();
     }
     let head = image::head_in(image);
@@ -265,5 +292,12 @@ pub fn check(image: &[u8], time: u32) -> ImageSummary
     if n == 0 {
         return unsound();
     }
-    leases_in(head, &image[HEAD..], n, time)
+    leases_in(form, head, &image[HEAD..], n, time)
+}
+
+// In the form that the calls work on.
+pub fn check(image: &[u8], time: u32) -> ImageSummary
+    ensures { λ r. ⌜ r ≡ summaryOf time (loadImage (now (image .entry))) ⌝ }
+{
+    check_in(Form::Second, image, time)
 }

@@ -13,7 +13,7 @@ use Rattle.table.specs.declared.Pool.{Pool}
 use Rattle.table.specs.declared.LeaseTable.{LeaseTable}
 use Rattle.table.specs.Table.{noPool}
 use Rattle.image.specs.Fields.{number32}
-use Rattle.image.specs.Image.{le16, le32, headSize, poolSize, headRecord, poolRecord, leaseRecord, usedPools, usedLeases, headOf, imageOf}
+use Rattle.image.specs.Image.{le16, le32, headSize, poolSize, headRecord, poolRecord, leaseRecord, usedPools, usedLeases, headOf, imageAs, imageOf}
 use Rattle.image.specs.Reading.{poolIn}
 use Rattle.image.proofs.FieldLaws.{spell32}
 use Rattle.image.proofs.ImageLaws.{length-head, length-pool}
@@ -35,7 +35,7 @@ pool-in-place ps q k h =
 -- A buffer that the image of a table is the front of.
 pub image-pools : (t : LeaseTable) (l : List ℕ) (bytes : ℕ) → imageOf t ≡ take bytes l → (k : ℕ) → k < length (usedPools t)
     → poolIn (drop (poolSize * k) (drop headSize l)) ≡ getD (usedPools t) k noPool
-unfolding imageOf
+unfolding imageAs
 image-pools t l bytes image k h =
     let head : List ℕ = headRecord (headOf t) in
     let pools : List ℕ = concatMap poolRecord (usedPools t) in

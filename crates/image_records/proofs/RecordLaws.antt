@@ -15,12 +15,13 @@ use Rattle.lists.proofs.Tests.{bool-cases}
 use Rattle.lists.proofs.DropLaws.{drop-at as list-at}
 use Rattle.lists.proofs.ConcatMapLaws.{concatMap-append}
 use Rattle.lists.proofs.PutLaws.{put-append, length-put}
+use Rattle.names.specs.Names.{octets, spells, nameOctets, nameIn}
 use Rattle.table.specs.declared.Lease.{Lease}
 use Rattle.table.specs.Table.{noLease, empty?}
 use Rattle.table.proofs.TableLaws.{empty-to}
 use Rattle.image.specs.Fields.{number32}
-use Rattle.image.specs.Image.{le16, le32, leaseSize, leaseRecord}
-use Rattle.image.specs.Reading.{leaseIn, leaseTests, leaseAt}
+use Rattle.image.specs.Image.{le16, le32, leaseSize, leaseRecordIn, leaseRecord}
+use Rattle.image.specs.Reading.{leaseIn, leaseTests, leaseAtIn}
 use Rattle.image.proofs.ImageLaws.{lease-reads, length-lease, length-concatMap}
 use Rattle.image_records.specs.Records.{Records}
 use Rattle.image_records.proofs.PutForms.{take-put, drop-put, drop-put-at, put-behind, put-front, put-inside, put-same, put-upon}
@@ -32,11 +33,11 @@ some-is true x y e = cc
 some-is false x y e = let z : _≡_ {A = ℕ} 0 1 = cc in absurd (omega arith)
 
 none-read : (q : List ℕ) → leaseIn (leaseRecord noLease ++ q) ≡ noLease
-unfolding leaseRecord le16 le32 number32
+unfolding leaseRecordIn le16 le32 number32 nameOctets octets nameIn spells
 none-read q = refl
 
 pub lease-read : (x : Lease) (q : List ℕ) → leaseIn (leaseRecord x ++ q) ≡ x
-unfolding leaseAt
+unfolding leaseAtIn
 lease-read x q =
     ⊎-elim
     (λ (e : empty? x ≡ true). let n = empty-to x e in ap (λ (y : Lease). leaseIn (leaseRecord y ++ q)) n ∙ none-read q ∙ sym n)

@@ -9,7 +9,7 @@ use mathlib.Core.Bool.{true, false}
 use mathlib.Core.List.{List, [], _∷_, _++_, append-assoc, append-nil}
 use lib.ListN.{length, set, getD, take, drop, replicate, length-append, length-set, length-drop, length-replicate, take-append-drop}
 use lib.Dec.{leb, ltb, eqb}
-use lib.Seq.{take-suc, take-at, take-append-le, drop-drop, getD-take, getD-drop, getD-set-other, length-take-le}
+use lib.Seq.{take-suc, take-at, drop-drop, getD-take, getD-drop, getD-set-other, length-take-le}
 use borrow.Author.Tests.{leb-true, leb-false, ltb-true, ltb-false, eqb-true, eqb-false}
 use Rattle.lists.specs.Lists.{All, concatMap}
 use Rattle.lists.specs.Put.{put}
@@ -21,12 +21,12 @@ use Rattle.lists.proofs.PutLaws.{put-more, put-fits}
 use Rattle.table.specs.declared.Lease.{Lease}
 use Rattle.table.specs.Table.{noLease, present}
 use Rattle.table.proofs.TableLaws.{present?, present-yes, present-no}
-use Rattle.image.specs.Image.{le16, le32, leaseSize, leaseRecord}
-use Rattle.image.specs.Reading.{expiresAt, leaseIn}
+use Rattle.image.specs.Image.{leaseSize, leaseRecord}
+use Rattle.image.specs.Reading.{leaseIn}
 use Rattle.image.proofs.ImageLaws.{length-lease}
 use Rattle.image_records.specs.Records.{Records, ExpiredIn}
-use Rattle.image_records.specs.Inner.{frontSize, Closed}
-use Rattle.image_records.proofs.PutForms.{take-put, take-put-at, drop-put, put-over-last}
+use Rattle.image_records.specs.Inner.{Closed}
+use Rattle.image_records.proofs.PutForms.{take-put, take-put-at, drop-put}
 use Rattle.image_records.proofs.RecordLaws.{length-leases, records-drop, record-at, lease-read, first-are}
 
 -- WHERE THEY STAND
@@ -96,14 +96,6 @@ module _ (time : ℕ) (xs : List Lease) (i : ℕ) (h : i < length xs) where
       ∙ ap (λ (ys : List Lease). present time (take i xs) ++ ys) (present-no time (getD xs i noLease) [] e)
       ∙ append-nil (present time (take i xs))
 
--- A record put as its front and then its end, which overlap by a byte.
-front-and-end : (l : List ℕ) (to : ℕ) (x : Lease) → put (put l to (take frontSize (leaseRecord x))) (to + expiresAt) (le32 (x .expires)) ≡ put l to (leaseRecord x)
-unfolding leaseRecord le16 le32
-front-and-end l to x =
-    let p : List ℕ = take expiresAt (leaseRecord x) in
-    let q : List ℕ = take 1 (drop expiresAt (leaseRecord x)) in
-    put-over-last p q (le32 (x .expires)) l to (omega arith)
-
 module _ (l : List ℕ) (from first time : ℕ) where
   pub closed-first : Closed l from first time l first first
   unfolding Closed
@@ -114,51 +106,43 @@ module _ (l : List ℕ) (from first time : ℕ) where
 
   -- The next record is moved; it counts if it is present.
   module _ (image : List ℕ) (kept i : ℕ) (c : Closed l from first time image kept i) (le : kept ≤ i) (behind : drop (from + leaseSize * i) image ≡ drop (from + leaseSize * i) l)
-      (size : length image ≡ length l) (room : from + leaseSize * i + leaseSize ≤ length l) (front : List ℕ) (copied : front ≡ take frontSize (drop (from + leaseSize * i) image)) (x : Lease)
-      (image₁ image₂ : List ℕ) (e₁ : image₁ ≡ put image (from + leaseSize * kept) front) (e₂ : image₂ ≡ put image₁ (from + leaseSize * kept + expiresAt) (le32 (x .expires))) where
-    pub closed-behind : drop (from + leaseSize * (i + 1)) image₂ ≡ drop (from + leaseSize * (i + 1)) l
-    unfolding le32
+      (size : length image ≡ length l) (room : from + leaseSize * i + leaseSize ≤ length l) (bytes : List ℕ) (copied : bytes ≡ take leaseSize (drop (from + leaseSize * i) image))
+      (image₁ : List ℕ) (e₁ : image₁ ≡ put image (from + leaseSize * kept) bytes) where
+    pub closed-behind : drop (from + leaseSize * (i + 1)) image₁ ≡ drop (from + leaseSize * (i + 1)) l
     closed-behind =
-        let small : length front ≡ frontSize = ap length copied ∙ length-take-le frontSize (drop (from + leaseSize * i) image) (omega (arith, length-drop (from + leaseSize * i) image)) in
+        let small : length bytes ≡ leaseSize = ap length copied ∙ length-take-le leaseSize (drop (from + leaseSize * i) image) (omega (arith, length-drop (from + leaseSize * i) image)) in
         let past : from + leaseSize * i + leaseSize ≡ from + leaseSize * (i + 1) = omega arith in
         let later : (m : List ℕ) → drop (from + leaseSize * (i + 1)) m ≡ drop leaseSize (drop (from + leaseSize * i) m) = λ m. sym (drop-drop leaseSize (from + leaseSize * i) m ∙ ap (λ (k : ℕ). drop k m) past) in
-        ap (drop (from + leaseSize * (i + 1))) e₂
-        ∙ drop-put (le32 (x .expires)) image₁ (from + leaseSize * kept + expiresAt) (from + leaseSize * (i + 1)) (omega arith)
-        ∙ ap (drop (from + leaseSize * (i + 1))) e₁
-        ∙ drop-put front image (from + leaseSize * kept) (from + leaseSize * (i + 1)) (omega arith)
+        ap (drop (from + leaseSize * (i + 1))) e₁
+        ∙ drop-put bytes image (from + leaseSize * kept) (from + leaseSize * (i + 1)) (omega arith)
         ∙ later image ∙ ap (drop leaseSize) behind ∙ sym (later l)
 
-    module _ (read : x ≡ leaseIn (drop (from + leaseSize * i) image)) (xs : List Lease) (r : Records l from xs) (h : i < length xs) where
-      y : Lease
-      y = getD xs i noLease
-
+    module _ (xs : List Lease) (r : Records l from xs) (h : i < length xs) where
       here : drop (from + leaseSize * i) image ≡ leaseRecord (getD xs i noLease) ++ drop (from + leaseSize * i + leaseSize) l
       here = behind ∙ record-at l from xs r i h
 
-      x-is : x ≡ getD xs i noLease
-      x-is = read ∙ ap leaseIn here ∙ lease-read (getD xs i noLease) (drop (from + leaseSize * i + leaseSize) l)
-
-      moved : image₂ ≡ put image (from + leaseSize * kept) (leaseRecord (getD xs i noLease))
+      moved : image₁ ≡ put image (from + leaseSize * kept) (leaseRecord (getD xs i noLease))
       moved =
-          let bytes : front ≡ take frontSize (leaseRecord (getD xs i noLease)) =
-          copied ∙ ap (take frontSize) here ∙ take-append-le frontSize (leaseRecord (getD xs i noLease)) (drop (from + leaseSize * i + leaseSize) l) (omega (arith, length-lease (getD xs i noLease))) in
-          e₂
-          ∙ ap₂ (λ (m : List ℕ) (z : Lease). put m (from + leaseSize * kept + expiresAt) (le32 (z .expires))) (e₁ ∙ ap (put image (from + leaseSize * kept)) bytes) x-is
-          ∙ front-and-end image (from + leaseSize * kept) (getD xs i noLease)
+          let y : Lease = getD xs i noLease in
+          e₁
+          ∙ ap (put image (from + leaseSize * kept))
+          (copied ∙ ap (take leaseSize) here ∙ take-at (leaseRecord y) (drop (from + leaseSize * i + leaseSize) l) leaseSize (length-lease y))
 
-    pub closed-more : x ≡ leaseIn (drop (from + leaseSize * i) image) → (s : ℕ) → (time < x .expires → s ≡ 1) → (x .expires ≤ time → s ≡ 0) → Closed l from first time image₂ (kept + s) (i + 1)
+    pub closed-more : (end : ℕ) → end ≡ leaseIn (drop (from + leaseSize * i) image) .expires → (s : ℕ) → (time < end → s ≡ 1) → (end ≤ time → s ≡ 0)
+        → Closed l from first time image₁ (kept + s) (i + 1)
     unfolding Closed
-    closed-more read s yes-one no-one xs r h all =
+    closed-more end read s yes-one no-one xs r h all =
         let lt : i < length xs = omega arith in
         let now = c xs r (omega arith) all in
         let y : Lease = getD xs i noLease in
         let ys : List Lease = present time (take i xs) in
         let to : ℕ = from + leaseSize * kept in
-        let whole = moved read xs r lt in
-        let ends : x .expires ≡ y .expires = ap (λ (z : Lease). z .expires) (x-is read xs r lt) in
+        let whole = moved xs r lt in
+        let ends : end ≡ y .expires =
+        read ∙ ap (λ (z : Lease). z .expires) (ap leaseIn (here xs r lt) ∙ lease-read y (drop (from + leaseSize * i + leaseSize) l)) in
         ⊎-elim
-        (λ (e : ltb time (x .expires) ≡ true).
-        let stays = ltb-true time (x .expires) e in
+        (λ (e : ltb time end ≡ true).
+        let stays = ltb-true time end e in
         let one : s ≡ 1 = yes-one stays in
         let more = present-more time xs i lt (omega (arith, ends)) in
         let place : from + leaseSize * (kept + s) ≡ to + length (leaseRecord y) = omega (arith, one, length-lease y) in (
@@ -170,8 +154,8 @@ module _ (l : List ℕ) (from first time : ℕ) where
               ∙ ap (λ (b : List ℕ). take from l ++ b)
               (ap (λ (b : List ℕ). concatMap leaseRecord ys ++ b) (sym (concatMap-one leaseRecord y)) ∙ sym (concatMap-append leaseRecord ys (y ∷ [])) ∙ ap (concatMap leaseRecord) (sym more)),
         ))
-        (λ (e : ltb time (x .expires) ≡ false).
-        let gone = ltb-false time (x .expires) e in
+        (λ (e : ltb time end ≡ false).
+        let gone = ltb-false time end e in
         let none : s ≡ 0 = no-one gone in
         let same = present-skip time xs i lt (omega (arith, ends)) in
         let place : from + leaseSize * (kept + s) ≡ to = omega (arith, none) in (
@@ -181,7 +165,7 @@ module _ (l : List ℕ) (from first time : ℕ) where
               ∙ now .1
               ∙ ap (λ (zs : List Lease). take from l ++ concatMap leaseRecord zs) (sym same),
         ))
-        (bool-cases (ltb time (x .expires)))
+        (bool-cases (ltb time end))
 
 -- ALL OF THEM
 

@@ -19,7 +19,7 @@ use Rattle.table.specs.Table.{poolSlots, leaseSlots, unused?, empty?, prefixOf,
 use Rattle.table.proofs.Ascending.{ascending-low}
 use Rattle.table.proofs.Ascending as table
 use Rattle.table.proofs.TableLaws.{sound-used, sound-fine, sound-slots, sound-pool-slots, present-padded, present?}
-use Rattle.image.specs.Image.{headSize, poolSize, leaseSize, headRecord, poolRecord, leaseRecord, usedPools, usedLeases, headOf, imageOf}
+use Rattle.image.specs.Image.{headSize, poolSize, leaseSize, headRecord, poolRecord, leaseRecord, usedPools, usedLeases, headOf, imageAs, imageOf}
 use Rattle.image.proofs.ImageLaws.{length-head, length-pool, length-concatMap, table-whole}
 use Rattle.image_records.specs.Records.{Records, Ascending}
 use Rattle.image_records.proofs.RecordLaws.{length-leases}
@@ -70,7 +70,7 @@ module _ (t : LeaseTable) (e : sound t ≡ true) where
 -- A buffer that an image is the front of holds the leases as records.
 module _ (t : LeaseTable) (l : List ℕ) (bytes : ℕ) (e : imageOf t ≡ take bytes l) where
   pub image-records : Records l (headSize + poolSize * length (usedPools t)) (usedLeases t)
-  unfolding Records imageOf
+  unfolding Records imageAs
   image-records =
       let head : List ℕ = headRecord (headOf t) in
       let pools : List ℕ = concatMap poolRecord (usedPools t) in

@@ -7,12 +7,7 @@ use Rattle.lists.specs.Lists.{concatMap}
 use Rattle.table.specs.declared.Lease.{Lease}
 use Rattle.table.specs.Table.{present}
 use Rattle.image.specs.Image.{leaseSize, leaseRecord}
-use Rattle.image.specs.Reading.{expiresAt}
 use Rattle.image_records.specs.Records.{Records}
-
--- The front of a record: up to the first byte of its end.
-abbrev pub frontSize : ℕ
-frontSize = expiresAt + 1
 
 -- What has become of the buffer `l` after its first i leases: those of them that are present, `kept` in all, stand first. None before the place `first` has
 -- expired.

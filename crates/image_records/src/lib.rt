@@ -16,13 +16,10 @@ ghost use Rattle.table.specs.Table.{present, insert};
 ghost use Rattle.image.specs.Image.{le32, headSize, poolSize, fullImage, headRecord, poolRecord, leaseRecord, leaseSize, stateByte, flagsByte};
 ghost use Rattle.image.specs.Reading.{leaseIn};
 ghost use Rattle.image_records.specs.Records.{Records, Ascending, ExpiredIn};
-ghost use Rattle.image_records.specs.Inner.{frontSize, Closed};
+ghost use Rattle.image_records.specs.Inner.{Closed};
 
-// Six records.
-const SIX: usize = 6 * LEASE;
-
-// The front of a record, up to the first byte of its end: as much as a register of the processor holds.
-const FRONT: usize = image::EXPIRES + 1;
+// Sixteen records.
+const SIXTEEN: usize = 16 * LEASE;
 
 // WRITING RECORDS
 
@@ -82,6 +79,9 @@ pub fn put_lease(out: &mut [u8], at: usize, x: Lease)
     out[at + image::FLAGS] = flags_byte(x.h, x.d);
     put32(out, at + image::CLIENT, x.client);
     put32(out, at + image::EXPIRES, x.expires);
+    let name = x.name;
+    out[at + image::NAME_LENGTH] = names::length(name);
+    names::put_name(out, at + image::NAME, name);
 }
 
 // Zeros from `from` up to `to`.
@@ -123,6 +123,7 @@ pub fn lease_at(image: &[u8], at: usize) -> Lease
         h: image::h_at(image, at),
         d: image::d_at(image, at),
         expires: image::expires_at(image, at),
+        name: image::name_at(image, at),
     }
 }
 
@@ -151,51 +152,26 @@ fn put_record(image: &mut [u8], at: usize, bytes: [u8; LEASE])
     }
 }
 
-// Six records at once, as many as the processor's registers hold.
-fn six_at(image: &[u8], at: usize) -> [u8; SIX]
-    requires { ⌜ at + (6 * leaseSize) ≤ length (now image) ⌝ }
-    ensures { λ r. ⌜ r ≡ take (6 * leaseSize) (drop at (now (image .entry))) ⌝ }
+// Sixteen records at once: compiled to one call that moves memory, and enough of it to pay for the call.
+fn sixteen_at(image: &[u8], at: usize) -> [u8; SIXTEEN]
+    requires { ⌜ at + (16 * leaseSize) ≤ length (now image) ⌝ }
+    ensures { λ r. ⌜ r ≡ take (16 * leaseSize) (drop at (now (image .entry))) ⌝ }
 {
-    let mut bytes = [0u8; SIX];
+    let mut bytes = [0u8; SIXTEEN];
     let mut k: usize = 0;
-    while k < SIX {
+    while k < SIXTEEN {
         bytes[k] = image[at + k];
         k = k + 1;
     }
     bytes
 }
 
-fn put_six(image: &mut [u8], at: usize, bytes: [u8; SIX])
-    requires { ⌜ at + (6 * leaseSize) ≤ length (now image) ⌝ }
+fn put_sixteen(image: &mut [u8], at: usize, bytes: [u8; SIXTEEN])
+    requires { ⌜ at + (16 * leaseSize) ≤ length (now image) ⌝ }
     ensures { λ _. ⌜ now (image .exit) ≡ put (now (image .entry)) at bytes ⌝ }
 {
     let mut k: usize = 0;
-    while k < SIX {
-        image[at + k] = bytes[k];
-        k = k + 1;
-    }
-}
-
-// The bytes of a record's front.
-fn front_at(image: &[u8], at: usize) -> [u8; FRONT]
-    requires { ⌜ at + frontSize ≤ length (now image) ⌝ }
-    ensures { λ r. ⌜ r ≡ take frontSize (drop at (now (image .entry))) ⌝ }
-{
-    let mut bytes = [0u8; FRONT];
-    let mut k: usize = 0;
-    while k < FRONT {
-        bytes[k] = image[at + k];
-        k = k + 1;
-    }
-    bytes
-}
-
-fn put_front(image: &mut [u8], at: usize, bytes: [u8; FRONT])
-    requires { ⌜ at + frontSize ≤ length (now image) ⌝ }
-    ensures { λ _. ⌜ now (image .exit) ≡ put (now (image .entry)) at bytes ⌝ }
-{
-    let mut k: usize = 0;
-    while k < FRONT {
+    while k < SIXTEEN {
         image[at + k] = bytes[k];
         k = k + 1;
     }
@@ -222,11 +198,10 @@ fn close_up(image: &mut [u8], from: usize, first: usize, last: usize, time: u32)
     while i < last {
         let at = from + LEASE * i;
         let to = from + LEASE * kept;
-        let x = lease_at(image, at);
-        let front = front_at(image, at);
-        put_front(image, to, front);
-        put32(image, to + image::EXPIRES, x.expires);
-        kept = kept + stays(x.expires, time);
+        let expires = image::expires_at(image, at);
+        let bytes = record_at(image, at);
+        put_record(image, to, bytes);
+        kept = kept + stays(expires, time);
         i = i + 1;
     }
     kept
@@ -245,16 +220,16 @@ fn lower_each(image: &mut [u8], to: usize, at: usize, n: usize)
     }
 }
 
-// The same, six records at a time.
+// The same, sixteen records at a time.
 fn lower(image: &mut [u8], to: usize, at: usize, n: usize)
     requires { ⌜ (to ≤ at) × (at + leaseSize * n ≤ length (now image)) ⌝ }
     ensures { λ _. ⌜ now (image .exit) ≡ put (now (image .entry)) to (take (leaseSize * n) (drop at (now (image .entry)))) ⌝ }
 {
     let mut k: usize = 0;
-    while k + 6 <= n {
-        let bytes = six_at(image, at + LEASE * k);
-        put_six(image, to + LEASE * k, bytes);
-        k = k + 6;
+    while k + 16 <= n {
+        let bytes = sixteen_at(image, at + LEASE * k);
+        put_sixteen(image, to + LEASE * k, bytes);
+        k = k + 16;
     }
     lower_each(image, to + LEASE * k, at + LEASE * k, n - k);
 }
@@ -321,16 +296,16 @@ fn raise_each(image: &mut [u8], from: usize, place: usize, n: usize, room: usize
     }
 }
 
-// The same, six records at a time.
+// The same, sixteen records at a time.
 fn raise(image: &mut [u8], from: usize, place: usize, n: usize, room: usize)
     requires { ⌜ (place ≤ n) × (from + leaseSize * (n + room) ≤ length (now image)) ⌝ }
     ensures { λ _. ⌜ now (image .exit) ≡ put (now (image .entry)) (from + leaseSize * place + leaseSize * room) (take (from + leaseSize * n - (from + leaseSize * place)) (drop (from + leaseSize * place) (now (image .entry)))) ⌝ }
 {
     let mut k: usize = n;
-    while place + 6 <= k {
-        k = k - 6;
-        let bytes = six_at(image, from + LEASE * k);
-        put_six(image, from + LEASE * (k + room), bytes);
+    while place + 16 <= k {
+        k = k - 16;
+        let bytes = sixteen_at(image, from + LEASE * k);
+        put_sixteen(image, from + LEASE * (k + room), bytes);
     }
     raise_each(image, from, place, k, room);
 }

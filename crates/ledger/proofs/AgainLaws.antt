@@ -16,6 +16,7 @@ use Rattle.lists.proofs.ListLaws.{all-map, all-image, all-every}
 use Rattle.lists.proofs.SortingLaws.{insertBy-image}
 use Rattle.prefix.specs.declared.Prefix.{Prefix}
 use Rattle.free_space.specs.Grant.{grant}
+use Rattle.names.specs.declared.Name.{Name}
 use Rattle.table.specs.declared.Lease.{Lease}
 use Rattle.table.specs.declared.LeaseTable.{LeaseTable}
 use Rattle.table.specs.Table.{leaseSlots, prefixOf, networkOf, poolsOf, insert}
@@ -172,12 +173,12 @@ rest-all P (some x ∷ gs) (r ∷ rs) a = rest-all P gs rs (a .1)
 
 -- What the requests rs get, where the leases hs may be given again and the leases ys are present: `askGives` with hs as they stood before the message and ys as
 -- they are once those are held anew.
-abbrev pub gives : LeaseTable → ℕ → ℕ → List Lease → List Lease → List Request → List (Option Lease)
-gives t now client hs ys rs = inTurn now (again t client hs rs) (offers t now client ys (restOf (again t client hs rs) rs))
+abbrev pub gives : LeaseTable → ℕ → ℕ → Name → List Lease → List Lease → List Request → List (Option Lease)
+gives t now client name hs ys rs = inTurn now (again t client hs rs) (offers t now client name ys (restOf (again t client hs rs) rs))
 
-pub rest-fills : (t : LeaseTable) (now client : ℕ) (hs ys : List Lease) (rs : List Request) → Fills (again t client hs rs) (offers t now client ys (restOf (again t client hs rs) rs))
-rest-fills t now client hs ys rs =
-    fills (again t client hs rs) rs (offers t now client ys (restOf (again t client hs rs) rs)) (again-length t client rs hs) (offers-length t now client (restOf (again t client hs rs) rs) ys)
+pub rest-fills : (t : LeaseTable) (now client : ℕ) (name : Name) (hs ys : List Lease) (rs : List Request) → Fills (again t client hs rs) (offers t now client name ys (restOf (again t client hs rs) rs))
+rest-fills t now client name hs ys rs =
+    fills (again t client hs rs) rs (offers t now client name ys (restOf (again t client hs rs) rs)) (again-length t client rs hs) (offers-length t now client name (restOf (again t client hs rs) rs) ys)
 
 module _ (now : ℕ) where
   pub turn-length : (gs os : List (Option Lease)) → length (inTurn now gs os) ≡ length gs
@@ -254,28 +255,28 @@ module _ (t : LeaseTable) (client : ℕ) where
       ap₂ (λ (g : Option Lease) (l : List (Option Lease)). g ∷ l) (none-first f xs (all-map (λ x (e : heldBy? client x ≡ false). not-held r x e) xs a))
       (nothing-again rs (butFirst f xs) (but-first-all f (λ x. heldBy? client x ≡ false) xs a))
 
-  module _ (now : ℕ) (xs : List Lease) (rs : List Request) (a : All (λ x. heldBy? client x ≡ false) xs) where
+  module _ (name : Name) (now : ℕ) (xs : List Lease) (rs : List Request) (a : All (λ x. heldBy? client x ≡ false) xs) where
     nothing-held : askHeld t now client xs rs ≡ xs
     nothing-held = ap (λ (gs : List (Option Lease)). heldAgain now (catMaybes gs) xs) (nothing-again rs xs a) ∙ ap (λ (ys : List Lease). heldAgain now ys xs) (no-lease rs) ∙ held-none now xs
 
-    nothing-offers : askOffers t now client xs rs ≡ offers t now client xs rs
+    nothing-offers : askOffers t now client name xs rs ≡ offers t now client name xs rs
     nothing-offers =
-        ap₂ (λ (ys : List Lease) (gs : List (Option Lease)). offers t now client ys (restOf gs rs)) nothing-held (nothing-again rs xs a) ∙ ap (offers t now client xs) (all-rest rs)
+        ap₂ (λ (ys : List Lease) (gs : List (Option Lease)). offers t now client name ys (restOf gs rs)) nothing-held (nothing-again rs xs a) ∙ ap (offers t now client name xs) (all-rest rs)
 
-    pub nothing-gives : askGives t now client xs rs ≡ offers t now client xs rs
+    pub nothing-gives : askGives t now client name xs rs ≡ offers t now client name xs rs
     nothing-gives =
-        ap₂ (inTurn now) (nothing-again rs xs a) nothing-offers ∙ all-offered now rs (offers t now client xs rs) (offers-length t now client rs xs)
+        ap₂ (inTurn now) (nothing-again rs xs a) nothing-offers ∙ all-offered now rs (offers t now client name xs rs) (offers-length t now client name rs xs)
 
-    pub nothing-leases : askLeases t now client xs rs ≡ addAll (offers t now client xs rs) xs
+    pub nothing-leases : askLeases t now client name xs rs ≡ addAll (offers t now client name xs rs) xs
     nothing-leases = ap₂ addAll nothing-offers nothing-held
 
 -- THE REST is offered what it would be offered on the leases as they stood: offers go by prefixes, and those stay.
 
-module _ (t : LeaseTable) (now client : ℕ) where
-  pub offer-prefixes : (xs ys : List Lease) (r : Request) → prefixes xs ≡ prefixes ys → offer t now client xs r ≡ offer t now client ys r
+module _ (t : LeaseTable) (now client : ℕ) (name : Name) where
+  pub offer-prefixes : (xs ys : List Lease) (r : Request) → prefixes xs ≡ prefixes ys → offer t now client name xs r ≡ offer t now client name ys r
   unfolding offer
   offer-prefixes xs ys r e =
-      ap₂ (λ (n : ℕ) (ps : List Prefix). cond (leb leaseSlots n) none (offered now client (r .h) (grant (poolsOf t) ps (askLength t r))))
+      ap₂ (λ (n : ℕ) (ps : List Prefix). cond (leb leaseSlots n) none (offered now client name (r .h) (grant (poolsOf t) ps (askLength t r))))
       (sym (length-map xs prefixOf) ∙ ap length e ∙ length-map ys prefixOf) e
 
   pub add-prefixes : (o : Option Lease) (xs ys : List Lease) → prefixes xs ≡ prefixes ys → prefixes (add o xs) ≡ prefixes (add o ys)
@@ -285,14 +286,14 @@ module _ (t : LeaseTable) (now client : ℕ) where
       image : (zs : List Lease) → prefixes (insert x zs) ≡ insertBy (λ (p : Prefix). p .network) (prefixOf x) (prefixes zs)
       image zs = insertBy-image prefixOf networkOf (λ (p : Prefix). p .network) x zs refl (all-every (λ z. refl) zs)
 
-  pub offers-prefixes : (rs : List Request) (xs ys : List Lease) → prefixes xs ≡ prefixes ys → offers t now client xs rs ≡ offers t now client ys rs
+  pub offers-prefixes : (rs : List Request) (xs ys : List Lease) → prefixes xs ≡ prefixes ys → offers t now client name xs rs ≡ offers t now client name ys rs
   unfolding offers
   offers-prefixes [] xs ys e = refl
   offers-prefixes (r ∷ rs) xs ys e =
-      let o : Option Lease = offer t now client xs r in
-      let same : o ≡ offer t now client ys r = offer-prefixes xs ys r e in
+      let o : Option Lease = offer t now client name xs r in
+      let same : o ≡ offer t now client name ys r = offer-prefixes xs ys r e in
       ap (λ (l : List (Option Lease)). o ∷ l) (offers-prefixes rs (add o xs) (add o ys) (add-prefixes o xs ys e))
-      ∙ ap (λ (p : Option Lease). p ∷ offers t now client (add p ys) rs) same
+      ∙ ap (λ (p : Option Lease). p ∷ offers t now client name (add p ys) rs) same
 
-  pub rest-offers : (xs : List Lease) (rs : List Request) → askOffers t now client xs rs ≡ offers t now client xs (restOf (again t client xs rs) rs)
+  pub rest-offers : (xs : List Lease) (rs : List Request) → askOffers t now client name xs rs ≡ offers t now client name xs (restOf (again t client xs rs) rs)
   rest-offers xs rs = offers-prefixes (restOf (again t client xs rs) rs) (askHeld t now client xs rs) xs (held-prefixes now (catMaybes (again t client xs rs)) xs)

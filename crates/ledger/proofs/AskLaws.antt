@@ -19,6 +19,7 @@ use Rattle.free_space.specs.Space.{Free}
 use Rattle.free_space.specs.Serving.{Pools}
 use Rattle.free_space.proofs.ListTheorem.{refused⇔none-free}
 use Rattle.option.specs.Values.{Entry}
+use Rattle.names.specs.declared.Name.{Name}
 use Rattle.table.specs.declared.Lease.{Lease}
 use Rattle.table.specs.declared.LeaseTable.{LeaseTable}
 use Rattle.table.specs.Table.{leaseSlots, prefixOf, noLease, poolsOf, insert}
@@ -49,26 +50,26 @@ dead-insert t x xs len (inr f) = inr (λ network a. f network (record {
       (perm-all (λ y. Apart (prefix network len) (prefixOf y)) (insert-perm x xs) (all-preimage prefixOf (Apart (prefix network len)) (insert x xs) (a .unused)) .1);
 }))
 
-dead-offer : (t : LeaseTable) (now client : ℕ) (xs : List Lease) (r : Request) (x : Lease) (len : ℕ) → Dead t xs len → Offered t now client xs r x → x .length ≡ len → ⊥
-dead-offer t now client xs r x len (inl l) o e = omega (arith, o .room)
-dead-offer t now client xs r x len (inr f) o e = f (x .network) (subst (λ (n : ℕ). Free (poolsOf t) (prefixes xs) (prefix (x .network) n)) e (o .free))
+dead-offer : (t : LeaseTable) (now client : ℕ) (name : Name) (xs : List Lease) (r : Request) (x : Lease) (len : ℕ) → Dead t xs len → Offered t now client name xs r x → x .length ≡ len → ⊥
+dead-offer t now client name xs r x len (inl l) o e = omega (arith, o .room)
+dead-offer t now client name xs r x len (inr f) o e = f (x .network) (subst (λ (n : ℕ). Free (poolsOf t) (prefixes xs) (prefix (x .network) n)) e (o .free))
 
-offer-dead : (t : LeaseTable) (good : Pools (poolsOf t)) (now client : ℕ) (xs : List Lease) (r : Request) → Offer t now client xs r none → Dead t xs (askLength t r)
-offer-dead t good now client xs r (inl l) = inl l
-offer-dead t good now client xs r (inr e) = inr (refused⇔none-free (poolsOf t) good (prefixes xs) (askLength t r) .0 e)
+offer-dead : (t : LeaseTable) (good : Pools (poolsOf t)) (now client : ℕ) (name : Name) (xs : List Lease) (r : Request) → Offer t now client name xs r none → Dead t xs (askLength t r)
+offer-dead t good now client name xs r (inl l) = inl l
+offer-dead t good now client name xs r (inr e) = inr (refused⇔none-free (poolsOf t) good (prefixes xs) (askLength t r) .0 e)
 
-module _ (t : LeaseTable) (good : Pools (poolsOf t)) (now client : ℕ) where
-  dead-step : (rs : List Request) (xs : List Lease) (len : ℕ) (r : Request) (o : Option Lease) → Offer t now client xs r o → Dead t xs len
-      → (Dead t (add o xs) len → All (λ y. y .length ≡ len → ⊥) (catMaybes (offers t now client (add o xs) rs)))
-      → All (λ y. y .length ≡ len → ⊥) (catMaybes (o ∷ offers t now client (add o xs) rs))
+module _ (t : LeaseTable) (good : Pools (poolsOf t)) (now client : ℕ) (name : Name) where
+  dead-step : (rs : List Request) (xs : List Lease) (len : ℕ) (r : Request) (o : Option Lease) → Offer t now client name xs r o → Dead t xs len
+      → (Dead t (add o xs) len → All (λ y. y .length ≡ len → ⊥) (catMaybes (offers t now client name (add o xs) rs)))
+      → All (λ y. y .length ≡ len → ⊥) (catMaybes (o ∷ offers t now client name (add o xs) rs))
   dead-step rs xs len r none f d k = k d
-  dead-step rs xs len r (some x) f d k = (dead-offer t now client xs r x len d f, k (dead-insert t x xs len d))
+  dead-step rs xs len r (some x) f d k = (dead-offer t now client name xs r x len d f, k (dead-insert t x xs len d))
 
-  dead-offers : (rs : List Request) (xs : List Lease) (len : ℕ) → Dead t xs len → All (λ y. y .length ≡ len → ⊥) (catMaybes (offers t now client xs rs))
+  dead-offers : (rs : List Request) (xs : List Lease) (len : ℕ) → Dead t xs len → All (λ y. y .length ≡ len → ⊥) (catMaybes (offers t now client name xs rs))
   unfolding offers
   dead-offers [] xs len d = tt
   dead-offers (r ∷ rs) xs len d =
-      dead-step rs xs len r (offer t now client xs r) (offer-is t now client good xs r) d (λ e. dead-offers rs (add (offer t now client xs r) xs) len e)
+      dead-step rs xs len r (offer t now client name xs r) (offer-is t now client name good xs r) d (λ e. dead-offers rs (add (offer t now client name xs r) xs) len e)
 
   -- No answer to this request.
   Other : Request → Lease → Type 0
@@ -84,11 +85,11 @@ module _ (t : LeaseTable) (good : Pools (poolsOf t)) (now client : ℕ) where
   dead-other r ys a = all-map (λ y (k : y .length ≡ askLength t r → ⊥). ap (λ (b : Bool). b && (Bool·beq (r .h) (y .h) && true)) (ne-eqb (askLength t r) (y .length) (λ e. k (sym e)))) ys a
 
   -- Once a request got nothing, no later one of the call gets what would answer it: no lease left to be given again is for it, and its length finds no space.
-  later-other : (r : Request) (rs : List Request) (hs ys : List Lease) → All (λ x. heldFor? t client r x ≡ false) hs → Dead t ys (askLength t r) → All (Other r) (catMaybes (gives t now client hs ys rs))
+  later-other : (r : Request) (rs : List Request) (hs ys : List Lease) → All (λ x. heldFor? t client r x ≡ false) hs → Dead t ys (askLength t r) → All (Other r) (catMaybes (gives t now client name hs ys rs))
   later-other r rs hs ys a d =
-      turn-all now (Other r) (again t client hs rs) (offers t now client ys (restOf (again t client hs rs) rs))
+      turn-all now (Other r) (again t client hs rs) (offers t now client name ys (restOf (again t client hs rs) rs))
       (all-map (λ x (k : (heldBy? client x ≡ true) × (heldFor? t client r x ≡ false)). held-other r x (k .0) (k .1)) (catMaybes (again t client hs rs)) (again-all t client (λ x. heldFor? t client r x ≡ false) rs hs a))
-      (dead-other r (catMaybes (offers t now client ys (restOf (again t client hs rs) rs))) (dead-offers (restOf (again t client hs rs) rs) ys (askLength t r) d))
+      (dead-other r (catMaybes (offers t now client name ys (restOf (again t client hs rs) rs))) (dead-offers (restOf (again t client hs rs) rs) ys (askLength t r) d))
 
   skip : (r : Request) (rs : List Request) (ys : List Lease) → All (Other r) ys → pairOff t (r ∷ rs) (map entryOf ys) ≡ none ∷ pairOff t rs (map entryOf ys)
   unfolding Other
@@ -102,7 +103,7 @@ module _ (t : LeaseTable) (good : Pools (poolsOf t)) (now client : ℕ) where
   beq-refl true = refl
   beq-refl false = refl
 
-  offered-answers : (xs : List Lease) (r : Request) (x : Lease) → Offered t now client xs r x → answers? t r (entryOf x) ≡ true
+  offered-answers : (xs : List Lease) (r : Request) (x : Lease) → Offered t now client name xs r x → answers? t r (entryOf x) ≡ true
   offered-answers xs r x f =
       and-list-of (eqb (askLength t r) (x .length) ∷ Bool·beq (r .h) (x .h) ∷ [])
       (eq-eqb (askLength t r) (x .length) (sym (f .len)), (subst (λ (b : Bool). Bool·beq (r .h) b ≡ true) (sym (f .h)) (beq-refl (r .h)), tt))
@@ -110,27 +111,27 @@ module _ (t : LeaseTable) (good : Pools (poolsOf t)) (now client : ℕ) where
   Pairs : List Request → List (Option Lease) → Type 0
   Pairs rs gs = pairOff t rs (map entryOf (catMaybes gs)) ≡ map entry? gs
 
-  pair-new : (r : Request) (rs : List Request) (hs ys : List Lease) (o : Option Lease) → Offer t now client ys r o → All (λ x. heldFor? t client r x ≡ false) hs
-      → Pairs rs (gives t now client hs (add o ys) rs) → Pairs (r ∷ rs) (o ∷ gives t now client hs (add o ys) rs)
+  pair-new : (r : Request) (rs : List Request) (hs ys : List Lease) (o : Option Lease) → Offer t now client name ys r o → All (λ x. heldFor? t client r x ≡ false) hs
+      → Pairs rs (gives t now client name hs (add o ys) rs) → Pairs (r ∷ rs) (o ∷ gives t now client name hs (add o ys) rs)
   unfolding Pairs
   pair-new r rs hs ys none f a e =
-      skip r rs (catMaybes (gives t now client hs ys rs)) (later-other r rs hs ys a (offer-dead t good now client ys r f)) ∙ ap (λ (l : List (Option Entry)). none ∷ l) e
+      skip r rs (catMaybes (gives t now client name hs ys rs)) (later-other r rs hs ys a (offer-dead t good now client name ys r f)) ∙ ap (λ (l : List (Option Entry)). none ∷ l) e
   pair-new r rs hs ys (some x) f a e =
-      hit r rs x (catMaybes (gives t now client hs (insert x ys) rs)) (offered-answers ys r x f) ∙ ap (λ (l : List (Option Entry)). some (entryOf x) ∷ l) e
+      hit r rs x (catMaybes (gives t now client name hs (insert x ys) rs)) (offered-answers ys r x f) ∙ ap (λ (l : List (Option Entry)). some (entryOf x) ∷ l) e
 
   -- By what the request gets again, of hs; ks are the others of these.
   pair-step : (r : Request) (rs : List Request) (hs ks ys : List Lease) (g : Option Lease) → firstThat (heldFor? t client r) hs ≡ g
-      → (firstThat (heldFor? t client r) hs ≡ none → All (λ x. heldFor? t client r x ≡ false) ks) → ((zs : List Lease) → Pairs rs (gives t now client ks zs rs))
-      → Pairs (r ∷ rs) (inTurn now (g ∷ again t client ks rs) (offers t now client ys (restOf (g ∷ again t client ks rs) (r ∷ rs))))
+      → (firstThat (heldFor? t client r) hs ≡ none → All (λ x. heldFor? t client r x ≡ false) ks) → ((zs : List Lease) → Pairs rs (gives t now client name ks zs rs))
+      → Pairs (r ∷ rs) (inTurn now (g ∷ again t client ks rs) (offers t now client name ys (restOf (g ∷ again t client ks rs) (r ∷ rs))))
   unfolding inTurn restOf offers Pairs
   pair-step r rs hs ks ys (some x) e others k =
       let for : heldFor? t client r x ≡ true = first-some (heldFor? t client r) (λ y. Unit {0}) hs x e (all-every (λ y. tt) hs) .0 in
-      hit r rs (holdAgain now x) (catMaybes (gives t now client ks ys rs)) (and-to (heldBy? client x) (answers? t r (entryOf x)) for .1)
+      hit r rs (holdAgain now x) (catMaybes (gives t now client name ks ys rs)) (and-to (heldBy? client x) (answers? t r (entryOf x)) for .1)
       ∙ ap (λ (l : List (Option Entry)). some (entryOf (holdAgain now x)) ∷ l) (k ys)
-  pair-step r rs hs ks ys none e others k = let o : Option Lease = offer t now client ys r in pair-new r rs ks ys o (offer-is t now client good ys r) (others e) (k (add o ys))
+  pair-step r rs hs ks ys none e others k = let o : Option Lease = offer t now client name ys r in pair-new r rs ks ys o (offer-is t now client name good ys r) (others e) (k (add o ys))
 
   -- Entries pair off with the asks that got them.
-  pub pairs : (rs : List Request) (hs ys : List Lease) → pairOff t rs (map entryOf (catMaybes (gives t now client hs ys rs))) ≡ map entry? (gives t now client hs ys rs)
+  pub pairs : (rs : List Request) (hs ys : List Lease) → pairOff t rs (map entryOf (catMaybes (gives t now client name hs ys rs))) ≡ map entry? (gives t now client name hs ys rs)
   unfolding Pairs again inTurn
   pairs [] hs ys = refl
   pairs (r ∷ rs) hs ys =
@@ -158,8 +159,8 @@ addAll-any P (o ∷ os) ys a = addAll-any P os (add o ys) (add-any P o ys a)
 abbrev heldTests : ℕ → ℕ → Entry → Lease → List Bool
 heldTests now client e x = eqb (x .network) (e .network) ∷ eqb (x .length) (e .length) ∷ eqb (x .client) client ∷ not (x .leased) ∷ eqb (x .expires) (now + holdTime) ∷ []
 
-held-of : (t : LeaseTable) (now client : ℕ) (xs : List Lease) (r : Request) (x : Lease) → Offered t now client xs r x → isHeld? now client (entryOf x) x ≡ true
-held-of t now client xs r x o =
+held-of : (t : LeaseTable) (now client : ℕ) (name : Name) (xs : List Lease) (r : Request) (x : Lease) → Offered t now client name xs r x → isHeld? now client (entryOf x) x ≡ true
+held-of t now client name xs r x o =
     and-list-of (heldTests now client (entryOf x) x)
     (eq-eqb (x .network) (x .network) refl, (eq-eqb (x .length) (x .length) refl, (eq-eqb (x .client) client (o .owner), (not-of (x .leased) (o .leased), (eq-eqb (x .expires) (now + holdTime) (o .until), tt)))))
 
@@ -174,19 +175,19 @@ held-again now client x e =
     and-list-of (heldTests now client (entryOf (holdAgain now x)) (holdAgain now x))
     (eq-eqb (x .network) (x .network) refl, (eq-eqb (x .length) (x .length) refl, (b .0, (b .1 .0, (eq-eqb (now + holdTime) (now + holdTime) refl, tt)))))
 
-module _ (t : LeaseTable) (good : Pools (poolsOf t)) (now client : ℕ) where
-  kept-one : (xs : List Lease) (r : Request) (o : Option Lease) (os : List (Option Lease)) → Offer t now client xs r o → Kept now client (addAll os (add o xs)) o
+module _ (t : LeaseTable) (good : Pools (poolsOf t)) (now client : ℕ) (name : Name) where
+  kept-one : (xs : List Lease) (r : Request) (o : Option Lease) (os : List (Option Lease)) → Offer t now client name xs r o → Kept now client (addAll os (add o xs)) o
   kept-one xs r none os f = tt
   kept-one xs r (some x) os f =
       addAll-any (λ y. isHeld? now client (entryOf x) y ≡ true) os (insert x xs)
-      (insert-self (λ y. isHeld? now client (entryOf x) y ≡ true) x xs (held-of t now client xs r x f))
+      (insert-self (λ y. isHeld? now client (entryOf x) y ≡ true) x xs (held-of t now client name xs r x f))
 
-  kept-offers : (rs : List Request) (xs : List Lease) → All (Kept now client (addAll (offers t now client xs rs) xs)) (offers t now client xs rs)
+  kept-offers : (rs : List Request) (xs : List Lease) → All (Kept now client (addAll (offers t now client name xs rs) xs)) (offers t now client name xs rs)
   unfolding offers addAll
   kept-offers [] xs = tt
   kept-offers (r ∷ rs) xs =
-      let o : Option Lease = offer t now client xs r in
-      (kept-one xs r o (offers t now client (add o xs) rs) (offer-is t now client good xs r), kept-offers rs (add o xs))
+      let o : Option Lease = offer t now client name xs r in
+      (kept-one xs r o (offers t now client name (add o xs) rs) (offer-is t now client name good xs r), kept-offers rs (add o xs))
 
   kept-turn : (zs : List Lease) (gs os : List (Option Lease)) → All (λ x. Kept now client zs (some (holdAgain now x))) (catMaybes gs) → All (Kept now client zs) os
       → All (Kept now client zs) (inTurn now gs os)
@@ -197,10 +198,10 @@ module _ (t : LeaseTable) (good : Pools (poolsOf t)) (now client : ℕ) where
   kept-turn zs (none ∷ gs) (o ∷ os) a b = (b .0, kept-turn zs gs os a (b .1))
 
   -- All that is granted is held in the table that the call leaves.
-  pub kept : (rs : List Request) (xs : List Lease) → All (Kept now client (askLeases t now client xs rs)) (askGives t now client xs rs)
+  pub kept : (rs : List Request) (xs : List Lease) → All (Kept now client (askLeases t now client name xs rs)) (askGives t now client name xs rs)
   kept rs xs =
       let gs : List (Option Lease) = again t client xs rs in
-      let os : List (Option Lease) = askOffers t now client xs rs in
+      let os : List (Option Lease) = askOffers t now client name xs rs in
       let hs : List Lease = askHeld t now client xs rs in
       let there : (x : Lease) → Any (λ y. y ≡ x) (catMaybes gs) → (heldBy? client x ≡ true) × Any (λ y. y ≡ x) xs → Kept now client (addAll os hs) (some (holdAgain now x)) =
       λ x given was. addAll-any (λ y. isHeld? now client (entryOf (holdAgain now x)) y ≡ true) os hs

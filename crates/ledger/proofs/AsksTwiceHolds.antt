@@ -20,7 +20,7 @@ use Rattle.table.specs.declared.{Lease.Lease, LeaseTable.LeaseTable}
 use Rattle.table.specs.Table.{prefixOf, present, sound}
 use Rattle.table.proofs.Ascending.{ascending-apart}
 use Rattle.table.proofs.TableLaws.{sound-fine}
-use Rattle.ledger.specs.Ledger.{State, Call, addAll, heldBy?, heldFor?, firstThat, butFirst, again, restOf, inTurn, askHeld, askOffers, ask}
+use Rattle.ledger.specs.Ledger.{State, Call, askName, addAll, heldBy?, heldFor?, firstThat, butFirst, again, restOf, inTurn, askHeld, askOffers, ask}
 use Rattle.ledger.specs.Demand3.{wellFormed, asksOf, heldBefore, leaseFor, granted}
 use Rattle.ledger.specs.AskingTwice.{GivenAgain, grantedToRest, AsksTwice}
 use Rattle.ledger.proofs.OfferLaws.{pools-good, addAll-perm}
@@ -108,7 +108,7 @@ module _ (s : State) (now : ℕ) (c : Call) (e : wellFormed now s c ≡ true) wh
   held = askHeld (s .table) now (c .client) (present now (s .table .leases)) (asksOf c)
 
   abbrev os : List (Option Lease)
-  os = askOffers (s .table) now (c .client) (present now (s .table .leases)) (asksOf c)
+  os = askOffers (s .table) now (c .client) (askName c) (present now (s .table .leases)) (asksOf c)
 
   again-granted : GivenAgain gs (granted (λ u. u) ask now s c)
   again-granted = subst (GivenAgain gs) (sym (granted-is now s c e)) (given-turn now gs os)
@@ -117,20 +117,20 @@ module _ (s : State) (now : ℕ) (c : Call) (e : wellFormed now s c ≡ true) wh
   each-once = again-once (λ x y. x .network ≡ y .network → ⊥) (λ x y k z. k (sym z)) t (c .client) (asksOf c) xs (networks-differ t now (well now s c e .sound))
 
   -- What the rest is granted becomes the leases newly made.
-  made : map (leaseFor now (c .client)) (grantedToRest gs (granted (λ u. u) ask now s c)) ≡ catMaybes os
+  made : map (leaseFor now (c .client) (askName c)) (grantedToRest gs (granted (λ u. u) ask now s c)) ≡ catMaybes os
   made =
-      ap (λ (es : List (Option Entry)). map (leaseFor now (c .client)) (grantedToRest gs es)) (granted-is now s c e)
-      ∙ ap (map (leaseFor now (c .client))) (rest-turn now gs os (rest-fills t now (c .client) xs held (asksOf c)))
-      ∙ told t (pools-good t (well now s c e .sound)) now (c .client) (restOf gs (asksOf c)) held
+      ap (λ (es : List (Option Entry)). map (leaseFor now (c .client) (askName c)) (grantedToRest gs es)) (granted-is now s c e)
+      ∙ ap (map (leaseFor now (c .client) (askName c))) (rest-turn now gs os (rest-fills t now (c .client) (askName c) xs held (asksOf c)))
+      ∙ told t (pools-good t (well now s c e .sound)) now (c .client) (askName c) (restOf gs (asksOf c)) held
 
-  left-leases : List·Permᴰ (present now (ask s now c .state .table .leases)) (held ++ map (leaseFor now (c .client)) (grantedToRest gs (granted (λ u. u) ask now s c)))
+  left-leases : List·Permᴰ (present now (ask s now c .state .table .leases)) (held ++ map (leaseFor now (c .client) (askName c)) (grantedToRest gs (granted (λ u. u) ask now s c)))
   left-leases =
-      subst (λ (l : List Lease). List·Permᴰ l (held ++ map (leaseFor now (c .client)) (grantedToRest gs (granted (λ u. u) ask now s c)))) (sym (called now s c e .left))
+      subst (λ (l : List Lease). List·Permᴰ l (held ++ map (leaseFor now (c .client) (askName c)) (grantedToRest gs (granted (λ u. u) ask now s c)))) (sym (called now s c e .left))
       (subst (λ (l : List Lease). List·Permᴰ (addAll os held) (held ++ l)) (sym made) (addAll-perm os held))
 
   -- If a lease is given again something is granted, so neither 9 nor 10 applies.
   number-zero : (catMaybes gs ≡ [] → ⊥) → ask s now c .answer .number ≡ 0
-  number-zero k = called now s c e .number ∙ zero (catMaybes (givesOn now s c)) (λ z. k (turn-none now gs os (rest-fills t now (c .client) xs held (asksOf c)) z .0))
+  number-zero k = called now s c e .number ∙ zero (catMaybes (givesOn now s c)) (λ z. k (turn-none now gs os (rest-fills t now (c .client) (askName c) xs held (asksOf c)) z .0))
     where
       zero : (ys : List Lease) → (ys ≡ [] → ⊥) → numberFor xs ys ≡ 0
       zero [] k = absurd (k refl)

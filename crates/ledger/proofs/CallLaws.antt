@@ -23,7 +23,7 @@ use Rattle.table.proofs.TableLaws.{Good, Fine, sound-fine, sound-fewer, store-s
 use Rattle.option.specs.Contents.{Request, refuses?}
 use Rattle.option_reply.specs.Reply.{entryOf}
 use Rattle.figures.specs.Figures.{matches?}
-use Rattle.ledger.specs.Ledger.{State, left, Call, leastReply, full, Result, Row, firstOf, before, refuse, refusalPlace, forAsk, askRows, offers, addAll, heldBy?, again, restOf, holdAgain, heldAgain, askHeld, askOffers, askGives, askLeases, informationFor, ask}
+use Rattle.ledger.specs.Ledger.{State, left, Call, leastReply, full, Result, Row, firstOf, before, refuse, refusalPlace, forAsk, nameRows, askRows, askName, offers, addAll, heldBy?, again, restOf, holdAgain, heldAgain, askHeld, askOffers, askGives, askLeases, informationFor, ask}
 use Rattle.ledger.specs.Demand3.{none?, wellFormed, Accepts, asksOf, replyEntries, pairOff, confirmed, granted, inUse, Fate, isGranted, wantsSlot, wantsSpace, fate, HoldsNothing}
 use Rattle.ledger.proofs.RowLaws.{first-none, none-to, none-not, answerAsk, ask-served, ask-refused}
 use Rattle.ledger.proofs.LeftLaws.{left-matches}
@@ -60,7 +60,7 @@ well now t c e =
 
 run-well : (now : ℕ) (t : State) (c : Call) → wellFormed now t c ≡ true
     → let xs = present now (t .table .leases) in
-    ask t now c ≡ answerAsk t now (c .reply) xs (askLeases (t .table) now (c .client) xs (asksOf c)) (catMaybes (askGives (t .table) now (c .client) xs (asksOf c)))
+    ask t now c ≡ answerAsk t now (c .reply) xs (askLeases (t .table) now (c .client) (askName c) xs (asksOf c)) (catMaybes (askGives (t .table) now (c .client) (askName c) xs (asksOf c)))
 unfolding wellFormed
 run-well now t c e = ask-served t now c (none-to (firstOf (rowsFor now t c)) e)
 
@@ -93,7 +93,7 @@ well-same now t u c st su at au m =
         ∷ (7, refuses? 7 (readOption (c .option)))
         ∷ (16, refuses? 16 (readOption (c .option)))
         ∷ (8, not (forAsk (asksOf c)))
-        ∷ []))
+        ∷ nameRows c))
 
 -- ONE CALL
 
@@ -137,19 +137,19 @@ module _ (now : ℕ) (t : State) (c : Call) (w : WellFormed now t c) where
   held = askHeld (t .table) now (c .client) xs (asksOf c)
 
   abbrev os : List (Option Lease)
-  os = askOffers (t .table) now (c .client) xs (asksOf c)
+  os = askOffers (t .table) now (c .client) (askName c) xs (asksOf c)
 
   gives : List (Option Lease)
-  gives = askGives (t .table) now (c .client) xs (asksOf c)
+  gives = askGives (t .table) now (c .client) (askName c) xs (asksOf c)
 
   ys : List Lease
-  ys = askLeases (t .table) now (c .client) xs (asksOf c)
+  ys = askLeases (t .table) now (c .client) (askName c) xs (asksOf c)
 
   -- Where nothing is granted nothing is given again, so the leases are as they were.
   stay : catMaybes gives ≡ [] → ys ≡ xs
   unfolding gives ys
   stay e =
-      let z = turn-none now hs os (rest-fills (t .table) now (c .client) xs held (asksOf c)) e in
+      let z = turn-none now hs os (rest-fills (t .table) now (c .client) (askName c) xs held (asksOf c)) e in
       addAll-none os held (z .1) ∙ ap (λ (given : List Lease). heldAgain now given xs) (z .0) ∙ held-none now xs
 
   fine : Fine (poolsOf (t .table)) now 0 xs
@@ -160,10 +160,10 @@ module _ (now : ℕ) (t : State) (c : Call) (w : WellFormed now t c) where
   rest-short = rest-all (λ r. r .length ≤ longest) hs (asksOf c) (requests-short (c .option))
 
   -- The leases that it is to leave are good, ascend, and fit the table; what it grants is good.
-  leaves : Inv (t .table) now (c .client) good ys
+  leaves : Inv (t .table) now (c .client) (askName c) good ys
   unfolding xs ys
   leaves =
-      offers-inv (t .table) now (c .client) good (w .sound) (w .named) (restOf hs (asksOf c)) held rest-short
+      offers-inv (t .table) now (c .client) (askName c) good (w .sound) (w .named) (restOf hs (asksOf c)) held rest-short
       (record { fine = held-fine now (catMaybes hs) (poolsOf (t .table)) xs fine; fit = omega (arith, held-length now (catMaybes hs) xs, sound-fewer (t .table) (w .sound) now) })
 
   grants-good : All (Good (poolsOf (t .table)) now) (catMaybes gives)
@@ -173,15 +173,15 @@ module _ (now : ℕ) (t : State) (c : Call) (w : WellFormed now t c) where
       λ x k. hold-good (poolsOf (t .table)) now x (k .1) in
       turn-all now (Good (poolsOf (t .table)) now) hs os
       (all-map again-good (catMaybes hs) (again-all (t .table) (c .client) (Good (poolsOf (t .table)) now) (asksOf c) xs (fine .0)))
-      (offers-good (t .table) now (c .client) good (w .sound) (w .named) (restOf hs (asksOf c)) held rest-short)
+      (offers-good (t .table) now (c .client) (askName c) good (w .sound) (w .named) (restOf hs (asksOf c)) held rest-short)
 
   paired : pairOff (t .table) (asksOf c) (map entryOf (catMaybes gives)) ≡ map entry? gives
   unfolding gives
-  paired = pairs (t .table) good now (c .client) (asksOf c) xs held
+  paired = pairs (t .table) good now (c .client) (askName c) (asksOf c) xs held
 
   all-kept : All (Kept now (c .client) ys) gives
   unfolding gives ys
-  all-kept = kept (t .table) good now (c .client) (asksOf c) xs
+  all-kept = kept (t .table) good now (c .client) (askName c) (asksOf c) xs
 
   served : (gs : List Lease) → catMaybes gives ≡ gs → Served t now (c .client) (asksOf c) xs gives ys (answerAsk t now (c .reply) xs ys gs)
   unfolding store left xs
@@ -226,10 +226,10 @@ module _ (now : ℕ) (t : State) (c : Call) (w : WellFormed now t c) where
 
 -- What a well-formed call on a state gives, and the leases that it leaves.
 abbrev pub givesOn : ℕ → State → Call → List (Option Lease)
-givesOn now t c = askGives (t .table) now (c .client) (present now (t .table .leases)) (asksOf c)
+givesOn now t c = askGives (t .table) now (c .client) (askName c) (present now (t .table .leases)) (asksOf c)
 
 abbrev pub leasesOn : ℕ → State → Call → List Lease
-leasesOn now t c = askLeases (t .table) now (c .client) (present now (t .table .leases)) (asksOf c)
+leasesOn now t c = askLeases (t .table) now (c .client) (askName c) (present now (t .table .leases)) (asksOf c)
 
 pub called : (now : ℕ) (t : State) (c : Call) → wellFormed now t c ≡ true → Served t now (c .client) (asksOf c) (present now (t .table .leases)) (givesOn now t c) (leasesOn now t c) (ask t now c)
 unfolding xs gives ys
@@ -243,15 +243,15 @@ granted-is now t c e = called now t c e .given
 
 -- A client that holds nothing gets what all its requests are offered.
 module _ (now : ℕ) (t : State) (c : Call) (e : wellFormed now t c ≡ true) (n : HoldsNothing now (t .table) (c .client)) where
-  pub called-first : let xs = present now (t .table .leases) in let os = offers (t .table) now (c .client) xs (asksOf c) in
+  pub called-first : let xs = present now (t .table .leases) in let os = offers (t .table) now (c .client) (askName c) xs (asksOf c) in
       Served t now (c .client) (asksOf c) xs os (addAll os xs) (ask t now c)
   called-first =
       let xs : List Lease = present now (t .table .leases) in
-      let os : List (Option Lease) = offers (t .table) now (c .client) xs (asksOf c) in
-      subst (λ (gs : List (Option Lease)). Served t now (c .client) (asksOf c) xs gs (addAll os xs) (ask t now c)) (nothing-gives (t .table) (c .client) now xs (asksOf c) n)
-      (subst (λ (ys : List Lease). Served t now (c .client) (asksOf c) xs (givesOn now t c) ys (ask t now c)) (nothing-leases (t .table) (c .client) now xs (asksOf c) n) (called now t c e))
+      let os : List (Option Lease) = offers (t .table) now (c .client) (askName c) xs (asksOf c) in
+      subst (λ (gs : List (Option Lease)). Served t now (c .client) (asksOf c) xs gs (addAll os xs) (ask t now c)) (nothing-gives (t .table) (c .client) (askName c) now xs (asksOf c) n)
+      (subst (λ (ys : List Lease). Served t now (c .client) (asksOf c) xs (givesOn now t c) ys (ask t now c)) (nothing-leases (t .table) (c .client) (askName c) now xs (asksOf c) n) (called now t c e))
 
-  pub granted-first : granted (λ s. s) ask now t c ≡ map entry? (offers (t .table) now (c .client) (present now (t .table .leases)) (asksOf c))
+  pub granted-first : granted (λ s. s) ask now t c ≡ map entry? (offers (t .table) now (c .client) (askName c) (present now (t .table .leases)) (asksOf c))
   unfolding granted
   granted-first = called-first .given
 

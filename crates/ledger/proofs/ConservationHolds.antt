@@ -17,6 +17,7 @@ use Rattle.lists.proofs.FilterLaws.{filter-yes, filter-no}
 use Rattle.prefix.specs.declared.Prefix.{Prefix}
 use Rattle.prefix.specs.Prefixes.{size, Apart}
 use Rattle.option.specs.Values.{Entry}
+use Rattle.names.specs.declared.Name.{Name}
 use Rattle.table.specs.declared.Lease.{Lease}
 use Rattle.table.specs.declared.LeaseTable.{LeaseTable}
 use Rattle.table.specs.Table.{leaseSlots, prefixOf, poolsOf, present, sound, store}
@@ -25,7 +26,7 @@ use Rattle.table_open.proofs.OpenLaws.{open-sound}
 use Rattle.figures.specs.declared.FigureRow.{FigureRow}
 use Rattle.option.specs.Contents.{Request, entriesIn}
 use Rattle.option_reply.specs.Reply.{entryOf}
-use Rattle.ledger.specs.Ledger.{State, state, left, Call, ledger, Result, before, refusalPlace, full, openTable, add, addAll, heldBy?, again, restOf, holdAgain, inTurn, askHeld, askOffers, askGives, askLeases, askRows, ask, namedBy?, renew, renewed, takeRows, take, releaseRows, release, at?, withD, markRows, mark}
+use Rattle.ledger.specs.Ledger.{State, state, left, Call, ledger, Result, before, refusalPlace, full, openTable, add, addAll, heldBy?, again, restOf, holdAgain, inTurn, askHeld, askOffers, askGives, askLeases, askRows, askName, ask, namedBy?, renew, renewed, takeRows, take, releaseRows, release, at?, withD, markRows, mark}
 use Rattle.ledger.specs.Demand3.{wellFormed, asksOf, replyEntries, inUse, same?}
 use Rattle.ledger.specs.Histories.{Event, asked, taken, wasListed, returned, marked, saved, next, afterwards, leasesOf}
 use Rattle.ledger.specs.Conservation.{addressesOf, addressesIn, newlyMade, grantedBy, returnedBy, endedAt, endedBy, summed, FromLoad, FromOpen}
@@ -95,20 +96,20 @@ module _ (now : ℕ) (t : LeaseTable) where
   newly (none ∷ gs) (some x ∷ os) f a b =
       filter-yes _ (entryOf x) (map entryOf (catMaybes (inTurn now gs os))) (not-of (used? x) (b .0)) ∙ ap (λ (l : List Entry). entryOf x ∷ l) (newly gs os f a (b .1))
 
-  pub newly-made : (client : ℕ) (rs : List Request) → sound t ≡ true
-      → let xs = present now (t .leases) in newlyMade now t (map entryOf (catMaybes (askGives t now client xs rs))) ≡ map entryOf (catMaybes (askOffers t now client xs rs))
-  newly-made client rs so =
+  pub newly-made : (client : ℕ) (name : Name) (rs : List Request) → sound t ≡ true
+      → let xs = present now (t .leases) in newlyMade now t (map entryOf (catMaybes (askGives t now client name xs rs))) ≡ map entryOf (catMaybes (askOffers t now client name xs rs))
+  newly-made client name rs so =
       let xs : List Lease = present now (t .leases) in
       let gs : List (Option Lease) = again t client xs rs in
       let hs : List Lease = askHeld t now client xs rs in
-      let os : List (Option Lease) = askOffers t now client xs rs in
+      let os : List (Option Lease) = askOffers t now client name xs rs in
       let same : prefixes hs ≡ inUse now t = held-prefixes now (catMaybes gs) xs in
-      newly gs os (rest-fills t now client xs hs rs)
+      newly gs os (rest-fills t now client name xs hs rs)
       (all-map (λ x (k : (heldBy? client x ≡ true) × (used? x ≡ true)). k .1) (catMaybes gs) (again-all t client (λ x. used? x ≡ true) rs xs (all-in-use xs)))
       (all-map (λ x (a : All (Apart (prefixOf x)) (inUse now t)). not-there (prefixOf x) (inUse now t) a) (catMaybes os)
-      (offers-new t now client (pools-good t so) (restOf gs rs) (inUse now t) hs (λ P a. subst (All P) same a)))
+      (offers-new t now client name (pools-good t so) (restOf gs rs) (inUse now t) hs (λ P a. subst (All P) same a)))
 
-stored : (t : LeaseTable) (now : ℕ) (xs : List Lease) → All (Good (poolsOf t) now) xs → leasesOf (store t now xs) ≡ xs
+pub stored : (t : LeaseTable) (now : ℕ) (xs : List Lease) → All (Good (poolsOf t) now) xs → leasesOf (store t now xs) ≡ xs
 unfolding store
 stored t now xs g = present-stored (poolsOf t) now xs g
 
@@ -142,12 +143,12 @@ module _ (t : LeaseTable) (now : ℕ) (s : sound t ≡ true) (since : t .last �
       store-balance 0 (addressesOf (filter q xs)) (filter p xs) (fine-filter (poolsOf t) now 0 p xs (sound-fine t s now) .0) (omega (arith, total-parts p q o xs))
 
   -- Leases given again, which count as they did, and leases newly made.
-  ask-total : (client : ℕ) (rs : List Request)
-      → let xs = present now (t .leases) in addressesOf (askLeases t now client xs rs) ≡ addressesOf xs + addressesOf (catMaybes (askOffers t now client xs rs))
-  ask-total client rs =
+  ask-total : (client : ℕ) (name : Name) (rs : List Request)
+      → let xs = present now (t .leases) in addressesOf (askLeases t now client name xs rs) ≡ addressesOf xs + addressesOf (catMaybes (askOffers t now client name xs rs))
+  ask-total client name rs =
       let xs : List Lease = present now (t .leases) in
       let given : List Lease = catMaybes (again t client xs rs) in
-      total-addAll (askOffers t now client xs rs) (askHeld t now client xs rs) ∙ ap (λ (n : ℕ). n + addressesOf (catMaybes (askOffers t now client xs rs))) (total-map (held now given) (held-place now given) xs)
+      total-addAll (askOffers t now client name xs rs) (askHeld t now client xs rs) ∙ ap (λ (n : ℕ). n + addressesOf (catMaybes (askOffers t now client name xs rs))) (total-map (held now given) (held-place now given) xs)
 
   asked-balance : (rows : List FigureRow) (made : ℕ) (gs ys : List Lease) → (gs ≡ [] → made ≡ 0) → All (Good (poolsOf t) now) ys → addressesOf ys ≡ addressesOf (present now (t .leases)) + made
       → Balance t now made 0 (numberFor (present now (t .leases)) gs) (stateFor (state t rows) now ys gs .table)
@@ -167,7 +168,7 @@ AskBalance t now r = Balance t now (addressesIn (newlyMade now t (replyEntries r
 
 pub numbered-before : (s : State) (now : ℕ) (c : Call) → Numbered (before 9 (askRows s now c))
 unfolding askRows
-numbered-before s now c = (refl, (refl, (refl, (refl, (refl, (refl, (refl, (refl, (refl, (refl, tt))))))))))
+numbered-before s now c = (refl, (refl, (refl, (refl, (refl, (refl, (refl, (refl, (refl, (refl, (refl, tt)))))))))))
 
 ask-balance : (t : State) (now : ℕ) (c : Call) → AskBalance (t .table) now (ask t now c)
 unfolding wellFormed
@@ -179,15 +180,15 @@ ask-balance t now c = ⊎-elim good bad (bool-cases (wellFormed now t c))
         let w = well now t c e in
         let xs : List Lease = present now (t .table .leases) in
         let gs : List (Option Lease) = again (t .table) (c .client) xs (asksOf c) in
-        let os : List (Option Lease) = askOffers (t .table) now (c .client) xs (asksOf c) in
+        let os : List (Option Lease) = askOffers (t .table) now (c .client) (askName c) xs (asksOf c) in
         let granted : List Lease = catMaybes (givesOn now t c) in
         let made : ℕ = addressesOf (catMaybes os) in
         let nothing : granted ≡ [] → made ≡ 0 =
-        λ z. ap addressesOf (turn-none now gs os (rest-fills (t .table) now (c .client) xs (askHeld (t .table) now (c .client) xs (asksOf c)) (asksOf c)) z .1) in
+        λ z. ap addressesOf (turn-none now gs os (rest-fills (t .table) now (c .client) (askName c) xs (askHeld (t .table) now (c .client) xs (asksOf c)) (asksOf c)) z .1) in
         let b : Balance (t .table) now made 0 (numberFor xs granted) (stateFor t now (leasesOn now t c) granted .table) =
-        asked-balance (t .table) now (w .sound) (w .accepted .0) (t .rows) made granted (leasesOn now t c) nothing (k .good) (ask-total (t .table) now (w .sound) (w .accepted .0) (c .client) (asksOf c)) in
+        asked-balance (t .table) now (w .sound) (w .accepted .0) (t .rows) made granted (leasesOn now t c) nothing (k .good) (ask-total (t .table) now (w .sound) (w .accepted .0) (c .client) (askName c) (asksOf c)) in
         let m : addressesIn (newlyMade now (t .table) (replyEntries (ask t now c))) ≡ made =
-        ap (λ (es : List Entry). addressesIn (newlyMade now (t .table) es)) (k .told) ∙ ap addressesIn (newly-made now (t .table) (c .client) (asksOf c) (w .sound)) ∙ total-entries (catMaybes os) in
+        ap (λ (es : List Entry). addressesIn (newlyMade now (t .table) es)) (k .told) ∙ ap addressesIn (newly-made now (t .table) (c .client) (askName c) (asksOf c) (w .sound)) ∙ total-entries (catMaybes os) in
         subst (λ (n : ℕ). Balance (t .table) now n 0 (ask t now c .answer .number) (ask t now c .state .table)) (sym m)
         (subst (λ (n : ℕ). Balance (t .table) now made 0 n (ask t now c .state .table)) (sym (k .number))
         (subst (λ (u : State). Balance (t .table) now made 0 (numberFor xs granted) (u .table)) (sym (k .left-state)) b))

@@ -20,13 +20,14 @@ use Rattle.free_space.specs.Serving.{Pools, Packing, withGrant, serve, after}
 use Rattle.free_space.proofs.ListTheorem.{serve-packing}
 use Rattle.free_space.proofs.Permuted.{grant-perm}
 use Rattle.option.specs.Values.{Entry}
+use Rattle.names.specs.declared.Name.{Name}
 use Rattle.table.specs.declared.Lease.{Lease}
 use Rattle.table.specs.declared.LeaseTable.{LeaseTable}
 use Rattle.table.specs.Table.{leaseSlots, prefixOf, poolsOf, present, sound}
 use Rattle.table.proofs.TableLaws.{sound-fewer}
 use Rattle.option.specs.Contents.{Request}
 use Rattle.option_reply.specs.Reply.{entryOf}
-use Rattle.ledger.specs.Ledger.{State, Call, askLength, offer, add, offers, addAll, ask}
+use Rattle.ledger.specs.Ledger.{State, Call, askLength, askName, offer, add, offers, addAll, ask}
 use Rattle.ledger.specs.Demand3.{Received, received, wellFormed, Accepts, asksOf, granted, entryPrefix, inUse, wellFormedCalls, wellFormedAsks, lengthsAsked, prefixesAt, FirstAsks, CanBeChosen}
 use Rattle.lists.proofs.PartLaws.{split-some}
 use Rattle.ledger.proofs.EmptySlots.{empty-slots}
@@ -53,41 +54,41 @@ told-leases (some x ∷ os) (g ∷ gs) e =
     (x ∷ r .0, ap (λ (l : List (Option Lease)). some x ∷ l) (r .1), ap₂ (λ (b : Entry) (l : List Entry). b ∷ l) k (r .2))
 
 -- Offers that lack nothing are the grants of crate `free_space`.
-module _ (t : LeaseTable) (good : Pools (poolsOf t)) (now client : ℕ) where
+module _ (t : LeaseTable) (good : Pools (poolsOf t)) (now client : ℕ) (name : Name) where
   abbrev Granted : List Request → List Lease → List Prefix → List Lease → Type 0
   Granted rs xs ls ys =
       (serve (poolsOf t) ls (map (askLength t) rs) ≡ map some (prefixes ys))
-      × List·Permᴰ (prefixes (addAll (offers t now client xs rs) xs)) (after (poolsOf t) ls (map (askLength t) rs))
+      × List·Permᴰ (prefixes (addAll (offers t now client name xs rs) xs)) (after (poolsOf t) ls (map (askLength t) rs))
 
-  granted-step : (r : Request) (rs : List Request) (xs : List Lease) (ls : List Prefix) (o : Option Lease) (y : Lease) (ys : List Lease) → Offer t now client xs r o
+  granted-step : (r : Request) (rs : List Request) (xs : List Lease) (ls : List Prefix) (o : Option Lease) (y : Lease) (ys : List Lease) → Offer t now client name xs r o
       → grant (poolsOf t) (prefixes xs) (askLength t r) ≡ grant (poolsOf t) ls (askLength t r)
-      → o ∷ offers t now client (add o xs) rs ≡ some y ∷ map some ys
-      → (offers t now client (add o xs) rs ≡ map some ys → List·Permᴰ (prefixes (add o xs)) (withGrant (prefix? o) ls)
+      → o ∷ offers t now client name (add o xs) rs ≡ some y ∷ map some ys
+      → (offers t now client name (add o xs) rs ≡ map some ys → List·Permᴰ (prefixes (add o xs)) (withGrant (prefix? o) ls)
       → (serve (poolsOf t) (withGrant (prefix? o) ls) (map (askLength t) rs) ≡ map some (prefixes ys))
-      × List·Permᴰ (prefixes (addAll (offers t now client (add o xs) rs) (add o xs))) (after (poolsOf t) (withGrant (prefix? o) ls) (map (askLength t) rs)))
+      × List·Permᴰ (prefixes (addAll (offers t now client name (add o xs) rs) (add o xs))) (after (poolsOf t) (withGrant (prefix? o) ls) (map (askLength t) rs)))
       → List·Permᴰ (prefixes xs) ls
       → (serve (poolsOf t) ls (map (askLength t) (r ∷ rs)) ≡ map some (prefixes (y ∷ ys)))
-      × List·Permᴰ (prefixes (addAll (o ∷ offers t now client (add o xs) rs) xs)) (after (poolsOf t) ls (map (askLength t) (r ∷ rs)))
+      × List·Permᴰ (prefixes (addAll (o ∷ offers t now client name (add o xs) rs) xs)) (after (poolsOf t) ls (map (askLength t) (r ∷ rs)))
   unfolding addAll
   granted-step r rs xs ls none y ys f same e k p = let h : none ≡ some y = head-eq-of-cons-eq e in let z : _≡_ {A = ℕ} 0 1 = cc in absurd (omega arith)
   granted-step r rs xs ls (some x) y ys f same e k p =
       let h : some x ≡ some y = head-eq-of-cons-eq e in
       let q : x ≡ y = cc in
       let g : some (prefixOf x) ≡ grant (poolsOf t) ls (askLength t r) = sym (f .granted) ∙ same in
-      let m = k (tail-eq-of-cons-eq e) (add-perm t now client good xs ls (some x) p) in (
+      let m = k (tail-eq-of-cons-eq e) (add-perm t now client name good xs ls (some x) p) in (
         ap (λ (b : Option Prefix). b ∷ serve (poolsOf t) (withGrant b ls) (map (askLength t) rs)) (sym g)
             ∙ ap₂ (λ (b : Lease) (l : List (Option Prefix)). some (prefixOf b) ∷ l) q (m .0),
-        subst (λ (b : Option Prefix). List·Permᴰ (prefixes (addAll (offers t now client (add (some x) xs) rs) (add (some x) xs))) (after (poolsOf t) (withGrant b ls) (map (askLength t) rs))) g (m .1),
+        subst (λ (b : Option Prefix). List·Permᴰ (prefixes (addAll (offers t now client name (add (some x) xs) rs) (add (some x) xs))) (after (poolsOf t) (withGrant b ls) (map (askLength t) rs))) g (m .1),
       )
 
-  all-offers : (rs : List Request) (xs : List Lease) (ls : List Prefix) (ys : List Lease) → List·Permᴰ (prefixes xs) ls → offers t now client xs rs ≡ map some ys → Granted rs xs ls ys
+  all-offers : (rs : List Request) (xs : List Lease) (ls : List Prefix) (ys : List Lease) → List·Permᴰ (prefixes xs) ls → offers t now client name xs rs ≡ map some ys → Granted rs xs ls ys
   unfolding offers addAll
   all-offers [] xs ls [] p e = (refl, p)
   all-offers [] xs ls (y ∷ ys) p e = absurd (nil≢cons e)
   all-offers (r ∷ rs) xs ls [] p e = absurd (nil≢cons (sym e))
   all-offers (r ∷ rs) xs ls (y ∷ ys) p e =
-      let o : Option Lease = offer t now client xs r in
-      granted-step r rs xs ls o y ys (offer-is t now client good xs r) (grant-perm (poolsOf t) p (askLength t r)) e
+      let o : Option Lease = offer t now client name xs r in
+      granted-step r rs xs ls o y ys (offer-is t now client name good xs r) (grant-perm (poolsOf t) p (askLength t r)) e
       (λ d q. all-offers rs (add o xs) (withGrant (prefix? o) ls) ys q d) p
 
 module _ (t : State) (now : ℕ) (st : sound (t .table) ≡ true) (ac : Accepts (t .table) now) where
@@ -131,17 +132,17 @@ module _ (t : State) (now : ℕ) (st : sound (t .table) ≡ true) (ac : Accepts 
       let later = first-well t now st ac c cs u s b first in
       let f : filter (wellFormed now t) (c ∷ cs) ≡ c ∷ filter (wellFormed now t) cs = filter-yes (wellFormed now t) c cs b in
       let r = split-some (granted (λ s. s) ask now u c) (concatMap gives (filter kept? vs)) given (ap (concatMap gives) (sym (filter-yes kept? v vs b)) ∙ e) in
-      let a = told-leases (offers (u .table) now (c .client) xs (asksOf c)) (r .0) (sym (granted-first now u c w (later .0)) ∙ r .2) in
-      let m = all-offers (u .table) good now (c .client) (asksOf c) xs ls (a .0) p (a .1) in
+      let a = told-leases (offers (u .table) now (c .client) (askName c) xs (asksOf c)) (r .0) (sym (granted-first now u c w (later .0)) ∙ r .2) in
+      let m = all-offers (u .table) good now (c .client) (askName c) (asksOf c) xs ls (a .0) p (a .1) in
       let d : serve (poolsOf (t .table)) ls js ≡ map some (prefixes (a .0)) =
       sym (ap₂ (λ (ps : List Prefix) (z : List ℕ). serve ps ls z) (pools-same t now st ac u s) (lens-same t now st ac u (asksOf c) s)) ∙ m .0 in
       let q : List·Permᴰ (inUse now (ask u now c .state .table)) (after (poolsOf (t .table)) ls js) =
       subst (λ (z : List Lease). List·Permᴰ (prefixes z) (after (poolsOf (t .table)) ls js)) (sym (called-first now u c w (later .0) .left))
-      (subst (λ (z : List Prefix). List·Permᴰ (prefixes (addAll (offers (u .table) now (c .client) xs (asksOf c)) xs)) z)
+      (subst (λ (z : List Prefix). List·Permᴰ (prefixes (addAll (offers (u .table) now (c .client) (askName c) xs (asksOf c)) xs)) z)
       (ap₂ (λ (ps : List Prefix) (z : List ℕ). after ps ls z) (pools-same t now st ac u s) (lens-same t now st ac u (asksOf c) s)) (m .1)) in
       let n : length (present now (ask u now c .state .table .leases)) ≡ length xs + length (asksOf c) =
       ap length (called-first now u c w (later .0) .left) ∙ ap (λ (z : List (Option Lease)). length (addAll z xs)) (a .1) ∙ perm-length (all-added (a .0) xs) ∙ length-append xs (a .0)
-      ∙ omega (arith, length-map (a .0) some, ap length (a .1), offers-length (u .table) now (c .client) (asksOf c) xs) in
+      ∙ omega (arith, length-map (a .0) some, ap length (a .1), offers-length (u .table) now (c .client) (askName c) (asksOf c) xs) in
       let rest = k (ask u now c .state) (after (poolsOf (t .table)) ls js) (r .1) (next t now st ac u c s) (later .1) q (r .3) in (
         ap (λ (z : List Call). serve (poolsOf (t .table)) ls (map (askLength (t .table)) (concatMap asksOf z))) f
             ∙ ap (serve (poolsOf (t .table)) ls) (map-append (askLength (t .table)) (asksOf c) (wellFormedAsks now t cs))

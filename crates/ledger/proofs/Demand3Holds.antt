@@ -23,13 +23,14 @@ use Rattle.free_space.specs.Grant.{grant}
 use Rattle.free_space.specs.Serving.{Pools, Packing, withGrant, serve, after}
 use Rattle.free_space.proofs.ListTheorem.{list-theorem}
 use Rattle.option.specs.Values.{Entry}
+use Rattle.names.specs.declared.Name.{Name}
 use Rattle.table.specs.declared.Lease.{Lease}
 use Rattle.table.specs.declared.LeaseTable.{LeaseTable}
 use Rattle.table.specs.Table.{leaseSlots, latest, prefixOf, prefixesOf, poolsOf, present, sound}
 use Rattle.figures.specs.Figures.{matches?}
 use Rattle.option.specs.Contents.{Request}
 use Rattle.option_reply.specs.Reply.{entryOf}
-use Rattle.ledger.specs.Ledger.{State, Call, holdTime, askLength, offer, add, offers, addAll, heldBy?, ask}
+use Rattle.ledger.specs.Ledger.{State, Call, holdTime, askLength, askName, offer, add, offers, addAll, heldBy?, ask}
 use Rattle.ledger.specs.Demand3.{Received, received, afterAll, wellFormed, Accepts, asksOf, granted, entryPrefix, inUse, wellFormedAsks, lengthsAsked, prefixesAt, HoldsNothing, FirstAsks, CanBeChosen, leaseFor, made, AllGranted, Untouched, Demand3}
 use Rattle.lists.proofs.PartLaws.{catMaybes-some, split-some}
 use Rattle.ledger.proofs.EmptySlots.{empty-slots}
@@ -88,21 +89,21 @@ all-added ys xs = subst (λ (zs : List Lease). List·Permᴰ (addAll (map some y
 
 -- each lease offered is the one that its entry tells
 
-lease-path : (now client : ℕ) (x : Lease) → x .client ≡ client → x .leased ≡ false → x .expires ≡ now + holdTime → x ≡ leaseFor now client (entryOf x)
-lease-path now client x p q r = λ i. record { network = x .network; length = x .length; client = p i; leased = q i; h = x .h; d = x .d; expires = r i }
+lease-path : (now client : ℕ) (name : Name) (x : Lease) → x .client ≡ client → x .leased ≡ false → x .expires ≡ now + holdTime → x .name ≡ name → x ≡ leaseFor now client name (entryOf x)
+lease-path now client name x p q r n = λ i. record { network = x .network; length = x .length; client = p i; leased = q i; h = x .h; d = x .d; expires = r i; name = n i }
 
-module _ (t : LeaseTable) (good : Pools (poolsOf t)) (now client : ℕ) where
-  told-step : (xs : List Lease) (r : Request) (o : Option Lease) (os : List (Option Lease)) → Offer t now client xs r o → map (leaseFor now client) (map entryOf (catMaybes os)) ≡ catMaybes os
-      → map (leaseFor now client) (map entryOf (catMaybes (o ∷ os))) ≡ catMaybes (o ∷ os)
+module _ (t : LeaseTable) (good : Pools (poolsOf t)) (now client : ℕ) (name : Name) where
+  told-step : (xs : List Lease) (r : Request) (o : Option Lease) (os : List (Option Lease)) → Offer t now client name xs r o → map (leaseFor now client name) (map entryOf (catMaybes os)) ≡ catMaybes os
+      → map (leaseFor now client name) (map entryOf (catMaybes (o ∷ os))) ≡ catMaybes (o ∷ os)
   told-step xs r none os f e = e
-  told-step xs r (some x) os f e = ap₂ (λ (y : Lease) (l : List Lease). y ∷ l) (sym (lease-path now client x (f .owner) (f .leased) (f .until))) e
+  told-step xs r (some x) os f e = ap₂ (λ (y : Lease) (l : List Lease). y ∷ l) (sym (lease-path now client name x (f .owner) (f .leased) (f .until) (f .label))) e
 
-  pub told : (rs : List Request) (xs : List Lease) → map (leaseFor now client) (map entryOf (catMaybes (offers t now client xs rs))) ≡ catMaybes (offers t now client xs rs)
+  pub told : (rs : List Request) (xs : List Lease) → map (leaseFor now client name) (map entryOf (catMaybes (offers t now client name xs rs))) ≡ catMaybes (offers t now client name xs rs)
   unfolding offers
   told [] xs = refl
-  told (r ∷ rs) xs = told-step xs r (offer t now client xs r) (offers t now client (add (offer t now client xs r) xs) rs) (offer-is t now client good xs r) (told rs (add (offer t now client xs r) xs))
+  told (r ∷ rs) xs = told-step xs r (offer t now client name xs r) (offers t now client name (add (offer t now client name xs r) xs) rs) (offer-is t now client name good xs r) (told rs (add (offer t now client name xs r) xs))
 
-  length-step : (xs : List Lease) (r : Request) (rs : List Request) (o : Option Lease) (os : List (Option Lease)) (y : Lease) (ys : List Lease) → Offer t now client xs r o
+  length-step : (xs : List Lease) (r : Request) (rs : List Request) (o : Option Lease) (os : List (Option Lease)) (y : Lease) (ys : List Lease) → Offer t now client name xs r o
       → o ∷ os ≡ some y ∷ map some ys → (os ≡ map some ys → map (λ (x : Lease). x .length) ys ≡ map (askLength t) rs)
       → map (λ (x : Lease). x .length) (y ∷ ys) ≡ map (askLength t) (r ∷ rs)
   length-step xs r rs none os y ys f e k = let h : none ≡ some y = head-eq-of-cons-eq e in let z : _≡_ {A = ℕ} 0 1 = cc in absurd (omega arith)
@@ -111,14 +112,14 @@ module _ (t : LeaseTable) (good : Pools (poolsOf t)) (now client : ℕ) where
       let q : x ≡ y = cc in
       ap₂ (λ (n : ℕ) (l : List ℕ). n ∷ l) (ap (λ (z : Lease). z .length) (sym q) ∙ f .len) (k (tail-eq-of-cons-eq e))
 
-  lengths-told : (rs : List Request) (xs ys : List Lease) → offers t now client xs rs ≡ map some ys → map (λ (x : Lease). x .length) ys ≡ map (askLength t) rs
+  lengths-told : (rs : List Request) (xs ys : List Lease) → offers t now client name xs rs ≡ map some ys → map (λ (x : Lease). x .length) ys ≡ map (askLength t) rs
   unfolding offers
   lengths-told [] xs [] e = refl
   lengths-told [] xs (y ∷ ys) e = absurd (nil≢cons e)
   lengths-told (r ∷ rs) xs [] e = absurd (nil≢cons (sym e))
   lengths-told (r ∷ rs) xs (y ∷ ys) e =
-      length-step xs r rs (offer t now client xs r) (offers t now client (add (offer t now client xs r) xs) rs) y ys (offer-is t now client good xs r) e
-      (lengths-told rs (add (offer t now client xs r) xs) ys)
+      length-step xs r rs (offer t now client name xs r) (offers t now client name (add (offer t now client name xs r) xs) rs) y ys (offer-is t now client name good xs r) e
+      (lengths-told rs (add (offer t now client name xs r) xs) ys)
 
 -- the states that a list goes through: the sheet of each matches if the first one does
 
@@ -164,14 +165,14 @@ module _ (t : State) (now : ℕ) (st : sound (t .table) ≡ true) (ac : Accepts 
       → HoldsNothing now (u .table) (c .client) × FirstOn (ask u now c .state) cs
   first-well c cs u s b f =
       let xs : List Lease = present now (u .table .leases) in
-      let os : List (Option Lease) = offers (u .table) now (c .client) xs (asksOf c) in
+      let os : List (Option Lease) = offers (u .table) now (c .client) (askName c) xs (asksOf c) in
       let good : Pools (poolsOf (u .table)) = pools-good (u .table) (s .sound) in
       let g : All (λ d. HoldsNothing now (u .table) (d .client)) (c ∷ filter (wellFormed now t) cs) × Pairwise (λ d e. d .client ≡ e .client → ⊥) (c ∷ filter (wellFormed now t) cs) =
       subst (λ (ds : List Call). All (λ d. HoldsNothing now (u .table) (d .client)) ds × Pairwise (λ d e. d .client ≡ e .client → ⊥) ds) (filter-yes (wellFormed now t) c cs b) f in
       let still : (d : Call) → (c .client ≡ d .client → ⊥) → HoldsNothing now (u .table) (d .client) → HoldsNothing now (ask u now c .state .table) (d .client) =
       λ d k n. subst (All (λ x. heldBy? (d .client) x ≡ false)) (sym (called-first now u c (same u c s ∙ b) (g .0 .0) .left))
       (addAll-all (λ x. heldBy? (d .client) x ≡ false) os xs
-      (offers-all (u .table) now (c .client) good (λ r. Unit {0}) (λ x. heldBy? (d .client) x ≡ false) (λ ys r x _ o. not-theirs (c .client) (d .client) k x (o .owner)) (asksOf c) xs (all-every (λ r. tt) (asksOf c))) n) in
+      (offers-all (u .table) now (c .client) (askName c) good (λ r. Unit {0}) (λ x. heldBy? (d .client) x ≡ false) (λ ys r x _ o. not-theirs (c .client) (d .client) k x (o .owner)) (asksOf c) xs (all-every (λ r. tt) (asksOf c))) n) in
       (g .0 .0, (all-map₂ still (filter (wellFormed now t) cs) (g .1 .0) (g .0 .1), g .1 .1))
 
   -- the list, from any table that it goes through
@@ -214,7 +215,7 @@ module _ (t : State) (now : ℕ) (st : sound (t .table) ≡ true) (ac : Accepts 
   lens-same u rs s = ap (λ (n : ℕ). map (λ (r : Request). cond (eqb (r .length) 0) n (r .length)) rs) (s .default)
 
   goes-well : (c : Call) (cs : List Call) (u : State) (ys : List Lease) (g₁ g₂ : List Prefix) → Reached t now u → wellFormed now t c ≡ true → HoldsNothing now (u .table) (c .client)
-      → offers (u .table) now (c .client) (present now (u .table .leases)) (asksOf c) ≡ map some ys → prefixes ys ≡ g₁
+      → offers (u .table) now (c .client) (askName c) (present now (u .table .leases)) (asksOf c) ≡ map some ys → prefixes ys ≡ g₁
       → Goes cs (ask u now c .state) g₂ → Goes (c ∷ cs) u (g₁ ++ g₂)
   unfolding received afterAll
   goes-well c cs u ys g₁ g₂ s e n o b k =
@@ -225,12 +226,12 @@ module _ (t : State) (now : ℕ) (st : sound (t .table) ≡ true) (ac : Accepts 
       let vs : List (Received State) = received (λ s. s) ask now (ask u now c .state) cs in
       let f : filter kept? (v ∷ vs) ≡ v ∷ filter kept? vs = cond-true (wellFormed now t c) (v ∷ filter kept? vs) (filter kept? vs) e in
       let h : granted (λ s. s) ask now u c ≡ map some (map entryOf ys) = granted-first now u c w n ∙ ap (map entry?) o ∙ entries-some ys in
-      let so : catMaybes (offers (u .table) now (c .client) xs (asksOf c)) ≡ ys = ap catMaybes o ∙ catMaybes-some ys in
+      let so : catMaybes (offers (u .table) now (c .client) (askName c) xs (asksOf c)) ≡ ys = ap catMaybes o ∙ catMaybes-some ys in
       let m : made (λ s. s) ask now v ≡ ys =
-      ap (λ (l : List (Option Entry)). map (leaseFor now (c .client)) (catMaybes l)) h
-      ∙ ap (map (leaseFor now (c .client))) (catMaybes-some (map entryOf ys))
-      ∙ ap (λ (l : List Lease). map (leaseFor now (c .client)) (map entryOf l)) (sym so)
-      ∙ told (u .table) good now (c .client) (asksOf c) xs ∙ so in
+      ap (λ (l : List (Option Entry)). map (leaseFor now (c .client) (askName c)) (catMaybes l)) h
+      ∙ ap (map (leaseFor now (c .client) (askName c))) (catMaybes-some (map entryOf ys))
+      ∙ ap (λ (l : List Lease). map (leaseFor now (c .client) (askName c)) (map entryOf l)) (sym so)
+      ∙ told (u .table) good now (c .client) (askName c) (asksOf c) xs ∙ so in
       let p : List·Permᴰ (present now (ask u now c .state .table .leases)) (xs ++ ys) =
       subst (λ (l : List Lease). List·Permᴰ l (xs ++ ys)) (sym (called-first now u c w n .left ∙ ap (λ (l : List (Option Lease)). addAll l xs) o)) (all-added ys xs) in
       record {
@@ -239,7 +240,7 @@ module _ (t : State) (now : ℕ) (st : sound (t .table) ≡ true) (ac : Accepts 
         are = map-append entryPrefix (map entryOf ys) (k .given) ∙ ap₂ (λ (a b : List Prefix). a ++ b) (prefixes-of ys ∙ b) (k .are);
         lens =
             map-append (λ (z : Entry). z .length) (map entryOf ys) (k .given)
-            ∙ ap₂ (λ (a b : List ℕ). a ++ b) (lengths-of ys ∙ lengths-told (u .table) good now (c .client) (asksOf c) xs ys o ∙ lens-same u (asksOf c) s) (k .lens)
+            ∙ ap₂ (λ (a b : List ℕ). a ++ b) (lengths-of ys ∙ lengths-told (u .table) good now (c .client) (askName c) (asksOf c) xs ys o ∙ lens-same u (asksOf c) s) (k .lens)
             ∙ sym (map-append (askLength (t .table)) (asksOf c) (wellFormedAsks now t cs))
             ∙ ap (λ (z : List Call). map (askLength (t .table)) (concatMap asksOf z)) (sym (cond-true (wellFormed now t c) (c ∷ filter (wellFormed now t) cs) (filter (wellFormed now t) cs) e));
         left =
@@ -283,16 +284,16 @@ module _ (t : State) (now : ℕ) (st : sound (t .table) ≡ true) (ac : Accepts 
       ap (λ (z : List Call). map (askLength (t .table)) (concatMap asksOf z)) f ∙ map-append (askLength (t .table)) (asksOf c) (wellFormedAsks now t cs) in
       let r = split-some (serve (poolsOf (t .table)) ls js) (serve (poolsOf (t .table)) (after (poolsOf (t .table)) ls js) (lengthsAsked now t cs)) gs
       (sym (serve-append (poolsOf (t .table)) ls js (lengthsAsked now t cs)) ∙ ap (serve (poolsOf (t .table)) ls) (sym o) ∙ e) in
-      let a = all-catMaybes (offers (u .table) now (c .client) xs (asksOf c)) (r .0)
-      (offers-serve (u .table) now (c .client) good (asksOf c) xs ls (omega arith) p ∙ ap₂ (λ (ps : List Prefix) (z : List ℕ). serve ps ls z) (pools-same u s) (lens-same u (asksOf c) s) ∙ r .2) in
+      let a = all-catMaybes (offers (u .table) now (c .client) (askName c) xs (asksOf c)) (r .0)
+      (offers-serve (u .table) now (c .client) (askName c) good (asksOf c) xs ls (omega arith) p ∙ ap₂ (λ (ps : List Prefix) (z : List ℕ). serve ps ls z) (pools-same u s) (lens-same u (asksOf c) s) ∙ r .2) in
       let q : List·Permᴰ (inUse now (ask u now c .state .table)) (after (poolsOf (t .table)) ls js) =
       subst (λ (z : List Lease). List·Permᴰ (prefixes z) (after (poolsOf (t .table)) ls js)) (sym (called-first now u c w (later .0) .left))
-      (subst (λ (z : List Prefix). List·Permᴰ (prefixes (addAll (offers (u .table) now (c .client) xs (asksOf c)) xs)) z)
+      (subst (λ (z : List Prefix). List·Permᴰ (prefixes (addAll (offers (u .table) now (c .client) (askName c) xs (asksOf c)) xs)) z)
       (ap₂ (λ (ps : List Prefix) (z : List ℕ). after ps ls z) (pools-same u s) (lens-same u (asksOf c) s))
-      (offers-after (u .table) now (c .client) good (asksOf c) xs ls (omega arith) p)) in
+      (offers-after (u .table) now (c .client) (askName c) good (asksOf c) xs ls (omega arith) p)) in
       let n : length (present now (ask u now c .state .table .leases)) ≡ length xs + length (asksOf c) =
       ap length (called-first now u c w (later .0) .left) ∙ ap (λ (z : List (Option Lease)). length (addAll z xs)) (a .1) ∙ perm-length (all-added (a .0) xs) ∙ length-append xs (a .0)
-      ∙ omega (arith, length-map (a .0) some, ap length (a .1), offers-length (u .table) now (c .client) (asksOf c) xs) in
+      ∙ omega (arith, length-map (a .0) some, ap length (a .1), offers-length (u .table) now (c .client) (askName c) (asksOf c) xs) in
       subst (Goes (c ∷ cs) u) (sym (r .4))
       (goes-well c cs u (a .0) (r .0) (r .1) s b (later .0) (a .1) (a .2)
       (k (ask u now c .state) (after (poolsOf (t .table)) ls js) (r .1) (next u c s) q (r .3) (omega arith) (later .1)))

@@ -31,9 +31,9 @@ use Rattle.figures.specs.Figures as figures
 use Rattle.figures.proofs.RowsMatch.{of-lease, fits-to, filled-matches}
 use Rattle.figures.proofs.RowsFollow.{kept-yes, kept-no, kept-matches, found-same, found-none, own-rows, row-new, row-own}
 use Rattle.figures.proofs.RowsFile.{figureAt, newest, filed-high-water, filed-in-use, filed-unusable, filed-of-lease}
-use Rattle.ledger.specs.Ledger.{State, filled, left, Call, Result, Row, byRows, refusalPlace, askRows, ask, names?, namedBy?, renew, renewed, takeRows, take, releaseRows, release, markRows, mark, ledger}
+use Rattle.ledger.specs.Ledger.{State, filled, left, Call, refusalPlace, askRows, ask, names?, namedBy?, renew, renewed, takeRows, take, releaseRows, release, markRows, mark, ledger}
 use Rattle.ledger.specs.FiguresKept.{Matched, Beside, RowOf, told, lastOf, Updated, Unchanged, FiguresAfter, FiguresKept, AllUntold, OpensUntold}
-use Rattle.ledger.proofs.RowLaws.{Numbered, first-none, by-rows, numbered-ask, numbered-take, numbered-release, numbered-mark}
+use Rattle.ledger.proofs.RowLaws.{accepted-by, numbered-ask, numbered-take, numbered-release, numbered-mark}
 use Rattle.ledger.proofs.LeftLaws.{renewedTable, present-long, left-matches, renewed-matches}
 use Rattle.ledger.proofs.HistoriesHold.{opened-is}
 
@@ -187,7 +187,7 @@ updated client es x r o = record {
 -- THE LEASES AFTER A TAKE
 
 -- Of leases that ascend only one has a prefix.
-only-one : (x : Lease) (from : ℕ) (xs : List Lease) → Ascending prefixOf from xs → Any (λ z. z ≡ x) xs → All (λ z. prefixOf z ≡ prefixOf x → z ≡ x) xs
+pub only-one : (x : Lease) (from : ℕ) (xs : List Lease) → Ascending prefixOf from xs → Any (λ z. z ≡ x) xs → All (λ z. prefixOf z ≡ prefixOf x → z ≡ x) xs
 only-one x from [] s a = tt
 only-one x from (z ∷ zs) s (inl e) =
     let other : (w : Lease) → end (prefixOf z) ≤ w .network → prefixOf w ≡ prefixOf x → w ≡ x =
@@ -273,23 +273,17 @@ module _ (s : State) (now : ℕ) (c : Call) (so : sound (s .table) ≡ true) (m 
 
 -- EVERY CALL
 
-figures-by : (Change : Lease → FigureRow → FigureRow → Type 0) (now : ℕ) (rows : List Row) (place : ℕ → ℕ) (s : State) (reply : List ℕ) (accepted : Result State) → Numbered rows
-    → (All (λ (r : Row). r .1 ≡ false) rows → FiguresAfter Change now s (accepted .state))
-    → byRows rows place s reply accepted .answer .number ≡ 0 → FiguresAfter Change now s (byRows rows place s reply accepted .state)
-figures-by Change now rows place s reply accepted k f =
-    by-rows (λ (r : Result State). r .answer .number ≡ 0 → FiguresAfter Change now s (r .state)) rows _ _ k (λ n e z. absurd (eqb-false n 0 e z)) (λ e _. f (first-none rows e))
-
 module _ (s : State) (now : ℕ) (c : Call) where
   ask-figures : ask s now c .answer .number ≡ 0 → FiguresAfter Unchanged now s (ask s now c .state)
   unfolding ask askRows
   ask-figures =
-      figures-by Unchanged now (askRows s now c) (refusalPlace (c .option)) s (c .reply) _ (numbered-ask s now c)
+      accepted-by (FiguresAfter Unchanged now s) (askRows s now c) (refusalPlace (c .option)) s (c .reply) _ (numbered-ask s now c)
       (λ r. left-figures s now (not-false (sound (s .table)) (r .1 .0)) (not-false (figures.matches? (s .table .leases) (s .rows)) (r .1 .1 .0)) _)
 
   take-figures : take s now c .answer .number ≡ 0 → FiguresAfter (Updated (c .client) (entriesIn (c .option))) now s (take s now c .state)
   unfolding take takeRows
   take-figures =
-      figures-by (Updated (c .client) (entriesIn (c .option))) now (takeRows s now c) (refusalPlace (c .option)) s (c .reply) _ (numbered-take s now c)
+      accepted-by (FiguresAfter (Updated (c .client) (entriesIn (c .option))) now s) (takeRows s now c) (refusalPlace (c .option)) s (c .reply) _ (numbered-take s now c)
       (λ r.
       renewed-figures s now c (not-false (sound (s .table)) (r .1 .0)) (not-false (figures.matches? (s .table .leases) (s .rows)) (r .1 .1 .0))
       (eqb-false (c .client) 0 (r .1 .1 .1 .0)))
@@ -297,13 +291,13 @@ module _ (s : State) (now : ℕ) (c : Call) where
   release-figures : release s now c .answer .number ≡ 0 → FiguresAfter Unchanged now s (release s now c .state)
   unfolding release releaseRows
   release-figures =
-      figures-by Unchanged now (releaseRows s now c) (refusalPlace (c .option)) s (c .reply) _ (numbered-release s now c)
+      accepted-by (FiguresAfter Unchanged now s) (releaseRows s now c) (refusalPlace (c .option)) s (c .reply) _ (numbered-release s now c)
       (λ r. left-figures s now (not-false (sound (s .table)) (r .0)) (not-false (figures.matches? (s .table .leases) (s .rows)) (r .1 .0)) _)
 
 mark-figures : (s : State) (now network len : ℕ) (d : Bool) → mark s now network len d .answer .number ≡ 0 → FiguresAfter Unchanged now s (mark s now network len d .state)
 unfolding mark markRows
 mark-figures s now network len d =
-    figures-by Unchanged now (markRows s now network len) (λ n. 0) s [] _ (numbered-mark s now network len)
+    accepted-by (FiguresAfter Unchanged now s) (markRows s now network len) (λ n. 0) s [] _ (numbered-mark s now network len)
     (λ r. left-figures s now (not-false (sound (s .table)) (r .0)) (not-false (figures.matches? (s .table .leases) (s .rows)) (r .1 .0)) _)
 
 pub figures-kept : FiguresKept ledger

@@ -25,11 +25,12 @@ use Rattle.free_space.proofs.ListTheorem.{refused⇔none-free}
 use Rattle.free_space.proofs.Permuted.{grant-perm, free-perm}
 use Rattle.free_space.proofs.Rules.{grant-takes}
 use Rattle.option.specs.Values.{Entry}
+use Rattle.names.specs.declared.Name.{Name}
 use Rattle.table.specs.declared.Lease.{Lease}
 use Rattle.table.specs.declared.LeaseTable.{LeaseTable}
 use Rattle.table.specs.Table.{leaseSlots, prefixOf, poolsOf, present}
 use Rattle.option.specs.Contents.{Request}
-use Rattle.ledger.specs.Ledger.{State, Call, askLength, offer, add, offers, heldFor?, firstThat, butFirst, again, restOf, holdAgain, inTurn, askHeld, askGives, ask}
+use Rattle.ledger.specs.Ledger.{State, Call, askLength, askName, offer, add, offers, heldFor?, firstThat, butFirst, again, restOf, holdAgain, inTurn, askHeld, askGives, ask}
 use Rattle.ledger.specs.Demand3.{wellFormed, asksOf, heldBefore, granted, entryPrefix, inUse, same?, meets, wantsSlot, wantsSpace, fate, NoneFree, OfTheRest, Rightly, RefusedRightly}
 use Rattle.ledger.specs.Choice.{Chosen, ChosenRightly}
 use Rattle.ledger.proofs.OfferLaws.{prefixes, pools-good, Offer, offer-is, add-perm}
@@ -66,11 +67,11 @@ wants-slot : (b : Bool) → cond b wantsSlot wantsSpace ≡ wantsSlot → b ≡ 
 wants-slot true e = refl
 wants-slot false e = let z : _≡_ {A = ℕ} 0 1 = cc in absurd (omega arith)
 
-module _ (t : LeaseTable) (good : Pools (poolsOf t)) (now client : ℕ) where
+module _ (t : LeaseTable) (good : Pools (poolsOf t)) (now client : ℕ) (name : Name) where
   used-length : (xs : List Lease) (used : List Prefix) → List·Permᴰ (prefixes xs) used → length used ≡ length xs
   used-length xs used p = sym (perm-length p) ∙ length-map xs prefixOf
 
-  space : (xs : List Lease) (used : List Prefix) (r : Request) (o : Option Lease) → List·Permᴰ (prefixes xs) used → Offer t now client xs r o
+  space : (xs : List Lease) (used : List Prefix) (r : Request) (o : Option Lease) → List·Permᴰ (prefixes xs) used → Offer t now client name xs r o
       → length used < leaseSlots → (fate used (entry? o) ≡ wantsSpace) ↔ NoneFree t used (askLength t r)
   space xs used r none p (inl f) l = absurd (omega (arith, used-length xs used p))
   space xs used r none p (inr f) l = (
@@ -82,7 +83,7 @@ module _ (t : LeaseTable) (good : Pools (poolsOf t)) (now client : ℕ) where
     (λ h. absurd (h (x .network) (subst (λ (n : ℕ). Free (poolsOf t) used (prefix (x .network) n)) (f .len) (free-perm (poolsOf t) p (prefixOf x) (f .free))))),
   )
 
-  slot : (xs : List Lease) (used : List Prefix) (r : Request) (o : Option Lease) → List·Permᴰ (prefixes xs) used → Offer t now client xs r o
+  slot : (xs : List Lease) (used : List Prefix) (r : Request) (o : Option Lease) → List·Permᴰ (prefixes xs) used → Offer t now client name xs r o
       → (fate used (entry? o) ≡ wantsSlot) ↔ (leaseSlots ≤ length used)
   slot xs used r none p f = (
     (λ e. leb-true leaseSlots (length used) (wants-slot (leb leaseSlots (length used)) e)),
@@ -93,16 +94,16 @@ module _ (t : LeaseTable) (good : Pools (poolsOf t)) (now client : ℕ) where
     (λ l. absurd (omega (arith, f .room, used-length xs used p))),
   )
 
-  meets-perm : (xs : List Lease) (used : List Prefix) (r : Request) (o : Option Lease) → Offer t now client xs r o → List·Permᴰ (prefixes xs) used → List·Permᴰ (prefixes (add o xs)) (meets (entry? o) used)
+  meets-perm : (xs : List Lease) (used : List Prefix) (r : Request) (o : Option Lease) → Offer t now client name xs r o → List·Permᴰ (prefixes xs) used → List·Permᴰ (prefixes (add o xs)) (meets (entry? o) used)
   meets-perm xs used r none f p = p
   meets-perm xs used r (some x) f p =
       let a : All (Apart (prefixOf x)) used = free-perm (poolsOf t) p (prefixOf x) (f .free) .unused in
       subst (List·Permᴰ (prefixes (add (some x) xs))) (sym (cond-false (any? (same? (prefixOf x)) used) used (prefixOf x ∷ used) (not-there (prefixOf x) used a)))
-      (add-perm t now client good xs used (some x) p)
+      (add-perm t now client name good xs used (some x) p)
 
   -- What is so of each offer, on the leases present, is so of each of the rest.
   module _ (P : List Prefix → Request → Option Entry → Type 0)
-      (each : (xs : List Lease) (used : List Prefix) (r : Request) (o : Option Lease) → List·Permᴰ (prefixes xs) used → Offer t now client xs r o → P used r (entry? o)) where
+      (each : (xs : List Lease) (used : List Prefix) (r : Request) (o : Option Lease) → List·Permᴰ (prefixes xs) used → Offer t now client name xs r o → P used r (entry? o)) where
     -- A lease given again is in use already.
     InUse : List Prefix → Lease → Type 0
     InUse used x = any? (same? (prefixOf x)) used ≡ true
@@ -123,26 +124,26 @@ module _ (t : LeaseTable) (good : Pools (poolsOf t)) (now client : ℕ) where
     -- By what the request gets again, of hs; ks are the others of these.
     rest-step : (r : Request) (rs : List Request) (hs ks ys : List Lease) (used : List Prefix) (g : Option Lease) → firstThat (heldFor? t client r) hs ≡ g
         → All (InUse used) hs → All (InUse used) ks → List·Permᴰ (prefixes ys) used
-        → ((zs : List Lease) (more : List Prefix) → All (InUse more) ks → List·Permᴰ (prefixes zs) more → OfTheRest P more rs (again t client ks rs) (map entry? (gives t now client ks zs rs)))
-        → OfTheRest P used (r ∷ rs) (g ∷ again t client ks rs) (map entry? (inTurn now (g ∷ again t client ks rs) (offers t now client ys (restOf (g ∷ again t client ks rs) (r ∷ rs)))))
+        → ((zs : List Lease) (more : List Prefix) → All (InUse more) ks → List·Permᴰ (prefixes zs) more → OfTheRest P more rs (again t client ks rs) (map entry? (gives t now client name ks zs rs)))
+        → OfTheRest P used (r ∷ rs) (g ∷ again t client ks rs) (map entry? (inTurn now (g ∷ again t client ks rs) (offers t now client name ys (restOf (g ∷ again t client ks rs) (r ∷ rs)))))
     unfolding inTurn restOf offers
     rest-step r rs hs ks ys used (some x) e a b p k =
         let given : InUse used x = first-some (heldFor? t client r) (InUse used) hs x e a .1 in
-        subst (λ (more : List Prefix). OfTheRest P more rs (again t client ks rs) (map entry? (gives t now client ks ys rs))) (sym (meets-given used x given)) (k ys used b p)
+        subst (λ (more : List Prefix). OfTheRest P more rs (again t client ks rs) (map entry? (gives t now client name ks ys rs))) (sym (meets-given used x given)) (k ys used b p)
     rest-step r rs hs ks ys used none e a b p k =
-        let o : Option Lease = offer t now client ys r in
-        let f : Offer t now client ys r o = offer-is t now client good ys r in
+        let o : Option Lease = offer t now client name ys r in
+        let f : Offer t now client name ys r o = offer-is t now client name good ys r in
         (each ys used r o p f, k (add o ys) (meets (entry? o) used) (all-map (λ x (u : InUse used x). still-used used (entry? o) x u) ks b) (meets-perm ys used r o f p))
 
     of-the-rest : (rs : List Request) (hs ys : List Lease) (used : List Prefix) → All (InUse used) hs → List·Permᴰ (prefixes ys) used
-        → OfTheRest P used rs (again t client hs rs) (map entry? (gives t now client hs ys rs))
+        → OfTheRest P used rs (again t client hs rs) (map entry? (gives t now client name hs ys rs))
     unfolding again
     of-the-rest [] hs ys used a p = tt
     of-the-rest (r ∷ rs) hs ys used a p =
         let f : Lease → Bool = heldFor? t client r in
         rest-step r rs hs (butFirst f hs) ys used (firstThat f hs) refl a (but-first-all f (InUse used) hs a) p (λ zs more b q. of-the-rest rs (butFirst f hs) zs more b q)
 
-    pub of-ask : (xs : List Lease) (rs : List Request) → OfTheRest P (prefixes xs) rs (again t client xs rs) (map entry? (askGives t now client xs rs))
+    pub of-ask : (xs : List Lease) (rs : List Request) → OfTheRest P (prefixes xs) rs (again t client xs rs) (map entry? (askGives t now client name xs rs))
     unfolding InUse
     of-ask xs rs =
         of-the-rest rs xs (askHeld t now client xs rs) (prefixes xs) (all-in-use xs)
@@ -153,18 +154,18 @@ pub first-sentence : (t : State) (now : ℕ) (c : Call) → wellFormed now t c �
 first-sentence t now c e =
     let good : Pools (poolsOf (t .table)) = pools-good (t .table) (well now t c e .sound) in
     subst (RefusedRightly (t .table) (inUse now (t .table)) (asksOf c) (heldBefore now (t .table) c)) (sym (granted-is now t c e))
-    (of-ask (t .table) good now (c .client) (Rightly (t .table)) (λ xs used r o p f. (space (t .table) good now (c .client) xs used r o p f, slot (t .table) good now (c .client) xs used r o p f))
+    (of-ask (t .table) good now (c .client) (askName c) (Rightly (t .table)) (λ xs used r o p f. (space (t .table) good now (c .client) (askName c) xs used r o p f, slot (t .table) good now (c .client) (askName c) xs used r o p f))
     (present now (t .table .leases)) (asksOf c))
 
 -- THE CHOICE of each of the rest that is granted is document 01's.
-chosen : (t : LeaseTable) (good : Pools (poolsOf t)) (now client : ℕ) (xs : List Lease) (used : List Prefix) (r : Request) (o : Option Lease) → List·Permᴰ (prefixes xs) used
-    → Offer t now client xs r o → Chosen t used r (entry? o)
-chosen t good now client xs used r none p f = tt
-chosen t good now client xs used r (some x) p f = grant-takes (poolsOf t) good used (askLength t r) (prefixOf x) .0 (sym (grant-perm (poolsOf t) p (askLength t r)) ∙ f .granted)
+chosen : (t : LeaseTable) (good : Pools (poolsOf t)) (now client : ℕ) (name : Name) (xs : List Lease) (used : List Prefix) (r : Request) (o : Option Lease) → List·Permᴰ (prefixes xs) used
+    → Offer t now client name xs r o → Chosen t used r (entry? o)
+chosen t good now client name xs used r none p f = tt
+chosen t good now client name xs used r (some x) p f = grant-takes (poolsOf t) good used (askLength t r) (prefixOf x) .0 (sym (grant-perm (poolsOf t) p (askLength t r)) ∙ f .granted)
 
 pub chosen-rightly : (t : State) (now : ℕ) (c : Call) → wellFormed now t c ≡ true
     → ChosenRightly (t .table) (inUse now (t .table)) (asksOf c) (heldBefore now (t .table) c) (granted (λ s. s) ask now t c)
 chosen-rightly t now c e =
     let good : Pools (poolsOf (t .table)) = pools-good (t .table) (well now t c e .sound) in
     subst (ChosenRightly (t .table) (inUse now (t .table)) (asksOf c) (heldBefore now (t .table) c)) (sym (granted-is now t c e))
-    (of-ask (t .table) good now (c .client) (Chosen (t .table)) (chosen (t .table) good now (c .client)) (present now (t .table .leases)) (asksOf c))
+    (of-ask (t .table) good now (c .client) (askName c) (Chosen (t .table)) (chosen (t .table) good now (c .client) (askName c)) (present now (t .table .leases)) (asksOf c))

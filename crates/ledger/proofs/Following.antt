@@ -16,7 +16,7 @@ use Rattle.option.specs.Contents.{entriesIn}
 use Rattle.table.specs.declared.{Lease.Lease, LeaseTable.LeaseTable}
 use Rattle.table.specs.Table.{present, sound}
 use Rattle.ledger.specs.declared.Answer.{Answer}
-use Rattle.ledger.specs.Ledger.{State, Call, call, Result, Calls, heldAgain, ask, ledger, namedBy?}
+use Rattle.ledger.specs.Ledger.{State, Call, askName, call, Result, Calls, heldAgain, ask, ledger, namedBy?}
 use Rattle.ledger.specs.Demand3.{Server, wellFormed, asksOf, heldBefore, pairOff, confirmed, replyEntries, inUse, leaseFor, RefusedRightly, Received, granted, received, afterAll, wellFormedCalls, made, AllGranted, Untouched, Demand3}
 use Rattle.ledger.specs.AskingTwice.{GivenAgain, grantedToRest, AsksTwice}
 use Rattle.ledger.specs.Histories.{Event, asked, taken, wasListed, returned, marked, saved, next, afterwards, Reachable, begun, called, NeverShared, leasesOf}
@@ -93,7 +93,7 @@ module _ {S : Type 0} (stateOf : S → State) (server : Server S) (follows : (s 
         (ap (λ (u : State). present now (u .table .leases)) (sym (after-same now cs s)))
         (subst (λ (l : List Lease). List·Permᴰ (present now (afterAll (λ t. t) ask now (stateOf s) cs .table .leases)) (present now (stateOf s .table .leases) ++ l))
         (sym (gathered (stateOf s) now (made stateOf server now) (made (λ t. t) ask now)
-        (λ v. ap (λ (es : List (Option Entry)). map (leaseFor now (v .call .client)) (catMaybes es)) (granted-same now (v .got) (v .call))) cs s))
+        (λ v. ap (λ (es : List (Option Entry)). map (leaseFor now (v .call .client) (askName (v .call))) (catMaybes es)) (granted-same now (v .got) (v .call))) cs s))
         (g .left));
   }
 
@@ -140,8 +140,8 @@ module _ {S : Type 0} (stateOf : S → State) (server : Server S) (follows : (s 
     left =
         λ s now c e. let hs : List (Option Lease) = heldBefore now (stateOf s .table) c in
         let here : List Lease = heldAgain now (catMaybes hs) (present now (stateOf s .table .leases)) in
-        subst (λ (u : State). List·Permᴰ (present now (u .table .leases)) (here ++ map (leaseFor now (c .client)) (grantedToRest hs (granted stateOf server now s c)))) (sym (follows s now c .holds))
-        (subst (λ (es : List (Option Entry)). List·Permᴰ (present now (ask (stateOf s) now c .state .table .leases)) (here ++ map (leaseFor now (c .client)) (grantedToRest hs es))) (sym (granted-same now s c))
+        subst (λ (u : State). List·Permᴰ (present now (u .table .leases)) (here ++ map (leaseFor now (c .client) (askName c)) (grantedToRest hs (granted stateOf server now s c)))) (sym (follows s now c .holds))
+        (subst (λ (es : List (Option Entry)). List·Permᴰ (present now (ask (stateOf s) now c .state .table .leases)) (here ++ map (leaseFor now (c .client) (askName c)) (grantedToRest hs es))) (sym (granted-same now s c))
         (asks-twice .left (stateOf s) now c e));
     accepted = λ s now c e k. ap (λ (a : Answer). a .number) (follows s now c .answer) ∙ asks-twice .accepted (stateOf s) now c e k;
   }

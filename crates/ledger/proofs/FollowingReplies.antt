@@ -1,5 +1,5 @@
 -- WHATEVER FOLLOWS THE LEDGER KEEPS ITS THEOREMS (`Following`), of what each call answers: what take and list write reads back, a refusal leaves all as it
--- was, a struck lease leaves nothing behind, usage figures are kept, and resuming a list skips and repeats nothing.
+-- was, a struck lease leaves nothing behind, usage figures and names are kept, and resuming a list skips and repeats nothing.
 -- Assumes nothing.
 use Prim.Native.Nat.{ℕ}
 use mathlib.Core.Path.{_≡_, sym, ap, subst, _∙_}
@@ -8,22 +8,22 @@ use lib.ListN.{drop}
 use Rattle.lists.specs.Lists.{filter}
 use Rattle.option.specs.Values.{mostEntries}
 use Rattle.option.specs.Contents.{entriesIn}
-use Rattle.table.specs.declared.Lease.{Lease}
 use Rattle.table.specs.Table.{present}
-use Rattle.figures.specs.declared.FigureRow.{FigureRow}
 use Rattle.ledger.specs.declared.Answer.{Answer}
-use Rattle.ledger.specs.Ledger.{State, call, Result, result, Calls, found, listedIn, ledger}
+use Rattle.ledger.specs.Ledger.{State, askName, call, Result, result, Calls, found, listedIn, ledger}
 use Rattle.ledger.specs.Histories.{afterwards, begun, called}
 use Rattle.ledger.specs.ReadBack.{readIn, confirmation, page, TakesReadBack, ListsReadBack}
 use Rattle.ledger.specs.Refusals.{UnchangedIfRefused, RefusalsLeave}
 use Rattle.ledger.specs.NothingBehind.{Same, Cleared, EndedForgotten, Clears}
-use Rattle.ledger.specs.FiguresKept.{Matched, FiguresAfter, FiguresKept, AlwaysMatched}
+use Rattle.ledger.specs.FiguresKept.{Matched, Updated, Unchanged, FiguresAfter, FiguresKept, AlwaysMatched}
+use Rattle.ledger.specs.NamesKept.{NamesStay, NamesMade, NamesKept}
 use Rattle.ledger.specs.Resuming.{Resumes}
 use Rattle.ledger.proofs.ReadBack.{take-reads-back, list-reads-back}
 use Rattle.ledger.proofs.SoundKept.{refusals-leave}
 use Rattle.ledger.proofs.NothingBehind.{ended-forgotten, clears}
 use Rattle.ledger.proofs.MatchedKept.{next-matched}
 use Rattle.ledger.proofs.FiguresHold.{figures-kept}
+use Rattle.ledger.proofs.NamesKept.{names-kept}
 use Rattle.ledger.proofs.Resuming.{resumed-after-returns}
 use Rattle.ledger.proofs.Following.{Follows, FollowsAll, next-same, afterwards-same}
 
@@ -48,12 +48,9 @@ module _ {S : Type 0} (stateOf : S → State) (s : S) (r : Result State) (q : Re
         count = ap (λ (a : Answer). a .count) (f .answer) ∙ same .count;
       }
 
-  cleared-followed : (now : ℕ) → (r .answer .number ≡ 0 → Cleared now (r .state)) → q .answer .number ≡ 0 → Cleared now (stateOf (q .state))
-  cleared-followed now k z = subst (Cleared now) (sym (f .holds)) (k (accepted-too z))
-
-  figures-followed : (Change : Lease → FigureRow → FigureRow → Type 0) (now : ℕ) → (r .answer .number ≡ 0 → FiguresAfter Change now (stateOf s) (r .state))
-      → q .answer .number ≡ 0 → FiguresAfter Change now (stateOf s) (stateOf (q .state))
-  figures-followed Change now k z = subst (FiguresAfter Change now (stateOf s)) (sym (f .holds)) (k (accepted-too z))
+  -- What is so of what it leaves if it is accepted.
+  left-followed : (P : State → Type 0) → (r .answer .number ≡ 0 → P (r .state)) → q .answer .number ≡ 0 → P (stateOf (q .state))
+  left-followed P k z = subst P (sym (f .holds)) (k (accepted-too z))
 
   same-followed : (s′ : S) (r′ : Result State) (q′ : Result S) → Follows stateOf s′ r′ q′ → Same (λ u. u) r r′ → Same stateOf q q′
   same-followed s′ r′ q′ g a = record {
@@ -108,20 +105,30 @@ module _ {S : Type 0} (calls : Calls S) (follows : FollowsAll calls) where
   clears-followed s now =
       let k = clears (stateOf s) now in
       record {
-        asks = λ c. cleared-followed stateOf s _ _ (follows .asks s now c) now (k .asks c);
-        takes = λ c. cleared-followed stateOf s _ _ (follows .takes s now c) now (k .takes c);
-        releases = λ c. cleared-followed stateOf s _ _ (follows .releases s now c) now (k .releases c);
-        marks = λ network len d. cleared-followed stateOf s _ _ (follows .marks s now network len d) now (k .marks network len d);
+        asks = λ c. left-followed stateOf s _ _ (follows .asks s now c) (Cleared now) (k .asks c);
+        takes = λ c. left-followed stateOf s _ _ (follows .takes s now c) (Cleared now) (k .takes c);
+        releases = λ c. left-followed stateOf s _ _ (follows .releases s now c) (Cleared now) (k .releases c);
+        marks = λ network len d. left-followed stateOf s _ _ (follows .marks s now network len d) (Cleared now) (k .marks network len d);
       }
 
   -- USAGE FIGURES
 
   pub figures-kept-followed : FiguresKept calls
   figures-kept-followed = record {
-    asks = λ s now c. figures-followed stateOf s _ _ (follows .asks s now c) _ now (figures-kept .asks (stateOf s) now c);
-    takes = λ s now c. figures-followed stateOf s _ _ (follows .takes s now c) _ now (figures-kept .takes (stateOf s) now c);
-    releases = λ s now c. figures-followed stateOf s _ _ (follows .releases s now c) _ now (figures-kept .releases (stateOf s) now c);
-    marks = λ s now network len d. figures-followed stateOf s _ _ (follows .marks s now network len d) _ now (figures-kept .marks (stateOf s) now network len d);
+    asks = λ s now c. left-followed stateOf s _ _ (follows .asks s now c) (FiguresAfter Unchanged now (stateOf s)) (figures-kept .asks (stateOf s) now c);
+    takes = λ s now c. left-followed stateOf s _ _ (follows .takes s now c) (FiguresAfter (Updated (c .client) (entriesIn (c .option))) now (stateOf s)) (figures-kept .takes (stateOf s) now c);
+    releases = λ s now c. left-followed stateOf s _ _ (follows .releases s now c) (FiguresAfter Unchanged now (stateOf s)) (figures-kept .releases (stateOf s) now c);
+    marks = λ s now network len d. left-followed stateOf s _ _ (follows .marks s now network len d) (FiguresAfter Unchanged now (stateOf s)) (figures-kept .marks (stateOf s) now network len d);
+  }
+
+  -- NAMES
+
+  pub names-kept-followed : NamesKept calls
+  names-kept-followed = record {
+    asks = λ s now c. left-followed stateOf s _ _ (follows .asks s now c) (NamesMade (askName c) now (stateOf s)) (names-kept .asks (stateOf s) now c);
+    takes = λ s now c. left-followed stateOf s _ _ (follows .takes s now c) (NamesStay now (stateOf s)) (names-kept .takes (stateOf s) now c);
+    releases = λ s now c. left-followed stateOf s _ _ (follows .releases s now c) (NamesStay now (stateOf s)) (names-kept .releases (stateOf s) now c);
+    marks = λ s now network len d. left-followed stateOf s _ _ (follows .marks s now network len d) (NamesStay now (stateOf s)) (names-kept .marks (stateOf s) now network len d);
   }
 
   -- If the histories begin with sheets that match.

@@ -15,6 +15,7 @@ use Rattle.prefix.specs.declared.Prefix.{Prefix}
 use Rattle.prefix.specs.Prefixes.{Apart}
 use Rattle.free_space.specs.Serving.{Pools}
 use Rattle.option.specs.Contents.{Request}
+use Rattle.names.specs.declared.Name.{Name}
 use Rattle.table.specs.declared.{Lease.Lease, LeaseTable.LeaseTable}
 use Rattle.table.specs.Table.{prefixOf, networkOf, poolsOf, present, sound}
 use Rattle.ledger.specs.Ledger.{offer, add, offers, addAll, heldBy?, heldFor?, firstThat, butFirst, again, restOf, holdAgain, heldAgain, inTurn}
@@ -48,21 +49,21 @@ held-add now zs xs y a =
     insertBy-image (held now zs) networkOf networkOf y xs (ap (λ (p : Prefix). p .network) (held-place now zs y)) (all-every (λ z. ap (λ (p : Prefix). p .network) (held-place now zs z)) xs)
     ∙ ap (λ (z : Lease). add (some z) (heldAgain now zs xs)) (cond-false (any? (λ z. eqb (z .network) (y .network)) zs) (holdAgain now y) y (none-of y zs a))
 
-module _ (t : LeaseTable) (good : Pools (poolsOf t)) (now client : ℕ) where
+module _ (t : LeaseTable) (good : Pools (poolsOf t)) (now client : ℕ) (name : Name) where
   -- WHAT EACH REQUEST GETS goes by prefixes alone.
 
   gives-step : (r : Request) (rs : List Request) (ks xs ys : List Lease) (g : Option Lease) → prefixes xs ≡ prefixes ys
-      → ((zs ws : List Lease) → prefixes zs ≡ prefixes ws → oneByOne t now client ks zs rs ≡ gives t now client ks ws rs)
-      → againOr now g (offer t now client xs r) ∷ oneByOne t now client ks (leftBy now g (offer t now client xs r) xs) rs
-      ≡ inTurn now (g ∷ again t client ks rs) (offers t now client ys (restOf (g ∷ again t client ks rs) (r ∷ rs)))
+      → ((zs ws : List Lease) → prefixes zs ≡ prefixes ws → oneByOne t now client name ks zs rs ≡ gives t now client name ks ws rs)
+      → againOr now g (offer t now client name xs r) ∷ oneByOne t now client name ks (leftBy now g (offer t now client name xs r) xs) rs
+      ≡ inTurn now (g ∷ again t client ks rs) (offers t now client name ys (restOf (g ∷ again t client ks rs) (r ∷ rs)))
   unfolding inTurn restOf offers
   gives-step r rs ks xs ys (some x) e k = ap (λ (l : List (Option Lease)). some (holdAgain now x) ∷ l) (k (heldAgain now (x ∷ []) xs) ys (held-prefixes now (x ∷ []) xs ∙ e))
   gives-step r rs ks xs ys none e k =
-      let o : Option Lease = offer t now client xs r in
-      ap (λ (l : List (Option Lease)). o ∷ l) (k (add o xs) (add o ys) (add-prefixes t now client o xs ys e))
-      ∙ ap (λ (p : Option Lease). p ∷ gives t now client ks (add p ys) rs) (offer-prefixes t now client xs ys r e)
+      let o : Option Lease = offer t now client name xs r in
+      ap (λ (l : List (Option Lease)). o ∷ l) (k (add o xs) (add o ys) (add-prefixes t now client name o xs ys e))
+      ∙ ap (λ (p : Option Lease). p ∷ gives t now client name ks (add p ys) rs) (offer-prefixes t now client name xs ys r e)
 
-  gives-same : (rs : List Request) (hs xs ys : List Lease) → prefixes xs ≡ prefixes ys → oneByOne t now client hs xs rs ≡ gives t now client hs ys rs
+  gives-same : (rs : List Request) (hs xs ys : List Lease) → prefixes xs ≡ prefixes ys → oneByOne t now client name hs xs rs ≡ gives t now client name hs ys rs
   unfolding oneByOne again inTurn
   gives-same [] hs xs ys e = refl
   gives-same (r ∷ rs) hs xs ys e =
@@ -72,9 +73,9 @@ module _ (t : LeaseTable) (good : Pools (poolsOf t)) (now client : ℕ) where
   -- WHAT IS LEFT. A lease that is to be given again has a prefix in use, so no lease newly made has its network.
 
   abbrev after : List Lease → List Lease → List Request → List Lease
-  after hs xs rs = addAll (offers t now client xs (restOf (again t client hs rs) rs)) (heldAgain now (catMaybes (again t client hs rs)) xs)
+  after hs xs rs = addAll (offers t now client name xs (restOf (again t client hs rs) rs)) (heldAgain now (catMaybes (again t client hs rs)) xs)
 
-  added : (r : Request) (xs zs : List Lease) (o : Option Lease) → Offer t now client xs r o → ((Q : Prefix → Type 0) → All Q (prefixes xs) → All (λ z. Q (prefixOf z)) zs)
+  added : (r : Request) (xs zs : List Lease) (o : Option Lease) → Offer t now client name xs r o → ((Q : Prefix → Type 0) → All Q (prefixes xs) → All (λ z. Q (prefixOf z)) zs)
       → heldAgain now zs (add o xs) ≡ add o (heldAgain now zs xs)
   added r xs zs none f k = refl
   added r xs zs (some y) f k =
@@ -82,37 +83,37 @@ module _ (t : LeaseTable) (good : Pools (poolsOf t)) (now client : ℕ) where
       held-add now zs xs y (all-map other zs (k (Apart (prefixOf y)) (f .free .unused)))
 
   left-step : (r : Request) (rs : List Request) (ks xs : List Lease) (g : Option Lease) → ((Q : Prefix → Type 0) → All Q (prefixes xs) → All (λ h. Q (prefixOf h)) ks)
-      → ((zs : List Lease) → ((Q : Prefix → Type 0) → All Q (prefixes zs) → All (λ h. Q (prefixOf h)) ks) → leftOneByOne t now client ks zs rs ≡ after ks zs rs)
-      → leftOneByOne t now client ks (leftBy now g (offer t now client xs r) xs) rs
-      ≡ addAll (offers t now client xs (restOf (g ∷ again t client ks rs) (r ∷ rs))) (heldAgain now (catMaybes (g ∷ again t client ks rs)) xs)
+      → ((zs : List Lease) → ((Q : Prefix → Type 0) → All Q (prefixes zs) → All (λ h. Q (prefixOf h)) ks) → leftOneByOne t now client name ks zs rs ≡ after ks zs rs)
+      → leftOneByOne t now client name ks (leftBy now g (offer t now client name xs r) xs) rs
+      ≡ addAll (offers t now client name xs (restOf (g ∷ again t client ks rs) (r ∷ rs))) (heldAgain now (catMaybes (g ∷ again t client ks rs)) xs)
   unfolding restOf offers addAll
   left-step r rs ks xs (some x) c k =
       let ws : List Request = restOf (again t client ks rs) rs in
       let same : prefixes (heldAgain now (x ∷ []) xs) ≡ prefixes xs = held-prefixes now (x ∷ []) xs in
       k (heldAgain now (x ∷ []) xs) (λ Q a. c Q (subst (All Q) same a))
-      ∙ ap₂ addAll (offers-prefixes t now client ws (heldAgain now (x ∷ []) xs) xs same) (held-twice now x (catMaybes (again t client ks rs)) xs)
+      ∙ ap₂ addAll (offers-prefixes t now client name ws (heldAgain now (x ∷ []) xs) xs same) (held-twice now x (catMaybes (again t client ks rs)) xs)
   left-step r rs ks xs none c k =
-      let o : Option Lease = offer t now client xs r in
+      let o : Option Lease = offer t now client name xs r in
       let gs : List (Option Lease) = again t client ks rs in
       k (add o xs) (λ Q a. c Q (add-fewer Q xs o a))
-      ∙ ap (addAll (offers t now client (add o xs) (restOf gs rs)))
-      (added r xs (catMaybes gs) o (offer-is t now client good xs r)
+      ∙ ap (addAll (offers t now client name (add o xs) (restOf gs rs)))
+      (added r xs (catMaybes gs) o (offer-is t now client name good xs r)
       (λ Q a. all-map (λ x (b : (heldBy? client x ≡ true) × Q (prefixOf x)). b .1) (catMaybes gs) (again-all t client (λ x. Q (prefixOf x)) rs ks (c Q a))))
 
-  left-same : (rs : List Request) (hs xs : List Lease) → ((Q : Prefix → Type 0) → All Q (prefixes xs) → All (λ h. Q (prefixOf h)) hs) → leftOneByOne t now client hs xs rs ≡ after hs xs rs
+  left-same : (rs : List Request) (hs xs : List Lease) → ((Q : Prefix → Type 0) → All Q (prefixes xs) → All (λ h. Q (prefixOf h)) hs) → leftOneByOne t now client name hs xs rs ≡ after hs xs rs
   unfolding leftOneByOne again restOf offers addAll
   left-same [] hs xs c = sym (held-none now xs)
   left-same (r ∷ rs) hs xs c =
       let f : Lease → Bool = heldFor? t client r in
       left-step r rs (butFirst f hs) xs (firstThat f hs) (λ Q a. but-first-all f (λ h. Q (prefixOf h)) hs (c Q a)) (λ zs d. left-same rs (butFirst f hs) zs d)
 
-pub served-in-order : (t : LeaseTable) → sound t ≡ true → (now client : ℕ) (rs : List Request) → ServedInOrder t now client rs
-served-in-order t so now client rs =
+pub served-in-order : (t : LeaseTable) → sound t ≡ true → (now client : ℕ) (name : Name) (rs : List Request) → ServedInOrder t now client name rs
+served-in-order t so now client name rs =
     let xs : List Lease = present now (t .leases) in
     let zs : List Lease = catMaybes (again t client xs rs) in
     record {
-      gives = gives-same t (pools-good t so) now client rs xs xs (heldAgain now zs xs) (sym (held-prefixes now zs xs));
+      gives = gives-same t (pools-good t so) now client name rs xs xs (heldAgain now zs xs) (sym (held-prefixes now zs xs));
       leaves =
-          left-same t (pools-good t so) now client rs xs xs (λ Q a. all-preimage prefixOf Q xs a)
-          ∙ ap (λ (os : List (Option Lease)). addAll os (heldAgain now zs xs)) (sym (rest-offers t now client xs rs));
+          left-same t (pools-good t so) now client name rs xs xs (λ Q a. all-preimage prefixOf Q xs a)
+          ∙ ap (λ (os : List (Option Lease)). addAll os (heldAgain now zs xs)) (sym (rest-offers t now client name xs rs));
     }

@@ -22,10 +22,13 @@ use Rattle.prefix.specs.Prefixes.{longest}
 use Rattle.prefix.proofs.PrefixLaws.{size-positive}
 use Rattle.option.specs.Values.{longestOption, mostRequests, mostEntries, Entry, SuboptionValue, information}
 use Rattle.option.specs.Writing.{flags, fourBytes, entryHead, entryBytes, entriesBytes, informationHead, suboptionBytes, suboptionsBytes, optionHead, optionBytes}
-use Rattle.option.specs.Contents.{Request, requestsIn, entriesIn}
+use Rattle.option.specs.Contents.{Request, requestsIn, entriesIn, firstNameIn}
 use Rattle.option.proofs.WritingLaws.{option-length}
 use Rattle.option_reply.specs.Reply.{entryOf}
 use Rattle.option_reply.proofs.ReplyLaws.{entries-length}
+use Rattle.names.specs.declared.Name.{Name}
+use Rattle.names.specs.Names.{longestName, nameOf}
+use Rattle.names.proofs.NameLaws.{name-words}
 use Rattle.table.specs.declared.Pool.{Pool}
 use Rattle.table.specs.declared.Lease.{Lease}
 use Rattle.table.specs.declared.LeaseTable.{LeaseTable}
@@ -37,12 +40,12 @@ use Rattle.figures.proofs.RowsFollow.{kept-all, row-all}
 use Rattle.figures.proofs.RowsFile.{figureAt, newest, filed-high-water, filed-in-use, filed-unusable, filed-by}
 use Rattle.option.specs.Answers.{figuresOf}
 use Rattle.table_open.specs.Open.{poolNetwork, given, sortPools, fresh}
-use Rattle.ledger.specs.Ledger.{State, state, filled, left, Call, Result, Row, firstOf, byRows, accept, refusalPlace, openRows, openTable, informationFor, offers, heldBy?, again, restOf, holdAgain, askHeld, askOffers, askGives, askLeases, forAsk, askRows, ask, namedBy?, names?, found, renew, renewNamed, renewed, takeRows, take, listedIn, listRows, list, releaseRows, release, at?, withD, markRows, mark, Calls, ledger}
+use Rattle.ledger.specs.Ledger.{State, state, filled, left, Call, Result, Row, firstOf, byRows, accept, refusalPlace, openRows, openTable, informationFor, offers, heldBy?, again, restOf, holdAgain, askHeld, askOffers, askGives, askLeases, forAsk, askRows, askName, ask, namedBy?, names?, found, renew, renewNamed, renewed, takeRows, take, listedIn, listRows, list, releaseRows, release, at?, withD, markRows, mark, Calls, ledger}
 use Rattle.ledger.specs.Histories.{Event, asked, taken, wasListed, returned, marked, saved, next, afterwards}
 use Rattle.ledger.specs.Sizes.{Byte, Bytes}
-use Rattle.ledger.specs.InRange.{Word, Figure, highestNumber, PoolInRange, LeaseInRange, TableInRange, RowInRange, StateInRange, CallInRange, ResultInRange, InRange, EventInRange, StaysInRange, OpenInRange, OpensInRange}
+use Rattle.ledger.specs.InRange.{Word, Figure, highestNumber, PoolInRange, NameInRange, LeaseInRange, TableInRange, RowInRange, StateInRange, CallInRange, ResultInRange, InRange, EventInRange, StaysInRange, OpenInRange, OpensInRange}
 use Rattle.ledger.proofs.RowLaws.{first-none, by-numbers}
-use Rattle.ledger.proofs.ReadLaws.{requests-short, figures-short, entries-few, option-short, place-short}
+use Rattle.ledger.proofs.ReadLaws.{requests-short, figures-short, name-bytes, entries-few, option-short, place-short}
 use Rattle.ledger.proofs.Counts.{upTo-all, granted-few, ask-fits, found-few, information-fits}
 use Rattle.ledger.proofs.OfferLaws.{pools-good, pools-within, Offered, offers-all, addAll-all, offers-good, length-bounds}
 use Rattle.ledger.proofs.AgainLaws.{again-all, held-all, rest-all, turn-all}
@@ -120,7 +123,7 @@ no-pool-in-range : PoolInRange noPool
 no-pool-in-range = record { network = omega arith; length = omega arith }
 
 no-lease-in-range : LeaseInRange noLease
-no-lease-in-range = record { network = omega arith; length = omega arith; client = omega arith; expires = omega arith }
+no-lease-in-range = record { network = omega arith; length = omega arith; client = omega arith; expires = omega arith; name = record { first = omega arith; second = omega arith; third = omega arith } }
 
 pub pools-padded : (ps : List Pool) (n : ℕ) → All PoolInRange ps → All PoolInRange (ps ++ replicate n noPool)
 pools-padded ps n a = all-append PoolInRange ps (replicate n noPool) a (all-replicate PoolInRange n noPool no-pool-in-range)
@@ -210,9 +213,16 @@ good-told t now s xs a = all-map (λ x (g : Good (poolsOf t) now x). told x g) x
 present-told : (t : LeaseTable) (now : ℕ) → sound t ≡ true → All Told (present now (t .leases))
 present-told t now s = good-told t now s (present now (t .leases)) (sound-fine t s now .0)
 
+-- The name of an ask is made of bytes of its option.
+ask-name-in-range : (s : List ℕ) → Bytes s → NameInRange (nameOf (firstNameIn s))
+ask-name-in-range s a =
+    let name : List ℕ = firstNameIn s in
+    let w = name-words (name ++ replicate (longestName - length name) 0) (all-append Byte name (replicate (longestName - length name) 0) (name-bytes s a) (all-replicate Byte (longestName - length name) 0 (omega arith))) in
+    record { first = w .0; second = w .1; third = w .2 }
+
 -- What an ask adds.
-module _ (t : LeaseTable) (now client : ℕ) (s : sound t ≡ true) (l : now ≤ latest) (w : Word client) where
-  offered-in-range : (xs : List Lease) (r : Request) (x : Lease) → r .length ≤ longest → Offered t now client xs r x → LeaseInRange x
+module _ (t : LeaseTable) (now client : ℕ) (name : Name) (s : sound t ≡ true) (l : now ≤ latest) (w : Word client) (n : NameInRange name) where
+  offered-in-range : (xs : List Lease) (r : Request) (x : Lease) → r .length ≤ longest → Offered t now client name xs r x → LeaseInRange x
   offered-in-range xs r x k o =
       let i = any-all (poolsOf t) (o .free .pooled) (pools-within t s) in
       record {
@@ -220,14 +230,15 @@ module _ (t : LeaseTable) (now client : ℕ) (s : sound t ≡ true) (l : now ≤
         length = omega (arith, o .len, length-bounds t s r k);
         client = omega (arith, o .owner);
         expires = omega (arith, o .until);
+        name = subst NameInRange (sym (o .label)) n;
       }
 
-  offers-in-range : (rs : List Request) (xs : List Lease) → All (λ r. r .length ≤ longest) rs → All LeaseInRange (catMaybes (offers t now client xs rs))
-  offers-in-range = offers-all t now client (pools-good t s) (λ r. r .length ≤ longest) LeaseInRange (λ xs r x k o. offered-in-range xs r x k o)
+  offers-in-range : (rs : List Request) (xs : List Lease) → All (λ r. r .length ≤ longest) rs → All LeaseInRange (catMaybes (offers t now client name xs rs))
+  offers-in-range = offers-all t now client name (pools-good t s) (λ r. r .length ≤ longest) LeaseInRange (λ xs r x k o. offered-in-range xs r x k o)
 
 -- A lease given again.
 held-in-range : (now : ℕ) → now ≤ latest → (x : Lease) → LeaseInRange x → LeaseInRange (holdAgain now x)
-held-in-range now l x v = record { network = v .network; length = v .length; client = v .client; expires = omega arith }
+held-in-range now l x v = record { network = v .network; length = v .length; client = v .client; expires = omega arith; name = v .name }
 
 -- THE CALLS
 
@@ -257,17 +268,17 @@ module _ (s : State) (now : ℕ) (c : Call) (f : StateInRange s) (k : CallInRang
       let rs : List Request = requestsIn (c .option) in
       let given : List (Option Lease) = again t (c .client) xs rs in
       let held : List Lease = askHeld t now (c .client) xs rs in
-      let os : List (Option Lease) = askOffers t now (c .client) xs rs in
-      let gs : List Lease = catMaybes (askGives t now (c .client) xs rs) in
-      let ys : List Lease = askLeases t now (c .client) xs rs in
+      let os : List (Option Lease) = askOffers t now (c .client) (askName c) xs rs in
+      let gs : List Lease = catMaybes (askGives t now (c .client) (askName c) xs rs) in
+      let ys : List Lease = askLeases t now (c .client) (askName c) xs rs in
       let short : All (λ r. r .length ≤ longest) (restOf given rs) = rest-all (λ r. r .length ≤ longest) given rs (requests-short (c .option)) in
-      let few : length gs ≤ mostRequests = granted-few t now (c .client) xs rs (not-false (forAsk rs) (r .1 .1 .1 .1 .1 .1 .1 .1 .1 .0)) in
+      let few : length gs ≤ mostRequests = granted-few t now (c .client) (askName c) xs rs (not-false (forAsk rs) (r .1 .1 .1 .1 .1 .1 .1 .1 .1 .0)) in
       let told : All Told gs =
       turn-all now Told given os
       (all-map (λ x (b : (heldBy? (c .client) x ≡ true) × Told x). b .1) (catMaybes given) (again-all t (c .client) Told rs xs (present-told t now so)))
-      (good-told t now so (catMaybes os) (offers-good t now (c .client) (pools-good t so) so named (restOf given rs) held short)) in
+      (good-told t now so (catMaybes os) (offers-good t now (c .client) (askName c) (pools-good t so) so named (restOf given rs) held short)) in
       let there : All LeaseInRange ys =
-      addAll-all LeaseInRange os held (offers-in-range t now (c .client) so l (k .client) (restOf given rs) held short)
+      addAll-all LeaseInRange os held (offers-in-range t now (c .client) (askName c) so l (k .client) (ask-name-in-range (c .option) (k .option)) (restOf given rs) held short)
       (held-all now (catMaybes given) LeaseInRange (held-in-range now l) xs (present-in-range t now (f .table))) in
       accepted-in-range StateInRange (left s now ys) (optionBytes (map informationFor gs)) (length gs) (c .reply) (left-in-range s now ys f (store-in-range t now ys (f .table) l there))
       (ask-bytes gs few told) (omega (arith, ask-fits gs few)) (omega arith) (k .reply))
@@ -291,7 +302,7 @@ module _ (s : State) (now : ℕ) (c : Call) (f : StateInRange s) (k : CallInRang
       (renewed-in-range s now c f k
       (store-in-range t now (renewNamed now (t .term) (c .client) es xs) (f .table) l
       (changed-in-range (renew now (t .term)) (namedBy? (c .client) es)
-      (λ x (v : LeaseInRange x). record { network = v .network; length = v .length; client = v .client; expires = omega (arith, sound-term t so .1) }) xs (present-in-range t now (f .table)))))
+      (λ x (v : LeaseInRange x). record { network = v .network; length = v .length; client = v .client; expires = omega (arith, sound-term t so .1); name = v .name }) xs (present-in-range t now (f .table)))))
       (page-bytes false false gs few (found-told so)) (omega (arith, information-fits false false gs few)) (omega arith) (k .reply))
 
   list-in-range : ResultInRange StateInRange (list s now c)
@@ -330,7 +341,7 @@ mark-in-range s now network len d f =
     accepted-in-range StateInRange (left s now marks) [] 0 []
     (left-in-range s now marks f
     (store-in-range (s .table) now marks (f .table) (ltb-false latest now (r .1 .1 .1 .0))
-    (changed-in-range (withD d) (at? network len) (λ x (v : LeaseInRange x). record { network = v .network; length = v .length; client = v .client; expires = v .expires }) xs (present-in-range (s .table) now (f .table)))))
+    (changed-in-range (withD d) (at? network len) (λ x (v : LeaseInRange x). record { network = v .network; length = v .length; client = v .client; expires = v .expires; name = v .name }) xs (present-in-range (s .table) now (f .table)))))
     tt (omega arith) (omega arith) tt)
 
 pub in-range : InRange StateInRange ledger

@@ -22,6 +22,7 @@ pub mod MatchedKept
 pub mod FiguresHold
 pub mod ConservationHolds
 pub mod ListDependsHolds
+pub mod NamesKept
 pub mod Following
 pub mod Resuming
 pub mod NothingBehind

@@ -17,6 +17,7 @@ use Rattle.option.specs.Reading.{readOption}
 use Rattle.option.specs.Writing.{optionBytes}
 use Rattle.prefix.specs.declared.Prefix.{Prefix}
 use Rattle.free_space.specs.Grant.{grant}
+use Rattle.names.specs.declared.Name.{Name}
 use Rattle.table.specs.declared.Lease.{Lease}
 use Rattle.table.specs.declared.LeaseTable.{LeaseTable}
 use Rattle.table.specs.Table.{latest, prefixOf, poolsOf, prefixesOf, padded, present, sound, store}
@@ -25,7 +26,7 @@ use Rattle.figures.specs.declared.FigureRow.{FigureRow}
 use Rattle.figures.specs.Figures.{matches?, rowFor, filedBy, followed, taken}
 use Rattle.option.specs.Contents.{position, requestsIn, entriesIn, suboptions, Request}
 use Rattle.option_reply.specs.Reply.{mostEntries, entryOf}
-use Rattle.ledger.specs.Ledger.{State, state, left, Call, Result, result, acceptance, accept, Row, firstOf, orElse, byRows, refusalPlace, leastReply, tableRows, stateRows, optionRows, clientRows, nothing?, full, offered, offer, offers, add, addAll, heldBy?, heldFor?, firstThat, butFirst, again, restOf, heldAgain, inTurn, askHeld, askOffers, askGives, askLeases, informationFor, forAsk, askRows, ask, namedBy?, found, renewNamed, renewed, forTake, takeRows, take, forList, listed, listedIn, listRows, list, releaseRows, release, at?, withD, markRows, mark, ledger}
+use Rattle.ledger.specs.Ledger.{State, state, left, Call, Result, result, acceptance, accept, Row, firstOf, orElse, byRows, refusalPlace, leastReply, tableRows, stateRows, optionRows, clientRows, nothing?, full, offered, offer, offers, add, addAll, heldBy?, heldFor?, firstThat, butFirst, again, restOf, heldAgain, inTurn, askHeld, askOffers, askGives, askLeases, informationFor, forAsk, nameRows, askRows, askName, ask, namedBy?, found, renewNamed, renewed, forTake, takeRows, take, forList, listed, listedIn, listRows, list, releaseRows, release, at?, withD, markRows, mark, ledger}
 use Rattle.ledger.specs.Histories.{leasesOf}
 use Rattle.ledger.specs.NothingBehind.{Alike, Same, Cleared, EndedForgotten, Clears}
 use Rattle.ledger.proofs.RowLaws.{Numbered, first-number, by-rows, numbered-ask, numbered-take, numbered-release, numbered-mark}
@@ -73,20 +74,20 @@ module _ (now : ℕ) (s u : State) (a : Alike now s u) where
       ap₂ (λ (v : LeaseTable) (rs : List FigureRow). state v (map (λ x. cond (eqb (x .client) (c .client)) (filedBy (entriesIn (c .option)) (rowFor rs x)) (rowFor rs x)) (v .leases)))
       (store-same _ _ (ap₂ (λ (n : ℕ) (xs : List Lease). renewNamed now n (c .client) (entriesIn (c .option)) xs) (a .term) (a .leases))) (a .rows)
 
-  offer-same : (client : ℕ) (xs : List Lease) (r : Request) → offer (s .table) now client xs r ≡ offer (u .table) now client xs r
+  offer-same : (client : ℕ) (name : Name) (xs : List Lease) (r : Request) → offer (s .table) now client name xs r ≡ offer (u .table) now client name xs r
   unfolding offer
-  offer-same client xs r =
+  offer-same client name xs r =
       ap₂ (λ (ps : List Prefix) (n : ℕ). cond (full xs) none (offeredFrom ps n)) pools-same (ap (λ (n : ℕ). cond (eqb (r .length) 0) n (r .length)) (a .default))
     where
       offeredFrom : List Prefix → ℕ → Option Lease
-      offeredFrom ps n = offered now client (r .h) (grant ps (map prefixOf xs) n)
+      offeredFrom ps n = offered now client name (r .h) (grant ps (map prefixOf xs) n)
 
-  offers-same : (client : ℕ) (xs : List Lease) (rs : List Request) → offers (s .table) now client xs rs ≡ offers (u .table) now client xs rs
+  offers-same : (client : ℕ) (name : Name) (xs : List Lease) (rs : List Request) → offers (s .table) now client name xs rs ≡ offers (u .table) now client name xs rs
   unfolding offers
-  offers-same client xs [] = refl
-  offers-same client xs (r ∷ rs) =
-      ap (λ (o : Option Lease). o ∷ offers (s .table) now client (add o xs) rs) (offer-same client xs r)
-      ∙ ap (λ (l : List (Option Lease)). offer (u .table) now client xs r ∷ l) (offers-same client (add (offer (u .table) now client xs r) xs) rs)
+  offers-same client name xs [] = refl
+  offers-same client name xs (r ∷ rs) =
+      ap (λ (o : Option Lease). o ∷ offers (s .table) now client name (add o xs) rs) (offer-same client name xs r)
+      ∙ ap (λ (l : List (Option Lease)). offer (u .table) now client name xs r ∷ l) (offers-same client name (add (offer (u .table) now client name xs r) xs) rs)
 
   again-same : (client : ℕ) (xs : List Lease) (rs : List Request) → again (s .table) client xs rs ≡ again (u .table) client xs rs
   unfolding again
@@ -98,16 +99,16 @@ module _ (now : ℕ) (s u : State) (a : Alike now s u) where
       for : ℕ → Lease → Bool
       for n x = and (heldBy? client x ∷ eqb (cond (eqb (r .length) 0) n (r .length)) (x .length) ∷ Bool·beq (r .h) (x .h) ∷ [])
 
-  module _ (client : ℕ) (xs : List Lease) (rs : List Request) where
-    ask-offers-same : askOffers (s .table) now client xs rs ≡ askOffers (u .table) now client xs rs
+  module _ (client : ℕ) (name : Name) (xs : List Lease) (rs : List Request) where
+    ask-offers-same : askOffers (s .table) now client name xs rs ≡ askOffers (u .table) now client name xs rs
     ask-offers-same =
-        ap (λ (gs : List (Option Lease)). offers (s .table) now client (heldAgain now (catMaybes gs) xs) (restOf gs rs)) (again-same client xs rs)
-        ∙ offers-same client (askHeld (u .table) now client xs rs) (restOf (again (u .table) client xs rs) rs)
+        ap (λ (gs : List (Option Lease)). offers (s .table) now client name (heldAgain now (catMaybes gs) xs) (restOf gs rs)) (again-same client xs rs)
+        ∙ offers-same client name (askHeld (u .table) now client xs rs) (restOf (again (u .table) client xs rs) rs)
 
-    ask-gives-same : askGives (s .table) now client xs rs ≡ askGives (u .table) now client xs rs
+    ask-gives-same : askGives (s .table) now client name xs rs ≡ askGives (u .table) now client name xs rs
     ask-gives-same = ap₂ (inTurn now) (again-same client xs rs) ask-offers-same
 
-    ask-leases-same : askLeases (s .table) now client xs rs ≡ askLeases (u .table) now client xs rs
+    ask-leases-same : askLeases (s .table) now client name xs rs ≡ askLeases (u .table) now client name xs rs
     ask-leases-same = ap₂ (λ (os gs : List (Option Lease)). addAll os (heldAgain now (catMaybes gs) xs)) ask-offers-same (again-same client xs rs)
 
   table-rows-same : tableRows s ≡ tableRows u
@@ -130,20 +131,20 @@ module _ (now : ℕ) (s u : State) (a : Alike now s u) where
     abbrev rs : List Request
     rs = requestsIn (c .option)
 
-    gives-same : askGives (s .table) now (c .client) (present now (s .table .leases)) rs ≡ askGives (u .table) now (c .client) (present now (u .table .leases)) rs
-    gives-same = ask-gives-same (c .client) (present now (s .table .leases)) rs ∙ ap (λ (xs : List Lease). askGives (u .table) now (c .client) xs rs) (a .leases)
+    gives-same : askGives (s .table) now (c .client) (askName c) (present now (s .table .leases)) rs ≡ askGives (u .table) now (c .client) (askName c) (present now (u .table .leases)) rs
+    gives-same = ask-gives-same (c .client) (askName c) (present now (s .table .leases)) rs ∙ ap (λ (xs : List Lease). askGives (u .table) now (c .client) (askName c) xs rs) (a .leases)
 
-    leases-same : askLeases (s .table) now (c .client) (present now (s .table .leases)) rs ≡ askLeases (u .table) now (c .client) (present now (u .table .leases)) rs
-    leases-same = ask-leases-same (c .client) (present now (s .table .leases)) rs ∙ ap (λ (xs : List Lease). askLeases (u .table) now (c .client) xs rs) (a .leases)
+    leases-same : askLeases (s .table) now (c .client) (askName c) (present now (s .table .leases)) rs ≡ askLeases (u .table) now (c .client) (askName c) (present now (u .table .leases)) rs
+    leases-same = ask-leases-same (c .client) (askName c) (present now (s .table .leases)) rs ∙ ap (λ (xs : List Lease). askLeases (u .table) now (c .client) (askName c) xs rs) (a .leases)
 
     ask-rows-same : askRows s now c ≡ askRows u now c
     unfolding askRows
     ask-rows-same =
-        ap₂ (λ (x : List Row) (e : Bool). rowsWith first c x e (own (askGives (s .table) now (c .client) (present now (s .table .leases)) rs) (present now (s .table .leases)))) state-rows-same time-same
+        ap₂ (λ (x : List Row) (e : Bool). rowsWith first c x e (own (askGives (s .table) now (c .client) (askName c) (present now (s .table .leases)) rs) (present now (s .table .leases)))) state-rows-same time-same
         ∙ ap₂ (λ (gs : List (Option Lease)) (xs : List Lease). rowsWith first c (stateRows u) (ltb now (u .table .last)) (own gs xs)) gives-same (a .leases)
       where
         own : List (Option Lease) → List Lease → List Row
-        own gs xs = (8, not (forAsk rs)) ∷ (9, nothing? (catMaybes gs) && full xs) ∷ (10, nothing? (catMaybes gs)) ∷ []
+        own gs xs = (8, not (forAsk rs)) ∷ (nameRows c ++ ((9, nothing? (catMaybes gs) && full xs) ∷ (10, nothing? (catMaybes gs)) ∷ []))
 
     ask-same : SameState (ask s now c) (ask u now c)
     unfolding ask

@@ -23,6 +23,7 @@ use Rattle.free_space.specs.Serving.{Pools, Before, Ordered, withGrant, serve, 
 use Rattle.free_space.proofs.ListTheorem.{granted-free}
 use Rattle.free_space.proofs.Rules.{grant-takes}
 use Rattle.free_space.proofs.Permuted.{grant-perm}
+use Rattle.names.specs.declared.Name.{Name}
 use Rattle.table.specs.declared.Pool.{Pool}
 use Rattle.table.specs.declared.Lease.{Lease}
 use Rattle.table.specs.declared.LeaseTable.{LeaseTable}
@@ -77,7 +78,7 @@ length-bounds t s r l =
 
 -- WHAT AN OFFER IS
 
-module _ (t : LeaseTable) (now client : ℕ) where
+module _ (t : LeaseTable) (now client : ℕ) (name : Name) where
   pub record Offered (xs : List Lease) (r : Request) (x : Lease) : Type 0 where
     pub room : length xs < leaseSlots
     pub len : x .length ≡ askLength t r
@@ -86,6 +87,7 @@ module _ (t : LeaseTable) (now client : ℕ) where
     pub owner : x .client ≡ client
     pub leased : x .leased ≡ false
     pub until : x .expires ≡ now + holdTime
+    pub label : x .name ≡ name
     pub granted : grant (poolsOf t) (prefixes xs) (askLength t r) ≡ some (prefixOf x)
     pub free : Free (poolsOf t) (prefixes xs) (prefixOf x)
 
@@ -95,7 +97,7 @@ module _ (t : LeaseTable) (now client : ℕ) where
 
   module _ (good : Pools (poolsOf t)) where
     offered-is : (xs : List Lease) (r : Request) → length xs < leaseSlots → (g : Option Prefix) → grant (poolsOf t) (prefixes xs) (askLength t r) ≡ g
-        → Offer xs r (offered now client (r .h) g)
+        → Offer xs r (offered now client name (r .h) g)
     offered-is xs r l none e = inr e
     offered-is xs r l (some p) e =
         let f = granted-free (poolsOf t) good (prefixes xs) (askLength t r) p e in
@@ -107,11 +109,12 @@ module _ (t : LeaseTable) (now client : ℕ) where
           owner = refl;
           leased = refl;
           until = refl;
+          label = refl;
           granted = e;
           free = f .0;
         }
 
-    pub offer-is : (xs : List Lease) (r : Request) → Offer xs r (offer t now client xs r)
+    pub offer-is : (xs : List Lease) (r : Request) → Offer xs r (offer t now client name xs r)
     unfolding offer
     offer-is xs r =
         ⊎-elim
@@ -127,11 +130,11 @@ module _ (t : LeaseTable) (now client : ℕ) where
       first-all xs r q none f os a = a
       first-all xs r q (some x) f os a = (each xs r x q f, a)
 
-      pub offers-all : (rs : List Request) (xs : List Lease) → All Q rs → All P (catMaybes (offers t now client xs rs))
+      pub offers-all : (rs : List Request) (xs : List Lease) → All Q rs → All P (catMaybes (offers t now client name xs rs))
       unfolding offers
       offers-all [] xs a = tt
       offers-all (r ∷ rs) xs a =
-          first-all xs r (a .0) (offer t now client xs r) (offer-is xs r) (offers t now client (add (offer t now client xs r) xs) rs) (offers-all rs (add (offer t now client xs r) xs) (a .1))
+          first-all xs r (a .0) (offer t now client name xs r) (offer-is xs r) (offers t now client name (add (offer t now client name xs r) xs) rs) (offers-all rs (add (offer t now client name xs r) xs) (a .1))
 
     -- What is offered shares no address with what was in use before: offers only add to that.
     new-step : (used : List Prefix) (xs : List Lease) (r : Request) (o : Option Lease) (os : List (Option Lease)) → ((P : Prefix → Type 0) → All P (prefixes xs) → All P used) → Offer xs r o
@@ -140,12 +143,12 @@ module _ (t : LeaseTable) (now client : ℕ) where
     new-step used xs r (some x) os k f a = (k (Apart (prefixOf x)) (f .free .unused), a)
 
     pub offers-new : (rs : List Request) (used : List Prefix) (xs : List Lease) → ((P : Prefix → Type 0) → All P (prefixes xs) → All P used)
-        → All (λ x. All (Apart (prefixOf x)) used) (catMaybes (offers t now client xs rs))
+        → All (λ x. All (Apart (prefixOf x)) used) (catMaybes (offers t now client name xs rs))
     unfolding offers
     offers-new [] used xs k = tt
     offers-new (r ∷ rs) used xs k =
-        let o : Option Lease = offer t now client xs r in
-        new-step used xs r o (offers t now client (add o xs) rs) k (offer-is xs r) (offers-new rs used (add o xs) (λ P a. k P (add-fewer P xs o a)))
+        let o : Option Lease = offer t now client name xs r in
+        new-step used xs r o (offers t now client name (add o xs) rs) k (offer-is xs r) (offers-new rs used (add o xs) (λ P a. k P (add-fewer P xs o a)))
 
     -- The leases stay good, ascending, and no more than there are slots.
 
@@ -173,13 +176,13 @@ module _ (t : LeaseTable) (now client : ℕ) where
         fit = omega (arith, perm-length (insert-perm x xs), f .room);
       }
 
-      pub offers-inv : (rs : List Request) (xs : List Lease) → All (λ r. r .length ≤ longest) rs → Inv xs → Inv (addAll (offers t now client xs rs) xs)
+      pub offers-inv : (rs : List Request) (xs : List Lease) → All (λ r. r .length ≤ longest) rs → Inv xs → Inv (addAll (offers t now client name xs rs) xs)
       unfolding offers addAll
       offers-inv [] xs a i = i
       offers-inv (r ∷ rs) xs a i =
-          offers-inv rs (add (offer t now client xs r) xs) (a .1) (add-inv xs r (a .0) (offer t now client xs r) (offer-is xs r) i)
+          offers-inv rs (add (offer t now client name xs r) xs) (a .1) (add-inv xs r (a .0) (offer t now client name xs r) (offer-is xs r) i)
 
-      pub offers-good : (rs : List Request) (xs : List Lease) → All (λ r. r .length ≤ longest) rs → All (Good (poolsOf t) now) (catMaybes (offers t now client xs rs))
+      pub offers-good : (rs : List Request) (xs : List Lease) → All (λ r. r .length ≤ longest) rs → All (Good (poolsOf t) now) (catMaybes (offers t now client name xs rs))
       offers-good = offers-all (λ r. r .length ≤ longest) (Good (poolsOf t) now) offered-good
 
     -- The offers are the grants of crate `free_space`.
@@ -198,22 +201,22 @@ module _ (t : LeaseTable) (now client : ℕ) where
     add-length xs (some x) = omega (arith, perm-length (insert-perm x xs))
 
     pub offers-serve : (rs : List Request) (xs : List Lease) (ls : List Prefix) → length xs + length rs ≤ leaseSlots → List·Permᴰ (prefixes xs) ls
-        → map prefix? (offers t now client xs rs) ≡ serve (poolsOf t) ls (map (askLength t) rs)
+        → map prefix? (offers t now client name xs rs) ≡ serve (poolsOf t) ls (map (askLength t) rs)
     unfolding offers
     offers-serve [] xs ls l p = refl
     offers-serve (r ∷ rs) xs ls l p =
-        let o : Option Lease = offer t now client xs r in
+        let o : Option Lease = offer t now client name xs r in
         let e : prefix? o ≡ grant (poolsOf t) ls (askLength t r) = offer-grant xs r (omega arith) o (offer-is xs r) ∙ grant-perm (poolsOf t) p (askLength t r) in
-        let f : map prefix? (offers t now client (add o xs) rs) ≡ serve (poolsOf t) (withGrant (prefix? o) ls) (map (askLength t) rs) =
+        let f : map prefix? (offers t now client name (add o xs) rs) ≡ serve (poolsOf t) (withGrant (prefix? o) ls) (map (askLength t) rs) =
         offers-serve rs (add o xs) (withGrant (prefix? o) ls) (omega (arith, add-length xs o)) (add-perm xs ls o p) in
         ap (λ (l : List (Option Prefix)). prefix? o ∷ l) f ∙ ap (λ (g : Option Prefix). g ∷ serve (poolsOf t) (withGrant g ls) (map (askLength t) rs)) e
 
     pub offers-after : (rs : List Request) (xs : List Lease) (ls : List Prefix) → length xs + length rs ≤ leaseSlots → List·Permᴰ (prefixes xs) ls
-        → List·Permᴰ (prefixes (addAll (offers t now client xs rs) xs)) (after (poolsOf t) ls (map (askLength t) rs))
+        → List·Permᴰ (prefixes (addAll (offers t now client name xs rs) xs)) (after (poolsOf t) ls (map (askLength t) rs))
     unfolding offers addAll
     offers-after [] xs ls l p = p
     offers-after (r ∷ rs) xs ls l p =
-        let o : Option Lease = offer t now client xs r in
+        let o : Option Lease = offer t now client name xs r in
         let e : prefix? o ≡ grant (poolsOf t) ls (askLength t r) = offer-grant xs r (omega arith) o (offer-is xs r) ∙ grant-perm (poolsOf t) p (askLength t r) in
         offers-after rs (add o xs) (withGrant (grant (poolsOf t) ls (askLength t r)) ls) (omega (arith, add-length xs o))
         (subst (λ (g : Option Prefix). List·Permᴰ (prefixes (add o xs)) (withGrant g ls)) e (add-perm xs ls o p))
@@ -237,27 +240,27 @@ addAll-all P (some x ∷ os) xs a b = addAll-all P os (insert x xs) (a .1) (inse
 
 -- A request while a slot is empty, and while none is.
 
-pub offer-room : (t : LeaseTable) (now client : ℕ) (xs : List Lease) (r : Request) → length xs < leaseSlots
-    → offer t now client xs r ≡ offered now client (r .h) (grant (poolsOf t) (map prefixOf xs) (askLength t r))
+pub offer-room : (t : LeaseTable) (now client : ℕ) (name : Name) (xs : List Lease) (r : Request) → length xs < leaseSlots
+    → offer t now client name xs r ≡ offered now client name (r .h) (grant (poolsOf t) (map prefixOf xs) (askLength t r))
 unfolding offer
-offer-room t now client xs r h = cond-false (full xs) none _ (lt-leb leaseSlots (length xs) h)
+offer-room t now client name xs r h = cond-false (full xs) none _ (lt-leb leaseSlots (length xs) h)
 
-pub offer-full : (t : LeaseTable) (now client : ℕ) (xs : List Lease) (r : Request) → leaseSlots ≤ length xs → offer t now client xs r ≡ none
+pub offer-full : (t : LeaseTable) (now client : ℕ) (name : Name) (xs : List Lease) (r : Request) → leaseSlots ≤ length xs → offer t now client name xs r ≡ none
 unfolding offer
-offer-full t now client xs r h = cond-true (full xs) none _ (le-leb leaseSlots (length xs) h)
+offer-full t now client name xs r h = cond-true (full xs) none _ (le-leb leaseSlots (length xs) h)
 
-pub offers-length : (t : LeaseTable) (now client : ℕ) (rs : List Request) (xs : List Lease) → length (offers t now client xs rs) ≡ length rs
+pub offers-length : (t : LeaseTable) (now client : ℕ) (name : Name) (rs : List Request) (xs : List Lease) → length (offers t now client name xs rs) ≡ length rs
 unfolding offers
-offers-length t now client [] xs = refl
-offers-length t now client (r ∷ rs) xs = ap suc (offers-length t now client rs (add (offer t now client xs r) xs))
+offers-length t now client name [] xs = refl
+offers-length t now client name (r ∷ rs) xs = ap suc (offers-length t now client name rs (add (offer t now client name xs r) xs))
 
 -- One more request of a list.
 
-pub offers-snoc : (t : LeaseTable) (now client : ℕ) (rs : List Request) (xs : List Lease) (r : Request)
-    → offers t now client xs (rs ++ (r ∷ [])) ≡ offers t now client xs rs ++ (offer t now client (addAll (offers t now client xs rs) xs) r ∷ [])
+pub offers-snoc : (t : LeaseTable) (now client : ℕ) (name : Name) (rs : List Request) (xs : List Lease) (r : Request)
+    → offers t now client name xs (rs ++ (r ∷ [])) ≡ offers t now client name xs rs ++ (offer t now client name (addAll (offers t now client name xs rs) xs) r ∷ [])
 unfolding offers addAll
-offers-snoc t now client [] xs r = refl
-offers-snoc t now client (q ∷ rs) xs r = ap (λ (os : List (Option Lease)). offer t now client xs q ∷ os) (offers-snoc t now client rs (add (offer t now client xs q) xs) r)
+offers-snoc t now client name [] xs r = refl
+offers-snoc t now client name (q ∷ rs) xs r = ap (λ (os : List (Option Lease)). offer t now client name xs q ∷ os) (offers-snoc t now client name rs (add (offer t now client name xs q) xs) r)
 
 pub addAll-snoc : (os : List (Option Lease)) (o : Option Lease) (xs : List Lease) → addAll (os ++ (o ∷ [])) xs ≡ add o (addAll os xs)
 unfolding addAll
@@ -281,9 +284,9 @@ ordered t s now ys f = record {
 
 -- THE CHOICE: "An ask of length p takes, among whole free blocks of length at most p, the smallest, the lowest network among equals, and of that the
 -- lowest part of length p." On any sound table, with any leases present.
-pub offer-takes : (t : LeaseTable) → sound t ≡ true → (now client : ℕ) (xs : List Lease) (r : Request) (x : Lease) → offer t now client xs r ≡ some x
+pub offer-takes : (t : LeaseTable) → sound t ≡ true → (now client : ℕ) (name : Name) (xs : List Lease) (r : Request) (x : Lease) → offer t now client name xs r ≡ some x
     → Takes (poolsOf t) (map prefixOf xs) (askLength t r) (prefixOf x)
-offer-takes t s now client xs r x e =
+offer-takes t s now client name xs r x e =
     let good : Pools (poolsOf t) = pools-good t s in
-    let o : Offered t now client xs r x = subst (Offer t now client xs r) e (offer-is t now client good xs r) in
+    let o : Offered t now client name xs r x = subst (Offer t now client name xs r) e (offer-is t now client name good xs r) in
     grant-takes (poolsOf t) good (map prefixOf xs) (askLength t r) (prefixOf x) .0 (o .granted)

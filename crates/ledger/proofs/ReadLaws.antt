@@ -1,29 +1,30 @@
--- What the reader gives: the length of a request is at most 30, a figure has 16 bits, an option has at most 35 entries, and the place of a bad suboption
--- lies in it.
+-- What the reader gives: the length of a request is at most 30, a figure has 16 bits, the first name has bytes of the option, an option has at most 35 entries,
+-- and the place of a bad suboption lies in it.
 -- Assumes nothing.
-use Prim.Native.Nat.{ℕ, zero, suc, _+_, _*_, _/_, _≤_, _<_}
-use mathlib.Core.Path.{_≡_, refl, sym, ap, subst}
+use Prim.Native.Nat.{ℕ, zero, suc, _+_, _-_, _*_, _/_, _≤_, _<_}
+use mathlib.Core.Path.{_≡_, refl, sym, ap, subst, _∙_}
 use mathlib.Core.Bool.{Bool, true, false, cond, true≢false}
 use mathlib.Core.Logic.{by-cases}
 use native.Mathlib.Decide.{decLe}
 use mathlib.Core.List.{List, [], _∷_}
 use native.Mathlib.Omega.{arith}
-use lib.ListN.{length, getD, length-append}
+use lib.ListN.{length, getD, take, drop, length-append}
 use lib.Dec.{leb, eqb}
-use borrow.Author.Tests.{leb-true, leb-false, eqb-true}
+use borrow.Author.Tests.{leb-true, leb-false, eqb-true, eqb-false, not-true}
 use Rattle.lists.specs.Lists.{All}
 use Rattle.lists.specs.Walk.{Turn, more, stop, onTurn, walk}
 use Rattle.lists.proofs.Tests.{and-to}
 use Rattle.lists.proofs.IndexLaws.{all-at}
 use Rattle.lists.proofs.ListLaws.{all-append, all-left}
+use Rattle.lists.proofs.DropLaws.{all-drop}
 use Rattle.prefix.specs.Prefixes.{longest}
 use Rattle.option.specs.Values.{Entry, SuboptionValue, request, information, name, unknown, refused}
-use Rattle.option.specs.Rules.{fields?}
+use Rattle.option.specs.Rules.{final, fields?}
 use Rattle.option.specs.declared.Fault.the-variants.{Framing}
 use Rattle.option.specs.Reading.{two, figuresAt, entryAt, readEntry, readEntries, End, whole, badAt, subEnd, subInside?, whenGood, readRequest, readInformation, readName, readBody, readSuboption, readSuboptions, ended, option?, readOption}
 use Rattle.option.proofs.EntryLaws.{entry-read, weigh, walk-weight, entries-weight}
 use Rattle.option.proofs.SuboptionLaws.{good-read, suboption-read, suboption-moves, information-entries, option-long, body-stops}
-use Rattle.option.specs.Contents.{refuses?, placeIn, suboptions, requests, entries, requestsIn, entriesIn}
+use Rattle.option.specs.Contents.{refuses?, placeIn, suboptions, requests, entries, requestsIn, entriesIn, firstName, firstNameIn}
 use Rattle.ledger.specs.Ledger.{placed?, refusalPlace}
 use Rattle.ledger.proofs.Counts.{upTo-all}
 
@@ -41,38 +42,47 @@ module _ {A B : Type 0} (P : A → Type 0) (turn : ℕ → Turn A B) (out : B) (
 
 -- THE FIELDS OF WHAT IS READ
 
-abbrev Gives : Turn SuboptionValue End → Type 0
-Gives t = (x : SuboptionValue) (next : ℕ) → t ≡ more x next → fields? x ≡ true
+-- What a suboption that is read is like.
+module _ (P : SuboptionValue → Type 0) where
+  abbrev Gives : Turn SuboptionValue End → Type 0
+  Gives t = (x : SuboptionValue) (next : ℕ) → t ≡ more x next → P x
 
-cond-gives : (b : Bool) (t u : Turn SuboptionValue End) → Gives t → Gives u → Gives (cond b t u)
-cond-gives true t u p q = p
-cond-gives false t u p q = q
+  cond-gives : (b : Bool) (t u : Turn SuboptionValue End) → Gives t → Gives u → Gives (cond b t u)
+  cond-gives true t u p q = p
+  cond-gives false t u p q = q
 
-good-gives : (framed : Bool) (x : SuboptionValue) (at end : ℕ) → Gives (whenGood framed x at end)
-good-gives framed x at end y next h = let g = good-read framed x at end y next h in subst (λ (v : SuboptionValue). fields? v ≡ true) (g .2) (g .1)
+  good-gives : (framed : Bool) (x : SuboptionValue) (at end : ℕ) → (fields? x ≡ true → P x) → Gives (whenGood framed x at end)
+  good-gives framed x at end p y next h = let g = good-read framed x at end y next h in subst P (g .2) (p (g .1))
 
-body-gives : (number : ℕ) (s : List ℕ) (at end : ℕ) → Gives (readBody number s at end)
-unfolding readBody readRequest readInformation readName fields?
-body-gives number s at end =
-    cond-gives (eqb number 1) (readRequest s at end) _ (good-gives _ _ at end)
-    (cond-gives (eqb number 2) (readInformation s at end) _ (good-gives _ _ at end)
-    (cond-gives (eqb number 3) (readName s at end) _ (good-gives _ _ at end)
-    (λ x next h. let q : unknown ≡ x = cc in subst (λ (v : SuboptionValue). fields? v ≡ true) q refl)))
+  ended-all : (subs : List SuboptionValue) (e : End) → All P subs → All P (suboptions (ended subs e))
+  ended-all subs whole a = a
+  ended-all subs (badAt fault place) a = tt
 
-ended-all : (P : SuboptionValue → Type 0) (subs : List SuboptionValue) (e : End) → All P subs → All P (suboptions (ended subs e))
-ended-all P subs whole a = a
-ended-all P subs (badAt fault place) a = tt
+  read-all : (s : List ℕ) → ((at : ℕ) → Gives (readSuboption s at)) → All P (suboptions (readOption s))
+  unfolding readOption readSuboptions
+  read-all s p = go (option? s)
+    where
+      go : (b : Bool) → All P (suboptions (cond b (ended (readSuboptions s 3 .0) (readSuboptions s 3 .1)) (refused 6 0)))
+      go true = ended-all (readSuboptions s 3 .0) (readSuboptions s 3 .1) (walk-all P (readSuboption s) whole p (suc (length s)) 3)
+      go false = tt
+
+  -- By the kinds of suboptions.
+  kinds-all : (s : List ℕ) → ((h i : Bool) (len : ℕ) → fields? (request h i len) ≡ true → P (request h i len)) → ((c t : Bool) (es : List Entry) → fields? (information c t es) ≡ true → P (information c t es))
+      → ((n i : ℕ) → fields? (name (take n (drop i s))) ≡ true → P (name (take n (drop i s)))) → P unknown → All P (suboptions (readOption s))
+  unfolding readBody readRequest readInformation readName
+  kinds-all s a b d u =
+      read-all s (λ at x next e.
+      let end : ℕ = subEnd s at in
+      let number : ℕ = getD s at 0 in
+      cond-gives (eqb number 1) (readRequest s at end) _ (good-gives _ _ at end (a _ _ _))
+      (cond-gives (eqb number 2) (readInformation s at end) _ (good-gives _ _ at end (b _ _ _))
+      (cond-gives (eqb number 3) (readName s at end) _ (good-gives _ _ at end (d (end - (at + 2)) (at + 2)))
+      (λ y n h. let q : unknown ≡ y = cc in subst P q u)))
+      x next (suboption-read s at x next e .body))
 
 pub fields-read : (s : List ℕ) → All (λ x. fields? x ≡ true) (suboptions (readOption s))
-unfolding readOption readSuboptions
-fields-read s = go (option? s)
-  where
-    go : (b : Bool) → All (λ x. fields? x ≡ true) (suboptions (cond b (ended (readSuboptions s 3 .0) (readSuboptions s 3 .1)) (refused 6 0)))
-    go true =
-        ended-all (λ x. fields? x ≡ true) (readSuboptions s 3 .0) (readSuboptions s 3 .1)
-        (walk-all (λ x. fields? x ≡ true) (readSuboption s) whole
-        (λ at x next e. body-gives (getD s at 0) s at (subEnd s at) x next (suboption-read s at x next e .body)) (suc (length s)) 3)
-    go false = tt
+unfolding fields?
+fields-read s = kinds-all (λ x. fields? x ≡ true) s (λ h i len e. e) (λ c t es e. e) (λ n i e. e) refl
 
 requests-fields : (subs : List SuboptionValue) → All (λ x. fields? x ≡ true) subs → All (λ r. r .length ≤ longest) (requests subs)
 unfolding fields?
@@ -122,15 +132,37 @@ entries-figures (name octets ∷ subs) a = entries-figures subs (a .1)
 entries-figures (unknown ∷ subs) a = entries-figures subs (a .1)
 
 pub figures-short : (s : List ℕ) → All (λ b. b < 256) s → All (λ e. All (λ n. n < 65536) (e .figures)) (entriesIn s)
-unfolding readOption readSuboptions
-figures-short s a = go (option? s)
-  where
-    go : (b : Bool) → All Figures16 (entries (suboptions (cond b (ended (readSuboptions s 3 .0) (readSuboptions s 3 .1)) (refused 6 0))))
-    go true =
-        entries-figures (suboptions (ended (readSuboptions s 3 .0) (readSuboptions s 3 .1)))
-        (ended-all (λ x. All Figures16 (entries (x ∷ []))) (readSuboptions s 3 .0) (readSuboptions s 3 .1)
-        (walk-all (λ x. All Figures16 (entries (x ∷ []))) (readSuboption s) whole (sub-figures s a) (suc (length s)) 3))
-    go false = tt
+figures-short s a = entries-figures (suboptions (readOption s)) (read-all (λ x. All Figures16 (entries (x ∷ []))) s (sub-figures s a))
+
+-- THE FIRST NAME is bytes of the option, and does not end in zero.
+
+abbrev NameBytes : SuboptionValue → Type 0
+NameBytes x = All (λ b. b < 256) (firstName (x ∷ []))
+
+first-bytes : (subs : List SuboptionValue) → All NameBytes subs → All (λ b. b < 256) (firstName subs)
+first-bytes [] a = tt
+first-bytes (request h i len ∷ subs) a = first-bytes subs (a .1)
+first-bytes (information c t es ∷ subs) a = first-bytes subs (a .1)
+first-bytes (name octets ∷ subs) a = a .0
+first-bytes (unknown ∷ subs) a = first-bytes subs (a .1)
+
+pub name-bytes : (s : List ℕ) → All (λ b. b < 256) s → All (λ b. b < 256) (firstNameIn s)
+name-bytes s a =
+    first-bytes (suboptions (readOption s))
+    (kinds-all NameBytes s (λ h i len e. tt) (λ c t es e. tt) (λ n i e. upTo-all (λ b. b < 256) n (drop i s) (all-drop (λ b. b < 256) i s a)) tt)
+
+first-ends : (subs : List SuboptionValue) → All (λ x. fields? x ≡ true) subs → (k : ℕ) → length (firstName subs) ≡ suc k → getD (firstName subs) k 0 ≡ 0 → ⊥
+unfolding fields?
+first-ends [] a k e z = absurd (omega arith)
+first-ends (request h i len ∷ subs) a k e z = first-ends subs (a .1) k e z
+first-ends (information c t es ∷ subs) a k e z = first-ends subs (a .1) k e z
+first-ends (name octets ∷ subs) a k e z =
+    let last : length octets - 1 ≡ k = omega arith in
+    eqb-false (final octets) 0 (not-true (eqb (final octets) 0) (a .0)) (ap (λ (i : ℕ). getD octets i 0) last ∙ z)
+first-ends (unknown ∷ subs) a k e z = first-ends subs (a .1) k e z
+
+pub name-ends : (s : List ℕ) (k : ℕ) → length (firstNameIn s) ≡ suc k → getD (firstNameIn s) k 0 ≡ 0 → ⊥
+name-ends s = first-ends (suboptions (readOption s)) (fields-read s)
 
 -- HOW MANY
 

@@ -16,7 +16,7 @@ use Rattle.option.specs.Contents.{requestsIn}
 use Rattle.option.specs.Writing.{optionBytes}
 use Rattle.table.specs.declared.Lease.{Lease}
 use Rattle.table.specs.Table.{present}
-use Rattle.ledger.specs.Ledger.{State, left, Call, byRows, Result, refuse, accept, Row, firstOf, orElse, before, nothing?, refusalPlace, full, informationFor, askGives, askLeases, askRows, ask, takeRows, listRows, releaseRows, markRows}
+use Rattle.ledger.specs.Ledger.{State, left, Call, byRows, Result, refuse, accept, Row, firstOf, orElse, before, nothing?, refusalPlace, full, informationFor, askGives, askLeases, askRows, askName, ask, takeRows, listRows, releaseRows, markRows}
 use Rattle.ledger.specs.Demand3.{none?}
 
 pub first-none : (rows : List Row) → firstOf rows ≡ none → All (λ (r : Row). r .1 ≡ false) rows
@@ -107,9 +107,15 @@ accepted-none rows place s reply accepted k z = go (firstOf rows) refl z
     go none e q = e
     go (some n) e q = absurd (eqb-false n 0 (first-number (λ m. eqb m 0 ≡ false) rows k n e) q)
 
+-- What is so of what it leaves if it is accepted.
+pub accepted-by : {S : Type 0} (P : S → Type 0) (rows : List Row) (place : ℕ → ℕ) (s : S) (reply : List ℕ) (accepted : Result S) → Numbered rows
+    → (All (λ (r : Row). r .1 ≡ false) rows → P (accepted .state)) → byRows rows place s reply accepted .answer .number ≡ 0 → P (byRows rows place s reply accepted .state)
+accepted-by {S} P rows place s reply accepted k f =
+    by-rows (λ (r : Result S). r .answer .number ≡ 0 → P (r .state)) rows _ _ k (λ n e z. absurd (eqb-false n 0 e z)) (λ e _. f (first-none rows e))
+
 pub numbered-ask : (s : State) (now : ℕ) (c : Call) → Numbered (askRows s now c)
 unfolding askRows
-numbered-ask s now c = (refl, (refl, (refl, (refl, (refl, (refl, (refl, (refl, (refl, (refl, (refl, (refl, tt))))))))))))
+numbered-ask s now c = (refl, (refl, (refl, (refl, (refl, (refl, (refl, (refl, (refl, (refl, (refl, (refl, (refl, tt)))))))))))))
 
 pub numbered-take : (s : State) (now : ℕ) (c : Call) → Numbered (takeRows s now c)
 unfolding takeRows
@@ -127,7 +133,7 @@ pub numbered-mark : (s : State) (now network len : ℕ) → Numbered (markRows s
 unfolding markRows
 numbered-mark s now network len = (refl, (refl, (refl, (refl, (refl, tt)))))
 
--- ASK: rows 1 to 8, and rows 9 and 10.
+-- ASK: the rows before 9, and rows 9 and 10.
 
 -- What an ask answers whose rows before 9 do not apply, on the leases xs: `gs` are the leases granted, given again or new, and ys those that it leaves.
 abbrev pub answerAsk : State → ℕ → List ℕ → List Lease → List Lease → List Lease → Result State
@@ -139,10 +145,10 @@ module _ (s : State) (now : ℕ) (c : Call) where
   xs = present now (s .table .leases)
 
   ys : List Lease
-  ys = askLeases (s .table) now (c .client) (present now (s .table .leases)) (requestsIn (c .option))
+  ys = askLeases (s .table) now (c .client) (askName c) (present now (s .table .leases)) (requestsIn (c .option))
 
   granted : List Lease
-  granted = catMaybes (askGives (s .table) now (c .client) (present now (s .table .leases)) (requestsIn (c .option)))
+  granted = catMaybes (askGives (s .table) now (c .client) (askName c) (present now (s .table .leases)) (requestsIn (c .option)))
 
   -- Rows 9 and 10.
   abbrev ownRows : List Lease → List Row
@@ -173,7 +179,7 @@ module _ (s : State) (now : ℕ) (c : Call) where
   pub ask-served : firstOf (before 9 (askRows s now c)) ≡ none
       → let here = present now (s .table .leases) in
       let rs = requestsIn (c .option) in
-      ask s now c ≡ answerAsk s now (c .reply) here (askLeases (s .table) now (c .client) here rs) (catMaybes (askGives (s .table) now (c .client) here rs))
+      ask s now c ≡ answerAsk s now (c .reply) here (askLeases (s .table) now (c .client) (askName c) here rs) (catMaybes (askGives (s .table) now (c .client) (askName c) here rs))
   unfolding ask xs ys granted
   ask-served e = ap goes (ap firstOf rows-split ∙ first-after (before 9 (askRows s now c)) (ownRows granted) e) ∙ own granted
 

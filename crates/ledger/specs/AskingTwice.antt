@@ -6,7 +6,7 @@ use Rattle.option.specs.Values.{Entry}
 use Rattle.option_reply.specs.Reply.{entryOf}
 use Rattle.table.specs.declared.{Lease.Lease, LeaseTable.LeaseTable}
 use Rattle.table.specs.Table.{present}
-use Rattle.ledger.specs.Ledger.{State, Call, heldAgain}
+use Rattle.ledger.specs.Ledger.{State, Call, askName, heldAgain}
 use Rattle.ledger.specs.Demand3.{Server, wellFormed, heldBefore, leaseFor, granted}
 
 -- "gets that line again .. (its d stays and shows in the reply)": each ask that is to get a lease again is granted the entry of that lease. That the table then
@@ -39,6 +39,6 @@ module _ {S : Type 0} (stateOf : S → State) (server : Server S) where
     pub left : (s : S) (now : ℕ) (c : Call) → wellFormed now (stateOf s) c ≡ true
         → List·Permᴰ (present now (tableOf (server s now c .state) .leases))
         (heldAgain now (catMaybes (heldBefore now (tableOf s) c)) (present now (tableOf s .leases))
-        ++ map (leaseFor now (c .client)) (grantedToRest (heldBefore now (tableOf s) c) (granted stateOf server now s c)))
+        ++ map (leaseFor now (c .client) (askName c)) (grantedToRest (heldBefore now (tableOf s) c) (granted stateOf server now s c)))
     -- "A re-given line needs no empty line, so 9 and 10 apply only to the rest."
     pub accepted : (s : S) (now : ℕ) (c : Call) → wellFormed now (stateOf s) c ≡ true → (catMaybes (heldBefore now (tableOf s) c) ≡ [] → ⊥) → server s now c .answer .number ≡ 0

@@ -6,10 +6,11 @@ use Rattle.prefix.specs.declared.Prefix.{Prefix}
 use Rattle.prefix.specs.Prefixes.{prefix, Apart}
 use Rattle.free_space.specs.Space.{Free}
 use Rattle.option.specs.Values.{Entry}
+use Rattle.names.specs.declared.Name.{Name}
 use Rattle.table.specs.declared.{Lease.Lease, LeaseTable.LeaseTable}
 use Rattle.table.specs.Table.{leaseSlots, latest, prefixOf, poolsOf, present, sound}
 use Rattle.option.specs.Contents.{Request, requestsIn, entriesIn}
-use Rattle.ledger.specs.Ledger.{State, Call, Result, firstOf, before, emptySlots, askRows, askLength, holdTime, heldBy?, again}
+use Rattle.ledger.specs.Ledger.{State, Call, Result, firstOf, before, emptySlots, askRows, askLength, askName, holdTime, heldBy?, again}
 
 -- A CALL, AND WHEN IT IS WELL-FORMED
 
@@ -147,9 +148,9 @@ pub record CanBeChosen (now : ℕ) (s : State) (cs : List Call) : Type 0 where
   pub apart : Pairwise Apart (prefixesAt networks (lengthsAsked now s cs))
   pub slots : length (wellFormedAsks now s cs) ≤ emptySlots now (s .table)
 
--- The lease that an entry granted to a client tells of.
-abbrev pub leaseFor : ℕ → ℕ → Entry → Lease
-leaseFor now client e = record { network = e .network; length = e .length; client = client; leased = false; h = e .h; d = e .d; expires = now + holdTime }
+-- The lease that an entry granted to a client tells of, with the name of the ask.
+abbrev pub leaseFor : ℕ → ℕ → Name → Entry → Lease
+leaseFor now client name e = record { network = e .network; length = e .length; client = client; leased = false; h = e .h; d = e .d; expires = now + holdTime; name = name }
 
 -- A call of a list, with what it got.
 pub record Received (S : Type 0) : Type 0 where
@@ -179,7 +180,7 @@ module _ {S : Type 0} (stateOf : S → State) (server : Server S) where
 
   -- The leases that a call's granted asks made.
   abbrev pub made : ℕ → Received S → List Lease
-  made now v = map (leaseFor now (v .call .client)) (catMaybes (granted now (v .got) (v .call)))
+  made now v = map (leaseFor now (v .call .client) (askName (v .call))) (catMaybes (granted now (v .got) (v .call)))
 
   pub record AllGranted (now : ℕ) (s : S) (cs : List Call) : Type 0 where
     -- what was granted

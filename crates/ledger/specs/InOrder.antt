@@ -1,6 +1,7 @@
 -- SERVED IN ORDER: "They are served in order, each on the book that the one before left." The ledger's ask gives leases again first and then serves the rest.
 -- Here each request is served in its turn, on the leases that the one before left: the claim is that this comes to the same.
 use Rattle.lists.specs.Basics.{ℕ, _≡_, List, [], _∷_, Option, none, some}
+use Rattle.names.specs.declared.Name.{Name}
 use Rattle.table.specs.declared.{Lease.Lease, LeaseTable.LeaseTable}
 use Rattle.table.specs.Table.{present}
 use Rattle.option.specs.Contents.{Request}
@@ -16,20 +17,20 @@ leftBy now (some x) o xs = heldAgain now (x ∷ []) xs
 leftBy now none o xs = add o xs
 
 -- `hs` are those held before the message that are left to be given again, `xs` the leases that the request meets.
-unfoldable pub oneByOne : LeaseTable → ℕ → ℕ → List Lease → List Lease → List Request → List (Option Lease)
-oneByOne t now client hs xs [] = []
-oneByOne t now client hs xs (r ∷ rs) =
+unfoldable pub oneByOne : LeaseTable → ℕ → ℕ → Name → List Lease → List Lease → List Request → List (Option Lease)
+oneByOne t now client name hs xs [] = []
+oneByOne t now client name hs xs (r ∷ rs) =
     let g = firstThat (heldFor? t client r) hs in
-    let o = offer t now client xs r in
-    againOr now g o ∷ oneByOne t now client (butFirst (heldFor? t client r) hs) (leftBy now g o xs) rs
+    let o = offer t now client name xs r in
+    againOr now g o ∷ oneByOne t now client name (butFirst (heldFor? t client r) hs) (leftBy now g o xs) rs
 
-unfoldable pub leftOneByOne : LeaseTable → ℕ → ℕ → List Lease → List Lease → List Request → List Lease
-leftOneByOne t now client hs xs [] = xs
-leftOneByOne t now client hs xs (r ∷ rs) =
+unfoldable pub leftOneByOne : LeaseTable → ℕ → ℕ → Name → List Lease → List Lease → List Request → List Lease
+leftOneByOne t now client name hs xs [] = xs
+leftOneByOne t now client name hs xs (r ∷ rs) =
     let g = firstThat (heldFor? t client r) hs in
-    leftOneByOne t now client (butFirst (heldFor? t client r) hs) (leftBy now g (offer t now client xs r) xs) rs
+    leftOneByOne t now client name (butFirst (heldFor? t client r) hs) (leftBy now g (offer t now client name xs r) xs) rs
 
 -- Of a call on the leases that are present.
-pub record ServedInOrder (t : LeaseTable) (now client : ℕ) (rs : List Request) : Type 0 where
-  pub gives : oneByOne t now client (present now (t .leases)) (present now (t .leases)) rs ≡ askGives t now client (present now (t .leases)) rs
-  pub leaves : leftOneByOne t now client (present now (t .leases)) (present now (t .leases)) rs ≡ askLeases t now client (present now (t .leases)) rs
+pub record ServedInOrder (t : LeaseTable) (now client : ℕ) (name : Name) (rs : List Request) : Type 0 where
+  pub gives : oneByOne t now client name (present now (t .leases)) (present now (t .leases)) rs ≡ askGives t now client name (present now (t .leases)) rs
+  pub leaves : leftOneByOne t now client name (present now (t .leases)) (present now (t .leases)) rs ≡ askLeases t now client name (present now (t .leases)) rs

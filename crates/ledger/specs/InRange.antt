@@ -1,10 +1,11 @@
 -- IN RANGE: of arguments within the sizes of the code's types, results within them. The ledger speaks of all numbers; the code has 32 bits for a network, a
--- client and a time, 16 for a figure, and 8 for a length and a byte.
+-- client and a time, 16 for a figure, 8 for a length and a byte, and 64 for eight octets of a name.
 use Prim.Native.Nat.{ℕ, _≤_, _<_}
 use mathlib.Core.Bool.{Bool}
 use mathlib.Core.List.{List}
 use Rattle.lists.specs.Lists.{All}
 use Rattle.option.specs.Values.{longestOption}
+use Rattle.names.specs.declared.Name.{Name}
 use Rattle.table.specs.declared.{Pool.Pool, Lease.Lease, LeaseTable.LeaseTable}
 use Rattle.table.specs.Table.{leaseSlots}
 use Rattle.figures.specs.declared.FigureRow.{FigureRow}
@@ -20,6 +21,10 @@ Word n = n < 4294967296
 abbrev pub Figure : ℕ → Type 0
 Figure n = n < 65536
 
+-- Eight octets of a name.
+abbrev pub NameWord : ℕ → Type 0
+NameWord n = n < 18446744073709551616
+
 -- The highest number of a refusal: document 01 has numbers up to 14, the change requests (document 02) up to 25.
 abbrev pub highestNumber : ℕ
 highestNumber = 25
@@ -30,11 +35,17 @@ pub record PoolInRange (p : Pool) : Type 0 where
   pub network : Word (p .network)
   pub length : Byte (p .length)
 
+pub record NameInRange (n : Name) : Type 0 where
+  pub first : NameWord (n .first)
+  pub second : NameWord (n .second)
+  pub third : NameWord (n .third)
+
 pub record LeaseInRange (x : Lease) : Type 0 where
   pub network : Word (x .network)
   pub length : Byte (x .length)
   pub client : Word (x .client)
   pub expires : Word (x .expires)
+  pub name : NameInRange (x .name)
 
 pub record TableInRange (t : LeaseTable) : Type 0 where
   pub pools : All PoolInRange (t .pools)

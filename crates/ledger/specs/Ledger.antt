@@ -7,9 +7,11 @@ use Rattle.prefix.specs.declared.Prefix.{Prefix}
 use Rattle.free_space.specs.Grant.{grant}
 use Rattle.option.specs.Values.{longestOption, mostRequests, mostEntries, Entry, SuboptionValue, information}
 use Rattle.option.specs.Reading.{readOption}
-use Rattle.option.specs.Contents.{Request, refuses?, placeIn, suboptions, requests, entries, requestsIn, entriesIn, position}
+use Rattle.option.specs.Contents.{Request, refuses?, placeIn, suboptions, requests, entries, requestsIn, entriesIn, firstNameIn, position}
 use Rattle.option.specs.Writing.{optionBytes}
 use Rattle.option_reply.specs.Reply.{entryOf}
+use Rattle.names.specs.declared.Name.{Name}
+use Rattle.names.specs.Names.{longestName, nameOf}
 use Rattle.table.specs.declared.{Lease.Lease, LeaseTable.LeaseTable}
 use Rattle.table.specs.Table.{leaseSlots, latest, blank, prefixOf, poolsOf, empty?, present, sound, store, insert}
 use Rattle.figures.specs.declared.FigureRow.{FigureRow}
@@ -175,26 +177,31 @@ askLength t r = cond (eqb (r .length) 0) (t .«default_length») (r .length)
 abbrev pub holdTime : ℕ
 holdTime = 120
 
-abbrev pub offered : ℕ → ℕ → Bool → Option Prefix → Option Lease
-offered now client h none = none
-offered now client h (some p) = some (record { network = p .network; length = p .length; client = client; leased = false; h = h; d = false; expires = now + holdTime })
+-- Document 02, M-105: "A line gets a name .. from the first Name suboption of the ask that made it, the same for all lines newly made by that message".
+abbrev pub askName : Call → Name
+askName c = nameOf (firstNameIn (c .option))
+
+abbrev pub offered : ℕ → ℕ → Name → Bool → Option Prefix → Option Lease
+offered now client name h none = none
+offered now client name h (some p) =
+    some (record { network = p .network; length = p .length; client = client; leased = false; h = h; d = false; expires = now + holdTime; name = name })
 
 abbrev pub informationFor : Lease → SuboptionValue
 informationFor x = information false false (entryOf x ∷ [])
 
 -- What a request is offered while these leases are present: nothing if no slot is empty or no prefix of its length is free. `grant` of crate `free_space`
 -- is "among whole free blocks of length at most p, the smallest, the lowest network among equals, and of that the lowest part of length p".
-unfoldable pub offer : LeaseTable → ℕ → ℕ → List Lease → Request → Option Lease
-offer t now client xs r = cond (full xs) none (offered now client (r .h) (grant (poolsOf t) (map prefixOf xs) (askLength t r)))
+unfoldable pub offer : LeaseTable → ℕ → ℕ → Name → List Lease → Request → Option Lease
+offer t now client name xs r = cond (full xs) none (offered now client name (r .h) (grant (poolsOf t) (map prefixOf xs) (askLength t r)))
 
 abbrev pub add : Option Lease → List Lease → List Lease
 add none xs = xs
 add (some x) xs = insert x xs
 
 -- "They are served in order, each on the book that the one before left." "Ungranted ones have none."
-unfoldable pub offers : LeaseTable → ℕ → ℕ → List Lease → List Request → List (Option Lease)
-offers t now client xs [] = []
-offers t now client xs (r ∷ rs) = let o = offer t now client xs r in o ∷ offers t now client (add o xs) rs
+unfoldable pub offers : LeaseTable → ℕ → ℕ → Name → List Lease → List Request → List (Option Lease)
+offers t now client name xs [] = []
+offers t now client name xs (r ∷ rs) = let o = offer t now client name xs r in o ∷ offers t now client name (add o xs) rs
 
 unfoldable pub addAll : List (Option Lease) → List Lease → List Lease
 addAll [] xs = xs
@@ -231,9 +238,9 @@ restOf [] (r ∷ rs) = r ∷ rs
 restOf (none ∷ gs) (r ∷ rs) = r ∷ restOf gs rs
 restOf (some x ∷ gs) (r ∷ rs) = restOf gs rs
 
--- "held until now + 120 (its d stays and shows in the reply)", whatever its end was.
+-- "held until now + 120 (its d stays and shows in the reply)", whatever its end was; "a re-given line keeps its own" name.
 abbrev pub holdAgain : ℕ → Lease → Lease
-holdAgain now x = record { network = x .network; length = x .length; client = x .client; leased = x .leased; h = x .h; d = x .d; expires = now + holdTime }
+holdAgain now x = record { network = x .network; length = x .length; client = x .client; leased = x .leased; h = x .h; d = x .d; expires = now + holdTime; name = x .name }
 
 -- The leases xs, with those of them that are given again held anew: networks tell them apart.
 abbrev pub heldAgain : ℕ → List Lease → List Lease → List Lease
@@ -251,34 +258,38 @@ inTurn now (none ∷ gs) (o ∷ os) = o ∷ inTurn now gs os
 abbrev pub askHeld : LeaseTable → ℕ → ℕ → List Lease → List Request → List Lease
 askHeld t now client xs rs = heldAgain now (catMaybes (again t client xs rs)) xs
 
-abbrev pub askOffers : LeaseTable → ℕ → ℕ → List Lease → List Request → List (Option Lease)
-askOffers t now client xs rs = offers t now client (askHeld t now client xs rs) (restOf (again t client xs rs) rs)
+abbrev pub askOffers : LeaseTable → ℕ → ℕ → Name → List Lease → List Request → List (Option Lease)
+askOffers t now client name xs rs = offers t now client name (askHeld t now client xs rs) (restOf (again t client xs rs) rs)
 
-abbrev pub askGives : LeaseTable → ℕ → ℕ → List Lease → List Request → List (Option Lease)
-askGives t now client xs rs = inTurn now (again t client xs rs) (askOffers t now client xs rs)
+abbrev pub askGives : LeaseTable → ℕ → ℕ → Name → List Lease → List Request → List (Option Lease)
+askGives t now client name xs rs = inTurn now (again t client xs rs) (askOffers t now client name xs rs)
 
-abbrev pub askLeases : LeaseTable → ℕ → ℕ → List Lease → List Request → List Lease
-askLeases t now client xs rs = addAll (askOffers t now client xs rs) (askHeld t now client xs rs)
+abbrev pub askLeases : LeaseTable → ℕ → ℕ → Name → List Lease → List Request → List Lease
+askLeases t now client name xs rs = addAll (askOffers t now client name xs rs) (askHeld t now client xs rs)
 
 -- Rows 9 and 10: "If none is granted, the answer is the refusal of the first." "A re-given line needs no empty line, so 9 and 10 apply only to the rest."
 abbrev pub grantRows : State → ℕ → Call → List Row
 grantRows s now c =
     let xs = present now (s .table .leases) in
-    let granted = catMaybes (askGives (s .table) now (c .client) xs (requestsIn (c .option))) in
+    let granted = catMaybes (askGives (s .table) now (c .client) (askName c) xs (requestsIn (c .option))) in
     (9, nothing? granted && full xs)
     ∷ (10, nothing? granted)
     ∷ []
 
+-- Row 17: "an ask's first name above 24 octets, after 8".
+abbrev pub nameRows : Call → List Row
+nameRows c = (17, ltb longestName (length (firstNameIn (c .option)))) ∷ []
+
 unfoldable pub askRows : State → ℕ → Call → List Row
-askRows s now c = replyRows leastReply c ++ (commonRows (stateRows s) s now c ++ ((8, not (forAsk (requestsIn (c .option)))) ∷ grantRows s now c))
+askRows s now c = replyRows leastReply c ++ (commonRows (stateRows s) s now c ++ ((8, not (forAsk (requestsIn (c .option)))) ∷ (nameRows c ++ grantRows s now c)))
 
 unfoldable pub ask : State → ℕ → Call → Result State
 ask s now c =
     let xs = present now (s .table .leases) in
     let rs = requestsIn (c .option) in
-    let granted = catMaybes (askGives (s .table) now (c .client) xs rs) in
+    let granted = catMaybes (askGives (s .table) now (c .client) (askName c) xs rs) in
     byRows (askRows s now c) (refusalPlace (c .option)) s (c .reply)
-    (accept (left s now (askLeases (s .table) now (c .client) xs rs)) (optionBytes (map informationFor granted)) (length granted) (c .reply))
+    (accept (left s now (askLeases (s .table) now (c .client) (askName c) xs rs)) (optionBytes (map informationFor granted)) (length granted) (c .reply))
 
 -- TAKE
 
@@ -299,7 +310,7 @@ found client xs es = concatMap (λ e. filter (λ x. names? client x e) xs) es
 
 -- "makes it leased until now + term"
 abbrev pub renew : ℕ → ℕ → Lease → Lease
-renew now term x = record { network = x .network; length = x .length; client = x .client; leased = true; h = x .h; d = x .d; expires = now + term }
+renew now term x = record { network = x .network; length = x .length; client = x .client; leased = true; h = x .h; d = x .d; expires = now + term; name = x .name }
 
 abbrev pub renewNamed : ℕ → ℕ → ℕ → List Entry → List Lease → List Lease
 renewNamed now term client es xs = map (λ x. cond (namedBy? client es x) (renew now term x) x) xs
@@ -376,7 +387,7 @@ abbrev pub at? : ℕ → ℕ → Lease → Bool
 at? network len x = and (eqb (x .network) network ∷ eqb (x .length) len ∷ [])
 
 abbrev pub withD : Bool → Lease → Lease
-withD d x = record { network = x .network; length = x .length; client = x .client; leased = x .leased; h = x .h; d = d; expires = x .expires }
+withD d x = record { network = x .network; length = x .length; client = x .client; leased = x .leased; h = x .h; d = d; expires = x .expires; name = x .name }
 
 unfoldable pub markRows : State → ℕ → ℕ → ℕ → List Row
 markRows s now network len =

@@ -8,6 +8,7 @@ pub mod InOrder
 pub mod Histories
 pub mod Conservation
 pub mod ListDepends
+pub mod NamesKept
 pub mod ReadBack
 pub mod NothingBehind
 pub mod Refusals

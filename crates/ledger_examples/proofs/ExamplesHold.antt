@@ -8,6 +8,7 @@ use Rattle.option.specs.Rules.{entryFields?, fields?}
 use Rattle.option.specs.Reading.{option?, subInside?, whenGood, readRequest, figuresAt, entryAt, entryFramed?, readEntry, readEntries, readInformation, readName, readBody, readSuboption, readSuboptions, readOption}
 use Rattle.option.specs.Writing.{twoBytes, fourBytes, requestBytes, entryHead, entryBytes, entriesBytes, informationHead, suboptionBytes, suboptionsBytes, optionHead, optionBytes}
 use Rattle.option.specs.Selection.{selection?, readSelection}
+use Rattle.names.specs.Names.{unnamed?}
 use Rattle.table.specs.Table.{unused?, empty?, prefixesOf, present, headOk, poolOk, leaseOk, ascends?, sound, store}
 use Rattle.table_open.specs.Open.{given, poolsApart?, openOk}
 use Rattle.figures.specs.Figures.{ofLease?, untold?, fits?, rowFor, followed, highWaterOf, inUseOf, unusableOf, newerHighWater, newerInUse, newerUnusable, filed, taken}
@@ -17,33 +18,33 @@ use Rattle.ledger_examples.specs.SampleLists.{tableWith, lease, leasesFr
 use Rattle.ledger_examples.specs.FurtherExamples.{numbers, withBytes, asking, entriesFrom, namingFrom, start, leased, offer5, mixed, held, listing, resuming, flagged, many, manyExpected, pages, pagesExpected, secondPages, secondPagesExpected, returns, returnsExpected, takes, takesExpected, marks, marksExpected, rowOrder, rowOrderExpected}
 
 pub examples-hold : map (λ (e : Example). e .got) examples ≡ map (λ (e : Example). e .expected) examples
-unfolding walk insertBy sortBy entryFields? fields? option? subInside? whenGood readRequest figuresAt entryAt entryFramed? readEntry readEntries readInformation readName readBody readSuboption readSuboptions readOption twoBytes fourBytes requestBytes entryHead entryBytes entriesBytes informationHead suboptionBytes suboptionsBytes optionHead optionBytes selection? readSelection unused? empty? prefixesOf present headOk poolOk leaseOk ascends? sound ofLease? untold? fits? store rowFor followed left given poolsApart? openOk openTable offer offers addAll again restOf inTurn askRows ask takeRows highWaterOf inUseOf unusableOf newerHighWater newerInUse newerUnusable filed taken renewed take newTable buffer shown does doesAll examples
+unfolding walk insertBy sortBy entryFields? fields? option? subInside? whenGood readRequest figuresAt entryAt entryFramed? readEntry readEntries readInformation readName readBody readSuboption readSuboptions readOption twoBytes fourBytes requestBytes entryHead entryBytes entriesBytes informationHead suboptionBytes suboptionsBytes optionHead optionBytes selection? readSelection unused? unnamed? empty? prefixesOf present headOk poolOk leaseOk ascends? sound ofLease? untold? fits? store rowFor followed left given poolsApart? openOk openTable offer offers addAll again restOf inTurn askRows ask takeRows highWaterOf inUseOf unusableOf newerHighWater newerInUse newerUnusable filed taken renewed take newTable buffer shown does doesAll examples
 examples-hold = refl
 
 pub many-hold : many ≡ manyExpected
-unfolding walk insertBy sortBy entryFields? fields? option? subInside? whenGood readRequest figuresAt entryAt entryFramed? readEntry readEntries readInformation readName readBody readSuboption readSuboptions readOption twoBytes fourBytes requestBytes entryHead entryBytes entriesBytes informationHead suboptionBytes suboptionsBytes optionHead optionBytes unused? empty? prefixesOf present headOk poolOk leaseOk ascends? sound ofLease? untold? fits? store rowFor followed left given poolsApart? openOk openTable offer offers addAll again restOf inTurn askRows ask takeRows highWaterOf inUseOf unusableOf newerHighWater newerInUse newerUnusable filed taken renewed take listRows list releaseRows release markRows mark newTable buffer numbers withBytes asking entriesFrom namingFrom start tableWith lease leasesFrom leased offer5 mixed held listing resuming flagged many
+unfolding walk insertBy sortBy entryFields? fields? option? subInside? whenGood readRequest figuresAt entryAt entryFramed? readEntry readEntries readInformation readName readBody readSuboption readSuboptions readOption twoBytes fourBytes requestBytes entryHead entryBytes entriesBytes informationHead suboptionBytes suboptionsBytes optionHead optionBytes unused? unnamed? empty? prefixesOf present headOk poolOk leaseOk ascends? sound ofLease? untold? fits? store rowFor followed left given poolsApart? openOk openTable offer offers addAll again restOf inTurn askRows ask takeRows highWaterOf inUseOf unusableOf newerHighWater newerInUse newerUnusable filed taken renewed take listRows list releaseRows release markRows mark newTable buffer numbers withBytes asking entriesFrom namingFrom start tableWith lease leasesFrom leased offer5 mixed held listing resuming flagged many
 many-hold = refl
 
 pub pages-hold : pages ≡ pagesExpected
-unfolding walk insertBy sortBy entryFields? fields? option? subInside? whenGood readRequest figuresAt entryAt entryFramed? readEntry readEntries readInformation readName readBody readSuboption readSuboptions readOption twoBytes fourBytes requestBytes entryHead entryBytes entriesBytes informationHead suboptionBytes suboptionsBytes optionHead optionBytes unused? empty? prefixesOf present headOk poolOk leaseOk ascends? sound ofLease? untold? fits? store rowFor followed left given poolsApart? openOk openTable offer offers addAll again restOf inTurn askRows ask takeRows highWaterOf inUseOf unusableOf newerHighWater newerInUse newerUnusable filed taken renewed take listRows list releaseRows release markRows mark newTable buffer numbers withBytes asking entriesFrom namingFrom start tableWith lease leasesFrom leased offer5 mixed held listing resuming flagged pages
+unfolding walk insertBy sortBy entryFields? fields? option? subInside? whenGood readRequest figuresAt entryAt entryFramed? readEntry readEntries readInformation readName readBody readSuboption readSuboptions readOption twoBytes fourBytes requestBytes entryHead entryBytes entriesBytes informationHead suboptionBytes suboptionsBytes optionHead optionBytes unused? unnamed? empty? prefixesOf present headOk poolOk leaseOk ascends? sound ofLease? untold? fits? store rowFor followed left given poolsApart? openOk openTable offer offers addAll again restOf inTurn askRows ask takeRows highWaterOf inUseOf unusableOf newerHighWater newerInUse newerUnusable filed taken renewed take listRows list releaseRows release markRows mark newTable buffer numbers withBytes asking entriesFrom namingFrom start tableWith lease leasesFrom leased offer5 mixed held listing resuming flagged pages
 pages-hold = refl
 
 pub second-pages-hold : secondPages ≡ secondPagesExpected
-unfolding walk insertBy sortBy entryFields? fields? option? subInside? whenGood readRequest figuresAt entryAt entryFramed? readEntry readEntries readInformation readName readBody readSuboption readSuboptions readOption twoBytes fourBytes requestBytes entryHead entryBytes entriesBytes informationHead suboptionBytes suboptionsBytes optionHead optionBytes unused? empty? prefixesOf present headOk poolOk leaseOk ascends? sound ofLease? untold? fits? store rowFor followed left given poolsApart? openOk openTable offer offers addAll again restOf inTurn askRows ask takeRows highWaterOf inUseOf unusableOf newerHighWater newerInUse newerUnusable filed taken renewed take listRows list releaseRows release markRows mark newTable buffer numbers withBytes asking entriesFrom namingFrom start tableWith lease leasesFrom leased offer5 mixed held listing resuming flagged secondPages
+unfolding walk insertBy sortBy entryFields? fields? option? subInside? whenGood readRequest figuresAt entryAt entryFramed? readEntry readEntries readInformation readName readBody readSuboption readSuboptions readOption twoBytes fourBytes requestBytes entryHead entryBytes entriesBytes informationHead suboptionBytes suboptionsBytes optionHead optionBytes unused? unnamed? empty? prefixesOf present headOk poolOk leaseOk ascends? sound ofLease? untold? fits? store rowFor followed left given poolsApart? openOk openTable offer offers addAll again restOf inTurn askRows ask takeRows highWaterOf inUseOf unusableOf newerHighWater newerInUse newerUnusable filed taken renewed take listRows list releaseRows release markRows mark newTable buffer numbers withBytes asking entriesFrom namingFrom start tableWith lease leasesFrom leased offer5 mixed held listing resuming flagged secondPages
 second-pages-hold = refl
 
 pub returns-hold : returns ≡ returnsExpected
-unfolding walk insertBy sortBy entryFields? fields? option? subInside? whenGood readRequest figuresAt entryAt entryFramed? readEntry readEntries readInformation readName readBody readSuboption readSuboptions readOption twoBytes fourBytes requestBytes entryHead entryBytes entriesBytes informationHead suboptionBytes suboptionsBytes optionHead optionBytes unused? empty? prefixesOf present headOk poolOk leaseOk ascends? sound ofLease? untold? fits? store rowFor followed left given poolsApart? openOk openTable offer offers addAll again restOf inTurn askRows ask takeRows highWaterOf inUseOf unusableOf newerHighWater newerInUse newerUnusable filed taken renewed take listRows list releaseRows release markRows mark newTable buffer numbers withBytes asking entriesFrom namingFrom start tableWith lease leasesFrom leased offer5 mixed held listing resuming flagged returns
+unfolding walk insertBy sortBy entryFields? fields? option? subInside? whenGood readRequest figuresAt entryAt entryFramed? readEntry readEntries readInformation readName readBody readSuboption readSuboptions readOption twoBytes fourBytes requestBytes entryHead entryBytes entriesBytes informationHead suboptionBytes suboptionsBytes optionHead optionBytes unused? unnamed? empty? prefixesOf present headOk poolOk leaseOk ascends? sound ofLease? untold? fits? store rowFor followed left given poolsApart? openOk openTable offer offers addAll again restOf inTurn askRows ask takeRows highWaterOf inUseOf unusableOf newerHighWater newerInUse newerUnusable filed taken renewed take listRows list releaseRows release markRows mark newTable buffer numbers withBytes asking entriesFrom namingFrom start tableWith lease leasesFrom leased offer5 mixed held listing resuming flagged returns
 returns-hold = refl
 
 pub takes-hold : takes ≡ takesExpected
-unfolding walk insertBy sortBy entryFields? fields? option? subInside? whenGood readRequest figuresAt entryAt entryFramed? readEntry readEntries readInformation readName readBody readSuboption readSuboptions readOption twoBytes fourBytes requestBytes entryHead entryBytes entriesBytes informationHead suboptionBytes suboptionsBytes optionHead optionBytes unused? empty? prefixesOf present headOk poolOk leaseOk ascends? sound ofLease? untold? fits? store rowFor followed left given poolsApart? openOk openTable offer offers addAll again restOf inTurn askRows ask takeRows highWaterOf inUseOf unusableOf newerHighWater newerInUse newerUnusable filed taken renewed take listRows list releaseRows release markRows mark newTable buffer numbers withBytes asking entriesFrom namingFrom start tableWith lease leasesFrom leased offer5 mixed held listing resuming flagged takes
+unfolding walk insertBy sortBy entryFields? fields? option? subInside? whenGood readRequest figuresAt entryAt entryFramed? readEntry readEntries readInformation readName readBody readSuboption readSuboptions readOption twoBytes fourBytes requestBytes entryHead entryBytes entriesBytes informationHead suboptionBytes suboptionsBytes optionHead optionBytes unused? unnamed? empty? prefixesOf present headOk poolOk leaseOk ascends? sound ofLease? untold? fits? store rowFor followed left given poolsApart? openOk openTable offer offers addAll again restOf inTurn askRows ask takeRows highWaterOf inUseOf unusableOf newerHighWater newerInUse newerUnusable filed taken renewed take listRows list releaseRows release markRows mark newTable buffer numbers withBytes asking entriesFrom namingFrom start tableWith lease leasesFrom leased offer5 mixed held listing resuming flagged takes
 takes-hold = refl
 
 pub marks-hold : marks ≡ marksExpected
-unfolding walk insertBy sortBy entryFields? fields? option? subInside? whenGood readRequest figuresAt entryAt entryFramed? readEntry readEntries readInformation readName readBody readSuboption readSuboptions readOption twoBytes fourBytes requestBytes entryHead entryBytes entriesBytes informationHead suboptionBytes suboptionsBytes optionHead optionBytes unused? empty? prefixesOf present headOk poolOk leaseOk ascends? sound ofLease? untold? fits? store rowFor followed left given poolsApart? openOk openTable offer offers addAll again restOf inTurn askRows ask takeRows highWaterOf inUseOf unusableOf newerHighWater newerInUse newerUnusable filed taken renewed take listRows list releaseRows release markRows mark newTable buffer numbers withBytes asking entriesFrom namingFrom start tableWith lease leasesFrom leased offer5 mixed held listing resuming flagged marks
+unfolding walk insertBy sortBy entryFields? fields? option? subInside? whenGood readRequest figuresAt entryAt entryFramed? readEntry readEntries readInformation readName readBody readSuboption readSuboptions readOption twoBytes fourBytes requestBytes entryHead entryBytes entriesBytes informationHead suboptionBytes suboptionsBytes optionHead optionBytes unused? unnamed? empty? prefixesOf present headOk poolOk leaseOk ascends? sound ofLease? untold? fits? store rowFor followed left given poolsApart? openOk openTable offer offers addAll again restOf inTurn askRows ask takeRows highWaterOf inUseOf unusableOf newerHighWater newerInUse newerUnusable filed taken renewed take listRows list releaseRows release markRows mark newTable buffer numbers withBytes asking entriesFrom namingFrom start tableWith lease leasesFrom leased offer5 mixed held listing resuming flagged marks
 marks-hold = refl
 
 pub row-order-hold : rowOrder ≡ rowOrderExpected
-unfolding walk insertBy sortBy entryFields? fields? option? subInside? whenGood readRequest figuresAt entryAt entryFramed? readEntry readEntries readInformation readName readBody readSuboption readSuboptions readOption twoBytes fourBytes requestBytes entryHead entryBytes entriesBytes informationHead suboptionBytes suboptionsBytes optionHead optionBytes unused? empty? prefixesOf present headOk poolOk leaseOk ascends? sound ofLease? untold? fits? store rowFor followed left given poolsApart? openOk openTable offer offers addAll again restOf inTurn askRows ask takeRows highWaterOf inUseOf unusableOf newerHighWater newerInUse newerUnusable filed taken renewed take listRows list releaseRows release markRows mark newTable buffer numbers withBytes asking entriesFrom namingFrom start tableWith lease leasesFrom leased offer5 mixed held listing resuming flagged rowOrder
+unfolding walk insertBy sortBy entryFields? fields? option? subInside? whenGood readRequest figuresAt entryAt entryFramed? readEntry readEntries readInformation readName readBody readSuboption readSuboptions readOption twoBytes fourBytes requestBytes entryHead entryBytes entriesBytes informationHead suboptionBytes suboptionsBytes optionHead optionBytes unused? unnamed? empty? prefixesOf present headOk poolOk leaseOk ascends? sound ofLease? untold? fits? store rowFor followed left given poolsApart? openOk openTable offer offers addAll again restOf inTurn askRows ask takeRows highWaterOf inUseOf unusableOf newerHighWater newerInUse newerUnusable filed taken renewed take listRows list releaseRows release markRows mark newTable buffer numbers withBytes asking entriesFrom namingFrom start tableWith lease leasesFrom leased offer5 mixed held listing resuming flagged rowOrder
 row-order-hold = refl

@@ -2,6 +2,8 @@
 pub mod ExamplesHold
 pub mod FigureExamplesHold
 pub mod AgainExamplesHold
+pub mod NameExamplesHold
 pub mod Premises
 pub mod WrongServersRefuted
 pub mod AskingTwiceRefuted
+pub mod NamesRefuted

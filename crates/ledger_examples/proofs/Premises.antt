@@ -22,6 +22,7 @@ use Rattle.option.specs.Values.{Entry}
 use Rattle.option.specs.Rules.{entryFields?, fields?}
 use Rattle.option.specs.Reading.{option?, subInside?, whenGood, readRequest, figuresAt, entryAt, entryFramed?, readEntry, readEntries, readInformation, readName, readBody, readSuboption, readSuboptions, readOption}
 use Rattle.option.specs.Writing.{twoBytes, fourBytes, requestBytes, entryHead, entryBytes, entriesBytes, informationHead, suboptionBytes, suboptionsBytes, optionHead, optionBytes}
+use Rattle.names.specs.Names.{unnamed?}
 use Rattle.table.specs.declared.LeaseTable.{LeaseTable}
 use Rattle.table.specs.Table.{latest, poolsOf, unused?, empty?, prefixesOf, present, headOk, poolOk, leaseOk, ascends?, sound, store}
 use Rattle.figures.specs.Figures.{ofLease?, untold?, fits?, rowFor, followed}
@@ -119,7 +120,7 @@ served server d s e =
 
 -- THE SIX LISTS meet the premise, so every well-formed ask of each is granted.
 pub samples-meet : all? meets? samples ≡ true
-unfolding samples malformedBetween endedGround prefixZero lastSlots filledExactly leasedBefore tableWith lease leasesFrom held callBy buffer walk entryFields? fields? option? subInside? whenGood readRequest figuresAt entryAt entryFramed? readEntry readEntries readInformation readName readBody readSuboption readSuboptions readOption unused? empty? prefixesOf present headOk poolOk leaseOk ascends? sound ofLease? untold? fits? emptySlots askRows wellFormed
+unfolding samples malformedBetween endedGround prefixZero lastSlots filledExactly leasedBefore tableWith lease leasesFrom held callBy buffer walk entryFields? fields? option? subInside? whenGood readRequest figuresAt entryAt entryFramed? readEntry readEntries readInformation readName readBody readSuboption readSuboptions readOption unused? unnamed? empty? prefixesOf present headOk poolOk leaseOk ascends? sound ofLease? untold? fits? emptySlots askRows wellFormed
 samples-meet = refl
 
 pub samples-granted : All (λ s. AllGranted (λ s. s) ask (s .now) (s .start) (s .calls)) samples
@@ -129,7 +130,7 @@ samples-granted = all?-to meets? (served ask demand3) samples samples-meet
 pub samples-count :
     map (λ s. length (wellFormedAsks (s .now) (s .start) (s .calls)) ∷ emptySlots (s .now) (s .start .table) ∷ []) samples
     ≡ (2 ∷ 256 ∷ []) ∷ (1 ∷ 256 ∷ []) ∷ (2 ∷ 256 ∷ []) ∷ (2 ∷ 2 ∷ []) ∷ (3 ∷ 256 ∷ []) ∷ (1 ∷ 255 ∷ []) ∷ []
-unfolding samples malformedBetween endedGround prefixZero lastSlots filledExactly leasedBefore tableWith lease leasesFrom held callBy buffer walk entryFields? fields? option? subInside? whenGood readRequest figuresAt entryAt entryFramed? readEntry readEntries readInformation readName readBody readSuboption readSuboptions readOption unused? empty? prefixesOf present headOk poolOk leaseOk ascends? sound ofLease? untold? fits? emptySlots askRows wellFormed
+unfolding samples malformedBetween endedGround prefixZero lastSlots filledExactly leasedBefore tableWith lease leasesFrom held callBy buffer walk entryFields? fields? option? subInside? whenGood readRequest figuresAt entryAt entryFramed? readEntry readEntries readInformation readName readBody readSuboption readSuboptions readOption unused? unnamed? empty? prefixesOf present headOk poolOk leaseOk ascends? sound ofLease? untold? fits? emptySlots askRows wellFormed
 samples-count = refl
 
 -- WHAT A LIST IS GRANTED, of any server: if all of it is granted, nothing is missing, and what is there was free and shares no address.
@@ -156,12 +157,12 @@ module _ (server : Server State) (p : Sample) (a : AllGranted (λ s. s) server (
 
 -- Where a client held a lease at the start it gets that one, which was not free.
 held-met : (and (tests heldAtStart) && once? heldAtStart) ≡ true
-unfolding heldAtStart tableWith lease leasesFrom held callBy buffer walk entryFields? fields? option? subInside? whenGood readRequest figuresAt entryAt entryFramed? readEntry readEntries readInformation readName readBody readSuboption readSuboptions readOption unused? empty? prefixesOf present headOk poolOk leaseOk ascends? sound ofLease? untold? fits? emptySlots askRows wellFormed
+unfolding heldAtStart tableWith lease leasesFrom held callBy buffer walk entryFields? fields? option? subInside? whenGood readRequest figuresAt entryAt entryFramed? readEntry readEntries readInformation readName readBody readSuboption readSuboptions readOption unused? unnamed? empty? prefixesOf present headOk poolOk leaseOk ascends? sound ofLease? untold? fits? emptySlots askRows wellFormed
 held-met = refl
 
 pub nothing-needed : ((s : State) (now : ℕ) (cs : List Call) → sound (s .table) ≡ true → Accepts (s .table) now → Pairwise (λ c d. c .client ≡ d .client → ⊥) (filter (wellFormed now s) cs)
     → CanBeChosen now s cs → AllGranted (λ s. s) ask now s cs) → ⊥
-unfolding whatOf tableWith lease leasesFrom held callBy buffer walk insertBy entryFields? fields? option? subInside? whenGood readRequest figuresAt entryAt entryFramed? readEntry readEntries readInformation readName readBody readSuboption readSuboptions readOption twoBytes fourBytes requestBytes entryHead entryBytes entriesBytes informationHead suboptionBytes suboptionsBytes optionHead optionBytes unused? empty? prefixesOf present headOk poolOk leaseOk ascends? sound ofLease? untold? fits? store rowFor followed left offer offers addAll again restOf inTurn askRows ask wellFormed granted received heldAtStart
+unfolding whatOf tableWith lease leasesFrom held callBy buffer walk insertBy entryFields? fields? option? subInside? whenGood readRequest figuresAt entryAt entryFramed? readEntry readEntries readInformation readName readBody readSuboption readSuboptions readOption twoBytes fourBytes requestBytes entryHead entryBytes entriesBytes informationHead suboptionBytes suboptionsBytes optionHead optionBytes unused? unnamed? empty? prefixesOf present headOk poolOk leaseOk ascends? sound ofLease? untold? fits? store rowFor followed left offer offers addAll again restOf inTurn askRows ask wellFormed granted received heldAtStart
 nothing-needed claim =
     let e = and-to (and (tests heldAtStart)) (once? heldAtStart) held-met in
     let c = chosen heldAtStart (e .0) in
@@ -171,12 +172,12 @@ nothing-needed claim =
 
 -- Where a client asks in two messages the second gets what the first got.
 messages-met : (and (tests inTwoMessages) && holdNothing? inTwoMessages) ≡ true
-unfolding inTwoMessages tableWith lease leasesFrom held callBy buffer walk entryFields? fields? option? subInside? whenGood readRequest figuresAt entryAt entryFramed? readEntry readEntries readInformation readName readBody readSuboption readSuboptions readOption unused? empty? prefixesOf present headOk poolOk leaseOk ascends? sound ofLease? untold? fits? emptySlots askRows wellFormed
+unfolding inTwoMessages tableWith lease leasesFrom held callBy buffer walk entryFields? fields? option? subInside? whenGood readRequest figuresAt entryAt entryFramed? readEntry readEntries readInformation readName readBody readSuboption readSuboptions readOption unused? unnamed? empty? prefixesOf present headOk poolOk leaseOk ascends? sound ofLease? untold? fits? emptySlots askRows wellFormed
 messages-met = refl
 
 pub once-needed : ((s : State) (now : ℕ) (cs : List Call) → sound (s .table) ≡ true → Accepts (s .table) now → All (λ c. HoldsNothing now (s .table) (c .client)) (filter (wellFormed now s) cs)
     → CanBeChosen now s cs → AllGranted (λ s. s) ask now s cs) → ⊥
-unfolding whatOf tableWith lease leasesFrom held callBy buffer walk insertBy entryFields? fields? option? subInside? whenGood readRequest figuresAt entryAt entryFramed? readEntry readEntries readInformation readName readBody readSuboption readSuboptions readOption twoBytes fourBytes requestBytes entryHead entryBytes entriesBytes informationHead suboptionBytes suboptionsBytes optionHead optionBytes unused? empty? prefixesOf present headOk poolOk leaseOk ascends? sound ofLease? untold? fits? store rowFor followed left offer offers addAll again restOf inTurn askRows ask wellFormed granted received inTwoMessages
+unfolding whatOf tableWith lease leasesFrom held callBy buffer walk insertBy entryFields? fields? option? subInside? whenGood readRequest figuresAt entryAt entryFramed? readEntry readEntries readInformation readName readBody readSuboption readSuboptions readOption twoBytes fourBytes requestBytes entryHead entryBytes entriesBytes informationHead suboptionBytes suboptionsBytes optionHead optionBytes unused? unnamed? empty? prefixesOf present headOk poolOk leaseOk ascends? sound ofLease? untold? fits? store rowFor followed left offer offers addAll again restOf inTurn askRows ask wellFormed granted received inTwoMessages
 once-needed claim =
     let e = and-to (and (tests inTwoMessages)) (holdNothing? inTwoMessages) messages-met in
     let c = chosen inTwoMessages (e .0) in
@@ -190,5 +191,5 @@ pub refused-for :
     ∷ fates (inUse 1000 (crowded 256 .table)) (granted (λ s. s) ask 1000 (crowded 256) (callBy 7 (requesting 30)))
     ∷ []
     ≡ (isGranted ∷ wantsSpace ∷ isGranted ∷ []) ∷ (wantsSlot ∷ []) ∷ []
-unfolding narrow crowded tableWith lease leasesFrom callBy buffer walk insertBy entryFields? fields? option? subInside? whenGood readRequest figuresAt entryAt entryFramed? readEntry readEntries readInformation readName readBody readSuboption readSuboptions readOption twoBytes fourBytes requestBytes entryHead entryBytes entriesBytes informationHead suboptionBytes suboptionsBytes optionHead optionBytes unused? empty? prefixesOf present headOk poolOk leaseOk ascends? sound ofLease? untold? fits? store rowFor followed left offer offers addAll again restOf inTurn askRows ask wellFormed granted
+unfolding narrow crowded tableWith lease leasesFrom callBy buffer walk insertBy entryFields? fields? option? subInside? whenGood readRequest figuresAt entryAt entryFramed? readEntry readEntries readInformation readName readBody readSuboption readSuboptions readOption twoBytes fourBytes requestBytes entryHead entryBytes entriesBytes informationHead suboptionBytes suboptionsBytes optionHead optionBytes unused? unnamed? empty? prefixesOf present headOk poolOk leaseOk ascends? sound ofLease? untold? fits? store rowFor followed left offer offers addAll again restOf inTurn askRows ask wellFormed granted
 refused-for = refl

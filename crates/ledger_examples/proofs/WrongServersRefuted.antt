@@ -18,6 +18,7 @@ use Rattle.option.specs.Values.{Entry}
 use Rattle.option.specs.Rules.{entryFields?, fields?}
 use Rattle.option.specs.Reading.{option?, subInside?, whenGood, readRequest, figuresAt, entryAt, entryFramed?, readEntry, readEntries, readInformation, readName, readBody, readSuboption, readSuboptions, readOption}
 use Rattle.option.specs.Writing.{twoBytes, fourBytes, requestBytes, entryHead, entryBytes, entriesBytes, informationHead, suboptionBytes, suboptionsBytes, optionHead, optionBytes}
+use Rattle.names.specs.Names.{unnamed?}
 use Rattle.table.specs.declared.{Lease.Lease, LeaseTable.LeaseTable}
 use Rattle.table.specs.Table.{leaseSlots, poolsOf, unused?, empty?, prefixesOf, present, headOk, poolOk, leaseOk, ascends?, sound, store}
 use Rattle.option.specs.Contents.{Request}
@@ -34,7 +35,7 @@ unfoldable pair : Sample
 pair = record { start = tableWith 0x0a000100 24 []; now = 1000; calls = callBy 7 (two 26 26) ∷ []; networks = 0x0a000100 ∷ 0x0a000140 ∷ [] }
 
 all-given : (server : Server State) → Demand3 (λ s. s) server → AllGranted (λ s. s) server 1000 (pair .start) (pair .calls)
-unfolding pair tableWith callBy buffer walk entryFields? fields? option? subInside? whenGood readRequest readInformation readName readBody readSuboption readSuboptions readOption unused? empty? prefixesOf present headOk poolOk leaseOk ascends? sound ofLease? untold? fits? emptySlots askRows wellFormed
+unfolding pair tableWith callBy buffer walk entryFields? fields? option? subInside? whenGood readRequest readInformation readName readBody readSuboption readSuboptions readOption unused? unnamed? empty? prefixesOf present headOk poolOk leaseOk ascends? sound ofLease? untold? fits? emptySlots askRows wellFormed
 all-given server d = served server d pair refl
 
 -- What a server that meets demand 3 grants there: both requests, and no address twice.
@@ -47,23 +48,23 @@ unfolding pair
 apart server d = granted-apart server pair (all-given server d)
 
 pub not-refusesAll : Demand3 (λ s. s) refusesAll → ⊥
-unfolding whatOf pair refusesAll tableWith callBy buffer walk entryFields? fields? option? subInside? whenGood readRequest readInformation readName readBody readSuboption readSuboptions readOption unused? empty? prefixesOf present headOk poolOk leaseOk ascends? sound ofLease? untold? fits? askRows wellFormed granted received
+unfolding whatOf pair refusesAll tableWith callBy buffer walk entryFields? fields? option? subInside? whenGood readRequest readInformation readName readBody readSuboption readSuboptions readOption unused? unnamed? empty? prefixesOf present headOk poolOk leaseOk ascends? sound ofLease? untold? fits? askRows wellFormed granted received
 not-refusesAll d = let z : _≡_ {A = ℕ} 0 2 = complete refusesAll d in absurd (omega arith)
 
 pub not-leavesTable : Demand3 (λ s. s) leavesTable → ⊥
-unfolding whatOf pair leavesTable tableWith callBy buffer walk insertBy entryFields? fields? option? subInside? whenGood readRequest figuresAt entryAt entryFramed? readEntry readEntries readInformation readName readBody readSuboption readSuboptions readOption twoBytes fourBytes requestBytes entryHead entryBytes entriesBytes informationHead suboptionBytes suboptionsBytes optionHead optionBytes unused? empty? prefixesOf present headOk poolOk leaseOk ascends? sound ofLease? untold? fits? store rowFor followed left offer offers addAll again restOf inTurn askRows ask wellFormed granted received
+unfolding whatOf pair leavesTable tableWith callBy buffer walk insertBy entryFields? fields? option? subInside? whenGood readRequest figuresAt entryAt entryFramed? readEntry readEntries readInformation readName readBody readSuboption readSuboptions readOption twoBytes fourBytes requestBytes entryHead entryBytes entriesBytes informationHead suboptionBytes suboptionsBytes optionHead optionBytes unused? unnamed? empty? prefixesOf present headOk poolOk leaseOk ascends? sound ofLease? untold? fits? store rowFor followed left offer offers addAll again restOf inTurn askRows ask wellFormed granted received
 not-leavesTable d = let z : _≡_ {A = ℕ} 0 2 = complete leavesTable d in absurd (omega arith)
 
 pub not-firstOnly : Demand3 (λ s. s) firstOnly → ⊥
-unfolding whatOf pair firstOnly tableWith callBy buffer walk insertBy entryFields? fields? option? subInside? whenGood readRequest figuresAt entryAt entryFramed? readEntry readEntries readInformation readName readBody readSuboption readSuboptions readOption twoBytes fourBytes requestBytes entryHead entryBytes entriesBytes informationHead suboptionBytes suboptionsBytes optionHead optionBytes unused? empty? prefixesOf present headOk poolOk leaseOk ascends? sound ofLease? untold? fits? store rowFor followed left offer offers addAll again restOf inTurn askRows ask wellFormed granted received
+unfolding whatOf pair firstOnly tableWith callBy buffer walk insertBy entryFields? fields? option? subInside? whenGood readRequest figuresAt entryAt entryFramed? readEntry readEntries readInformation readName readBody readSuboption readSuboptions readOption twoBytes fourBytes requestBytes entryHead entryBytes entriesBytes informationHead suboptionBytes suboptionsBytes optionHead optionBytes unused? unnamed? empty? prefixesOf present headOk poolOk leaseOk ascends? sound ofLease? untold? fits? store rowFor followed left offer offers addAll again restOf inTurn askRows ask wellFormed granted received
 not-firstOnly d = let z : _≡_ {A = ℕ} 1 2 = complete firstOnly d in absurd (omega arith)
 
 pub not-answersTen : Demand3 (λ s. s) answersTen → ⊥
-unfolding whatOf pair answersTen tableWith callBy buffer walk insertBy entryFields? fields? option? subInside? whenGood readRequest figuresAt entryAt entryFramed? readEntry readEntries readInformation readName readBody readSuboption readSuboptions readOption twoBytes fourBytes requestBytes entryHead entryBytes entriesBytes informationHead suboptionBytes suboptionsBytes optionHead optionBytes unused? empty? prefixesOf present headOk poolOk leaseOk ascends? sound ofLease? untold? fits? store rowFor followed left offer offers addAll again restOf inTurn askRows ask wellFormed granted received
+unfolding whatOf pair answersTen tableWith callBy buffer walk insertBy entryFields? fields? option? subInside? whenGood readRequest figuresAt entryAt entryFramed? readEntry readEntries readInformation readName readBody readSuboption readSuboptions readOption twoBytes fourBytes requestBytes entryHead entryBytes entriesBytes informationHead suboptionBytes suboptionsBytes optionHead optionBytes unused? unnamed? empty? prefixesOf present headOk poolOk leaseOk ascends? sound ofLease? untold? fits? store rowFor followed left offer offers addAll again restOf inTurn askRows ask wellFormed granted received
 not-answersTen d = let z : _≡_ {A = ℕ} 0 2 = complete answersTen d in absurd (omega arith)
 
 pub not-samePrefix : Demand3 (λ s. s) samePrefix → ⊥
-unfolding whatOf pair samePrefix tableWith callBy buffer walk insertBy entryFields? fields? option? subInside? whenGood readRequest figuresAt entryAt entryFramed? readEntry readEntries readInformation readName readBody readSuboption readSuboptions readOption twoBytes fourBytes requestBytes entryHead entryBytes entriesBytes informationHead suboptionBytes suboptionsBytes optionHead optionBytes unused? empty? prefixesOf present headOk poolOk leaseOk ascends? sound ofLease? untold? fits? store rowFor followed left offer offers addAll again restOf inTurn askRows ask wellFormed granted received
+unfolding whatOf pair samePrefix tableWith callBy buffer walk insertBy entryFields? fields? option? subInside? whenGood readRequest figuresAt entryAt entryFramed? readEntry readEntries readInformation readName readBody readSuboption readSuboptions readOption twoBytes fourBytes requestBytes entryHead entryBytes entriesBytes informationHead suboptionBytes suboptionsBytes optionHead optionBytes unused? unnamed? empty? prefixesOf present headOk poolOk leaseOk ascends? sound ofLease? untold? fits? store rowFor followed left offer offers addAll again restOf inTurn askRows ask wellFormed granted received
 not-samePrefix d =
     let p : Prefix = prefix 0x0a000100 26 in
     let z : Apart p p = apart samePrefix d .0 .0 in
@@ -72,7 +73,7 @@ not-samePrefix d =
 -- The entry written twice: with 254 leases the third of three requests would be refused for want of ground, and there is ground. (Were the entries
 -- counted and not the leases newly made, it would seem to want a slot.)
 three-well : wellFormed 1000 (crowded 254) (callBy 7 (three 30 30 30)) ≡ true
-unfolding crowded tableWith lease leasesFrom callBy buffer walk entryFields? fields? option? subInside? whenGood readRequest readInformation readName readBody readSuboption readSuboptions readOption unused? empty? prefixesOf present headOk poolOk leaseOk ascends? sound ofLease? untold? fits? askRows wellFormed
+unfolding crowded tableWith lease leasesFrom callBy buffer walk entryFields? fields? option? subInside? whenGood readRequest readInformation readName readBody readSuboption readSuboptions readOption unused? unnamed? empty? prefixesOf present headOk poolOk leaseOk ascends? sound ofLease? untold? fits? askRows wellFormed
 three-well = refl
 
 -- What it grants: the first prefix for the first and for the second request.
@@ -80,7 +81,7 @@ twice : Entry
 twice = record { network = 0x0a0003f8; length = 30; h = false; d = false; figures = [] }
 
 twice-granted : granted (λ s. s) writesTwice 1000 (crowded 254) (callBy 7 (three 30 30 30)) ≡ some twice ∷ some twice ∷ none ∷ []
-unfolding twice writesTwice crowded tableWith lease leasesFrom callBy buffer walk insertBy entryFields? fields? option? subInside? whenGood readRequest figuresAt entryAt entryFramed? readEntry readEntries readInformation readName readBody readSuboption readSuboptions readOption twoBytes fourBytes requestBytes entryHead entryBytes entriesBytes informationHead suboptionBytes suboptionsBytes optionHead optionBytes unused? empty? prefixesOf present headOk poolOk leaseOk ascends? sound ofLease? untold? fits? store rowFor followed left offer offers addAll again restOf inTurn askRows ask granted
+unfolding twice writesTwice crowded tableWith lease leasesFrom callBy buffer walk insertBy entryFields? fields? option? subInside? whenGood readRequest figuresAt entryAt entryFramed? readEntry readEntries readInformation readName readBody readSuboption readSuboptions readOption twoBytes fourBytes requestBytes entryHead entryBytes entriesBytes informationHead suboptionBytes suboptionsBytes optionHead optionBytes unused? unnamed? empty? prefixesOf present headOk poolOk leaseOk ascends? sound ofLease? untold? fits? store rowFor followed left offer offers addAll again restOf inTurn askRows ask granted
 twice-granted = refl
 
 -- The prefixes in use that the third request meets: one more than at the start.
@@ -139,11 +140,11 @@ not-writesTwice d =
 
 -- A leased lease that is given again was not free in the first table: the client held nothing, so its request is one of the rest.
 leased-met : meets? leasedBefore ≡ true
-unfolding leasedBefore tableWith lease held callBy buffer walk entryFields? fields? option? subInside? whenGood readRequest figuresAt entryAt entryFramed? readEntry readEntries readInformation readName readBody readSuboption readSuboptions readOption unused? empty? prefixesOf present headOk poolOk leaseOk ascends? sound ofLease? untold? fits? emptySlots askRows wellFormed
+unfolding leasedBefore tableWith lease held callBy buffer walk entryFields? fields? option? subInside? whenGood readRequest figuresAt entryAt entryFramed? readEntry readEntries readInformation readName readBody readSuboption readSuboptions readOption unused? unnamed? empty? prefixesOf present headOk poolOk leaseOk ascends? sound ofLease? untold? fits? emptySlots askRows wellFormed
 leased-met = refl
 
 pub not-regivesLeased : Demand3 (λ s. s) regivesLeased → ⊥
-unfolding whatOf leasedBefore regivesLeased held tableWith lease leasesFrom callBy buffer walk insertBy entryFields? fields? option? subInside? whenGood readRequest figuresAt entryAt entryFramed? readEntry readEntries readInformation readName readBody readSuboption readSuboptions readOption twoBytes fourBytes requestBytes entryHead entryBytes entriesBytes informationHead suboptionBytes suboptionsBytes optionHead optionBytes unused? empty? prefixesOf present headOk poolOk leaseOk ascends? sound ofLease? untold? fits? store rowFor followed left offer offers addAll again restOf inTurn askRows ask wellFormed granted received
+unfolding whatOf leasedBefore regivesLeased held tableWith lease leasesFrom callBy buffer walk insertBy entryFields? fields? option? subInside? whenGood readRequest figuresAt entryAt entryFramed? readEntry readEntries readInformation readName readBody readSuboption readSuboptions readOption twoBytes fourBytes requestBytes entryHead entryBytes entriesBytes informationHead suboptionBytes suboptionsBytes optionHead optionBytes unused? unnamed? empty? prefixesOf present headOk poolOk leaseOk ascends? sound ofLease? untold? fits? store rowFor followed left offer offers addAll again restOf inTurn askRows ask wellFormed granted received
 not-regivesLeased d =
     let p : Prefix = prefix 0x0a000100 26 in
     let f : Free (poolsOf (leasedBefore .start .table)) (inUse 1120 (leasedBefore .start .table)) p = granted-free regivesLeased leasedBefore (served regivesLeased d leasedBefore leased-met) .0 in
@@ -157,14 +158,14 @@ unfoldable asksTwo : Call
 asksTwo = callBy 7 (two 24 24)
 
 two-well : wellFormed 1050 whole asksTwo ≡ true
-unfolding whole asksTwo held tableWith callBy buffer walk entryFields? fields? option? subInside? whenGood readRequest readInformation readName readBody readSuboption readSuboptions readOption unused? empty? prefixesOf present headOk poolOk leaseOk ascends? sound ofLease? untold? fits? askRows wellFormed
+unfolding whole asksTwo held tableWith callBy buffer walk entryFields? fields? option? subInside? whenGood readRequest readInformation readName readBody readSuboption readSuboptions readOption unused? unnamed? empty? prefixesOf present headOk poolOk leaseOk ascends? sound ofLease? untold? fits? askRows wellFormed
 two-well = refl
 
 unfoldable its : Entry
 its = record { network = 0x0a000100; length = 24; h = false; d = false; figures = [] }
 
 both-granted : granted (λ s. s) regivesTwice 1050 whole asksTwo ≡ some its ∷ some its ∷ []
-unfolding its regivesTwice whole asksTwo held tableWith lease leasesFrom callBy buffer walk insertBy entryFields? fields? option? subInside? whenGood readRequest figuresAt entryAt entryFramed? readEntry readEntries readInformation readName readBody readSuboption readSuboptions readOption twoBytes fourBytes requestBytes entryHead entryBytes entriesBytes informationHead suboptionBytes suboptionsBytes optionHead optionBytes unused? empty? prefixesOf present headOk poolOk leaseOk ascends? sound ofLease? untold? fits? store rowFor followed left offer offers addAll again restOf inTurn askRows ask granted
+unfolding its regivesTwice whole asksTwo held tableWith lease leasesFrom callBy buffer walk insertBy entryFields? fields? option? subInside? whenGood readRequest figuresAt entryAt entryFramed? readEntry readEntries readInformation readName readBody readSuboption readSuboptions readOption twoBytes fourBytes requestBytes entryHead entryBytes entriesBytes informationHead suboptionBytes suboptionsBytes optionHead optionBytes unused? unnamed? empty? prefixesOf present headOk poolOk leaseOk ascends? sound ofLease? untold? fits? store rowFor followed left offer offers addAll again restOf inTurn askRows ask granted
 both-granted = refl
 
 one-again : heldBefore 1050 (whole .table) asksTwo ≡ some (held 7 0x0a000100 24 false false 1100) ∷ none ∷ []

@@ -7,6 +7,7 @@ use lib.ListN.{drop}
 use lib.ListN.{take as upTo}
 use Rattle.option.specs.Values.{SuboptionValue, request}
 use Rattle.option.specs.Writing.{optionBytes}
+use Rattle.names.specs.Names.{noName}
 use Rattle.table.specs.declared.Lease.{Lease}
 use Rattle.ledger.specs.Ledger.{State, call, Result, ask}
 use Rattle.ledger.specs.Demand3.{replyEntries}
@@ -96,7 +97,7 @@ which =
     -- one that has ended is ordinary ground: d is 0
     ∷ shownAfter 1 (asks (marked 0 1050 ∷ []) (plain 30 ∷ []))
     -- a leased one, another client's, another length
-    ∷ shownAfter 4 (asks (held 7 0x0a000100 29 false false 1100 ∷ record { network = 0x0a000108; length = 30; client = 7; leased = true; h = false; d = false; expires = 9000 } ∷ held 8 0x0a00010c 30 false false 1100 ∷ []) (plain 30 ∷ []))
+    ∷ shownAfter 4 (asks (held 7 0x0a000100 29 false false 1100 ∷ record { network = 0x0a000108; length = 30; client = 7; leased = true; h = false; d = false; expires = 9000; name = noName } ∷ held 8 0x0a00010c 30 false false 1100 ∷ []) (plain 30 ∷ []))
     -- the default length is 28
     ∷ shownAfter 2 (asks (held 7 0x0a000110 28 false false 1100 ∷ []) (plain 0 ∷ plain 28 ∷ []))
     ∷ []

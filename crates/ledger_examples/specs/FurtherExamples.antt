@@ -6,6 +6,7 @@ use mathlib.Core.List.{List, [], _∷_, _++_}
 use lib.ListN.{getD, replicate}
 use Rattle.option.specs.Values.{Entry, request, information}
 use Rattle.option.specs.Writing.{optionBytes}
+use Rattle.names.specs.Names.{noName}
 use Rattle.table.specs.declared.Lease.{Lease}
 use Rattle.ledger.specs.declared.Answer.{Answer}
 use Rattle.ledger.specs.Ledger.{State, call, Result, ask, take, list, release, mark}
@@ -40,7 +41,7 @@ leased n = tableWith 0x0a000100 24 (leasesFrom 0x0a000100 n)
 
 -- A lease offered to client 5 at 1000, and tables with it: after two leases, and alone.
 unfoldable pub offer5 : ℕ → Lease
-offer5 network = record { network = network; length = 30; client = 5; leased = false; h = false; d = false; expires = 1120 }
+offer5 network = record { network = network; length = 30; client = 5; leased = false; h = false; d = false; expires = 1120; name = noName }
 
 unfoldable pub mixed : State
 mixed = tableWith 0x0a000100 24 (leasesFrom 0x0a000100 2 ++ (offer5 0x0a000108 ∷ []))

@@ -6,6 +6,7 @@ use mathlib.Core.Option.{Option}
 use lib.ListN.{replicate}
 use Rattle.prefix.specs.declared.Prefix.{Prefix}
 use Rattle.option.specs.Values.{Entry}
+use Rattle.names.specs.Names.{noName}
 use Rattle.table.specs.declared.Lease.{Lease}
 use Rattle.table.specs.Table.{noPool, padded}
 use Rattle.ledger.specs.Ledger.{State, filled, Call}
@@ -24,7 +25,7 @@ tableWith network len xs = filled (record {
 
 -- A lease of client 5, and n of length 30, one after another.
 unfoldable pub lease : ℕ → ℕ → ℕ → Lease
-lease network len expires = record { network = network; length = len; client = 5; leased = true; h = false; d = false; expires = expires }
+lease network len expires = record { network = network; length = len; client = 5; leased = true; h = false; d = false; expires = expires; name = noName }
 
 unfoldable pub leasesFrom : ℕ → ℕ → List Lease
 leasesFrom network zero = []
@@ -32,7 +33,7 @@ leasesFrom network (suc n) = lease network 30 9000 ∷ leasesFrom (network + 4) 
 
 -- A lease that a client holds: offered to it, and not yet taken.
 unfoldable pub held : ℕ → ℕ → ℕ → Bool → Bool → ℕ → Lease
-held client network len h d expires = record { network = network; length = len; client = client; leased = false; h = h; d = d; expires = expires }
+held client network len h d expires = record { network = network; length = len; client = client; leased = false; h = h; d = d; expires = expires; name = noName }
 
 -- A call by a client with these bytes, with room for a reply.
 unfoldable pub callBy : ℕ → List ℕ → Call

@@ -163,6 +163,37 @@ information-entries s at c t es next h =
     let last : end ≡ next = g .2 in
     (omega arith, ap (λ (m : ℕ). readEntries s m (at + 3)) (sym last) ∙ ap₂ (λ (x : List Entry) (y : Bool). (x, y)) (g .1) (f .1))
 
+-- A name among the suboptions: its octets are the bytes from its third to its end, and it has one.
+body-octets : (one two three : Bool) (f₁ f₂ f₃ : Bool) (h i : Bool) (p : ℕ) (c t : Bool) (es : List Entry) (o : List ℕ) (at end : ℕ) (o′ : List ℕ) (next : ℕ)
+    → cond one (whenGood f₁ (request h i p) at end) (cond two (whenGood f₂ (information c t es) at end) (cond three (whenGood f₃ (name o) at end) (more unknown end)))
+    ≡ more (name o′) next → (f₃ ≡ true) × (o ≡ o′) × (end ≡ next)
+body-octets true two three f₁ f₂ f₃ h i p c t es o at end o′ next e =
+    let g = good-read f₁ (request h i p) at end (name o′) next e in
+    let w = g .2 in
+    let z : _≡_ {A = ℕ} 0 1 = cc in absurd (omega arith)
+body-octets false true three f₁ f₂ f₃ h i p c t es o at end o′ next e =
+    let g = good-read f₂ (information c t es) at end (name o′) next e in
+    let w = g .2 in
+    let z : _≡_ {A = ℕ} 0 1 = cc in absurd (omega arith)
+body-octets false false true f₁ f₂ f₃ h i p c t es o at end o′ next e =
+    let g = good-read f₃ (name o) at end (name o′) next e in
+    let w = g .2 in
+    (g .0, cc, g .3)
+body-octets false false false f₁ f₂ f₃ h i p c t es o at end o′ next e =
+    let z : _≡_ {A = ℕ} 0 1 = cc in absurd (omega arith)
+
+pub name-octets : (s : List ℕ) (at : ℕ) (o : List ℕ) (next : ℕ) → readSuboption s at ≡ more (name o) next
+    → (at + 2 < next) × (take (next - (at + 2)) (drop (at + 2) s) ≡ o)
+unfolding readBody readRequest readInformation readName
+name-octets s at o next h =
+    let r = suboption-read s at (name o) next h in
+    let end : ℕ = subEnd s at in
+    let n : ℕ = getD s at 0 in
+    let g = body-octets (eqb n 1) (eqb n 2) (eqb n 3) _ _ (ltb (at + 2) end) _ _ _ _ _ _ (take (end - (at + 2)) (drop (at + 2) s)) at end o next (r .body) in
+    let some : at + 2 < end = ltb-true (at + 2) end (g .0) in
+    let last : end ≡ next = g .2 in
+    (omega arith, ap (λ (m : ℕ). take (m - (at + 2)) (drop (at + 2) s)) (sym last) ∙ g .1)
+
 -- Only the end of the option is the end of a reading that is whole.
 pub good-not-whole : (framed : Bool) (x : SuboptionValue) (at end : ℕ) → whenGood framed x at end ≡ stop whole → ⊥
 unfolding whenGood

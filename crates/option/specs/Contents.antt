@@ -1,4 +1,4 @@
--- What calls look at in an option 220: its requests, its entries, and the position from which a list goes on.
+-- What calls look at in an option 220: its requests, its entries, its first name, and the position from which a list goes on.
 use Rattle.lists.specs.Basics.{ℕ, Bool, false, cond, _&&_, List, [], _∷_, _++_, Option, some, eqb}
 use Rattle.option.specs.Values.{Entry, SuboptionValue, request, information, name, unknown, Outcome, refused, accepted}
 use Rattle.option.specs.Reading.{readOption}
@@ -43,6 +43,19 @@ requestsIn option = requests (suboptions (readOption option))
 
 abbrev pub entriesIn : List ℕ → List Entry
 entriesIn option = entries (suboptions (readOption option))
+
+-- THE NAME OF AN ASK
+
+-- "from the first Name suboption of the ask": its octets, and none where there is no Name.
+abbrev pub firstName : List SuboptionValue → List ℕ
+firstName [] = []
+firstName (request h i length ∷ subs) = firstName subs
+firstName (information c s es ∷ subs) = firstName subs
+firstName (name octets ∷ subs) = octets
+firstName (unknown ∷ subs) = firstName subs
+
+abbrev pub firstNameIn : List ℕ → List ℕ
+firstNameIn option = firstName (suboptions (readOption option))
 
 -- THE POSITION OF A LIST
 

@@ -47,15 +47,27 @@ abbrev pub some? : Option ℕ → Bool
 some? none = false
 some? (some x) = true
 
-abbrev pub tally : List Request → List Entry → Option ℕ → Tally
-tally qs es p = record { requests = length qs; listing = length (filter (λ q. q .i) qs); entries = length es; resumes = flagOf (some? p); position = Option·getD p 0 }
+abbrev pub tally : List Request → List Entry → Option ℕ → ℕ → ℕ → Tally
+tally qs es p a n = record {
+  requests = length qs;
+  listing = length (filter (λ q. q .i) qs);
+  entries = length es;
+  resumes = flagOf (some? p);
+  position = Option·getD p 0;
+  name = a;
+  «name_bytes» = n;
+}
 
-abbrev pub tallyOf : List SuboptionValue → Tally
-tallyOf subs = tally (requests subs) (entries subs) (position none subs)
+-- Where the name stands is told apart from this: it is no matter of the suboptions' values.
+abbrev pub tallyOf : List SuboptionValue → ℕ → ℕ → Tally
+tallyOf subs a n = tally (requests subs) (entries subs) (position none subs) a n
 
-tally-append : (subs : List SuboptionValue) (x : SuboptionValue)
-    → tallyOf (subs ++ x ∷ []) ≡ tally (requests subs ++ requests (x ∷ [])) (entries subs ++ entries (x ∷ [])) (position (position none subs) (x ∷ []))
-tally-append subs x = rw (requests-append subs (x ∷ []), entries-append subs (x ∷ []), position-append none subs (x ∷ []))
+abbrev pub Counted : List SuboptionValue → Tally → Type 0
+Counted subs m = m ≡ tallyOf subs (m .name) (m .«name_bytes»)
+
+tally-append : (subs : List SuboptionValue) (x : SuboptionValue) (a n : ℕ)
+    → tallyOf (subs ++ x ∷ []) a n ≡ tally (requests subs ++ requests (x ∷ [])) (entries subs ++ entries (x ∷ [])) (position (position none subs) (x ∷ [])) a n
+tally-append subs x a n = rw (requests-append subs (x ∷ []), entries-append subs (x ∷ []), position-append none subs (x ∷ []))
 
 -- One request more.
 count-one : (i : Bool) (q : Request) → length (cond i (q ∷ []) []) ≡ flagOf i
@@ -83,25 +95,25 @@ position-more true p [] h = absurd (omega arith)
 position-more true p (e ∷ es) h = refl
 position-more false p es h = refl
 
--- An information has an entry.
-abbrev pub SomeEntries : SuboptionValue → Type 0
-SomeEntries (request h i length) = Unit {0}
-SomeEntries (information c s es) = 0 < length es
-SomeEntries (name octets) = Unit {0}
-SomeEntries unknown = Unit {0}
+-- An information has an entry, and a name an octet.
+abbrev pub Filled : SuboptionValue → Type 0
+Filled (request h i length) = Unit {0}
+Filled (information c s es) = 0 < length es
+Filled (name octets) = 0 < length octets
+Filled unknown = Unit {0}
 
-pub tally-more : (subs : List SuboptionValue) (x : SuboptionValue) (at next : ℕ) → SomeEntries x → withSuboption (tallyOf subs) (suboptionOf x at next) ≡ tallyOf (subs ++ x ∷ [])
-tally-more subs (request h i l) at next k =
+pub tally-more : (subs : List SuboptionValue) (a n : ℕ) (x : SuboptionValue) (at next : ℕ) → Filled x → Counted (subs ++ x ∷ []) (withSuboption (tallyOf subs a n) (suboptionOf x at next))
+tally-more subs a n (request h i l) at next k =
     let qs : List Request = requests subs in
     let q : Request = record { h = h; i = i; length = l } in
-    sym (tally-append subs (request h i l)
+    sym (tally-append subs (request h i l) a n
     ∙ rw (length-append qs (q ∷ []), listing-more qs q, append-nil (entries subs)))
-tally-more subs (information c s es) at next k =
+tally-more subs a n (information c s es) at next k =
     let p : Option ℕ = position none subs in
-    sym (tally-append subs (information c s es)
+    sym (tally-append subs (information c s es) a n
     ∙ rw (append-nil (requests subs), append-nil es, length-append (entries subs) es, ← resumes-more (c && s) p es k, ← position-more (c && s) p es k))
-tally-more subs (name o) at next k = sym (tally-append subs (name o) ∙ rw (append-nil (requests subs), append-nil (entries subs)))
-tally-more subs unknown at next k = sym (tally-append subs unknown ∙ rw (append-nil (requests subs), append-nil (entries subs)))
+tally-more subs a n (name o) at next k = sym (tally-append subs (name o) _ _ ∙ rw (append-nil (requests subs), append-nil (entries subs)))
+tally-more subs a n unknown at next k = sym (tally-append subs unknown a n ∙ rw (append-nil (requests subs), append-nil (entries subs)))
 
 -- What goes into the columns of requests.
 pub lengths-column : (x : SuboptionValue) (at next : ℕ) → requestColumn (λ f. f .length) (suboptionOf x at next) ≡ map (λ q. q .length) (requests (x ∷ []))

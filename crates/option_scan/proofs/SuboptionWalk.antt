@@ -10,23 +10,26 @@ use lib.ListN.{length, take, length-append, length-map}
 use lib.Seq.{take-at}
 use lib.Dec.{eqb}
 use Rattle.lists.specs.Put.{put}
+use Rattle.lists.specs.Lists.{All}
 use Rattle.lists.specs.Walk.{more, stop}
+use Rattle.lists.proofs.ListLaws.{all-append}
 use Rattle.lists.proofs.FilterLaws.{filter-fewer}
 use Rattle.lists.proofs.PutLaws.{put-nothing, put-more, put-front}
 use Rattle.option.specs.Values.{longestOption, Entry, SuboptionValue, request, information, name, unknown, refused, accepted}
 use Rattle.option.specs.Reading.{End, whole, badAt, faultNumber, option?, readOption, readSuboption, readSuboptions, ended}
-use Rattle.option.specs.Contents.{requests, entries, position}
+use Rattle.option.specs.Contents.{requests, entries, position, firstName}
 use Rattle.option.specs.Answers.{suboptionOf, entriesOf, InColumns, checkedOf}
 use Rattle.option.specs.declared.Fault.{Fault}
 use Rattle.option.specs.declared.Checked.the-variants.{Good, NotTheOption, BadSuboption}
 use Rattle.option.specs.declared.Suboption.{Suboption}
 use Rattle.option.proofs.EntryLaws.{entries-weight, entries-some}
-use Rattle.option.proofs.SuboptionLaws.{suboption-moves, suboptions-more, suboptions-stop, information-entries, checked-ended}
+use Rattle.option.proofs.SuboptionLaws.{suboption-moves, suboptions-more, suboptions-stop, information-entries, name-octets, checked-ended}
 use Rattle.option_scan.specs.declared.Contents.{Contents}
 use Rattle.option_scan.specs.declared.Tally.{Tally}
-use Rattle.option_scan.specs.Scanned.{Columns, columns, flagOf, positionOf, ScannedOf, Long, Reads}
-use Rattle.option_scan.specs.Inner.{noTally, withSuboption, requestColumn, Small, Added, contentsOf}
-use Rattle.option_scan.proofs.Adding.{requests-append, entries-append, tallyOf, some?, SomeEntries, tally-more, lengths-column, flags-column}
+use Rattle.option_scan.specs.Scanned.{Columns, columns, flagOf, positionOf, ScannedOf, Stands, NamedIn, Long, Reads}
+use Rattle.option_scan.specs.Inner.{noTally, withSuboption, requestColumn, Small, Forward, Added, contentsOf}
+use Rattle.option_scan.proofs.Adding.{requests-append, entries-append, some?, Counted, Filled, tally-more, lengths-column, flags-column}
+use Rattle.option_scan.proofs.Naming.{stands-length, name-stands, named-more}
 
 -- The suboptions before a place are good and taken in, and what is left is to be read from the place on.
 pub record Reading (s : List ℕ) (at : ℕ) (m : Tally) (c₀ c : Columns) : Type 0 where
@@ -34,7 +37,9 @@ pub record Reading (s : List ℕ) (at : ℕ) (m : Tally) (c₀ c : Columns) : Ty
   pub start : 3 ≤ at
   pub within : at ≤ length s
   pub read : readSuboptions s 3 ≡ (done ++ readSuboptions s at .0, readSuboptions s at .1)
-  pub counted : m ≡ tallyOf done
+  pub counted : Counted done m
+  pub filled : All Filled done
+  pub named : Stands s (m .name) (m .«name_bytes») (firstName done)
   pub fewer : length (requests done) ≤ at
   pub few : 7 * length (entries done) ≤ at - 6
   pub askLengths : c .askLengths ≡ put (c₀ .askLengths) 0 (map (λ q. q .length) (requests done))
@@ -43,28 +48,30 @@ pub record Reading (s : List ℕ) (at : ℕ) (m : Tally) (c₀ c : Columns) : Ty
   pub lengths : c .lengths ≡ put (c₀ .lengths) 0 (map (λ e. e .length) (entries done))
 
 pub reading-none : (s : List ℕ) (at : ℕ) (m : Tally) (c : Columns) → 3 ≤ length s → at ≡ 3 → m ≡ noTally → Reading s at m c c
-reading-none s at m c h place e = subst (λ (at : ℕ). Reading s at m c c) (sym place) (record {
+reading-none s at m c h place e = subst (λ (at : ℕ). Reading s at m c c) (sym place) (subst (λ (m : Tally). Reading s 3 m c c) (sym e) (record {
   done = [];
   start = omega arith;
   within = h;
   read = refl;
-  counted = e;
+  counted = refl;
+  filled = tt;
+  named = record { within = omega arith; part = refl };
   fewer = omega arith;
   few = omega arith;
   askLengths = sym (put-nothing (c .askLengths) 0);
   askH = sym (put-nothing (c .askH) 0);
   networks = sym (put-nothing (c .networks) 0);
   lengths = sym (put-nothing (c .lengths) 0);
-})
+}))
 
 -- What a suboption that is read needs of the option's bytes.
-some-entries : (s : List ℕ) (at : ℕ) (x : SuboptionValue) (next : ℕ) → readSuboption s at ≡ more x next → SomeEntries x
-some-entries s at (request h i l) next t = tt
-some-entries s at (information c f es) next t =
+some-filled : (s : List ℕ) (at : ℕ) (x : SuboptionValue) (next : ℕ) → readSuboption s at ≡ more x next → Filled x
+some-filled s at (request h i l) next t = tt
+some-filled s at (information c f es) next t =
     let r = information-entries s at c f es next t in
     subst (λ (q : List Entry × Bool). 0 < length (q .0)) (r .1) (entries-some s next (at + 3) (r .0) (ap (λ (q : List Entry × Bool). q .1) (r .1)))
-some-entries s at (name o) next t = tt
-some-entries s at unknown next t = tt
+some-filled s at (name o) next t = omega (arith, name-octets s at o next t .0, stands-length (name-stands s at o next t))
+some-filled s at unknown next t = tt
 
 entries-need : (s : List ℕ) (at : ℕ) (x : SuboptionValue) (next n : ℕ) → readSuboption s at ≡ more x next → 3 ≤ at → 7 * n ≤ at - 6 → 7 * (n + length (entries (x ∷ []))) ≤ next - 6
 entries-need s at (request h i l) next n t start le = omega (arith, suboption-moves s at (request h i l) next t .0)
@@ -79,6 +86,13 @@ requests-need (request h i l) = omega arith
 requests-need (information c f es) = omega arith
 requests-need (name o) = omega arith
 requests-need unknown = omega arith
+
+-- A name that is read starts before its end.
+forward : (s : List ℕ) (at : ℕ) (x : SuboptionValue) (next : ℕ) → readSuboption s at ≡ more x next → Forward (suboptionOf x at next)
+forward s at (request h i l) next t = tt
+forward s at (information c f es) next t = tt
+forward s at (name o) next t = omega (arith, name-octets s at o next t .0)
+forward s at unknown next t = tt
 
 entries-one : (x : SuboptionValue) → entries (x ∷ []) ≡ entriesOf x
 entries-one (request h i l) = refl
@@ -105,21 +119,24 @@ module _ (s : List ℕ) (at : ℕ) (m : Tally) (c₀ c : Columns) (h : Reading s
   reading-fewer = omega (arith, count-entries, h .few)
 
   module _ (x : SuboptionValue) (next : ℕ) (t : readSuboption s at ≡ more x next) (f : Suboption) (e : f ≡ suboptionOf x at next) where
-    tally-is : withSuboption m f ≡ tallyOf (h .done ++ x ∷ [])
-    tally-is = ap₂ withSuboption (h .counted) e ∙ tally-more (h .done) x at next (some-entries s at x next t)
+    tally-is : Counted (h .done ++ x ∷ []) (withSuboption m f)
+    tally-is =
+        subst (Counted (h .done ++ x ∷ [])) (sym (ap₂ withSuboption (h .counted) e))
+        (tally-more (h .done) (m .name) (m .«name_bytes») x at next (some-filled s at x next t))
 
     entries-are : 7 * length (entries (h .done ++ x ∷ [])) ≤ next - 6
     entries-are =
         omega (arith, entries-need s at x next (length (entries (h .done))) t (h .start) (h .few), ap length (entries-append (h .done) (x ∷ [])), length-append (entries (h .done)) (entries (x ∷ [])))
 
     -- What the sums need to stay within range.
-    pub reading-small : length s ≤ longestOption → Small m × (withSuboption m f .entries < 9223372036854775808)
+    pub reading-small : length s ≤ longestOption → Small m × (withSuboption m f .entries < 9223372036854775808) × Forward f
     reading-small short = (
       record {
         requests = omega (arith, count-requests, h .fewer, h .within);
         listing = omega (arith, count-requests, ap (λ (m : Tally). m .listing) (h .counted), filter-fewer (λ q. q .i) (requests (h .done)));
       },
       omega (arith, ap (λ (m : Tally). m .entries) tally-is, entries-are, suboption-moves s at x next t .1),
+      subst Forward (sym e) (forward s at x next t),
     )
 
     pub reading-more : (r : Tally) (d : Columns)
@@ -137,7 +154,11 @@ module _ (s : List ℕ) (at : ℕ) (m : Tally) (c₀ c : Columns) (h : Reading s
               h .read
               ∙ ap (λ (q : List SuboptionValue × End). (h .done ++ q .0, q .1)) rest
               ∙ ap (λ (subs : List SuboptionValue). (subs, readSuboptions s next .1)) (sym (append-assoc (h .done) (x ∷ []) (readSuboptions s next .0)));
-          counted = added .tally ∙ tally-is;
+          counted = subst (Counted (h .done ++ x ∷ [])) (sym (added .tally)) tally-is;
+          filled = all-append Filled (h .done) (x ∷ []) (h .filled) (some-filled s at x next t, tt);
+          named =
+              subst (λ (v : Tally). Stands s (v .name) (v .«name_bytes») (firstName (h .done ++ x ∷ []))) (sym (added .tally ∙ ap (withSuboption m) e))
+              (named-more s m (h .done) (h .named) (h .filled) at x next t);
           fewer =
               omega (arith, h .fewer, moves .0, requests-need x, ap length (requests-append (h .done) (x ∷ [])), length-append (requests (h .done)) (requests (x ∷ [])));
           few = entries-are;
@@ -173,6 +194,7 @@ module _ (s : List ℕ) where
       record {
         checked = ap (λ (r : Contents). r .checked) n ∙ sym (ap checkedOf refusal);
         holds = λ subs e. let z : _≡_ {A = ℕ} 0 1 = cc in absurd (omega arith);
+        named = λ subs e. let z : _≡_ {A = ℕ} 0 1 = cc in absurd (omega arith);
       }
 
   module _ (at : ℕ) (m : Tally) (c₀ c : Columns) (h : Reading s at m c₀ c) (yes : option? s ≡ true) (r : Contents) where
@@ -192,6 +214,7 @@ module _ (s : List ℕ) where
         record {
           checked = ap (λ (r : Contents). r .checked) n ∙ sym (ap checkedOf refusal ∙ checked-ended (h .done) (badAt fault place));
           holds = λ subs e. let z : _≡_ {A = ℕ} 0 1 = cc in absurd (omega arith);
+          named = λ subs e. let z : _≡_ {A = ℕ} 0 1 = cc in absurd (omega arith);
         }
 
     module _ (short : length s ≤ longestOption) (long : Long c₀) where
@@ -221,4 +244,7 @@ module _ (s : List ℕ) where
             holds = λ subs f.
                 let same : h .done ≡ subs = cc in
                 subst (ScannedOf r c) same (subst (λ (r : Contents). ScannedOf r c (h .done)) (sym n) done-scanned);
+            named = λ subs f.
+                let same : h .done ≡ subs = cc in
+                subst (λ (subs : List SuboptionValue). NamedIn s r (firstName subs)) same (subst (λ (r : Contents). NamedIn s r (firstName (h .done))) (sym n) (h .named));
           })

@@ -1,10 +1,10 @@
 -- What is read of an option's suboptions, in the ledger's terms.
-use Prim.Native.Nat.{ℕ, _≤_}
+use Prim.Native.Nat.{ℕ, _+_, _≤_}
 use mathlib.Core.Path.{_≡_}
 use mathlib.Core.Bool.{Bool, cond}
 use mathlib.Core.List.{List, map}
 use mathlib.Core.Option.{Option, none, some}
-use lib.ListN.{length, take}
+use lib.ListN.{length, take, drop}
 use Rattle.lists.specs.Lists.{filter}
 use Rattle.option.specs.Values.{mostRequests, mostEntries, Entry, SuboptionValue, accepted}
 use Rattle.option.specs.Reading.{readOption}
@@ -46,6 +46,15 @@ pub record Scanned (r : Contents) (c : Columns) (qs : List contents.Request) (es
 abbrev pub ScannedOf : Contents → Columns → List SuboptionValue → Type 0
 ScannedOf r c subs = Scanned r c (contents.requests subs) (contents.entries subs) (contents.position none subs)
 
+-- A part of an option, from `at` on and n bytes long, is these octets.
+pub record Stands (option : List ℕ) (at n : ℕ) (octets : List ℕ) : Type 0 where
+  pub within : at + n ≤ length option
+  pub part : take n (drop at option) ≡ octets
+
+-- Where the octets of a name stand in the option; of no name, an empty part.
+abbrev pub NamedIn : List ℕ → Contents → List ℕ → Type 0
+NamedIn option r octets = Stands option (r .name) (r .«name_bytes») octets
+
 -- The columns have room for the requests of an ask and for the entries of an option.
 pub record Long (c : Columns) : Type 0 where
   pub askLengths : mostRequests ≤ length (c .askLengths)
@@ -57,3 +66,4 @@ pub record Long (c : Columns) : Type 0 where
 pub record Reads (option : List ℕ) (r : Contents) (c : Columns) : Type 0 where
   pub checked : r .checked ≡ checkedOf (readOption option)
   pub holds : (subs : List SuboptionValue) → readOption option ≡ accepted subs → ScannedOf r c subs
+  pub named : (subs : List SuboptionValue) → readOption option ≡ accepted subs → NamedIn option r (contents.firstName subs)

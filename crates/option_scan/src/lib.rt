@@ -4,6 +4,7 @@ use option::Cursor;
 use option::InformationFields;
 pub use option::MOST_ENTRIES;
 pub use option::MOST_REQUESTS;
+use option::NameFields;
 use option::RequestFields;
 use option::Step;
 use option::Suboption;
@@ -18,9 +19,11 @@ ghost use Rattle.option_scan.specs.Scanned.{columns, flagOf, Long, Reads
 ghost use Rattle.option_scan.specs.Inner.{
   noTally,
   withInformation,
+  withName,
   withSuboption,
   Added,
   Small,
+  Forward,
   contentsOf,
 };
 
@@ -34,6 +37,9 @@ pub struct Contents {
     // The network of the last entry of the last information with c and s, if there is one.
     pub resumes: bool,
     pub position: u32,
+    // Where the octets of the first name stand, and how many there are: 0 of both if there is no name.
+    pub name: usize,
+    pub name_bytes: usize,
 }
 
 // What is counted so far. Words with no gap between them, so that a copy is a copy of registers.
@@ -44,6 +50,8 @@ struct Tally {
     // 1 if there is a position.
     resumes: u32,
     position: u32,
+    name: usize,
+    name_bytes: usize,
 }
 
 fn nothing() -> Tally
@@ -55,6 +63,8 @@ fn nothing() -> Tally
         entries: 0,
         resumes: 0,
         position: 0,
+        name: 0,
+        name_bytes: 0,
     }
 }
 
@@ -79,6 +89,8 @@ fn add_request(m: Tally, f: RequestFields, asks: &mut [u8], h: &mut [u8]) -> Tal
         entries: m.entries,
         resumes: m.resumes,
         position: m.position,
+        name: m.name,
+        name_bytes: m.name_bytes,
     }
 }
 
@@ -96,6 +108,8 @@ fn add_information(m: Tally, f: InformationFields) -> Tally
                 entries,
                 resumes: 1,
                 position: f.last,
+                name: m.name,
+                name_bytes: m.name_bytes,
             };
         }
     }
@@ -105,18 +119,39 @@ fn add_information(m: Tally, f: InformationFields) -> Tally
         entries,
         resumes: m.resumes,
         position: m.position,
+        name: m.name,
+        name_bytes: m.name_bytes,
     }
 }
 
-// A suboption. Names and unknown ones have no effect.
+// A name: the first one counts. A good one has an octet, so that no octets are no name.
+fn add_name(m: Tally, f: NameFields) -> Tally
+    requires { ⌜ f .start ≤ f .end ⌝ }
+    ensures { λ r. ⌜ r ≡ withName m f ⌝ }
+{
+    if m.name_bytes != 0 {
+        return m;
+    }
+    Tally {
+        requests: m.requests,
+        listing: m.listing,
+        entries: m.entries,
+        resumes: m.resumes,
+        position: m.position,
+        name: f.start,
+        name_bytes: f.end - f.start,
+    }
+}
+
+// A suboption. Unknown ones have no effect.
 fn add(m: Tally, x: Suboption, asks: &mut [u8], h: &mut [u8]) -> Tally
-    requires { ⌜ Small m × (withSuboption m x .entries < 9223372036854775808) ⌝ }
+    requires { ⌜ Small m × (withSuboption m x .entries < 9223372036854775808) × Forward x ⌝ }
     ensures { λ r. ⌜ Added m x (now (asks .entry)) (now (h .entry)) r (now (asks .exit)) (now (h .exit)) ⌝ }
 {
     match x {
         Suboption::Request(f) => add_request(m, f, asks, h),
         Suboption::Information(f) => add_information(m, f),
-        Suboption::Name(_) => m,
+        Suboption::Name(f) => add_name(m, f),
         Suboption::Unknown(_) => m,
     }
 }
@@ -131,6 +166,8 @@ fn contents_of(m: Tally, checked: Checked) -> Contents
         entries: m.entries,
         resumes: m.resumes == 1,
         position: m.position,
+        name: m.name,
+        name_bytes: m.name_bytes,
     }
 }
 

@@ -14,6 +14,7 @@ use Rattle.prefix.specs.declared.Prefix.{Prefix}
 use Rattle.prefix.specs.Prefixes.{longest, end}
 use Rattle.table.specs.declared.LeaseTable.{LeaseTable}
 use Rattle.table.specs.Table.{addresses, poolPrefix, noPool, noLease, poolsOf, sound}
+use Rattle.names.specs.Names.{spells, nameIn}
 use Rattle.image.specs.Fields.{number32}
 use Rattle.image.specs.Image.{usedPools, usedLeases, imageOf, headSize, poolSize, leaseSize}
 use Rattle.image.specs.Reading.{poolIn, leaseIn}
@@ -31,7 +32,7 @@ use Rattle.sheet_text.proofs.SheetLaws.{blank, shown-at, shown-blocks, 
 use Rattle.sheet_text.proofs.SheetHolds.{free-rows}
 
 no-lease : leaseIn [] ≡ noLease
-unfolding number32
+unfolding number32 nameIn spells
 no-lease = refl
 
 module _ (image : List ℕ) (k n : ℕ) (s : SoundImage image k n) where

@@ -28,8 +28,9 @@ use Rattle.table.proofs.Ascending.{Ascending, ascending-low, ascending-image}
 use Rattle.table.proofs.TableLaws.{GoodPool, Good, Fine, sound-pool-slots, sound-slots, sound-pools, sound-used, sound-fine}
 use Rattle.image.specs.Fields.{Run}
 use Rattle.image.specs.declared.Head.{Head}
+use Rattle.image.specs.declared.Form.{Form}
 use Rattle.image.specs.Image.{usedPools, usedLeases, headSize}
-use Rattle.image.specs.Reading.{tableWith, headAt, poolsAt, leasesAt, whole, afterHead, loadImage}
+use Rattle.image.specs.Reading.{tableWith, headAtIn, poolsAt, leasesAtIn, whole, afterHeadIn, loadIn, formOf, loadSaved}
 use Rattle.sheet_text.specs.declared.Used.{Used}
 use Rattle.sheet_text.specs.declared.SheetAnswer.{SheetAnswer}
 use Rattle.sheet_text.specs.declared.SheetAnswer.the-variants.{Written, NotSound, TooSmall}
@@ -134,35 +135,37 @@ whole-sound u t rest f =
     let z : _≡_ {A = ℕ} 0 1 = cc in absurd (omega arith))
     (bool-cases (and (eqb (length rest) 0 ∷ sound u ∷ [])))
 
-pub loads-sound : (s : List ℕ) (t : LeaseTable) → loadImage s ≡ some t → sound t ≡ true
-unfolding loadImage
-loads-sound s t e = cases (headAt s) e
+pub loads-sound : (form : Form) (s : List ℕ) (t : LeaseTable) → loadIn form s ≡ some t → sound t ≡ true
+unfolding loadIn
+loads-sound form s t e = cases (headAtIn form s) e
   where
-    cases : (o : Option Head) → afterHead o (drop headSize s) ≡ some t → sound t ≡ true
+    cases : (o : Option Head) → afterHeadIn form o (drop headSize s) ≡ some t → sound t ≡ true
     cases none f = let z : _≡_ {A = ℕ} 0 1 = cc in absurd (omega arith)
     cases (some x) f =
         let ps : Run Pool = poolsAt (drop headSize s) in
-        let ls : Run Lease = leasesAt (ps .rest) in
+        let ls : Run Lease = leasesAtIn form (ps .rest) in
         whole-sound (tableWith x (ps .items) (ls .items)) t (ls .rest) f
 
 module _ (image l : List ℕ) where
-  pub image-sound : (t : LeaseTable) → loadImage image ≡ some t → into (sheetText t) l ≡ sheetOfImage image l
+  pub image-sound : (t : LeaseTable) → loadSaved image ≡ some t → into (sheetText t) l ≡ sheetOfImage image l
   unfolding sheetOf sheetOfImage
-  image-sound t e = sym (rw (e, loads-sound image t e) refl)
+  image-sound t e =
+      let sheet : sheetOf t l ≡ into (sheetText t) l = rw (loads-sound (formOf image) image t e) refl in
+      sym (ap (λ (o : Option LeaseTable). sheetOfLoaded o l) e ∙ sheet)
 
-  pub image-unsound : loadImage image ≡ none → (NotSound, l) ≡ sheetOfImage image l
+  pub image-unsound : loadSaved image ≡ none → (NotSound, l) ≡ sheetOfImage image l
   unfolding sheetOfImage
   image-unsound e = ap (λ (o : Option LeaseTable). sheetOfLoaded o l) (sym e)
 
   -- What holds of each of its answers.
   pub answer-cases : (P : SheetAnswer × List ℕ → Type 0) → P (NotSound, l) → ((t : LeaseTable) → sound t ≡ true → length l < length (sheetText t) → P (TooSmall, l))
       → ((t : LeaseTable) → sound t ≡ true → length (sheetText t) ≤ length l → P (Written (length (sheetText t)), sheetText t ++ drop (length (sheetText t)) l)) → P (sheetOfImage image l)
-  answer-cases P unsound small written = cases (loadImage image) refl
+  answer-cases P unsound small written = cases (loadSaved image) refl
     where
-      cases : (o : Option LeaseTable) → loadImage image ≡ o → P (sheetOfImage image l)
+      cases : (o : Option LeaseTable) → loadSaved image ≡ o → P (sheetOfImage image l)
       cases none e = subst P (image-unsound e) unsound
       cases (some t) e =
           subst P (image-sound t e)
           (by-cases (decLe (length (sheetText t)) (length l))
-          (λ h. subst P (into-front (sheetText t) l h) (written t (loads-sound image t e) h))
-          (λ h. let h₁ : length l < length (sheetText t) = omega arith in subst P (into-small (sheetText t) l h₁) (small t (loads-sound image t e) h₁)))
+          (λ h. subst P (into-front (sheetText t) l h) (written t (loads-sound (formOf image) image t e) h))
+          (λ h. let h₁ : length l < length (sheetText t) = omega arith in subst P (into-small (sheetText t) l h₁) (small t (loads-sound (formOf image) image t e) h₁)))

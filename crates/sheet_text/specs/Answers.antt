@@ -2,7 +2,7 @@
 use Rattle.lists.specs.Basics.{ℕ, not, cond, List, _++_, Option, none, some, length, drop, ltb}
 use Rattle.table.specs.declared.LeaseTable.{LeaseTable}
 use Rattle.table.specs.Table.{sound}
-use Rattle.image.specs.Reading.{loadImage}
+use Rattle.image.specs.Reading.{loadSaved}
 use Rattle.sheet_text.specs.declared.SheetAnswer.{SheetAnswer}
 use Rattle.sheet_text.specs.declared.SheetAnswer.the-variants.{Written, NotSound, TooSmall}
 use Rattle.sheet_text.specs.Sheet.{sheetText}
@@ -16,10 +16,10 @@ into text buffer =
 unfoldable pub sheetOf : LeaseTable → List ℕ → SheetAnswer × List ℕ
 sheetOf t buffer = cond (not (sound t)) (NotSound, buffer) (into (sheetText t) buffer)
 
--- Of an image: "for load and the sheet, the saved bytes only".
+-- Of an image, in either form: "for load and the sheet, the saved bytes only"; "The sheet reads both".
 abbrev pub sheetOfLoaded : Option LeaseTable → List ℕ → SheetAnswer × List ℕ
 sheetOfLoaded none buffer = (NotSound, buffer)
 sheetOfLoaded (some t) buffer = sheetOf t buffer
 
 unfoldable pub sheetOfImage : List ℕ → List ℕ → SheetAnswer × List ℕ
-sheetOfImage bytes buffer = sheetOfLoaded (loadImage bytes) buffer
+sheetOfImage saved buffer = sheetOfLoaded (loadSaved saved) buffer

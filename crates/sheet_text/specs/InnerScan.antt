@@ -15,11 +15,13 @@ use Rattle.prefix.specs.declared.Prefix.{Prefix}
 use Rattle.prefix.specs.Prefixes.{longest, end, lower, upper}
 use Rattle.table.specs.declared.LeaseTable.{LeaseTable}
 use Rattle.table.specs.Table.{addresses, poolSlots, leaseSlots, poolPrefix, sound}
-use Rattle.image.specs.Image.{headSize, poolSize, leaseSize, usedPools, usedLeases, imageOf}
-use Rattle.image.specs.Reading.{poolIn, leaseIn, loadImage}
+use Rattle.image.specs.declared.Form.{Form}
+use Rattle.image.specs.declared.Form.the-variants.{Second}
+use Rattle.image.specs.Image.{headSize, poolSize, leaseSize, leaseSizeIn, usedPools, usedLeases, imageAs, fitsForm}
+use Rattle.image.specs.Reading.{poolIn, leaseIn, loadIn}
 use Rattle.sheet_text.specs.declared.Used.{Used}
 use Rattle.sheet_text.specs.SheetSizes.{prefixMarks, usedWords, freeWords, headWords}
-use Rattle.sheet_text.specs.Sheet.{usedBy, prefixUsed, Row, usedRow, freeRow, rowText}
+use Rattle.sheet_text.specs.Sheet.{usedBy, prefixUsed, Row, usedRow, freeRow, nameRow, rowText}
 
 -- HOW LONG ROWS ARE
 
@@ -28,7 +30,7 @@ prefixSize p =
     length (decimal (p .network / 16777216)) + length (decimal (p .network / 65536 % 256)) + length (decimal (p .network / 256 % 256)) + length (decimal (p .network % 256)) + length (decimal (p .length)) + prefixMarks
 
 abbrev pub usedSize : Used → ℕ
-usedSize x = prefixSize (prefixUsed x) + length (decimal (x .client)) + length (decimal (x .expires)) + usedWords
+usedSize x = prefixSize (prefixUsed x) + length (decimal (x .client)) + length (decimal (x .expires)) + length (nameRow (x .name)) + usedWords
 
 abbrev pub freeSize : Prefix → ℕ
 freeSize p = prefixSize p + freeWords
@@ -55,21 +57,29 @@ unfoldable pub poolsShown : List ℕ → ℕ → List Prefix
 poolsShown image zero = []
 poolsShown image (suc k) = poolsShown image k ++ (poolShown image k ∷ [])
 
--- The bytes are the image of a sound table that has k pools and n leases.
-pub record SoundImage (image : List ℕ) (k n : ℕ) : Type 0 where
+-- The bytes are the image, in a form, of a sound table that has k pools and n leases.
+pub record SoundSaved (form : Form) (image : List ℕ) (k n : ℕ) : Type 0 where
   pub table : LeaseTable
-  pub loads : loadImage image ≡ some table
+  pub loads : loadIn form image ≡ some table
   pub sound : sound table ≡ true
-  pub bytes : imageOf table ≡ image
+  pub fitting : fitsForm form table ≡ true
+  pub bytes : imageAs form table ≡ image
   pub pools : k ≡ length (usedPools table)
   pub leases : n ≡ length (usedLeases table)
   pub few-pools : k ≤ poolSlots
   pub few-leases : n ≤ leaseSlots
-  pub size : length image ≡ headSize + poolSize * k + leaseSize * n
+  pub size : length image ≡ headSize + poolSize * k + leaseSizeIn form * n
 
 -- What holds of the table whose image they are.
+abbrev pub OfSaved : Form → List ℕ → (LeaseTable → Type 0) → Type 0
+OfSaved form image P = (t : LeaseTable) → loadIn form image ≡ some t → P t
+
+-- In the second form, in which the rows are found.
+abbrev pub SoundImage : List ℕ → ℕ → ℕ → Type 0
+SoundImage = SoundSaved Second
+
 abbrev pub OfTable : List ℕ → (LeaseTable → Type 0) → Type 0
-OfTable image P = (t : LeaseTable) → loadImage image ≡ some t → P t
+OfTable = OfSaved Second
 
 -- ROWS
 

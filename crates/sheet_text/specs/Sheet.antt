@@ -1,11 +1,13 @@
 -- The sheet of a lease table (document 01: of a saved book): which rows, in which order, every character.
-use Rattle.lists.specs.Basics.{ℕ, zero, suc, _-_, _/_, _%_, Bool, true, false, cond, _&&_, List, [], _∷_, _++_, map, Option, none, some, length, eqb}
+use Rattle.lists.specs.Basics.{ℕ, zero, suc, _-_, _/_, _%_, Bool, true, false, cond, _&&_, List, [], _∷_, _++_, map, Option, none, some, length, leb, eqb}
 use Rattle.lists.specs.Lists.{concatMap}
 use Rattle.text.specs.Ascii.{ascii}
 use Rattle.text.specs.Decimal.{decimal}
 use Rattle.prefix.specs.declared.Prefix.{Prefix}
 use Rattle.prefix.specs.Prefixes.{longest, prefix, lower, upper}
 use Rattle.free_space.specs.Space.{unused?}
+use Rattle.names.specs.declared.Name.{Name}
+use Rattle.names.specs.Names.{unnamed?, nameText}
 use Rattle.table.specs.declared.{Lease.Lease, LeaseTable.LeaseTable}
 use Rattle.table.specs.Table.{poolsOf}
 use Rattle.image.specs.Image.{usedLeases}
@@ -13,7 +15,7 @@ use Rattle.sheet_text.specs.declared.Used.{Used}
 
 -- What a row shows of a lease.
 abbrev pub usedBy : Lease → Used
-usedBy x = record { network = x .network; length = x .length; client = x .client; expires = x .expires }
+usedBy x = record { network = x .network; length = x .length; client = x .client; expires = x .expires; name = x .name }
 
 abbrev pub prefixUsed : Used → Prefix
 prefixUsed x = prefix (x .network) (x .length)
@@ -69,10 +71,17 @@ addressText n = decimal (n / 16777216) ++ ascii "." ++ decimal (n / 65536 % 256)
 unfoldable pub prefixText : Prefix → List ℕ
 prefixText p = addressText (p .network) ++ ascii "/" ++ decimal (p .length)
 
+-- "a named line's row ends with ` name ` and its octets, those outside 0x20 to 0x7E as `?`"
+abbrev pub shown : ℕ → ℕ
+shown octet = cond (leb 32 octet && leb octet 126) octet 63
+
+unfoldable pub nameRow : Name → List ℕ
+nameRow n = cond (unnamed? n) [] (ascii " name " ++ map shown (nameText n))
+
 -- A row as text; every row ends with one newline.
 unfoldable pub rowText : Row → List ℕ
 rowText (usedRow x) =
-    ascii "used " ++ prefixText (prefixUsed x) ++ ascii " station " ++ decimal (x .client) ++ ascii " until " ++ decimal (x .expires) ++ ascii "\n"
+    ascii "used " ++ prefixText (prefixUsed x) ++ ascii " station " ++ decimal (x .client) ++ ascii " until " ++ decimal (x .expires) ++ nameRow (x .name) ++ ascii "\n"
 rowText (freeRow p) = ascii "free " ++ prefixText p ++ ascii "\n"
 
 -- The first row: "`free=` counts the free rows".

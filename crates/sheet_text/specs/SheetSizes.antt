@@ -4,6 +4,7 @@ use mathlib.Core.List.{_++_}
 use lib.ListN.{length}
 use Rattle.text.specs.Ascii.{ascii}
 use Rattle.prefix.specs.Prefixes.{longest}
+use Rattle.names.specs.Names.{longestName}
 use Rattle.table.specs.Table.{poolSlots, leaseSlots}
 
 -- The longest prefix, and the longest number of 32 bits.
@@ -26,8 +27,12 @@ freeWords = length (ascii "free " ++ ascii "\n")
 abbrev pub headWords : ℕ
 headWords = length (ascii "sheet lines=" ++ ascii " free=" ++ ascii "\n")
 
+-- A name, with its word.
+abbrev pub nameMost : ℕ
+nameMost = length (ascii " name ") + longestName
+
 abbrev pub usedMost : ℕ
-usedMost = usedWords + prefixMost + 2 * numberMost
+usedMost = usedWords + prefixMost + 2 * numberMost + nameMost
 
 abbrev pub freeMost : ℕ
 freeMost = freeWords + prefixMost

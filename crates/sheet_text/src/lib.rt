@@ -1,7 +1,10 @@
 // The sheet of an image's lease table, as text into a lent buffer. The leases are read where they stand in the image.
+use image::FULL_IMAGE;
+use image::Form;
 use image::HEAD;
 use image::LEASE;
 use image::POOL;
+use names::Name;
 use prefix::Prefix;
 use table::LEASES;
 use table::POOLS;
@@ -12,10 +15,11 @@ ghost use lib.ListN.{length};
 ghost use lib.Dec.{ltb};
 ghost use Rattle.prefix.specs.Prefixes.{longest, end};
 ghost use Rattle.table.specs.Table.{leaseSlots};
+ghost use Rattle.image.specs.declared.Form.the-variants.{First};
 ghost use Rattle.image.specs.Image.{headSize, poolSize, leaseSize};
 ghost use Rattle.text.specs.Wrote.{Wrote};
-ghost use Rattle.sheet_text.specs.Sheet.{prefixText, usedRow, freeRow, freeIn, rows, rowText, headText, sheetText};
-ghost use Rattle.sheet_text.specs.Answers.{sheetOfImage};
+ghost use Rattle.sheet_text.specs.Sheet.{prefixText, shown, nameRow, usedRow, freeRow, freeIn, rows, rowText, headText, sheetText};
+ghost use Rattle.sheet_text.specs.Answers.{into, sheetOfImage};
 ghost use Rattle.sheet_text.specs.SheetSizes.{sheetSize};
 ghost use Rattle.sheet_text.specs.InnerScan.{
   prefixSize,
@@ -26,6 +30,8 @@ ghost use Rattle.sheet_text.specs.InnerScan.{
   leaseShown,
   poolShown,
   poolsShown,
+  SoundSaved,
+  OfSaved,
   SoundImage,
   OfTable,
   clear?,
@@ -49,6 +55,8 @@ const STATION: [u8; 9] = *b" station ";
 
 const UNTIL: [u8; 7] = *b" until ";
 
+const NAMED: [u8; 6] = *b" name ";
+
 const FREE: [u8; 5] = *b"free ";
 
 const END: [u8; 1] = *b"\n";
@@ -69,12 +77,15 @@ const FIRST_ROW: usize = LINES.len() + LEASE_DIGITS + FREE_COUNT.len() + FREE_DI
 
 const USED_WORDS: usize = USED.len() + STATION.len() + UNTIL.len() + END.len();
 
-const USED_ROW: usize = USED_WORDS + PREFIX_TEXT + 2 * NUMBER_TEXT;
+// A name, with its word.
+const NAME_TEXT: usize = NAMED.len() + names::LONGEST;
+
+const USED_ROW: usize = USED_WORDS + PREFIX_TEXT + 2 * NUMBER_TEXT + NAME_TEXT;
 
 const FREE_ROW: usize = FREE.len() + PREFIX_TEXT + END.len();
 
-// A used row, the longest, with each of its seven numbers as long as any.
-const ANY_ROW: usize = USED_WORDS + PREFIX_MARKS + 7 * NUMBER_TEXT;
+// A used row, the longest, with each of its seven numbers and its name as long as any.
+const ANY_ROW: usize = USED_WORDS + PREFIX_MARKS + 7 * NUMBER_TEXT + NAME_TEXT;
 
 // A pool can be halved so often, and so many free rows stand beside a lease at most.
 const HALVINGS: usize = (Prefix::LONGEST - SHORTEST_POOL) as usize;
@@ -118,6 +129,39 @@ pub struct Used {
     pub length: u8,
     pub client: u32,
     pub expires: u32,
+    pub name: Name,
+}
+
+// An octet of a name as a row shows it: "those outside 0x20 to 0x7E as `?`".
+fn shown(octet: u8) -> u8
+    ensures { λ r. ⌜ r ≡ shown octet ⌝ }
+{
+    if octet < 32 {
+        return b'?';
+    }
+    if 126 < octet {
+        return b'?';
+    }
+    octet
+}
+
+// A name at the end of a row, nothing where there is none.
+fn put_name(out: &mut [u8], at: usize, name: Name) -> usize
+    requires { ⌜ at + length (nameRow name) ≤ length (now out) ⌝ }
+    ensures { λ r. ⌜ Wrote (now (out .entry)) at (nameRow name) (now (out .exit)) r ⌝ }
+{
+    let n = names::length(name) as usize;
+    if n == 0 {
+        return at;
+    }
+    let from = text::put(out, at, &NAMED);
+    let octets = names::octets(name);
+    let mut k: usize = 0;
+    while k < n {
+        out[from + k] = shown(octets[k]);
+        k = k + 1;
+    }
+    from + n
 }
 
 fn put_used(out: &mut [u8], at: usize, x: Used) -> usize
@@ -134,7 +178,8 @@ fn put_used(out: &mut [u8], at: usize, x: Used) -> usize
     let client = text::decimal(out, station, x.client);
     let until = text::put(out, client, &UNTIL);
     let expires = text::decimal(out, until, x.expires);
-    text::put(out, expires, &END)
+    let name = put_name(out, expires, x.name);
+    text::put(out, name, &END)
 }
 
 fn put_free(out: &mut [u8], at: usize, p: Prefix) -> usize
@@ -188,11 +233,13 @@ fn lease(image: &[u8], base: usize, i: usize) -> Used
     ensures { λ r. ⌜ r ≡ leaseShown (now (image .entry)) base i ⌝ }
 {
     let x = image_records::lease_at(image, base + LEASE * i);
+    let name = x.name;
     Used {
         network: x.network,
         length: x.length,
         client: x.client,
         expires: x.expires,
+        name,
     }
 }
 
@@ -210,8 +257,7 @@ fn is_free(image: &[u8], base: usize, n: usize, i: usize, p: Prefix) -> bool
     if n <= i {
         return true;
     }
-    let x = lease(image, base, i);
-    p.end() <= wide(x.network)
+    p.end() <= wide(image::network_at(image, base + LEASE * i))
 }
 
 // Shows a prefix: as a free row, as a used row, or as its two halves. `next` is the next lease.
@@ -307,7 +353,7 @@ fn too_small(room: usize, image: &[u8], k: usize, n: usize, free: u32) -> bool
 
 fn write_sheet(image: &[u8], k: usize, n: usize, out: &mut [u8]) -> SheetAnswer
     requires { ⌜ SoundImage (now image) k n ⌝ }
-    ensures { λ r. ⌜ (r, now (out .exit)) ≡ sheetOfImage (now (image .entry)) (now (out .entry)) ⌝ }
+    ensures { λ r. ⌜ OfTable (now (image .entry)) (λ t. (r, now (out .exit)) ≡ into (sheetText t) (now (out .entry))) ⌝ }
 {
     let free = free_rows(image, k, n);
     if too_small(out.len(), image, k, n, free) {
@@ -318,13 +364,27 @@ fn write_sheet(image: &[u8], k: usize, n: usize, out: &mut [u8]) -> SheetAnswer
     SheetAnswer::Written(size)
 }
 
-// The sheet of an image into a buffer; the bytes after it stay, and a refusal leaves all of them.
-pub fn sheet_of_image(bytes: &[u8], out: &mut [u8]) -> SheetAnswer
-    ensures { λ r. ⌜ (r, now (out .exit)) ≡ sheetOfImage (now (bytes .entry)) (now (out .entry)) ⌝ }
+// An image of the first form is shown as it is in the second.
+fn write_first(saved: &[u8], k: usize, n: usize, out: &mut [u8]) -> SheetAnswer
+    requires { ⌜ SoundSaved First (now saved) k n ⌝ }
+    ensures { λ r. ⌜ OfSaved First (now (saved .entry)) (λ t. (r, now (out .exit)) ≡ into (sheetText t) (now (out .entry))) ⌝ }
 {
-    let summary = image_check::check(bytes, 0);
+    let mut image = [0u8; FULL_IMAGE];
+    let size = image_forms::widen(saved, k, n, &mut image);
+    write_sheet(&image[..size], k, n, out)
+}
+
+// The sheet of an image, in either form, into a buffer; the bytes after it stay, and a refusal leaves all of them.
+pub fn sheet_of_image(saved: &[u8], out: &mut [u8]) -> SheetAnswer
+    ensures { λ r. ⌜ (r, now (out .exit)) ≡ sheetOfImage (now (saved .entry)) (now (out .entry)) ⌝ }
+{
+    let form = image::form_of(saved);
+    let summary = image_check::check_in(form, saved, 0);
     if !summary.sound {
         return SheetAnswer::NotSound;
     }
-    write_sheet(bytes, summary.pools, summary.leases, out)
+    match form {
+        Form::First => write_first(saved, summary.pools, summary.leases, out),
+        Form::Second => write_sheet(saved, summary.pools, summary.leases, out),
+    }
 }

@@ -15,6 +15,9 @@ use Rattle.lists.proofs.ListLaws.{all-map, all-map₂, all-image, all-preimage,
 use Rattle.prefix.specs.declared.Prefix.{Prefix}
 use Rattle.prefix.specs.Prefixes.{end, Aligned, Inside, inside?, Apart}
 use Rattle.prefix.proofs.PrefixLaws.{aligned-to, aligned-of, inside-to, inside-of}
+use Rattle.names.specs.declared.Name.{Name}
+use Rattle.names.specs.Names.{unnamed?}
+use Rattle.names.proofs.NameLaws.{unnamed-to}
 use Rattle.table.specs.declared.Pool.{Pool}
 use Rattle.table.specs.declared.Lease.{Lease}
 use Rattle.table.specs.declared.LeaseTable.{LeaseTable}
@@ -46,16 +49,18 @@ empty-to x e =
     let h = not-true (x .h) (t .1 .1 .1 .1 .0) in
     let d = not-true (x .d) (t .1 .1 .1 .1 .1 .0) in
     let ex = eqb-true (x .expires) 0 (t .1 .1 .1 .1 .1 .1 .0) in
-    ap (λ (v : ℕ). record { network = v; length = x .length; client = x .client; leased = x .leased; h = x .h; d = x .d; expires = x .expires }) n
-    ∙ ap (λ (v : ℕ). record { network = 0; length = v; client = x .client; leased = x .leased; h = x .h; d = x .d; expires = x .expires }) l
-    ∙ ap (λ (v : ℕ). record { network = 0; length = 0; client = v; leased = x .leased; h = x .h; d = x .d; expires = x .expires }) c
-    ∙ ap (λ (v : Bool). record { network = 0; length = 0; client = 0; leased = v; h = x .h; d = x .d; expires = x .expires }) le
-    ∙ ap (λ (v : Bool). record { network = 0; length = 0; client = 0; leased = false; h = v; d = x .d; expires = x .expires }) h
-    ∙ ap (λ (v : Bool). record { network = 0; length = 0; client = 0; leased = false; h = false; d = v; expires = x .expires }) d
-    ∙ ap (λ (v : ℕ). record { network = 0; length = 0; client = 0; leased = false; h = false; d = false; expires = v }) ex
+    let na = t .1 .1 .1 .1 .1 .1 .1 .0 in
+    ap (λ (v : ℕ). record { network = v; length = x .length; client = x .client; leased = x .leased; h = x .h; d = x .d; expires = x .expires; name = x .name }) n
+    ∙ ap (λ (v : ℕ). record { network = 0; length = v; client = x .client; leased = x .leased; h = x .h; d = x .d; expires = x .expires; name = x .name }) l
+    ∙ ap (λ (v : ℕ). record { network = 0; length = 0; client = v; leased = x .leased; h = x .h; d = x .d; expires = x .expires; name = x .name }) c
+    ∙ ap (λ (v : Bool). record { network = 0; length = 0; client = 0; leased = v; h = x .h; d = x .d; expires = x .expires; name = x .name }) le
+    ∙ ap (λ (v : Bool). record { network = 0; length = 0; client = 0; leased = false; h = v; d = x .d; expires = x .expires; name = x .name }) h
+    ∙ ap (λ (v : Bool). record { network = 0; length = 0; client = 0; leased = false; h = false; d = v; expires = x .expires; name = x .name }) d
+    ∙ ap (λ (v : ℕ). record { network = 0; length = 0; client = 0; leased = false; h = false; d = false; expires = v; name = x .name }) ex
+    ∙ ap (λ (v : Name). record { network = 0; length = 0; client = 0; leased = false; h = false; d = false; expires = 0; name = v }) (unnamed-to (x .name) na)
 
 pub empty-of : empty? noLease ≡ true
-unfolding empty?
+unfolding empty? unnamed?
 empty-of = refl
 
 -- A slot whose length is not 0 is not empty.

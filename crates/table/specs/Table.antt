@@ -3,6 +3,7 @@ use Rattle.lists.specs.Basics.{ℕ, _-_, Bool, true, false, not, cond, _&&_, Li
 use Rattle.lists.specs.Lists.{and, all?, any?, filter, insertBy}
 use Rattle.prefix.specs.declared.Prefix.{Prefix}
 use Rattle.prefix.specs.Prefixes.{shortest, longest, prefix, end, aligned?, inside?}
+use Rattle.names.specs.Names.{noName, unnamed?}
 use Rattle.table.specs.declared.{Pool.Pool, Lease.Lease, LeaseTable.LeaseTable}
 
 -- The slots of a table, as POOLS and LEASES in the code: "1 to 8 roots", "256 empty lines".
@@ -39,7 +40,7 @@ abbrev pub noPool : Pool
 noPool = record { network = 0; length = 0 }
 
 abbrev pub noLease : Lease
-noLease = record { network = 0; length = 0; client = 0; leased = false; h = false; d = false; expires = 0 }
+noLease = record { network = 0; length = 0; client = 0; leased = false; h = false; d = false; expires = 0; name = noName }
 
 abbrev pub poolZeros : Pool → List Bool
 poolZeros p = eqb (p .network) 0 ∷ eqb (p .length) 0 ∷ []
@@ -48,7 +49,7 @@ unfoldable pub unused? : Pool → Bool
 unused? p = and (poolZeros p)
 
 abbrev pub leaseZeros : Lease → List Bool
-leaseZeros x = eqb (x .network) 0 ∷ eqb (x .length) 0 ∷ eqb (x .client) 0 ∷ not (x .leased) ∷ not (x .h) ∷ not (x .d) ∷ eqb (x .expires) 0 ∷ []
+leaseZeros x = eqb (x .network) 0 ∷ eqb (x .length) 0 ∷ eqb (x .client) 0 ∷ not (x .leased) ∷ not (x .h) ∷ not (x .d) ∷ eqb (x .expires) 0 ∷ unnamed? (x .name) ∷ []
 
 unfoldable pub empty? : Lease → Bool
 empty? x = and (leaseZeros x)

@@ -16,8 +16,8 @@ use std::fmt;
 mod raw;
 
 pub use raw::{
-    COUNTS_LENGTHS, COUNTS_ROWS, FIGURES_CAPACITY, IMAGE_CAPACITY, REPLY_CAPACITY,
-    SELECTION_CAPACITY, TEXT_CAPACITY,
+    COUNTS_LENGTHS, COUNTS_ROWS, FIGURES_CAPACITY, FIRST_FORM_CAPACITY, IMAGE_CAPACITY,
+    NAME_CAPACITY, REPLY_CAPACITY, SELECTION_CAPACITY, TEXT_CAPACITY,
 };
 
 use raw::Answer;
@@ -56,6 +56,8 @@ impl Refusal {
             14 => "the buffer is too small",
             15 => "the figures sheet does not match the table",
             16 => "a field outside the rules in the suboption",
+            17 => "the name is too long",
+            18 => "names would be lost in the first form",
             _ => "no number of this library",
         }
     }
@@ -151,6 +153,34 @@ pub enum State {
     Leased,
 }
 
+/// The name of a lease: up to 24 octets of any kind, the last not zero. It derefs to them.
+#[derive(Clone, Copy, Default, PartialEq, Eq)]
+pub struct Name {
+    octets: [u8; NAME_CAPACITY],
+    bytes: usize,
+}
+
+impl Name {
+    /// The octets, none where the ask that made the lease had no name.
+    pub fn octets(&self) -> &[u8] {
+        &self.octets[..self.bytes]
+    }
+}
+
+impl std::ops::Deref for Name {
+    type Target = [u8];
+
+    fn deref(&self) -> &[u8] {
+        self.octets()
+    }
+}
+
+impl fmt::Debug for Name {
+    fn fmt(&self, f: &mut fmt::Formatter<'_>) -> fmt::Result {
+        write!(f, "\"{}\"", self.octets().escape_ascii())
+    }
+}
+
 /// A lease of a book, as it stands there: there is no time here, so it may have ended.
 #[derive(Clone, Copy, Debug, PartialEq, Eq)]
 pub struct Lease {
@@ -168,6 +198,17 @@ pub struct Lease {
     pub d: bool,
     /// The time of its end: from then on it is none.
     pub expires: u32,
+    /// That of the ask that made it.
+    pub name: Name,
+}
+
+/// The form in which a book is saved. Load takes both.
+#[derive(Clone, Copy, Debug, PartialEq, Eq)]
+pub enum Form {
+    /// That of versions before 0.14, which has no names.
+    First,
+    /// That which holds every book.
+    Second,
 }
 
 /// What a client told of the use of a lease; `None` where it told no such figure.
@@ -261,7 +302,7 @@ impl Book {
         Ok(book)
     }
 
-    /// The book that was saved, with no figure told; bytes that are no image are refused with 5.
+    /// The book that was saved, in either form, with no figure told; bytes that are no image are refused with 5.
     pub fn load(saved: &[u8]) -> Result<Book, Refusal> {
         let mut book = Book::none();
         accepted(unsafe {
@@ -279,15 +320,20 @@ impl Book {
         Ok(book)
     }
 
-    /// The bytes that load takes.
-    pub fn save(&self) -> Result<Vec<u8>, Refusal> {
-        let mut saved = vec![0; IMAGE_CAPACITY];
+    /// The bytes that load takes. The first form is refused with 18 exactly if a lease has a name.
+    pub fn save(&self, form: Form) -> Result<Vec<u8>, Refusal> {
+        let (form, capacity) = match form {
+            Form::First => (raw::FIRST_FORM, FIRST_FORM_CAPACITY),
+            Form::Second => (raw::SECOND_FORM, IMAGE_CAPACITY),
+        };
+        let mut saved = vec![0; capacity];
         let a = accepted(unsafe {
             raw::flockdrift_save(
                 self.image.as_ptr(),
                 self.image.len(),
                 self.bytes,
                 self.counts.as_ptr(),
+                form,
                 saved.as_mut_ptr(),
                 saved.len(),
             )
@@ -297,7 +343,8 @@ impl Book {
     }
 
     /// Offers prefixes for the option's requests, and holds them for 120 seconds. What the client holds already it is
-    /// offered again, where length and h are those of a request; only the other requests get free prefixes.
+    /// offered again, where length and h are those of a request, and keeps its name; only the other requests get free
+    /// prefixes, which get the option's first name. One above 24 octets is refused with 17.
     pub fn ask(&mut self, client: u32, now: u32, option: &[u8]) -> Result<Reply, Refusal> {
         Reply::of(|reply| unsafe {
             raw::flockdrift_ask(
@@ -474,6 +521,10 @@ impl Book {
             h: a.h != 0,
             d: a.d != 0,
             expires: a.expires,
+            name: Name {
+                octets: a.name,
+                bytes: (a.name_bytes as usize).min(NAME_CAPACITY),
+            },
         };
         unless(a.number, 0, lease)
     }
@@ -501,7 +552,7 @@ impl Default for Book {
     }
 }
 
-/// Books are equal where their images and the figures are: one book has one image.
+/// Books are equal where their images and the figures are: in the form that a book has, one table has one image.
 impl PartialEq for Book {
     fn eq(&self, other: &Book) -> bool {
         self.image[..self.bytes] == other.image[..other.bytes] && self.figures == other.figures

@@ -8,6 +8,8 @@ const NAME_26: &[u8] = &[0xdc, 11, 0, 2, 8, 0, 10, 0, 8, 0, 26, 0, 0];
 const TELL_26: &[u8] = &[
     0xdc, 17, 0, 2, 14, 0, 10, 0, 8, 0, 26, 0, 6, 1, 10, 0xff, 0xff, 0, 2,
 ];
+/// An ask for a /26 with h, and the name `west hall`.
+const ASK_WEST: &[u8] = b"\xdc\x10\x00\x03\x09west hall\x01\x02\x01\x1a";
 const LIST: &[u8] = &[0xdc, 5, 0, 1, 2, 2, 0];
 
 fn opened() -> Book {
@@ -25,7 +27,8 @@ fn no_book_is_refused() {
     assert_eq!(number(book.head()), 5);
     assert_eq!(number(book.pool(0)), 5);
     assert_eq!(number(book.lease(0)), 5);
-    assert_eq!(number(book.save()), 5);
+    assert_eq!(number(book.save(Form::First)), 5);
+    assert_eq!(number(book.save(Form::Second)), 5);
     assert_eq!(number(book.whole(26)), 5);
     assert_eq!(number(book.whole(99)), 5);
     assert_eq!(number(book.sheet()), 5);
@@ -50,6 +53,7 @@ fn a_lease_from_ask_to_release() {
         h: true,
         d: false,
         expires: 1120,
+        name: Name::default(),
     };
     assert_eq!(book.lease(0), Ok(held));
     book.take(7, 1010, NAME_26).unwrap();
@@ -117,9 +121,11 @@ fn a_refusal_and_going_back_leave_the_book() {
     assert_eq!(book, before);
     book.ask(7, 1000, ASK_26_H).unwrap();
     assert_ne!(book, before);
-    let saved = book.save().unwrap();
-    assert_eq!(Book::load(&saved), Ok(book.clone()));
-    assert_eq!(number(Book::load(&saved[1..])), 5);
+    for form in [Form::First, Form::Second] {
+        let saved = book.save(form).unwrap();
+        assert_eq!(Book::load(&saved), Ok(book.clone()));
+        assert_eq!(number(Book::load(&saved[1..])), 5);
+    }
     book = before.clone();
     assert_eq!(book, before);
 }
@@ -143,7 +149,7 @@ fn how_much_is_left() {
         [24, 26, 27].map(|length| book.whole(length)),
         [Ok(1), Ok(0), Ok(1)]
     );
-    let loaded = Book::load(&book.save().unwrap()).unwrap();
+    let loaded = Book::load(&book.save(Form::Second).unwrap()).unwrap();
     assert_eq!(loaded.whole(27), Ok(1));
 }
 
@@ -171,11 +177,56 @@ fn figures_are_told_and_not_saved() {
     for index in [1, 255, 256, usize::MAX] {
         assert_eq!(book.figures(index), None);
     }
-    let loaded = Book::load(&book.save().unwrap()).unwrap();
+    let loaded = Book::load(&book.save(Form::Second).unwrap()).unwrap();
     assert_eq!(loaded.figures(0), Some(untold));
     assert_ne!(loaded, book);
     book.release(7, 1020, NAME_26).unwrap();
     assert_eq!(book.figures(0), None);
+}
+
+#[test]
+fn names_and_the_two_forms() {
+    let mut book = opened();
+    book.ask(7, 1000, ASK_WEST).unwrap();
+    let lease = book.lease(0).unwrap();
+    assert_eq!(lease.name.octets(), b"west hall");
+    assert_eq!((lease.name.len(), &lease.name[..4]), (9, &b"west"[..]));
+    assert_eq!(format!("{:?}", lease.name), "\"west hall\"");
+    let row = "used 10.0.8.0/26 station 7 until 1120 name west hall\n";
+    assert!(book.sheet().unwrap().contains(row));
+    // Given again and taken, it keeps its name.
+    book.ask(7, 1010, ASK_26_H).unwrap();
+    book.take(7, 1020, NAME_26).unwrap();
+    assert_eq!(book.lease(0).unwrap().name, lease.name);
+    // The first form has no place for it.
+    assert_eq!(number(book.save(Form::First)), 18);
+    let second = book.save(Form::Second).unwrap();
+    assert_eq!(second.len(), 13 + 18 + 44);
+    assert_eq!(Book::load(&second), Ok(book.clone()));
+    // Without it a book goes there and back.
+    book.release(7, 1030, NAME_26).unwrap();
+    book.ask(8, 1030, ASK_26_H).unwrap();
+    assert!(book.lease(0).unwrap().name.is_empty());
+    let first = book.save(Form::First).unwrap();
+    assert_eq!((first.len(), first[2]), (13 + 18 + 19, 1));
+    let loaded = Book::load(&first).unwrap();
+    assert_eq!(loaded, book);
+    assert_eq!(loaded.save(Form::First), Ok(first));
+    assert_eq!(loaded.save(Form::Second), book.save(Form::Second));
+    // A name of 25 octets, and one of 24.
+    let mut long = vec![0xdc, 32, 0, 3, 25];
+    long.extend([0xff; 25]);
+    long.extend([1, 2, 0, 27]);
+    assert_eq!(number(book.ask(9, 1040, &long)), 17);
+    long.remove(5);
+    (long[1], long[4]) = (31, 24);
+    book.ask(9, 1040, &long).unwrap();
+    let longest = book.leases().find(|lease| lease.client == 9).unwrap();
+    assert_eq!(longest.name.octets(), [0xff; NAME_CAPACITY]);
+    assert!(book
+        .sheet()
+        .unwrap()
+        .contains(&format!(" name {}\n", "?".repeat(24))));
 }
 
 #[test]
@@ -217,6 +268,11 @@ fn refusals_in_words() {
         "refused 16: a field outside the rules in the suboption at 3"
     );
     assert_eq!(words(13, 0), "refused 13: no number of this library");
+    assert_eq!(words(17, 0), "refused 17: the name is too long");
+    assert_eq!(
+        words(18, 0),
+        "refused 18: names would be lost in the first form"
+    );
     assert_eq!(
         words(15, 0),
         "refused 15: the figures sheet does not match the table"

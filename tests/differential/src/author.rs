@@ -5,7 +5,7 @@ use reference::numbers::Numbers;
 use reference::prefix::{prefix, Prefix};
 use reference::table::LATEST;
 
-use crate::bytes::{hex, image, option, reply_of, request, LONGEST_OPTION};
+use crate::bytes::{hex, option, reply_of, request, LONGEST_OPTION};
 use crate::damage::{damage_image, damage_line};
 use crate::script::Script;
 use options::REQUEST_I;
@@ -15,6 +15,7 @@ mod again;
 mod counts;
 mod faults;
 mod figures;
+mod names;
 mod options;
 mod tables;
 mod writing;
@@ -111,6 +112,9 @@ impl Author {
         self.script.say("save");
         self.script.say("figures");
         self.script.say("counts");
+        if self.numbers.once_in(8) {
+            self.save_in_a_form();
+        }
     }
 
     /// A line that is often no command, and image, figures and counts after it.
@@ -335,7 +339,8 @@ impl Author {
 
     /// The table's own image, or a damaged one.
     fn load_again(&mut self) {
-        let mut bytes = image(self.script.table());
+        let table = self.script.table().clone();
+        let mut bytes = self.image_of(&table);
         if !self.numbers.once_in(3) {
             damage_image(&mut self.numbers, &mut bytes);
         }

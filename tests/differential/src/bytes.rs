@@ -2,6 +2,7 @@
 //! the replies that come back. What is made here does not keep to the rules, so that bad
 //! options can be made as well.
 
+use reference::image::Form;
 use reference::option::{read220, Entry, Suboption};
 use reference::prefix::Prefix;
 use reference::samples;
@@ -87,9 +88,15 @@ pub fn nothing_ignored(option: &[u8]) -> bool {
     option[2] == 0 && suboption_places(option).into_iter().all(plain)
 }
 
-/// The image of a table, whatever its counts are; no bytes if it is not sound but for them.
+/// The image of a table in a form, whatever its counts are; no bytes if it is not sound but
+/// for them, or has names that the form has no place for.
+pub fn image_in(form: Form, table: &Table) -> Vec<u8> {
+    samples::image_in(form, &table.clone().counted())
+}
+
+/// The image in the second form, which has a place for everything.
 pub fn image(table: &Table) -> Vec<u8> {
-    samples::image(&table.clone().counted())
+    image_in(Form::Second, table)
 }
 
 /// Where each record of an image begins, by their lengths, and where the last ends.
@@ -113,6 +120,16 @@ pub fn from_hex(word: &[u8]) -> Option<Vec<u8>> {
 pub fn reply_of(answer: &str) -> Option<Vec<u8>> {
     let rest = answer.strip_prefix("ok bytes=")?.trim_end();
     from_hex(rest.rsplit(' ').next()?.as_bytes())
+}
+
+/// The octets of the first name of an option; none if there is none or it is a bad option.
+pub fn first_name(option: &[u8]) -> Option<Vec<u8>> {
+    let list = read220(option).ok()?.into_iter();
+    list.filter_map(|suboption| match suboption {
+        Suboption::Name(octets) => Some(octets),
+        _ => None,
+    })
+    .next()
 }
 
 /// The entries of all informations of an option; none if it is a bad one.

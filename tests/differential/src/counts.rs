@@ -10,14 +10,15 @@ use crate::again::Again;
 use crate::bytes::{entries_of, from_hex, reply_of};
 use crate::faults::{fault, Faults};
 use crate::left::Left;
+use crate::names::Names;
 use crate::rounds::Rounds;
 use crate::script::{Script, Step};
 
 /// Each command with the numbers that it can be refused with, in the papers' row order.
-/// The buffer that `save` is given holds a full book, so it has no 14.
+/// The buffer that `save` is given holds a full book of the form, so it has no 14.
 const COMMANDS: [(&str, &[u8]); 15] = [
     ("open", &[12]),
-    ("ask", &[1, 5, 15, 2, 3, 4, 6, 7, 16, 8, 9, 10]),
+    ("ask", &[1, 5, 15, 2, 3, 4, 6, 7, 16, 8, 17, 9, 10]),
     ("take", &[1, 5, 15, 2, 3, 4, 6, 7, 16, 8, 11]),
     ("list", &[1, 5, 2, 3, 4, 6, 7, 16, 8, 11]),
     ("return", &[5, 15, 2, 3, 4, 6, 7, 16, 8, 11]),
@@ -27,7 +28,7 @@ const COMMANDS: [(&str, &[u8]); 15] = [
     ("read", &[6, 7, 16]),
     ("write", &[13, 14]),
     ("whole", &[5]),
-    ("save", &[5]),
+    ("save", &[5, 18]),
     ("figures", &[]),
     ("counts", &[5]),
     ("buffer", &[]),
@@ -60,6 +61,8 @@ pub struct Counts {
     left: Left,
     /// What was wrong with suboptions.
     faults: Faults,
+    /// Names, and loads of both forms.
+    names: Names,
 }
 
 impl Counts {
@@ -83,6 +86,7 @@ impl Counts {
         if let Some(met) = step.met {
             self.left.add(met);
         }
+        self.names.add(&step.names);
         if let Some(fault) = fault(&step.words(), &step.answer) {
             self.faults.add(&fault);
         }
@@ -122,6 +126,7 @@ impl Counts {
         missing.extend(self.again.missing(self.calls()));
         missing.extend(self.left.missing());
         missing.extend(self.faults.missing());
+        missing.extend(self.names.missing());
         if self.filed == 0 {
             missing.push("take with figures".to_string());
         }
@@ -192,7 +197,7 @@ impl Display for Counts {
         }
         write!(
             out,
-            "error lines {}, {}, {} sheets given, {} calls refused with 15, {} takes filed figures, {}, {}, {}",
+            "error lines {}, {}, {} sheets given, {} calls refused with 15, {} takes filed figures, {}, {}, {}, {}",
             self.errors,
             self.rounds,
             self.sheets,
@@ -200,7 +205,8 @@ impl Display for Counts {
             self.filed,
             self.again,
             self.left,
-            self.faults
+            self.faults,
+            self.names
         )
     }
 }
@@ -232,7 +238,10 @@ mod tests {
             text.contains("write 4 (1 ok, 1 x 13, 1 x 14, 1 error)"),
             "{text}"
         );
-        assert!(text.contains("save 2 (1 ok, 1 x 5, 0 error)"), "{text}");
+        assert!(
+            text.contains("save 2 (1 ok, 1 x 5, 0 x 18, 0 error)"),
+            "{text}"
+        );
         assert!(text.contains("error lines 3,"), "{text}");
         assert!(counts.missing().contains(&"ask 9".to_string()));
         assert!(!counts.missing().contains(&"ask 10".to_string()));

@@ -111,12 +111,74 @@ fn repeat_suboption(numbers: &mut Numbers, option: &mut Vec<u8>) {
     }
 }
 
-/// An image: anywhere, in a field, or whole records.
+/// An image: anywhere, in a field, whole records, or records of the other form.
 pub fn damage_image(numbers: &mut Numbers, image: &mut Vec<u8>) {
-    match numbers.below(10) {
+    match numbers.below(12) {
         0..=2 => damage(numbers, image),
         3..=6 => damage_field(numbers, image),
+        7 => damage_name(numbers, image),
+        8 => mix_forms(numbers, image),
         _ => damage_records(numbers, image),
+    }
+}
+
+/// A name of a lease of the second form: its length, its last octet, one after it. Now and
+/// then it is still a good one.
+fn damage_name(numbers: &mut Numbers, image: &mut [u8]) {
+    let places = record_places(image);
+    let named: Vec<usize> = places
+        .into_iter()
+        .filter(|place| *place + 44 <= image.len() && image[*place + 2] == 4)
+        .collect();
+    if named.is_empty() {
+        return;
+    }
+    let name = named[numbers.below(named.len())] + 19;
+    let length = usize::from(image[name]).min(24);
+    match numbers.below(8) {
+        0 => image[name] = 25,
+        1 => image[name] = EDGES[numbers.below(EDGES.len())],
+        2 => image[name] = image[name].wrapping_add(1),
+        3 => image[name] = image[name].wrapping_sub(1),
+        4 if length > 0 => image[name + length] = 0,
+        5 if length < 24 => image[name + 1 + length] = 1,
+        6 => image[name + 1 + numbers.below(24)] ^= 1 << numbers.below(8),
+        _ => image[name + 24] = [0, 1, 0x80][numbers.below(3)],
+    }
+}
+
+/// A head of one form with leases of the other, or a lease of the other form among the rest.
+fn mix_forms(numbers: &mut Numbers, image: &mut Vec<u8>) {
+    let places = record_places(image);
+    let leases: Vec<usize> = places
+        .windows(2)
+        .map(|ends| ends[0])
+        .filter(|place| [3, 4].contains(&image[*place + 2]))
+        .collect();
+    if leases.is_empty() || numbers.once_in(3) {
+        if image.len() > 2 {
+            image[2] = if image[2] == 1 { 5 } else { 1 };
+        }
+        return;
+    }
+    // From one lease on to another; all of them with the head untouched now and then.
+    let first = if numbers.once_in(2) {
+        0
+    } else {
+        numbers.below(leases.len())
+    };
+    let count = [1, leases.len()][numbers.below(2)];
+    for place in leases[first..].iter().take(count).rev() {
+        let length = 2 + usize::from(image[*place]);
+        let end = (*place + length).min(image.len());
+        if end < *place + 4 {
+            continue;
+        }
+        let mut record = image[*place..end].to_vec();
+        let (kind, size) = if record[2] == 3 { (4, 44) } else { (3, 19) };
+        record.resize(size, 0);
+        (record[0], record[1], record[2]) = (size as u8 - 2, 0, kind);
+        image.splice(*place..end, record);
     }
 }
 
@@ -168,8 +230,19 @@ fn damage_field(numbers: &mut Numbers, image: &mut [u8]) {
 /// Place and width of a field of a record of this kind.
 fn field(numbers: &mut Numbers, kind: u8) -> (usize, usize) {
     let fields: &[(usize, usize)] = match kind {
-        1 => &[(4, 4), (8, 1), (9, 4)],
+        1 | 5 => &[(4, 4), (8, 1), (9, 4)],
         2 => &[(4, 4), (8, 1)],
+        4 => &[
+            (4, 4),
+            (8, 1),
+            (9, 1),
+            (10, 1),
+            (11, 4),
+            (15, 4),
+            (19, 1),
+            (20, 1),
+            (43, 1),
+        ],
         _ => &[(4, 4), (8, 1), (9, 1), (10, 1), (11, 4), (15, 4)],
     };
     match numbers.below(10) {

@@ -10,6 +10,7 @@ mod counts;
 mod damage;
 mod faults;
 mod left;
+mod names;
 mod plant;
 mod program;
 mod rounds;

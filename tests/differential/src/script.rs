@@ -6,6 +6,7 @@ use reference::table::Table;
 
 use crate::again::{given, Given};
 use crate::left::{met, Met};
+use crate::names::{names, Names};
 
 pub struct Step {
     /// With its newline, which only the last line of a script may lack.
@@ -16,6 +17,8 @@ pub struct Step {
     pub given: Option<Given>,
     /// What it has to do with the counts.
     pub met: Option<Met>,
+    /// What it has to do with names and with the two forms.
+    pub names: Names,
 }
 
 impl Step {
@@ -65,6 +68,7 @@ impl Script {
         let (after, words) = (&self.console.table, words_of(&line));
         let given = given(&before, &words, &answer);
         let met = met(&before, after, &words, &answer);
+        let names = names(&before, after, &words, &answer);
         if before.leases != after.leases {
             self.counts = before.counts;
         }
@@ -73,6 +77,7 @@ impl Script {
             answer,
             given,
             met,
+            names,
         });
         &self.steps[self.steps.len() - 1].answer
     }

@@ -1,12 +1,12 @@
 //! The shapes of the scripts: what each is out for.
 
 use reference::console::LONGEST_LINE;
-use reference::image::FULL;
+use reference::image::Form;
 use reference::prefix::prefix;
 use reference::table::{State, Table, LATEST};
 
 use crate::author::{Author, Profile};
-use crate::bytes::{entry, hex, image, information, option, request, suboption};
+use crate::bytes::{entry, hex, information, option, request, suboption};
 use crate::damage::{damage, damage_image, damage_option};
 use crate::script::Script;
 
@@ -14,7 +14,7 @@ use crate::script::Script;
 type Shape = (&'static str, fn(&mut Author));
 
 /// Taken in turn, so that every run has all of them.
-const SHAPES: [Shape; 22] = [
+const SHAPES: [Shape; 23] = [
     ("one pool", |author| walk(author, &ONE_POOL)),
     ("small pools", |author| walk(author, &SMALL_POOLS)),
     ("many pools", |author| walk(author, &MANY_POOLS)),
@@ -28,6 +28,7 @@ const SHAPES: [Shape; 22] = [
     ("figures", figures),
     ("asks again", asks_again),
     ("counts", counts),
+    ("names", names),
     ("faults", |author| walk(author, &FAULTS)),
     ("short", short),
     ("openings", openings),
@@ -215,7 +216,8 @@ fn pages(author: &mut Author) {
     if author.numbers.once_in(2) {
         whole_pages(author, &mut table);
     }
-    author.call(format!("load {}", hex(&image(&table))));
+    let bytes = author.image_of(&table);
+    author.call(format!("load {}", hex(&bytes)));
     for _ in 0..author.numbers.between(15, 45) {
         match author.numbers.below(7) {
             0 => author.list_from_the_start(&profile),
@@ -282,7 +284,8 @@ fn asks_again(author: &mut Author) {
     };
     if author.numbers.once_in(2) {
         let table = author.table_of_held(&profile);
-        author.call(format!("load {}", hex(&image(&table))));
+        let bytes = author.image_of(&table);
+        author.call(format!("load {}", hex(&bytes)));
     } else {
         author.start(&profile);
     }
@@ -318,6 +321,40 @@ fn counts(author: &mut Author) {
             _ => author.any_call(&profile),
         }
     }
+}
+
+/// Asks with names of all lengths, for what is held too; takes, marks and ends in between;
+/// saves and loads in both forms.
+fn names(author: &mut Author) {
+    let profile = Profile {
+        pools: 2,
+        pool_lengths: (23, 26),
+        lengths: (25, 30),
+        requests: 6,
+        clients: 3,
+        ends: 6,
+        faults: author.one_of(&[12, 60]),
+        leases: author.one_of(&[6, 30]),
+        ..ONE_POOL
+    };
+    author.start(&profile);
+    for _ in 0..author.numbers.between(20, 80) {
+        match author.numbers.below(12) {
+            0..=4 => author.ask_with_name(&profile),
+            5 => {
+                author.save_in_a_form();
+                author.say("sheet".to_string());
+            }
+            6 => {
+                let table = author.script.table().clone();
+                let table = author.without_names(&table);
+                let bytes = author.image_of(&table);
+                author.call(format!("load {}", hex(&bytes)));
+            }
+            _ => author.any_call(&profile),
+        }
+    }
+    author.say("sheet".to_string());
 }
 
 /// A few calls and no more, often without a table.
@@ -379,20 +416,23 @@ fn images(author: &mut Author) {
     let mut bytes = Vec::new();
     for _ in 0..author.numbers.between(30, 90) {
         if bytes.is_empty() || author.numbers.once_in(10) {
-            bytes = image(&author.any_table(&profile));
+            let table = author.any_table(&profile);
+            bytes = author.image_of(&table);
         }
         let mut damaged = bytes.clone();
         for _ in 0..author.one_of(&[0, 1, 1, 1, 1, 1, 2]) {
             damage_image(&mut author.numbers, &mut damaged);
         }
         if author.numbers.once_in(60) {
-            damaged.resize(author.one_of(&[FULL, FULL + 1, 3 * FULL]), 0);
+            let full = author.one_of(&[Form::First.full(), Form::Second.full()]);
+            damaged.resize(author.one_of(&[full, full + 1, 3 * full]), 0);
         }
         let answer = author.call(format!("load {}", hex(&damaged)));
         if answer == "ok\n" && author.numbers.once_in(2) {
             author.say("sheet".to_string());
             author.any_call(&profile);
-            bytes = image(author.script.table());
+            let table = author.script.table().clone();
+            bytes = author.image_of(&table);
         }
     }
 }
@@ -484,7 +524,7 @@ fn late_place(author: &mut Author) -> Vec<u8> {
 fn lines(author: &mut Author) {
     const COMMANDS: &str =
         "open ask take list return mark save load sheet figures whole counts read write buffer";
-    const WORDS: &str = "0 7 1000 3600 28 257 10.0.0.0/8 10.0.0.0/28 dc05000102001c \
+    const WORDS: &str = "0 1 2 7 1000 3600 28 257 10.0.0.0/8 10.0.0.0/28 dc05000102001c \
                          dc0b000208000a0000001c0000 - # 4294967296 unknown name address";
     let commands: Vec<&str> = COMMANDS.split_whitespace().collect();
     let any: Vec<&str> = WORDS.split_whitespace().chain(commands.clone()).collect();

@@ -3,12 +3,14 @@
 //! its bytes, which is what `figures` is in each of them. Ask re-gives what is held already
 //! (M-101 in document 02). "Every call that changes lines keeps" the counts "equal to what a
 //! fresh walk would find" (M-102 in document 02): so each that is accepted works them out.
+//! A lease's name (M-105 in document 02) is part of it, so it stays with the lease and goes
+//! with it.
 
 use crate::figures::{fill, matches, present_rows, put_rows, rows_after, rows_of, Row};
 use crate::option::{read220, write220, Entry, Information, Request, Suboption};
 use crate::prefix::Prefix;
 use crate::refusal::{refusal, Refusal};
-use crate::table::{head_in_rules, pools_in_rules, Lease, State, Table, LATEST, LEASES};
+use crate::table::{head_in_rules, pools_in_rules, Lease, Name, State, Table, LATEST, LEASES};
 
 /// Row 1: "reply buffer below 257 bytes (ask, take, list)".
 pub const REPLY: usize = 257;
@@ -115,6 +117,17 @@ fn informations(list: &[Suboption]) -> Vec<&Information> {
     informations
 }
 
+/// M-105: "from the first Name suboption of the ask", and row 17: "an ask's first name above
+/// 24 octets". Without a Name the name is empty; later ones do not matter.
+fn name_for_new(list: &[Suboption]) -> Result<Name, Refusal> {
+    for suboption in list {
+        if let Suboption::Name(octets) = suboption {
+            return Name::of(octets).ok_or(refusal(17));
+        }
+    }
+    Ok(Name::default())
+}
+
 /// The entries of all informations, in order.
 fn all_entries(list: &[Suboption]) -> Vec<Entry> {
     let mut entries = Vec::new();
@@ -166,11 +179,14 @@ pub fn ask(
     check_buffer(buffer)?;
     let rows = check_figures(table, figures)?;
     check_call(table, client, now)?;
-    let requests = requests(&read220(option)?);
+    let list = read220(option)?;
+    let requests = requests(&list);
     // "the option has 1 to 25 requests, none with i".
     if requests.is_empty() || requests.len() > MOST_REQUESTS || requests.iter().any(|r| r.i) {
         return Err(refusal(8));
     }
+    // "17 ... after 8", whatever would be granted.
+    let name = name_for_new(&list)?;
     // "They are served in order, each on the book that the one before left."
     let mut next = struck_at(table, now);
     let mut held = held_by(&next, client);
@@ -180,7 +196,7 @@ pub fn ask(
         let served = match give_again(&mut next, &mut held, now, request) {
             Some(lease) => Ok(lease),
             // M-101: "Only the rest take new ground."
-            None => serve(&mut next, client, now, request),
+            None => serve(&mut next, client, now, request, name),
         };
         match served {
             Ok(lease) => reply.push(Suboption::Information(Information {
@@ -230,7 +246,7 @@ fn held_by(table: &Table, client: u32) -> Vec<Lease> {
 
 /// M-101: one request, if a lease "of the same length and h" is left in `held`: it "gets
 /// that line again, held until now + 120 (its d stays ...), lowest network first, each line
-/// at most once in a message".
+/// at most once in a message". M-105: "a re-given line keeps its own" name.
 fn give_again(
     table: &mut Table,
     held: &mut Vec<Lease>,
@@ -250,8 +266,15 @@ fn give_again(
     Some(again)
 }
 
-/// One request of the rest: a new lease in the table, or 9 or 10.
-fn serve(table: &mut Table, client: u32, now: u32, request: Request) -> Result<Lease, Refusal> {
+/// One request of the rest: a new lease in the table, or 9 or 10. The name is "the same for
+/// all lines newly made by that message".
+fn serve(
+    table: &mut Table,
+    client: u32,
+    now: u32,
+    request: Request,
+    name: Name,
+) -> Result<Lease, Refusal> {
     // Row 9: "ask: no empty line".
     let mut leases = table.used_leases().to_vec();
     if leases.len() == LEASES {
@@ -269,6 +292,7 @@ fn serve(table: &mut Table, client: u32, now: u32, request: Request) -> Result<L
         h: request.h,
         d: false,
         expires: now + OFFER_TIME,
+        name,
     };
     leases.push(lease);
     table.set_leases(leases);

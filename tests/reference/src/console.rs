@@ -6,7 +6,7 @@ use std::io::{self, BufRead, Write};
 use crate::calls::{self, Answer};
 use crate::counts;
 use crate::figures::{rows_of, untold_sheet, SHEET, UNTOLD};
-use crate::image;
+use crate::image::{self, Form};
 use crate::option::{read118, read220, write118, write220, SUBNET_SELECTION};
 use crate::prefix::{dotted, Prefix};
 use crate::refusal::{refusal, Refusal};
@@ -123,11 +123,10 @@ impl Console {
                 let (table, figures) = (&mut self.table, &mut self.figures[..]);
                 Some(ok_or_refused(calls::mark(table, figures, now, prefix, d)))
             }
-            (b"save", []) => {
-                let mut buffer = vec![0; image::FULL];
-                let saved = image::save(&self.table, &mut buffer);
-                Some(written(saved, &buffer))
-            }
+            // "`save` and `save 2` write the second form, `save 1` the first".
+            (b"save", []) => Some(self.save(Form::Second)),
+            (b"save", [b"2"]) => Some(self.save(Form::Second)),
+            (b"save", [b"1"]) => Some(self.save(Form::First)),
             (b"load", [image]) => {
                 let image = hex(image)?;
                 let (table, figures) = (&mut self.table, &mut self.figures[..]);
@@ -177,6 +176,13 @@ impl Console {
             }
             _ => None,
         }
+    }
+
+    /// "The buffer holds every book of the form."
+    fn save(&self, form: Form) -> String {
+        let mut buffer = vec![0; form.full()];
+        let saved = image::save(&self.table, form, &mut buffer);
+        written(saved, &buffer)
     }
 
     fn open(&mut self, term: u32, default: u8, start: u32, words: &[&[u8]]) -> Option<String> {

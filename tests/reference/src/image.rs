@@ -1,4 +1,4 @@
-//! The image: document 01's saved book.
+//! The image: document 01's saved book, and the second form of M-105 in document 02.
 //!
 //! "Records: a 2-byte length counting kind and body, a 2-byte kind, the body; all
 //! little-endian."
@@ -6,25 +6,69 @@
 use crate::figures::fill;
 use crate::prefix::Prefix;
 use crate::refusal::{refusal, Refusal};
-use crate::table::{Lease, State, Table, LEASES, POOLS};
+use crate::table::{Lease, Name, State, Table, LEASES, NAME, POOLS};
 
-const HEAD: u16 = 1;
 const POOL: u16 = 2;
-const LEASE: u16 = 3;
 
-/// "A full book is 4,949 bytes."
-pub const FULL: usize = 4_949;
+/// The two saved forms. M-105: "The second saved form has head kind 5 (body as kind 1) and
+/// line kind 4 ...; kind 2 is unchanged."
+#[derive(Clone, Copy, Debug, PartialEq, Eq)]
+pub enum Form {
+    First,
+    Second,
+}
+
+impl Form {
+    pub const BOTH: [Form; 2] = [Form::First, Form::Second];
+
+    /// The kind of the head, which tells the form.
+    pub fn head(self) -> u16 {
+        match self {
+            Form::First => 1,
+            Form::Second => 5,
+        }
+    }
+
+    /// The kind of a lease.
+    pub fn lease(self) -> u16 {
+        match self {
+            Form::First => 3,
+            Form::Second => 4,
+        }
+    }
+
+    /// The body of a lease: "kind 3's body, a name length (1), 24 octets".
+    pub fn lease_body(self) -> usize {
+        match self {
+            Form::First => 15,
+            Form::Second => 15 + 1 + NAME,
+        }
+    }
+
+    /// "A full book is 4,949 bytes."; M-105: "A full book is then 11,349 bytes."
+    pub fn full(self) -> usize {
+        match self {
+            Form::First => 4_949,
+            Form::Second => 11_349,
+        }
+    }
+}
 
 const FLAG_H: u8 = 1;
 const FLAG_D: u8 = 2;
 
-/// Saves the table into the front of `buffer` and returns the bytes written. The
+/// Saves the table in a form into the front of `buffer` and returns the bytes written. The
 /// bytes after them keep their content.
-pub fn save(table: &Table, buffer: &mut [u8]) -> Result<usize, Refusal> {
+pub fn save(table: &Table, form: Form, buffer: &mut [u8]) -> Result<usize, Refusal> {
     if !table.sound() {
         return Err(refusal(5));
     }
-    let image = image_of(table);
+    // Row 18, before 14: "names would be lost", "refused exactly if a line has a name".
+    let named = |lease: &Lease| lease.name != Name::default();
+    if form == Form::First && table.used_leases().iter().any(named) {
+        return Err(refusal(18));
+    }
+    let image = image_of(table, form);
     // Row 14: "more than the buffer holds".
     if buffer.len() < image.len() {
         return Err(refusal(14));
@@ -33,15 +77,15 @@ pub fn save(table: &Table, buffer: &mut [u8]) -> Result<usize, Refusal> {
     Ok(image.len())
 }
 
-/// The image of a sound table.
-fn image_of(table: &Table) -> Vec<u8> {
+/// The image of a sound table in a form; the first leaves names out.
+fn image_of(table: &Table, form: Form) -> Vec<u8> {
     let mut image = Vec::new();
     // "Kind 1, head, once and first: term (4), default length (1), last time (4)."
     let mut head = Vec::new();
     head.extend(table.term.to_le_bytes());
     head.push(table.default_length);
     head.extend(table.last_time.to_le_bytes());
-    put_record(&mut image, HEAD, &head);
+    put_record(&mut image, form.head(), &head);
     // "Kind 2, root: network (4), length (1)."
     for pool in table.used_pools() {
         let mut body = Vec::new();
@@ -63,7 +107,12 @@ fn image_of(table: &Table) -> Vec<u8> {
         body.push(if lease.h { FLAG_H } else { 0 } + if lease.d { FLAG_D } else { 0 });
         body.extend(lease.client.to_le_bytes());
         body.extend(lease.expires.to_le_bytes());
-        put_record(&mut image, LEASE, &body);
+        // "kind 3's body, a name length (1), 24 octets, zero after the name".
+        if form == Form::Second {
+            body.push(lease.name.length);
+            body.extend(lease.name.octets);
+        }
+        put_record(&mut image, form.lease(), &body);
     }
     image
 }
@@ -94,64 +143,78 @@ pub fn loaded(image: &[u8]) -> Result<Table, Refusal> {
     }
 }
 
-/// The table that the records make, nothing if they are not the records of one.
+/// The table that the records make, nothing if they are not the records of one. M-105:
+/// "Load accepts both forms, never a mixture".
 fn table_of(image: &[u8]) -> Option<Table> {
+    let records = records(image)?;
+    // "head, once and first".
+    let (&(kind, head), rest) = records.split_first()?;
+    let form = Form::BOTH.into_iter().find(|form| form.head() == kind)?;
+    if head.len() != 9 {
+        return None;
+    }
     let mut table = Table::zero();
+    table.term = u32_at(head, 0);
+    table.default_length = head[4];
+    table.last_time = u32_at(head, 5);
     let mut pools = 0;
     let mut leases = 0;
-    let mut last_kind = 0;
-    for (kind, body) in records(image)? {
-        // "once and first"; "Roots then lines, ascending, nothing after." That they
-        // ascend is part of sound.
-        if kind < last_kind || (last_kind == 0) != (kind == HEAD) {
+    for &(kind, body) in rest {
+        if kind == POOL && body.len() == 5 {
+            let pool = prefix_at(body);
+            // "Roots then lines, ascending, nothing after." That they ascend is part of
+            // sound. An unused place has no record: "one book, one image".
+            if leases > 0 || pools == POOLS || pool == Prefix::default() {
+                return None;
+            }
+            table.pools[pools] = pool;
+            pools += 1;
+        } else if kind == form.lease() && body.len() == form.lease_body() {
+            if leases == LEASES {
+                return None;
+            }
+            table.leases[leases] = lease_of(body)?;
+            leases += 1;
+        } else {
             return None;
-        }
-        last_kind = kind;
-        match (kind, body.len()) {
-            (HEAD, 9) => {
-                table.term = u32_at(body, 0);
-                table.default_length = body[4];
-                table.last_time = u32_at(body, 5);
-            }
-            (POOL, 5) => {
-                let pool = Prefix {
-                    network: u32_at(body, 0),
-                    length: body[4],
-                };
-                // An unused place has no record: "one book, one image".
-                if pools == POOLS || pool == Prefix::default() {
-                    return None;
-                }
-                table.pools[pools] = pool;
-                pools += 1;
-            }
-            (LEASE, 15) => {
-                let state = match body[5] {
-                    1 => State::Offered,
-                    2 => State::Leased,
-                    _ => return None,
-                };
-                let flags = body[6];
-                if leases == LEASES || flags > FLAG_H + FLAG_D {
-                    return None;
-                }
-                table.leases[leases] = Lease {
-                    prefix: Prefix {
-                        network: u32_at(body, 0),
-                        length: body[4],
-                    },
-                    client: u32_at(body, 7),
-                    state,
-                    h: flags & FLAG_H != 0,
-                    d: flags & FLAG_D != 0,
-                    expires: u32_at(body, 11),
-                };
-                leases += 1;
-            }
-            _ => return None,
         }
     }
     Some(table)
+}
+
+fn prefix_at(body: &[u8]) -> Prefix {
+    Prefix {
+        network: u32_at(body, 0),
+        length: body[4],
+    }
+}
+
+/// The lease of a body of either form, that of the first without a name.
+fn lease_of(body: &[u8]) -> Option<Lease> {
+    let state = match body[5] {
+        1 => State::Offered,
+        2 => State::Leased,
+        _ => return None,
+    };
+    let flags = body[6];
+    if flags > FLAG_H + FLAG_D {
+        return None;
+    }
+    let mut name = Name::default();
+    // Whether the name is in the rules is part of sound.
+    if let Some((length, octets)) = body[15..].split_first() {
+        name.length = *length;
+        name.octets.copy_from_slice(octets);
+    }
+    Some(Lease {
+        prefix: prefix_at(body),
+        client: u32_at(body, 7),
+        state,
+        h: flags & FLAG_H != 0,
+        d: flags & FLAG_D != 0,
+        expires: u32_at(body, 11),
+        name,
+    })
 }
 
 /// Kind and body of each record, nothing if the bytes do not end with a record.

@@ -1,9 +1,9 @@
 //! What the tests and the scripts are made of: plain pieces, leases and tables.
 
-use crate::image::{save, FULL};
+use crate::image::{save, Form};
 use crate::option::{write220, Entry, Information, Request, Suboption};
 use crate::prefix::{prefix, Prefix};
-use crate::table::{Lease, State, Table, LATEST};
+use crate::table::{Lease, Name, State, Table, LATEST};
 
 /// 10.0.0.0.
 pub const TEN: u32 = 0x0a00_0000;
@@ -77,7 +77,14 @@ pub fn lease(at: Prefix, client: u32, state: State, expires: u32) -> Lease {
         h: false,
         d: false,
         expires,
+        name: Name::default(),
     }
+}
+
+/// The same lease with this name, of at most 24 octets.
+pub fn named(lease: Lease, octets: &[u8]) -> Lease {
+    let name = Name::of(octets).expect("at most 24 octets");
+    Lease { name, ..lease }
 }
 
 /// So many leased /30s from 10.0.0.0 on.
@@ -115,15 +122,21 @@ pub fn full_table() -> Table {
             h: index % 3 == 0,
             d: index % 5 == 0,
             expires: u32::MAX - index,
+            name: Name::default(),
         })
         .collect();
     table(&pools, LATEST, leases)
 }
 
-/// The image of a table; no bytes if it is not sound.
-pub fn image(table: &Table) -> Vec<u8> {
-    let mut buffer = vec![0; FULL];
-    let bytes = save(table, &mut buffer).unwrap_or(0);
+/// The image of a table in a form; no bytes if save refuses it.
+pub fn image_in(form: Form, table: &Table) -> Vec<u8> {
+    let mut buffer = vec![0; form.full()];
+    let bytes = save(table, form, &mut buffer).unwrap_or(0);
     buffer.truncate(bytes);
     buffer
+}
+
+/// The image of a table in the first form.
+pub fn image(table: &Table) -> Vec<u8> {
+    image_in(Form::First, table)
 }

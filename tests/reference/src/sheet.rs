@@ -48,12 +48,28 @@ fn show(block: Prefix, leases: &[Lease], rows: &mut Vec<String>) {
     } else if inside[0].prefix == block {
         let lease = inside[0];
         rows.push(format!(
-            "used {block} station {} until {}",
-            lease.client, lease.expires
+            "used {block} station {} until {}{}",
+            lease.client,
+            lease.expires,
+            name_text(&lease)
         ));
     } else if block.length < LONGEST {
         for half in block.halves() {
             show(half, &inside, rows);
         }
     }
+}
+
+/// M-105 in document 02: "a named line's row ends with ` name ` and its octets, those outside
+/// 0x20 to 0x7E as `?`".
+fn name_text(lease: &Lease) -> String {
+    let octets = lease.name.octets();
+    if octets.is_empty() {
+        return String::new();
+    }
+    let shown = octets.iter().map(|&octet| match octet {
+        0x20..=0x7e => char::from(octet),
+        _ => '?',
+    });
+    format!(" name {}", shown.collect::<String>())
 }

@@ -25,8 +25,43 @@ pub enum State {
     Leased,
 }
 
+/// M-105 in document 02: "A line gets a name of 0 to 24 octets".
+pub const NAME: usize = 24;
+
+/// A line's name, as its record of the second form has it: "a name length (1), 24 octets,
+/// zero after the name". The default is the empty name.
+#[derive(Clone, Copy, Debug, Default, PartialEq, Eq)]
+pub struct Name {
+    pub length: u8,
+    pub octets: [u8; NAME],
+}
+
+impl Name {
+    /// The name of these octets; nothing if they are above 24.
+    pub fn of(octets: &[u8]) -> Option<Name> {
+        let mut name = Name::default();
+        name.octets.get_mut(..octets.len())?.copy_from_slice(octets);
+        name.length = octets.len() as u8;
+        Some(name)
+    }
+
+    /// The octets of a name in the rules, without the zeros after it.
+    pub fn octets(&self) -> &[u8] {
+        &self.octets[..usize::from(self.length)]
+    }
+
+    /// "0 to 24 octets, the last not zero", "zero after the name".
+    pub fn in_rules(&self) -> bool {
+        usize::from(self.length) <= NAME
+            && self.octets().last() != Some(&0)
+            && self.octets[usize::from(self.length)..]
+                .iter()
+                .all(|octet| *octet == 0)
+    }
+}
+
 /// "A line is a block inside one root, a station (not 0), held or leased, the bits h
-/// and d, and an end." The default is the empty line, all zero.
+/// and d, and an end." M-105 adds a name. The default is the empty line, all zero.
 #[derive(Clone, Copy, Debug, Default, PartialEq, Eq)]
 pub struct Lease {
     pub prefix: Prefix,
@@ -35,6 +70,7 @@ pub struct Lease {
     pub h: bool,
     pub d: bool,
     pub expires: u32,
+    pub name: Name,
 }
 
 /// The table, with a place for every pool and every lease; unused places are all
@@ -222,4 +258,5 @@ fn lease_in_rules(lease: &Lease, pools: &[Prefix]) -> bool {
         && pools.iter().any(|pool| pool.contains(lease.prefix))
         && lease.client != 0
         && lease.state != State::None
+        && lease.name.in_rules()
 }

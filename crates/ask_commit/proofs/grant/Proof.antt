@@ -76,12 +76,12 @@ fit-in c =
     let room = records-fit _ _ _ _ (admitted-image _ _ _ _ _ _ _ (begun c .pre)) in
     all-map (λ p w some-place. omega (arith, room, w some-place)) (places-of c) (within c)
 
-given-is : (c : tie.After-find-held) → let a = begun c .args in let h = lent-of c in (option : List ℕ) → Asking h (a .asker .time) (call (a .asker .client) option (a .reply .now)) (a .ask-lengths .now) (a .ask-h .now)
+given-is : (c : tie.After-find-held) → let a = begun c .args in let h = lent-of c in (option : List ℕ) → Asking h (a .asker .time) (a .asker .name) (call (a .asker .client) option (a .reply .now)) (a .ask-lengths .now) (a .ask-h .now)
     → givenIn (usedLeases (tableIn h)) (places-of c) ≡ again (tableIn h) (a .asker .client) (present (a .asker .time) (usedLeases (tableIn h))) (requestsIn option)
 given-is c option k =
     let s = begun c in
     let h = lent-of c in
-    c .find-held .ensures .1 .1 (tableIn h) (usedLeases (tableIn h)) (requestsIn option) (s .pre .admitted .records) (s .pre .admitted .leases) (asks-are _ _ _ _ _ _ _ (s .pre) option k)
+    c .find-held .ensures .1 .1 (tableIn h) (usedLeases (tableIn h)) (requestsIn option) (s .pre .admitted .records) (s .pre .admitted .leases) (asks-are _ _ _ _ _ _ _ (s .pre) _ option k)
 
 -- THE COLUMNS of what the rest is offered.
 abbrev networks-of : tie.After-serve-rest → List ℕ
@@ -96,8 +96,8 @@ long-enough c =
     (omega (arith, few, c .serve-rest .kept .1 .1 .1 .1 .1 .1 .0), omega (arith, few, c .serve-rest .kept .1 .1 .1 .1 .1 .1 .1 .0))
 
 granted : (c : tie.After-serve-rest) → let a = begun (found-of c) .args in let h = lent-of (found-of c) in
-    (option : List ℕ) → Asking h (a .asker .time) (call (a .asker .client) option (a .reply .now)) (a .ask-lengths .now) (a .ask-h .now)
-    → Granted (tableIn h) (a .asker .time) (a .asker .client) (present (a .asker .time) (tableIn h .leases)) (givenIn (usedLeases (tableIn h)) (places-of (found-of c))) (requestsIn option) (networks-of c) (lengths-of c)
+    (option : List ℕ) → Asking h (a .asker .time) (a .asker .name) (call (a .asker .client) option (a .reply .now)) (a .ask-lengths .now) (a .ask-h .now)
+    → Granted (tableIn h) (a .asker .time) (a .asker .client) (a .asker .name) (present (a .asker .time) (tableIn h .leases)) (givenIn (usedLeases (tableIn h)) (places-of (found-of c))) (requestsIn option) (networks-of c) (lengths-of c)
 granted c option k =
     let s = begun (found-of c) in
     c .serve-rest .ensures .1 (admitted-image _ _ _ _ _ _ _ (s .pre)) (usedLeases (tableIn (lent-of (found-of c)))) (requestsIn option) (k .lengths) (requests-short option)
@@ -135,7 +135,7 @@ returns c =
     let s = begun found in
     let long = long-enough served in
     ap (λ (r : Answer). result r (lent-of found) (s .args .reply .now)) (c .refused .ensures)
-    ∙ ask-full _ _ _ _ _ _ _ (s .pre) option k (places-of found) (places-many found) (given-is found option k) (networks-of served) (lengths-of served) (long .0) (long .1) (granted served option k)
+    ∙ ask-full _ _ _ _ _ _ _ (s .pre) _ option k (places-of found) (places-many found) (given-is found option k) (networks-of served) (lengths-of served) (long .0) (long .1) (granted served option k)
     (found .find-held .result) (served .serve-rest .result) (places-count found) (served .serve-rest .ensures .0 .2) (none .if1 .taken) (then .if2 .taken)
 
 returns-2 : tie.Need-returns-2
@@ -148,7 +148,7 @@ returns-2 c =
     let s = begun found in
     let long = long-enough served in
     ap (λ (r : Answer). result r (lent-of found) (s .args .reply .now)) (c .refused2 .ensures)
-    ∙ ask-none _ _ _ _ _ _ _ (s .pre) option k (places-of found) (places-many found) (given-is found option k) (networks-of served) (lengths-of served) (long .0) (long .1) (granted served option k)
+    ∙ ask-none _ _ _ _ _ _ _ (s .pre) _ option k (places-of found) (places-many found) (given-is found option k) (networks-of served) (lengths-of served) (long .0) (long .1) (granted served option k)
     (found .find-held .result) (served .serve-rest .result) (places-count found) (served .serve-rest .ensures .0 .2) (none .if1 .taken) (else .if2 .left)
 
 slice-aggregate-put-offers : tie.Need-slice-aggregate-put-offers
@@ -243,12 +243,12 @@ returns-3 c =
     let image = committed .commit-grants .last .0 in
     let sheet = committed .commit-grants .last .1 .0 in
     let is-grown =
-    committed .commit-grants .ensures .1 (anew _ _ _ _ _ _ _ (s .pre) option k (places-of found) (places-many found) gave (networks-of served) (lengths-of served) (long .0) (long .1) is-granted m n m-is n-is) (stateIn h .rows)
-    (standing _ _ _ _ _ _ _ (s .pre) option k (places-of found) (places-many found) gave (networks-of served) (lengths-of served) (long .0) (long .1) is-granted m n m-is n-is (held .hold-again .last .0) edited)
-    (ask-fresh _ _ _ _ _ _ _ (s .pre) option k (places-of found) (places-many found) gave (networks-of served) (lengths-of served) (long .0) (long .1) is-granted m n m-is n-is) in
+    committed .commit-grants .ensures .1 (anew _ _ _ _ _ _ _ (s .pre) _ option k (places-of found) (places-many found) gave (networks-of served) (lengths-of served) (long .0) (long .1) is-granted m n m-is n-is) (stateIn h .rows)
+    (standing _ _ _ _ _ _ _ (s .pre) _ option k (places-of found) (places-many found) gave (networks-of served) (lengths-of served) (long .0) (long .1) is-granted m n m-is n-is (held .hold-again .last .0) edited)
+    (ask-fresh _ _ _ _ _ _ _ (s .pre) _ option k (places-of found) (places-many found) gave (networks-of served) (lengths-of served) (long .0) (long .1) is-granted m n m-is n-is) in
     ap (λ (r : Answer). result r (lent image (committed .commit-grants .result) sheet) (shown .put-offers .last .0)) (c .accepted .ensures)
-    ∙ ask-granted _ _ _ _ _ _ _ (s .pre) option k (places-of found) (places-many found) gave (networks-of served) (lengths-of served) (long .0) (long .1) is-granted m n m-is n-is (held .hold-again .last .0) edited
-    (else .if1 .left) image sheet (shown .put-offers .last .0) is-grown (shown .put-offers .ensures (a .asker .client) (a .asker .time + holdTime) us (o .records) inside)
+    ∙ ask-granted _ _ _ _ _ _ _ (s .pre) _ option k (places-of found) (places-many found) gave (networks-of served) (lengths-of served) (long .0) (long .1) is-granted m n m-is n-is (held .hold-again .last .0) edited
+    (else .if1 .left) image sheet (shown .put-offers .last .0) is-grown (shown .put-offers .ensures (a .asker .client) (a .asker .time + holdTime) (a .asker .name) us (o .records) inside)
     (committed .commit-grants .result) (committed .commit-grants .ensures .0 ∙ ap (λ (w : ℕ). leasesFrom (a .summary) + leaseSize * (a .summary .leases - a .summary .expired + w)) (sym (counted served)))
 
 pub grant-spec : {M : Type 1} → statement M

@@ -38,7 +38,7 @@ returns c =
     let pre = s .pre in (
       (omega arith, omega arith, sym (pre .5)),
       λ o us rs asked long.
-          rest-given (a .image .now) (a .asker .time) (a .asker .client) (a .summary) o us rs (a .ask-lengths .now) (a .places .now) (a .networks .now) (a .lengths .now) asked (pre .1) (pre .3) (pre .4) (pre .5)
+          rest-given (a .image .now) (a .asker .time) (a .asker .client) (a .summary) o (a .asker .name) us rs (a .ask-lengths .now) (a .places .now) (a .networks .now) (a .lengths .now) asked (pre .1) (pre .3) (pre .4) (pre .5)
           (sym (pre .2) ∙ c .if1 .taken),
     )
 
@@ -52,7 +52,7 @@ returns-2 c =
     let pre = s .pre in (
       (omega arith, omega arith, sym (pre .5)),
       λ o us rs asked long.
-          rest-refused (a .image .now) (a .asker .time) (a .asker .client) (a .summary) o us rs (a .ask-lengths .now) (a .places .now) (a .networks .now) (a .lengths .now) asked (pre .1) (pre .3) (pre .4) (pre .5) (c .if2 .taken),
+          rest-refused (a .image .now) (a .asker .time) (a .asker .client) (a .summary) o (a .asker .name) us rs (a .ask-lengths .now) (a .places .now) (a .networks .now) (a .lengths .now) asked (pre .1) (pre .3) (pre .4) (pre .5) (c .if2 .taken),
     )
 
 gaps-in-requires : tie.Need-gaps-in-requires
@@ -79,7 +79,7 @@ returns-3 c =
     let r = served .serve .ensures in (
       (r .0, r .1 .0, r .1 .1 .0),
       λ o us rs asked long.
-          r .1 .1 .1 (tableIn (o .lent)) (a .asker .time) (a .asker .client) (present (a .asker .time) (tableIn (o .lent) .leases)) us rs
+          r .1 .1 .1 (tableIn (o .lent)) (a .asker .time) (a .asker .client) (a .asker .name) (present (a .asker .time) (tableIn (o .lent) .leases)) us rs
           (rest-ready (a .image .now) (a .asker .time) (a .asker .client) (a .summary) o (starts-of found) (lasts-of found) (found .gaps-in .result) (found .gaps-in .ensures .1) rs (a .ask-lengths .now) asked long),
     )
 

@@ -11,6 +11,8 @@ use borrow.Author.Tests.{not-true, not-false}
 use borrow.Author.Needs.{needs}
 use Rattle.image.proofs.FieldLaws.{bytes-all}
 use Rattle.option.specs.Values.{mostRequests}
+use Rattle.option.specs.Contents.{firstNameIn}
+use Rattle.option_scan.specs.Scanned.{NamedIn}
 use Rattle.ledger.specs.declared.Answer.{Answer}
 use Rattle.ledger.specs.Ledger.{Call, call, result, refusal, ask}
 use Rattle.ledger.proofs.SoundKept.{ask-sound}
@@ -23,7 +25,7 @@ use Rattle.call_rows.specs.Admission.{Admitted}
 use Rattle.call_rows.proofs.RowLaws.{place-small, ReadCall}
 use Rattle.call_rows.proofs.SettleLaws.{admitted-lent, admitted-book, admitted-counts, countable, settles}
 use Rattle.ask_commit.specs.Asking.{Ready, Asking}
-use Rattle.call_ask.proofs.AskLaws.{and-few, ask-refused, ask-unread, ask-wrong, ask-ready, ask-asking}
+use Rattle.call_ask.proofs.AskLaws.{and-few, ask-refused, ask-unread, ask-wrong, ask-ready, named, ask-long-name, ask-asking}
 use Rattle.call_ask.proofs.CountLaws.{ask-kept}
 use Rattle.call_ask.proofs.ask.Statement.{statement}
 use Rattle.call_ask.proofs.ask.Tie as tie
@@ -96,17 +98,40 @@ returns-3 c =
 few-of : (c : tie.Else3) → read-of (c .before .before .before .before) .read .result .requests ≤ mostRequests
 few-of c = let tested = c .before in let m = read-of (c .before .before .before .before) .read .result in and-few (m .requests) (m .listing) (tested .for-ask .result) (tested .for-ask .ensures) (not-false _ (c .if3 .left))
 
+-- Row 17: the first name of the option stands where it was found.
+named-of : (c : tie.Else3) → let read = read-of (c .before .before .before .before) in let option = call-of (else-of read) .option in NamedIn option (read .read .result) (firstNameIn option)
+named-of c =
+    let tested = c .before in
+    let answer = tested .before .before .before in
+    let else = else-of (read-of answer) in
+    named (lentIn (book-of else)) (start-of else .args .time) (call-of else) (read-call answer) (tested .before .if2 .left) (tested .for-ask .result) (tested .for-ask .ensures) (not-false _ (c .if3 .left))
+
+returns-4 : tie.Need-returns-4
+returns-4 c =
+    let else3 = c .before .before in
+    let tested = else3 .before in
+    let answer = tested .before .before .before in
+    let else = else-of (read-of answer) in
+    let b : Book = book-of else in
+    refuses-book b (askImage (lentIn b) (start-of else .args .time) (call-of else)) (c .refused3 .result) (lentIn b) (call-of else .reply)
+    (ap (λ (r : Answer). result r (lentIn b) (call-of else .reply)) (c .refused3 .ensures)
+    ∙ ask-long-name (lentIn b) (start-of else .args .time) (call-of else) (read-call answer) (tested .before .if2 .left) (tested .for-ask .result) (tested .for-ask .ensures) (not-false _ (else3 .if3 .left)) (c .before .if4 .taken))
+    (number-of (c .refused3 .result) 17 (c .refused3 .ensures) (λ z. omega arith))
+
+name-in-requires : tie.Need-name-in-requires
+name-in-requires c κs = (omega (arith, named-of (c .before) .within), omega (arith, c .if4 .left))
+
 array-share-prefix-ask-lengths : tie.Need-array-share-prefix-ask-lengths
-array-share-prefix-ask-lengths c = omega (arith, few-of (c .before .before .before .before .before), read-of (c .before .before .before .before .before .before .before .before .before) .read .kept .1 .0)
+array-share-prefix-ask-lengths c = omega (arith, few-of (c .before .before .before .before .before .before .before), read-of (c .before .before .before .before .before .before .before .before .before .before .before) .read .kept .1 .0)
 
 slice-aggregate-grant : tie.Need-slice-aggregate-grant
-slice-aggregate-grant c = sym (length-take-le _ _ (omega (arith, few-of (c .before .before .before .before .before .before), read-of (c .before .before .before .before .before .before .before .before .before .before) .read .kept .1 .0)))
+slice-aggregate-grant c = sym (length-take-le _ _ (omega (arith, few-of (c .before .before .before .before .before .before .before .before), read-of (c .before .before .before .before .before .before .before .before .before .before .before .before) .read .kept .1 .0)))
 
 array-share-prefix-ask-h : tie.Need-array-share-prefix-ask-h
-array-share-prefix-ask-h c = omega (arith, few-of (c .before .before .before .before .before .before), read-of (c .before .before .before .before .before .before .before .before .before .before) .read .kept .1 .1 .0)
+array-share-prefix-ask-h c = omega (arith, few-of (c .before .before .before .before .before .before .before .before), read-of (c .before .before .before .before .before .before .before .before .before .before .before .before) .read .kept .1 .1 .0)
 
 slice-aggregate-grant-2 : tie.Need-slice-aggregate-grant-2
-slice-aggregate-grant-2 c = sym (length-take-le _ _ (omega (arith, few-of (c .before .before .before .before .before .before .before), read-of (c .before .before .before .before .before .before .before .before .before .before .before) .read .kept .1 .1 .0)))
+slice-aggregate-grant-2 c = sym (length-take-le _ _ (omega (arith, few-of (c .before .before .before .before .before .before .before .before .before), read-of (c .before .before .before .before .before .before .before .before .before .before .before .before .before) .read .kept .1 .1 .0)))
 
 -- The call is admitted, so its book is what is lent.
 abbrev admitted-of : (c : tie.Else1) → Admitted true (lentIn (book-of c)) (start-of c .args .time) (start-of c .args .client) (c .before .before .admit .result .summary)
@@ -117,7 +142,7 @@ same-of c = admitted-lent true (book-of c) (start-of c .args .time) (start-of c 
 
 grant-requires : tie.Need-grant-requires
 grant-requires c κs =
-    let else3 = c .before .before .before .before .before .before .before in
+    let else3 = c .before .before .before .before .before .before .before .before .before in
     let tested = else3 .before in
     let answer = tested .before .before .before in
     let read = read-of answer in
@@ -133,7 +158,7 @@ grant-requires c κs =
 
 -- What the requests got, as the call on what is lent.
 abbrev read3 : tie.After-grant → tie.After-option-refusal
-read3 c = c .before .before .before .before .before .before .before .before .before .before .before .before
+read3 c = c .before .before .before .before .before .before .before .before .before .before .before .before .before .before
 
 abbrev start3 : tie.After-grant → tie.Else1
 start3 c = else-of (read-of (read3 c))
@@ -141,14 +166,16 @@ start3 c = else-of (read-of (read3 c))
 granted-is : (c : tie.After-grant) → let else = start3 c in
     result (c .grant .result) (lent (c .grant .last .0) (c .grant .last .1 .0) (c .grant .last .1 .1 .0)) (c .grant .last .1 .1 .1 .1 .0) ≡ askImage (book-of else .lent) (start-of else .args .time) (call-of else)
 granted-is c =
-    let else3 = c .before .before .before .before .before .before .before .before in
+    let name-read = c .before .before .before .before .before .before .before .before in
+    let else3 = name-read .before .before in
     let tested = else3 .before in
     let answer = tested .before .before .before in
     let read = read-of answer in
     let else = else-of read in
     c .grant .ensures (call-of else .option)
-    (subst (λ (h : Lent). Asking h (start-of else .args .time) (call-of else) (take (read .read .result .requests) (read .read .last .1 .0)) (take (read .read .result .requests) (read .read .last .1 .1 .0))) (same-of else)
-    (ask-asking (lentIn (book-of else)) (start-of else .args .time) (call-of else) (read-call answer) (tested .before .if2 .left) (tested .for-ask .result) (tested .for-ask .ensures) (not-false _ (else3 .if3 .left))))
+    (subst (λ (h : Lent). Asking h (start-of else .args .time) (name-read .name-in .result) (call-of else) (take (read .read .result .requests) (read .read .last .1 .0)) (take (read .read .result .requests) (read .read .last .1 .1 .0))) (same-of else)
+    (ask-asking (lentIn (book-of else)) (start-of else .args .time) (call-of else) (read-call answer) (tested .before .if2 .left) (tested .for-ask .result) (tested .for-ask .ensures) (not-false _ (else3 .if3 .left))
+    (name-read .before .if4 .left) (name-read .name-in .result) (name-read .name-in .ensures)))
 
 settle-requires : tie.Need-settle-requires
 settle-requires c κs =
@@ -159,8 +186,8 @@ settle-requires c κs =
     countable h (ask (stateIn h) (start-of else .args .time) (call-of else)) (follows-all .asks h (start-of else .args .time) (call-of else)) (ask-sound (stateIn h) (start-of else .args .time) (call-of else)) (ask-pools (stateIn h) (start-of else .args .time) (call-of else))
     (g .grant .result) (lent (g .grant .last .0) (g .grant .last .1 .0) (g .grant .last .1 .1 .0)) (g .grant .last .1 .1 .1 .1 .0) (granted-is g) _ (o .pools)
 
-returns-4 : tie.Need-returns-4
-returns-4 c =
+returns-5 : tie.Need-returns-5
+returns-5 c =
     let g = c .before .before .before .before .before .before .before .before .before .before in
     let else = start3 g in
     let b : Book = book-of else in
@@ -177,4 +204,4 @@ returns-4 c =
 pub ask-spec : {M : Type 1} → statement M
 ask-spec =
     tie.close
-    (tie.spec (λ c κs. search needs) (λ c κs. search needs) (λ c. search needs) (λ c. search needs) returns (λ c. search needs) (λ c. search needs) (λ c. search needs) (λ c. search needs) (λ c κs. search needs) option-refusal-requires (λ c. search needs) (λ c. search needs) returns-2 (λ c κs. search needs) (λ c κs. search needs) (λ c. search needs) (λ c. search needs) returns-3 array-share-prefix-ask-lengths slice-aggregate-grant array-share-prefix-ask-h slice-aggregate-grant-2 grant-requires (λ c κs. search needs) settle-requires (λ c. search needs) (λ c. search needs) (λ c. search needs) returns-4)
+    (tie.spec (λ c κs. search needs) (λ c κs. search needs) (λ c. search needs) (λ c. search needs) returns (λ c. search needs) (λ c. search needs) (λ c. search needs) (λ c. search needs) (λ c κs. search needs) option-refusal-requires (λ c. search needs) (λ c. search needs) returns-2 (λ c κs. search needs) (λ c κs. search needs) (λ c. search needs) (λ c. search needs) returns-3 (λ c κs. search needs) (λ c. search needs) (λ c. search needs) returns-4 name-in-requires array-share-prefix-ask-lengths slice-aggregate-grant array-share-prefix-ask-h slice-aggregate-grant-2 grant-requires (λ c κs. search needs) settle-requires (λ c. search needs) (λ c. search needs) (λ c. search needs) returns-5)

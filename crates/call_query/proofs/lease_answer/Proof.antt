@@ -8,4 +8,6 @@ returns : tie.Need-returns
 returns c = cc
 
 pub lease-answer-spec : {M : Type 1} → statement M
-lease-answer-spec = tie.close (tie.spec (λ c. search needs) (λ c κs. search needs) (λ c κs. search needs) returns)
+lease-answer-spec =
+    tie.close
+    (tie.spec (λ c. search needs) (λ c κs. search needs) (λ c κs. search needs) (λ c κs. search needs) (λ c. search needs) (λ c κs. search needs) returns)

@@ -26,6 +26,13 @@ abbrev μ-loop : tie.MeasureT-loop
 loop-holds : tie.Need-loop-holds Inv-loop μ-loop
 loop-holds c = (omega arith, omega arith, refl, refl, refl, renewing-none _ _ _ _ _ _ _ _ _ _)
 
+-- No more are shown than entries were read.
+add-shown : tie.Need-add-shown Inv-loop μ-loop
+add-shown c =
+    let then = c .before .before .before .before .before .before in
+    let in-loop = then .before .before .before .before .before .before .before in
+    omega (arith, in-loop .before .loop .inv .0, in-loop .loop-test .taken)
+
 loop-again : tie.Need-loop-again Inv-loop μ-loop
 loop-again c =
     let j = c .if1 in
@@ -74,4 +81,4 @@ renew-named-spec =
     tie.close
     (tie.spec Inv-loop μ-loop loop-holds (λ c. search needs) (λ c. search needs) (λ c. search needs) (λ c κs. search needs)
     (λ c. search needs) (λ c. search needs) (λ c. search needs) (λ c. search needs) (λ c. search needs) (λ c κs. search needs)
-    (λ c. search needs) (λ c. search needs) (λ c κs. search needs) (λ c. search needs) (λ c. search needs) (λ c. search needs) loop-again same-length same-length-2 same-length-3 returns)
+    (λ c. search needs) (λ c. search needs) (λ c κs. search needs) add-shown (λ c. search needs) (λ c. search needs) loop-again same-length same-length-2 same-length-3 returns)

@@ -26,18 +26,16 @@ loop-holds c =
 loop-again : tie.Need-loop-again Inv-loop μ-loop
 loop-again c =
     let written = c .before .before .before in
-    let front-put = written .before .before .before .before in
-    let copied = front-put .before .before in
+    let copied = written .before .before in
     let read = copied .before .before in
     let loop = read .before .before .before .loop in
     let a = read .before .before .before .before .before .args in
-    let l = a .image .now in
-    let x = read .lease-at .result in (
+    let l = a .image .now in (
       omega arith,
       omega arith,
-      written .put32 .kept .0 ∙ front-put .put-front .kept .0 ∙ loop .inv .2,
-      closed-behind l (a .from) (a .first) (a .time) (loop .image) (loop .kept) (loop .i) (loop .inv .4) (loop .inv .0) (loop .inv .3) (loop .inv .2) (omega arith) _ (copied .front-at .ensures) x _ _ (front-put .put-front .ensures) (written .put32 .ensures),
-      closed-more l (a .from) (a .first) (a .time) (loop .image) (loop .kept) (loop .i) (loop .inv .4) (loop .inv .0) (loop .inv .3) (loop .inv .2) (omega arith) _ (copied .front-at .ensures) x _ _ (front-put .put-front .ensures) (written .put32 .ensures) (read .lease-at .ensures) (c .stays .result) (c .stays .ensures .1) (c .stays .ensures .2),
+      written .put-record .kept .0 ∙ loop .inv .2,
+      closed-behind l (a .from) (a .first) (a .time) (loop .image) (loop .kept) (loop .i) (loop .inv .4) (loop .inv .0) (loop .inv .3) (loop .inv .2) (omega arith) _ (copied .record-at .ensures) _ (written .put-record .ensures),
+      closed-more l (a .from) (a .first) (a .time) (loop .image) (loop .kept) (loop .i) (loop .inv .4) (loop .inv .0) (loop .inv .3) (loop .inv .2) (omega arith) _ (copied .record-at .ensures) _ (written .put-record .ensures) _ (read .expires-at .ensures) (c .stays .result) (c .stays .ensures .1) (c .stays .ensures .2),
     )
 
 same-length : tie.Need-same-length Inv-loop μ-loop
@@ -56,5 +54,5 @@ pub close-up-spec : {M : Type 1} → statement M
 close-up-spec =
     tie.close
     (tie.spec Inv-loop μ-loop loop-holds (λ c. search needs) (λ c. search needs) (λ c. search needs) (λ c. search needs) (λ c κs. search needs)
-    (λ c κs. search needs) (λ c κs. search needs) (λ c. search needs) (λ c κs. search needs) (λ c κs. search needs) (λ c. search needs)
-    (λ c. search needs) (λ c. search needs) loop-again same-length returns)
+    (λ c κs. search needs) (λ c κs. search needs) (λ c κs. search needs) (λ c. search needs) (λ c. search needs) (λ c. search needs) loop-again
+    same-length returns)

@@ -28,12 +28,12 @@ loop-again c =
     let loop = read .before .before .before .loop in
     let a = read .before .before .before .before .before .args in
     let l = a .image .now in
-    let more : leaseSize * loop .k + (6 * leaseSize) ≡ leaseSize * (loop .k + 6) = omega arith in (
+    let more : leaseSize * loop .k + (16 * leaseSize) ≡ leaseSize * (loop .k + 16) = omega arith in (
       omega arith,
-      written .put-six .ensures
-          ∙ lowered-more l (a .to) (a .at) (6 * leaseSize) (leaseSize * loop .k) (loop .image) (read .six-at .result) (omega arith) (omega arith) (loop .inv .1) (read .six-at .ensures)
+      written .put-sixteen .ensures
+          ∙ lowered-more l (a .to) (a .at) (16 * leaseSize) (leaseSize * loop .k) (loop .image) (read .sixteen-at .result) (omega arith) (omega arith) (loop .inv .1) (read .sixteen-at .ensures)
           ∙ ap (λ m. put l (a .to) (take m (drop (a .at) l))) more,
-      written .put-six .kept .0 ∙ loop .inv .2,
+      written .put-sixteen .kept .0 ∙ loop .inv .2,
     )
 
 same-length : tie.Need-same-length Inv-loop μ-loop

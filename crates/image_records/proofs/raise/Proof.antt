@@ -31,15 +31,15 @@ loop-again c =
     let a = read .before .before .before .before .before .args in
     let l = a .image .now in
     let to = a .from + leaseSize * a .n in
-    let at = a .from + leaseSize * (loop .k - 6) in
-    let here : a .from + leaseSize * loop .k ≡ at + (6 * leaseSize) = omega arith in
-    let place : a .from + leaseSize * (loop .k - 6 + a .room) ≡ at + leaseSize * a .room = omega arith in (
+    let at = a .from + leaseSize * (loop .k - 16) in
+    let here : a .from + leaseSize * loop .k ≡ at + (16 * leaseSize) = omega arith in
+    let place : a .from + leaseSize * (loop .k - 16 + a .room) ≡ at + leaseSize * a .room = omega arith in (
       omega arith,
       omega arith,
-      written .put-six .ensures
-          ∙ ap (λ p. put (loop .image) p (read .six-at .result)) place
-          ∙ raised-more l to (leaseSize * a .room) (6 * leaseSize) at (loop .image) (read .six-at .result) (omega arith) (omega arith) (loop .inv .2 ∙ ap (raised l to (leaseSize * a .room)) here) (read .six-at .ensures),
-      written .put-six .kept .0 ∙ loop .inv .3,
+      written .put-sixteen .ensures
+          ∙ ap (λ p. put (loop .image) p (read .sixteen-at .result)) place
+          ∙ raised-more l to (leaseSize * a .room) (16 * leaseSize) at (loop .image) (read .sixteen-at .result) (omega arith) (omega arith) (loop .inv .2 ∙ ap (raised l to (leaseSize * a .room)) here) (read .sixteen-at .ensures),
+      written .put-sixteen .kept .0 ∙ loop .inv .3,
     )
 
 same-length : tie.Need-same-length Inv-loop μ-loop

@@ -11,7 +11,7 @@ use Rattle.sheet_text.proofs.lease.Tie as tie
 returns : tie.Need-returns
 unfolding leaseShown
 returns c =
-    let lease-at = c .lease-at in
+    let lease-at = c .before .lease-at in
     ap (λ (x : Lease). usedBy x) (lease-at .ensures)
 
 pub lease-spec : {M : Type 1} → statement M

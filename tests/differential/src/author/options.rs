@@ -51,6 +51,7 @@ impl Author {
         let length = match self.numbers.below(40) {
             0 => 0,
             1 | 2 => self.numbers.between(20, 250),
+            3..=9 => self.name_length(),
             _ => self.numbers.between(1, 8),
         };
         let mut octets: Vec<u8> = (0..length).map(|_| self.byte() & 0x7f).collect();
@@ -136,7 +137,10 @@ impl Author {
             2 if self.fault(profile) => self.one_of(&[0, 24, 25, 26, 27, 62, 63]),
             _ => self.numbers.between(1, 3),
         };
-        let pieces = (0..count).map(|_| self.request(profile)).collect();
+        let mut pieces = (0..count).map(|_| self.request(profile)).collect();
+        if self.numbers.once_in(4) {
+            self.put_names(&mut pieces);
+        }
         self.option_of(pieces, profile, true)
     }
 

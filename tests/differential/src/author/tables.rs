@@ -1,10 +1,10 @@
 //! Pools and tables, good and bad.
 
 use reference::prefix::{prefix, Prefix};
-use reference::table::{Lease, State, Table, LATEST, LONGEST_TERM};
+use reference::table::{Lease, Name, State, Table, LATEST, LONGEST_TERM};
 
 use super::{Author, Profile};
-use crate::bytes::{hex, image};
+use crate::bytes::hex;
 
 pub(super) const TEN: u32 = 0x0a00_0000;
 
@@ -93,7 +93,7 @@ impl Author {
         line
     }
 
-    /// A sound table with leases of all kinds.
+    /// A sound table with leases of all kinds; every other one has no names.
     pub fn any_table(&mut self, profile: &Profile) -> Table {
         let mut table = Table::zero();
         table.term = self.one_of(&[60, 600, 3_600, LONGEST_TERM]);
@@ -116,6 +116,9 @@ impl Author {
             }
         }
         table.set_leases(leases);
+        if self.numbers.once_in(2) {
+            table = self.without_names(&table);
+        }
         table.counted()
     }
 
@@ -132,6 +135,11 @@ impl Author {
                 u32::MAX
             } else {
                 last_time + left
+            },
+            name: if self.numbers.once_in(3) {
+                Name::default()
+            } else {
+                self.lease_name()
             },
         }
     }
@@ -160,7 +168,8 @@ impl Author {
             self.call(line);
         } else {
             let table = self.any_table(profile);
-            self.call(format!("load {}", hex(&image(&table))));
+            let bytes = self.image_of(&table);
+            self.call(format!("load {}", hex(&bytes)));
         }
     }
 }

@@ -3,7 +3,7 @@
 use reference::calls;
 use reference::counts::{bytes_of, column, of_bytes, whole, Counts, BYTES, LENGTHS};
 use reference::figures::untold_sheet;
-use reference::image::{save, FULL};
+use reference::image::{save, Form};
 use reference::prefix::{prefix, Prefix};
 use reference::samples::full_table;
 use reference::sheet::sheet;
@@ -68,15 +68,15 @@ fn all_tried(table: &Table, longest: u8) -> Counts {
 /// The number that each call answers with that takes the book, which must leave it alone
 /// where it is refused.
 fn every_call(table: &Table, now: u32, at: Prefix) -> [u8; 8] {
-    let mut buffer = [0x5a; FULL];
+    let mut buffer = [0x5a; 11_349];
     let ask = ask(&mut table.clone(), 77, now, &asking(&[30]));
     let take = take(&mut table.clone(), 7, now, &entries(&[at]));
     let list = list(table, 7, now, &option(&[request_i()]));
     let release = release(&mut table.clone(), 7, now, &entries(&[at]));
     let mark = mark(&mut table.clone(), now, at, true);
-    let saved = save(table, &mut buffer);
+    let saved = save(table, Form::Second, &mut buffer);
     if saved.is_err() {
-        assert_eq!(buffer, [0x5a; FULL]);
+        assert_eq!(buffer, [0x5a; 11_349]);
     }
     [
         ask.map(|_| ()),

@@ -1,11 +1,12 @@
 //! Images and sheets.
 
-use reference::image::{save, FULL};
-use reference::samples::full_table;
+use reference::image::{save, Form};
+use reference::samples::{full_table, image_in};
 use reference::sheet::{sheet, sheet_of_image};
 use reference::table::{State, Table};
 
 use crate::common::*;
+use crate::names::named_table;
 
 pub const EXAMPLE: &str = "0b00 0100 100e0000 1c e8030000 0700 0200 0001000a 18 \
                            1100 0300 0001000a 1a 01 00 07000000 60040000";
@@ -71,24 +72,35 @@ fn flags_of_a_saved_lease() {
 #[test]
 fn save_needs_room_and_leaves_the_rest() {
     let table = full_table();
-    let mut buffer = [0x5a; FULL + 3];
-    assert_eq!(save(&table, &mut buffer), Ok(4949));
-    assert_eq!(buffer[4949..], [0x5a; 3]);
-    let mut small = [0x5a; FULL - 1];
-    assert_eq!(save(&table, &mut small), Err(no(14, 0)));
-    assert!(small.iter().all(|byte| *byte == 0x5a));
-    // 5 comes before 14.
-    assert_eq!(save(&Table::zero(), &mut []), Err(no(5, 0)));
-    assert_eq!(save(&Table::zero(), &mut buffer), Err(no(5, 0)));
+    for form in Form::BOTH {
+        let full = form.full();
+        let mut buffer = vec![0x5a; full + 3];
+        assert_eq!(save(&table, form, &mut buffer), Ok(full));
+        assert_eq!(buffer[full..], [0x5a; 3]);
+        let mut small = vec![0x5a; full - 1];
+        assert_eq!(save(&table, form, &mut small), Err(no(14, 0)));
+        assert!(small.iter().all(|byte| *byte == 0x5a));
+        // 5 comes before 14.
+        assert_eq!(save(&Table::zero(), form, &mut []), Err(no(5, 0)));
+        assert_eq!(save(&Table::zero(), form, &mut buffer), Err(no(5, 0)));
+    }
 }
 
 #[test]
 fn load_and_save_undo_each_other_on_random_changes() {
     let mut numbers = Numbers::new(4);
-    let originals = [hex(EXAMPLE), image(&full_table())];
-    let (mut accepted, mut refused) = (0, 0);
-    for round in 0..30_000 {
-        let mut bytes = originals[usize::from(round % 10 == 0)].clone();
+    let mut example = Table::zero();
+    load(&mut example, &hex(EXAMPLE)).unwrap();
+    let originals = [
+        hex(EXAMPLE),
+        image(&full_table()),
+        image_in(Form::Second, &example),
+        image_in(Form::Second, &named_table()),
+    ];
+    let (mut accepted, mut refused) = ([0; 2], 0);
+    for round in 0..40_000 {
+        let form = Form::BOTH[round % 2];
+        let mut bytes = originals[2 * (round % 2) + usize::from(round % 10 > 7)].clone();
         for _ in 0..numbers.between(1, 2) {
             let at = numbers.below(bytes.len());
             match numbers.below(4) {
@@ -103,10 +115,10 @@ fn load_and_save_undo_each_other_on_random_changes() {
         let mut table = Table::zero();
         match load(&mut table, &bytes) {
             Ok(()) => {
-                accepted += 1;
+                accepted[round % 2] += 1;
                 assert!(table.sound());
-                // "one book, one image"
-                assert_eq!(image(&table), bytes);
+                // "one image per book now holds per form"
+                assert_eq!(image_in(form, &table), bytes);
             }
             Err(refusal) => {
                 refused += 1;
@@ -115,7 +127,7 @@ fn load_and_save_undo_each_other_on_random_changes() {
             }
         }
     }
-    assert!(accepted > 2_000 && refused > 3_000, "{accepted} {refused}");
+    assert!(accepted.iter().all(|count| *count > 1_000) && refused > 3_000);
 }
 
 #[test]

@@ -3,7 +3,7 @@
 
 use reference::calls::{self, Answer};
 use reference::figures::untold_sheet;
-use reference::image::save;
+use reference::image::{save, Form};
 use reference::prefix::{prefix, Prefix};
 use reference::refusal::Refusal;
 use reference::table::{State, Table, LATEST};
@@ -384,7 +384,9 @@ fn every_way_to_be_unsound() {
             mark(&mut table, 1000, p("10.0.0.0/25"), true),
             Err(no(5, 0))
         );
-        assert_eq!(save(&table, &mut buffer), Err(no(5, 0)));
+        for form in Form::BOTH {
+            assert_eq!(save(&table, form, &mut buffer), Err(no(5, 0)));
+        }
         assert_eq!(table, before);
         assert!(buffer.iter().all(|byte| *byte == 0x5a));
         // A refused load leaves even an unsound table as it was; an accepted one does
@@ -632,9 +634,8 @@ fn pieces_without_effect() {
     let mut table = table_with(&["10.0.0.0/24"], 1000, &[]);
     let mut other = table.clone();
     let plain = ask(&mut table, 7, 1000, &option(&[request_h(25), request(26)])).unwrap();
-    let bytes = hex(
-        "DC 1C FF 03 01 61 01 02 FD 19 02 08 03 0A 00 00 80 19 03 00 04 02 00 00 01 02 00 1A 09 00",
-    );
+    let bytes =
+        hex("DC 19 FF 01 02 FD 19 02 08 03 0A 00 00 80 19 03 00 04 02 00 00 01 02 00 1A 09 00");
     assert_eq!(ask(&mut other, 7, 1000, &bytes).unwrap(), plain);
     assert_eq!(other, table);
     assert_eq!(plain.0, 2);

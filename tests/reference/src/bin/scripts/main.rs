@@ -6,6 +6,7 @@ mod again;
 mod counts;
 mod faults;
 mod figures;
+mod names;
 mod writing;
 
 use std::fs;
@@ -14,6 +15,7 @@ use std::path::{Path, PathBuf};
 
 use reference::console::{self, Console};
 use reference::figures::{matches, rows_of};
+use reference::image::Form;
 use reference::numbers::Numbers;
 use reference::option::{Entry, Information, Request, Suboption};
 use reference::prefix::{prefix, Prefix};
@@ -71,6 +73,27 @@ fn main() -> io::Result<()> {
         ("faults-places-up-to-256", faults::places()),
         ("faults-calls", faults::calls()),
         ("random-calls-faults", faults::random()),
+        ("names-lengths", names::lengths()),
+        ("names-two-in-an-ask", names::two()),
+        ("names-numbers", names::numbers()),
+        ("names-kept", names::kept()),
+        ("names-struck", names::struck()),
+        ("names-forms", names::forms()),
+        ("names-going-back", names::going_back()),
+        ("names-image-fields", names::image_fields()),
+        ("names-image-bit-flips", names::image_bit_flips()),
+        ("names-image-cuts-and-additions", names::image_cuts_and_additions()),
+        ("names-mixtures", names::mixtures()),
+        ("names-full-256-leases", names::full()),
+        ("random-calls-names", names::random_calls()),
+        ("console-names", names::console()),
+        ("sheet-names", names::sheet_names()),
+        ("sheet-names-every-octet", names::sheet_every_octet()),
+        ("sheet-names-full-256-leases", names::sheet_full()),
+        ("sheet-names-over-long-input", names::sheet_over_long()),
+        ("sheet-names-mixture", names::sheet_mixture()),
+        ("sheet-second-form-no-leases", names::sheet_no_leases()),
+        ("sheet-second-form-no-names", names::sheet_no_names()),
         ("rfc6656-options-written", writing::rfc6656_options(&fs::read_to_string(folder.join("rfc6656.options"))?)),
         ("write-lengths", writing::lengths()),
         ("write-buffer", writing::buffers()),
@@ -122,8 +145,14 @@ fn entries(prefixes: &[Prefix]) -> String {
     hex(&samples::entries(prefixes))
 }
 
+/// The image in the first form.
 fn image(table: &Table) -> String {
     hex(&samples::image(table))
+}
+
+/// The image in the second form.
+fn second(table: &Table) -> String {
+    hex(&samples::image_in(Form::Second, table))
 }
 
 /// A script that is tried on a console as it is written.
@@ -353,7 +382,7 @@ fn pools_at_both_ends() -> String {
 // Every number in every call, and the row order.
 
 /// Rows in the order of the table of numbers.
-const ROWS: [u8; 13] = [1, 5, 15, 2, 3, 4, 6, 7, 16, 8, 9, 10, 11];
+const ROWS: [u8; 14] = [1, 5, 15, 2, 3, 4, 6, 7, 16, 8, 17, 9, 10, 11];
 
 /// The option for row 6, 7, 16 or 8, or the good one. Those for 7 and 16 have the wrong
 /// piece of 8 as well.
@@ -380,7 +409,11 @@ fn combinations(
     let sound = script.console.table.sound();
     // Counts alone can be wrong, and the last time then still says which times are before it.
     let has_time = script.console.table.sound_but_counts();
-    let start = image(&script.console.table);
+    // The first form where it can say all.
+    let start = match image(&script.console.table).as_str() {
+        "-" => second(&script.console.table),
+        first => first.to_string(),
+    };
     // Return has no reply buffer, so row 1 never applies to it; list has no sheet.
     let has_buffer = !call(0, 0, "-").starts_with("return");
     let has_sheet = !call(0, 0, "-").starts_with("list");
