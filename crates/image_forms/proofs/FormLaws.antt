@@ -1,6 +1,6 @@
 -- Laws of an image that goes from one form to the other: a record, the leases, the head with the pools, and the whole.
 -- Assumes nothing.
-use Prim.Native.Nat.{ℕ, _+_, _*_, _≤_, _<_}
+use Prim.Native.Nat.{ℕ, _+_, _*_, _/_, _%_, _≤_, _<_}
 use native.Mathlib.Omega.{arith}
 use mathlib.Core.Path.{_≡_, refl, sym, ap, ap₂, _∙_}
 use mathlib.Core.Bool.{true, not}
@@ -14,7 +14,7 @@ use Rattle.lists.proofs.IndexLaws.{all-at}
 use Rattle.lists.proofs.FilterLaws.{filter-all}
 use Rattle.lists.proofs.DropLaws.{drop-at as list-at}
 use Rattle.lists.proofs.ConcatMapLaws.{concatMap-drop}
-use Rattle.lists.proofs.PutLaws.{put-nothing, put-one, put-more, put-front}
+use Rattle.lists.proofs.PutLaws.{put-nothing, put-one, put-append, put-before, put-more, put-front}
 use Rattle.names.specs.declared.Name.{Name}
 use Rattle.names.specs.Names.{noName, unnamed?, octets, withoutZeros, nameOctets}
 use Rattle.names.proofs.NameLaws.{unnamed-to}
@@ -28,7 +28,7 @@ use Rattle.image.specs.Reading.{startOf, nameLengthAt, nameAt}
 use Rattle.image.proofs.ImageLaws.{length-lease-in, length-head-in, length-pool, length-concatMap, length-image-in}
 use Rattle.image.proofs.WriteLaws.{then-put, more-put}
 use Rattle.image_records.proofs.PutForms.{put-upon}
-use Rattle.image_forms.specs.Forms.{bodyAt, bodySize, leaseAs, frontAs, Moved}
+use Rattle.image_forms.specs.Forms.{bodyAt, bodySize, movedAt, movedSize, leaseAs, frontAs, Moved}
 
 -- ONE RECORD
 
@@ -45,13 +45,31 @@ body s at = take bodySize (drop bodyAt (drop at s))
 abbrev begun : Form → List ℕ → ℕ → List ℕ
 begun form s at = le32 (startOf (leaseSizeIn form) (leaseKind form)) ++ body s at
 
+-- What a record begins with, put over the first of the bytes that were moved.
+over-first : (n : ℕ) (l bytes : List ℕ) (to : ℕ) → put (put l (to + movedAt) bytes) to (le32 n) ≡ put l to (le32 n ++ drop 1 bytes)
+unfolding le32
+over-first n l bytes to =
+    let before : List ℕ = n % 256 ∷ n / 256 % 256 ∷ n / 65536 % 256 ∷ [] in
+    let last : List ℕ = n / 16777216 ∷ [] in
+    sym (put-append before (put l (to + movedAt) bytes) to last)
+    ∙ ap (λ (m : List ℕ). put m (to + movedAt) last) (put-before before l to bytes ∙ sym (put-append before l to bytes))
+    ∙ put-upon bytes last (put l to before) (to + movedAt)
+    ∙ put-append before l to (last ++ drop 1 bytes)
+
+behind-first : (s : List ℕ) → drop 1 (take movedSize s) ≡ take bodySize (drop 1 s)
+behind-first [] = refl
+behind-first (x ∷ s) = refl
+
 module _ (form : Form) (s : List ℕ) (at : ℕ) (l l₁ l₂ bytes : List ℕ) (to : ℕ) where
-  body-put : bytes ≡ take bodySize (drop (at + bodyAt) s) → l₁ ≡ put l to (le32 (startOf (leaseSizeIn form) (leaseKind form))) → l₂ ≡ put l₁ (to + bodyAt) bytes
+  body-put : bytes ≡ take movedSize (drop (at + movedAt) s) → l₁ ≡ put l (to + movedAt) bytes → l₂ ≡ put l₁ to (le32 (startOf (leaseSizeIn form) (leaseKind form)))
       → l₂ ≡ put l to (begun form s at)
-  unfolding le32
   body-put read e₁ e₂ =
-      let same : bytes ≡ body s at = read ∙ ap (take bodySize) (sym (drop-drop bodyAt at s)) in
-      then-put bodyAt l l₁ to (le32 (startOf (leaseSizeIn form) (leaseKind form))) refl e₁ l₂ (body s at) (e₂ ∙ ap (put l₁ (to + bodyAt)) same)
+      let start : ℕ = startOf (leaseSizeIn form) (leaseKind form) in
+      let four : at + movedAt + 1 ≡ at + bodyAt = omega arith in
+      let same : drop 1 bytes ≡ body s at =
+      ap (drop 1) read ∙ behind-first (drop (at + movedAt) s)
+      ∙ ap (take bodySize) (drop-drop 1 (at + movedAt) s ∙ ap (λ (k : ℕ). drop k s) four ∙ sym (drop-drop bodyAt at s)) in
+      e₂ ∙ ap (λ (m : List ℕ). put m to (le32 start)) e₁ ∙ over-first start l bytes to ∙ ap (λ (b : List ℕ). put l to (le32 start ++ b)) same
 
 begun-size : (form : Form) (s : List ℕ) (at : ℕ) → at + bodyAt + bodySize ≤ length s → length (begun form s at) ≡ nameLengthAt
 unfolding le32
@@ -59,14 +77,14 @@ begun-size form s at room =
     let size : length (body s at) ≡ bodySize = length-take-le bodySize (drop bodyAt (drop at s)) (omega (arith, length-drop bodyAt (drop at s), length-drop at s)) in
     length-append (le32 (startOf (leaseSizeIn form) (leaseKind form))) (body s at) ∙ omega (arith, size)
 
-pub narrow-put : (s : List ℕ) (at : ℕ) (l l₁ l₂ bytes : List ℕ) (to : ℕ) → bytes ≡ take bodySize (drop (at + bodyAt) s) → l₁ ≡ put l to (le32 (startOf firstLeaseSize 3))
-    → l₂ ≡ put l₁ (to + bodyAt) bytes → l₂ ≡ put l to (leaseAs First (drop at s))
+pub narrow-put : (s : List ℕ) (at : ℕ) (l l₁ l₂ bytes : List ℕ) (to : ℕ) → bytes ≡ take movedSize (drop (at + movedAt) s) → l₁ ≡ put l (to + movedAt) bytes
+    → l₂ ≡ put l₁ to (le32 (startOf firstLeaseSize 3)) → l₂ ≡ put l to (leaseAs First (drop at s))
 unfolding leaseAs
 narrow-put s at l l₁ l₂ bytes to read e₁ e₂ =
     body-put First s at l l₁ l₂ bytes to read e₁ e₂ ∙ ap (λ (b : List ℕ). put l to (le32 (startOf firstLeaseSize 3) ++ b)) (sym (append-nil (body s at)))
 
-pub widen-put : (s : List ℕ) (at : ℕ) (l l₁ l₂ l₃ bytes : List ℕ) (to : ℕ) (n : Name) → at + bodyAt + bodySize ≤ length s → bytes ≡ take bodySize (drop (at + bodyAt) s)
-    → l₁ ≡ put l to (le32 (startOf leaseSize 4)) → l₂ ≡ put l₁ (to + bodyAt) bytes → n ≡ noName → l₃ ≡ put (set l₂ (to + nameLengthAt) 0) (to + nameAt) (nameOctets n)
+pub widen-put : (s : List ℕ) (at : ℕ) (l l₁ l₂ l₃ bytes : List ℕ) (to : ℕ) (n : Name) → at + bodyAt + bodySize ≤ length s → bytes ≡ take movedSize (drop (at + movedAt) s)
+    → l₁ ≡ put l (to + movedAt) bytes → l₂ ≡ put l₁ to (le32 (startOf leaseSize 4)) → n ≡ noName → l₃ ≡ put (set l₂ (to + nameLengthAt) 0) (to + nameAt) (nameOctets n)
     → l₃ ≡ put l to (leaseAs Second (drop at s))
 unfolding leaseAs nameOctets octets withoutZeros
 widen-put s at l l₁ l₂ l₃ bytes to n room read e₁ e₂ none e₃ =

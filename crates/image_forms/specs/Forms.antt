@@ -11,12 +11,19 @@ use Rattle.image.specs.declared.Form.{Form}
 use Rattle.image.specs.Image.{le32, headSize, headKind, leaseSizeIn, leaseKind, nameRecord, leaseRecordIn}
 use Rattle.image.specs.Reading.{startOf}
 
--- Where the fields of a record begin, and how many bytes those have that a lease has in both forms, as BODY in the code.
+-- Where the fields of a record begin, and how many bytes those have that a lease has in both forms.
 abbrev pub bodyAt : ℕ
 bodyAt = 4
 
 abbrev pub bodySize : ℕ
 bodySize = 15
+
+-- What is moved: these and the byte before them, as BODY_AT and BODY in the code.
+abbrev pub movedAt : ℕ
+movedAt = 3
+
+abbrev pub movedSize : ℕ
+movedSize = 16
 
 -- The record at the front of some bytes as a record of this form, with no name.
 unfoldable pub leaseAs : Form → List ℕ → List ℕ

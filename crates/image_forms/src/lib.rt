@@ -17,10 +17,13 @@ ghost use Rattle.table.specs.declared.LeaseTable.{LeaseTable};
 ghost use Rattle.image.specs.declared.Form.the-variants.{First, Second};
 ghost use Rattle.image.specs.Image.{headSize, poolSize, leaseSize, firstLeaseSize, usedPools, usedLeases, imageAs, imageOf, fitsForm};
 ghost use Rattle.image_records.specs.Records.{Records};
-ghost use Rattle.image_forms.specs.Forms.{bodySize, leaseAs, frontAs, Moved};
+ghost use Rattle.image_forms.specs.Forms.{movedSize, leaseAs, frontAs, Moved};
 
-// What the records of both forms have after their first four bytes: the fields from the network to the end.
-const BODY: usize = image::NAME_LENGTH - image::NETWORK;
+// What the records of both forms have after their first four bytes, the fields from the network to the end, and one byte before
+// them: so these are sixteen, which move as one. What the record begins with is written over that byte.
+const BODY_AT: usize = image::NETWORK - 1;
+
+const BODY: usize = image::NAME_LENGTH - BODY_AT;
 
 // Whether one of n leases has a name, as the lengths of the names tell.
 pub fn any_named(image: &[u8], from: usize, n: usize) -> bool
@@ -39,10 +42,10 @@ pub fn any_named(image: &[u8], from: usize, n: usize) -> bool
 
 // ONE RECORD
 
-// The bytes of a body. Copied out and in again, they move as words.
+// The bytes of a body. Copied out and in again, they move by the register.
 fn body_at(s: &[u8], at: usize) -> [u8; BODY]
-    requires { ⌜ at + bodySize ≤ length (now s) ⌝ }
-    ensures { λ r. ⌜ r ≡ take bodySize (drop at (now (s .entry))) ⌝ }
+    requires { ⌜ at + movedSize ≤ length (now s) ⌝ }
+    ensures { λ r. ⌜ r ≡ take movedSize (drop at (now (s .entry))) ⌝ }
 {
     let mut bytes = [0u8; BODY];
     let mut k: usize = 0;
@@ -54,7 +57,7 @@ fn body_at(s: &[u8], at: usize) -> [u8; BODY]
 }
 
 fn put_body(out: &mut [u8], at: usize, bytes: [u8; BODY])
-    requires { ⌜ at + bodySize ≤ length (now out) ⌝ }
+    requires { ⌜ at + movedSize ≤ length (now out) ⌝ }
     ensures { λ _. ⌜ now (out .exit) ≡ put (now (out .entry)) at bytes ⌝ }
 {
     let mut k: usize = 0;
@@ -69,9 +72,9 @@ fn widen_lease(saved: &[u8], at: usize, image: &mut [u8], to: usize)
     requires { ⌜ (at + firstLeaseSize ≤ length (now saved)) × (to + leaseSize ≤ length (now image)) ⌝ }
     ensures { λ _. ⌜ now (image .exit) ≡ put (now (image .entry)) to (leaseAs Second (drop at (now (saved .entry)))) ⌝ }
 {
+    let bytes = body_at(saved, at + BODY_AT);
+    put_body(image, to + BODY_AT, bytes);
     image_records::put32(image, to, image::LEASE_START);
-    let bytes = body_at(saved, at + image::NETWORK);
-    put_body(image, to + image::NETWORK, bytes);
     image[to + image::NAME_LENGTH] = 0;
     names::put_name(image, to + image::NAME, names::no_name());
 }
@@ -81,9 +84,9 @@ fn narrow_lease(image: &[u8], at: usize, buffer: &mut [u8], to: usize)
     requires { ⌜ (at + leaseSize ≤ length (now image)) × (to + firstLeaseSize ≤ length (now buffer)) ⌝ }
     ensures { λ _. ⌜ now (buffer .exit) ≡ put (now (buffer .entry)) to (leaseAs First (drop at (now (image .entry)))) ⌝ }
 {
+    let bytes = body_at(image, at + BODY_AT);
+    put_body(buffer, to + BODY_AT, bytes);
     image_records::put32(buffer, to, image::FIRST_LEASE_START);
-    let bytes = body_at(image, at + image::NETWORK);
-    put_body(buffer, to + image::NETWORK, bytes);
 }
 
 // ALL OF THEM

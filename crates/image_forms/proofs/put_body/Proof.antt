@@ -1,6 +1,6 @@
 -- `image_forms::put_body` meets its contract: the first k bytes are put.
 -- Assumes nothing.
-use Rattle.image_forms.specs.Forms.{bodySize}
+use Rattle.image_forms.specs.Forms.{movedSize}
 use Prim.Native.Nat.{_+_, _-_, _≤_}
 use mathlib.Core.Path.{_≡_, refl, sym, ap, _∙_}
 use lib.ListN.{length, getD, take, length-set}
@@ -14,10 +14,10 @@ use Rattle.image_forms.proofs.put_body.Statement.{statement}
 use Rattle.image_forms.proofs.put_body.Tie as tie
 
 abbrev Inv-loop : tie.InvT-loop
-Inv-loop out₀ at bytes k₀ out k = (k ≤ bodySize) × (out ≡ put out₀ at (take k bytes)) × (length out ≡ length out₀)
+Inv-loop out₀ at bytes k₀ out k = (k ≤ movedSize) × (out ≡ put out₀ at (take k bytes)) × (length out ≡ length out₀)
 
 abbrev μ-loop : tie.MeasureT-loop
-μ-loop out₀ at bytes k₀ out k = bodySize - k
+μ-loop out₀ at bytes k₀ out k = movedSize - k
 
 loop-holds : tie.Need-loop-holds Inv-loop μ-loop
 loop-holds c = (omega arith, sym (put-nothing (c .args .out .now) (c .args .at)), refl)
