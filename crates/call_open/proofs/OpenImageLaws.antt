@@ -17,7 +17,7 @@ use Rattle.lists.proofs.SortingLaws.{sortBy-all, sortBy-length}
 use Rattle.table.specs.declared.Pool.{Pool}
 use Rattle.table.specs.declared.Lease.{Lease}
 use Rattle.table.specs.declared.LeaseTable.{LeaseTable}
-use Rattle.table.specs.Table.{poolSlots, noPool, sound, padded, paddedPools}
+use Rattle.table.specs.Table.{poolSlots, sound, padded}
 use Rattle.table.proofs.TableLaws.{GoodPool, long-not-unused, sound-default}
 use Rattle.image.specs.Image.{headSize, poolSize, fullImage, headRecord, poolRecord, leaseRecord, usedPools, usedLeases, headOf, imageAs, imageOf}
 use Rattle.image.proofs.ImageLaws.{used-pools, length-head, length-image, table-whole}
@@ -81,12 +81,10 @@ module _ (ns ls : List ℕ) (term len start : ℕ) (ok : openOk ns ls term len s
   its-size = image-size (fresh (given ns ls) term len start) sorted its-pools (fresh-none (given ns ls) term len start) ∙ ap (λ (n : ℕ). headSize + poolSize * n) many
 
   its-image : (buffer : List ℕ) → fullImage ≤ length buffer → (l₁ l₂ l₃ : List ℕ) → l₁ ≡ put buffer 0 (headRecord (record { term = term; «default_length» = len; last = start }))
-      → l₂ ≡ put l₁ headSize (concatMap poolRecord (take (length ns) (paddedPools sorted)))
+      → l₂ ≡ put l₁ headSize (concatMap poolRecord sorted)
       → l₃ ≡ put l₂ (headSize + poolSize * length ns) (replicate (fullImage - (headSize + poolSize * length ns)) 0) → l₃ ≡ stored (fresh (given ns ls) term len start) fullImage buffer
   its-image buffer room l₁ l₂ l₃ e₁ e₂ e₃ =
-      let first : take (length ns) (paddedPools sorted) ≡ sorted = take-at sorted (replicate (poolSlots - length sorted) noPool) (length ns) many in
-      image-stored (fresh (given ns ls) term len start) sorted its-pools (fresh-none (given ns ls) term len start) buffer (open-sound ns ls term len start ok) room (length ns) (sym many) l₁ l₂ l₃ e₁
-      (e₂ ∙ ap (λ (ps : List Pool). put l₁ headSize (concatMap poolRecord ps)) first) e₃
+      image-stored (fresh (given ns ls) term len start) sorted its-pools (fresh-none (given ns ls) term len start) buffer (open-sound ns ls term len start ok) room (length ns) (sym many) l₁ l₂ l₃ e₁ e₂ e₃
 
   -- It can be counted where it is written.
   its-standing : (buffer l : List ℕ) → l ≡ stored (fresh (given ns ls) term len start) fullImage buffer → Stands (fresh (given ns ls) term len start) l (length ns) 0
@@ -147,7 +145,7 @@ module _ (h : Lent) (ns ls : List ℕ) (term len start : ℕ) where
 
     -- What is written.
     module _ (room : fullImage ≤ length (h .image)) (l₁ l₂ l₃ : List ℕ) (e₁ : l₁ ≡ put (h .image) 0 (headRecord (record { term = term; «default_length» = cond (ltb 255 len) 0 len; last = start })))
-        (e₂ : l₂ ≡ put l₁ headSize (concatMap poolRecord (take (length ns) (paddedPools (sortPools (given ns ls))))))
+        (e₂ : l₂ ≡ put l₁ headSize (concatMap poolRecord (sortPools (given ns ls))))
         (e₃ : l₃ ≡ put l₂ (headSize + poolSize * length ns) (replicate (fullImage - (headSize + poolSize * length ns)) 0)) where
       written : l₃ ≡ stored (fresh (given ns ls) term len start) fullImage (h .image)
       written = its-image ns ls term short start ok (h .image) room l₁ l₂ l₃ e₁ e₂ e₃ ∙ ap (λ (n : ℕ). stored (fresh (given ns ls) term n start) fullImage (h .image)) short-is

@@ -8,14 +8,14 @@ use image::POOL;
 use image_figures::FIGURES;
 use ledger::Answer;
 use table::POOLS;
-use table::Pool;
 ghost use mathlib.Core.Path.{_≡_};
 ghost use mathlib.Core.List.{[]};
 ghost use Prim.Native.Nat.{_+_, _*_, _≤_};
-ghost use lib.ListN.{length, take};
+ghost use lib.ListN.{length};
 ghost use Rattle.lists.specs.Lists.{concatMap};
 ghost use Rattle.lists.specs.Put.{put};
 ghost use Rattle.table.specs.Table.{poolSlots};
+ghost use Rattle.table_open.specs.Keys.{poolsIn};
 ghost use Rattle.image.specs.Image.{headSize, poolSize, poolRecord};
 ghost use Rattle.ledger.specs.Ledger.{result};
 ghost use Rattle.call_spec.specs.Books.{bookOf, openBook};
@@ -27,21 +27,21 @@ pub struct Terms {
     pub start: u32,
 }
 
-// The records of the first n pools, after the head.
-fn put_pools(image: &mut [u8], pools: [Pool; POOLS], n: usize)
-    requires { ⌜ (headSize + poolSize * n ≤ length (now image)) × (n ≤ poolSlots) ⌝ }
-    ensures { λ _. ⌜ now (image .exit) ≡ put (now (image .entry)) headSize (concatMap poolRecord (take n pools)) ⌝ }
+// The records of the first n pools, after the head, each from the number that stands for it.
+fn put_pools(image: &mut [u8], keys: &[u64], n: usize)
+    requires { ⌜ (headSize + poolSize * n ≤ length (now image)) × (n ≤ poolSlots) × (n ≤ length (now keys)) ⌝ }
+    ensures { λ _. ⌜ now (image .exit) ≡ put (now (image .entry)) headSize (concatMap poolRecord (poolsIn n (now (keys .entry)))) ⌝ }
 {
     let mut i: usize = 0;
     while i < n {
-        let p = pools[i];
+        let p = table_open::pool_of(keys[i]);
         image_records::put_pool(image, HEAD + POOL * i, p);
         i = i + 1;
     }
 }
 
 // The fresh table is empty at every index, so its image is its head and its pools, and every row of its sheet an empty one; zeros follow up to the end
-// of a full image.
+// of a full image. Its pools are written from their numbers: of the table only the head is read, so none of it need stand anywhere.
 pub fn open(
     image: &mut [u8],
     image_bytes: &mut usize,
@@ -74,9 +74,8 @@ pub fn open(
         default_length: t.default_length,
         last: t.last,
     };
-    let pools = t.pools;
     image_records::put_head(image, head);
-    put_pools(image, pools, n);
+    put_pools(image, &keys, n);
     image_records::clear(image, HEAD + POOL * n, FULL_IMAGE);
     image_figures::fill(figures, image, HEAD + POOL * n, 0);
     image_counts::recount(image, n, 0, counts);

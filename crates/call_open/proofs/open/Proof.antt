@@ -5,14 +5,14 @@ use mathlib.Core.Path.{_≡_, refl, sym, ap, ap₂, _∙_}
 use mathlib.Core.Bool.{Bool, true, cond}
 use mathlib.Core.List.{List, []}
 use native.Mathlib.Omega.{arith}
-use lib.ListN.{length, take}
+use lib.ListN.{length}
 use lib.Dec.{ltb}
 use borrow.Author.Tests.{not-true, not-false}
 use Rattle.lists.specs.Lists.{concatMap}
 use Rattle.lists.specs.Put.{put}
 use Rattle.table.specs.declared.Pool.{Pool}
 use Rattle.table.specs.declared.LeaseTable.{LeaseTable}
-use Rattle.table.specs.Table.{poolSlots, paddedPools}
+use Rattle.table.specs.Table.{poolSlots}
 use Rattle.table_open.specs.Open.{given, sortPools, openOk, withPools, fresh}
 use Rattle.image.specs.Image.{headSize, poolSize, headRecord, poolRecord, headOf}
 use Rattle.ledger.specs.declared.Answer.{Answer}
@@ -94,18 +94,23 @@ returns-3 c =
 open-requires : tie.Need-open-requires
 open-requires c κs = let one = c .before .before .before in (few one, omega (arith, few one, one .before .before .admits .kept .0))
 
+-- Where the table is made.
+abbrev opened-of : tie.After-put-head → tie.After-open
+opened-of c = c .before .before
+
 put-pools-requires : tie.Need-put-pools-requires
 put-pools-requires c κs =
-    let head = c .before .before .before in
-    let two = head .before .before .before .before .before .before in
-    (omega (arith, few (two .before), head .put-head .kept .0, two .if2 .left), few (two .before))
+    let head = c .before .before .before .before in
+    let two = opened-of head .before .before .before in
+    let one = two .before in
+    (omega (arith, few one, head .put-head .kept .0, two .if2 .left), few one, omega (arith, few one, one .before .before .admits .kept .0))
 
 -- Places further back in the code: where the head is written, where the pools are.
 abbrev head-of : tie.After-put-pools → tie.After-put-head
-head-of c = c .before .before .before .before
+head-of c = c .before .before .before .before .before
 
 abbrev one-of : tie.After-put-pools → tie.Else1
-one-of c = head-of c .before .before .before .before .before .before .before
+one-of c = opened-of (head-of c) .before .before .before .before
 
 mul-clear : tie.Need-mul-clear
 mul-clear c = omega (arith, few (one-of (c .before .before .before)))
@@ -127,7 +132,7 @@ fill-requires c κs =
     let clear = c .before .before .before .before in
     let pools = pools-of clear in
     let one = one-of pools in
-    let three = head-of pools .before .before .before .before .before in (
+    let three = opened-of (head-of pools) .before .before in (
       omega arith,
       three .if3 .left,
       omega (arith, few one, three .before .if2 .left, clear .clear .kept .0, pools .put-pools .kept .0, head-of pools .put-head .kept .0),
@@ -141,16 +146,16 @@ head-is : (c : tie.After-clear) → let a = start-at c .args in
     head-of (pools-of c) .put-head .last .0 ≡ put (a .image .now) 0 (headRecord (record { term = a .terms .term; «default_length» = cond (ltb 255 (a .terms .«default_length»)) 0 (a .terms .«default_length»); last = a .terms .start }))
 head-is c =
     let head = head-of (pools-of c) in
-    head .put-head .ensures ∙ ap (λ (t : LeaseTable). put (start-at c .args .image .now) 0 (headRecord (headOf t))) (made (head .before .before .before))
+    head .put-head .ensures ∙ ap (λ (t : LeaseTable). put (start-at c .args .image .now) 0 (headRecord (headOf t))) (made (opened-of head))
 
 pools-are : (c : tie.After-clear) → let a = start-at c .args in
-    pools-of c .put-pools .last .0
-    ≡ put (head-of (pools-of c) .put-head .last .0) headSize (concatMap poolRecord (take (length (a .networks .now)) (paddedPools (sortPools (given (a .networks .now) (a .lengths .now))))))
+    pools-of c .put-pools .last .0 ≡ put (head-of (pools-of c) .put-head .last .0) headSize (concatMap poolRecord (sortPools (given (a .networks .now) (a .lengths .now))))
 pools-are c =
     let pools = pools-of c in
     let head = head-of pools in
+    let one = one-of pools in
     pools .put-pools .ensures
-    ∙ ap (λ (t : LeaseTable). put (head .put-head .last .0) headSize (concatMap poolRecord (take (length (start-at c .args .networks .now)) (t .pools)))) (made (head .before .before .before))
+    ∙ ap (λ (ps : List Pool). put (head .put-head .last .0) headSize (concatMap poolRecord ps)) (one .before .before .admits .ensures .1 (not-false _ (one .if1 .left)))
 
 standing : (c : tie.After-clear) → let a = start-at c .args in
     Stands (fresh (given (a .networks .now) (a .lengths .now)) (a .terms .term) (a .terms .«default_length») (a .terms .start)) (c .clear .last .0) (length (a .networks .now)) 0
@@ -158,7 +163,7 @@ standing c =
     let pools = pools-of c in
     let head = head-of pools in
     let one = one-of pools in
-    let two = head .before .before .before .before .before .before in
+    let two = opened-of head .before .before .before in
     let start = start-at c in
     let a = start .args in
     open-stands (lent-of start) (a .networks .now) (a .lengths .now) (a .terms .term) (a .terms .«default_length») (a .terms .start) (accepts one) (two .if2 .left)
@@ -187,7 +192,7 @@ returns-4 c =
     let clear = clear-of fill in
     let pools = pools-of clear in
     let head = head-of pools in
-    let three = head .before .before .before .before .before in
+    let three = opened-of head .before .before in
     let two = three .before in
     let start = start-at clear in
     let a = start .args in
@@ -205,5 +210,5 @@ pub open-spec : {M : Type 1} → statement M
 open-spec =
     tie.close
     (tie.spec (λ c κs. search needs) (λ c. search needs) (λ c κs. search needs) (λ c κs. search needs) returns (λ c κs. search needs) returns-2
-    (λ c κs. search needs) returns-3 (λ c. search needs) open-requires (λ c κs. search needs) put-pools-requires mul-clear add-clear
+    (λ c κs. search needs) returns-3 (λ c. search needs) open-requires (λ c κs. search needs) (λ c. search needs) put-pools-requires mul-clear add-clear
     (λ c κs. search needs) mul-fill add-fill fill-requires recount-requires mul-image-bytes add-image-bytes (λ c κs. search needs) (λ c. search needs) (λ c. search needs) returns-4)
