@@ -20,9 +20,10 @@ use Rattle.prefix.specs.Prefixes.{prefix}
 use Rattle.free_space.specs.Grant.{lowestPart, grant}
 use Rattle.gap_list.specs.declared.Choice.{Choice}
 use Rattle.gap_list.specs.Gaps.{Gap, gapsOf, fitIn, without, LiesIn}
-use Rattle.gap_list.specs.Columns.{heldIn, Kept, fitOf, Fitted}
+use Rattle.gap_list.specs.Columns.{heldIn, Carved, fitOf, Fitted}
 use Rattle.gap_list.proofs.FitLaws.{fit-grants}
 use Rattle.gap_list.proofs.SplitLaws.{gaps-split}
+use Rattle.gap_list.proofs.SolidLaws.{fit-solid, lies-solid}
 use Rattle.names.specs.declared.Name.{Name}
 use Rattle.table.specs.declared.Lease.{Lease}
 use Rattle.table.specs.declared.LeaseTable.{LeaseTable}
@@ -93,7 +94,8 @@ module _ (place l j : ℕ) (c : Columns) (p : Progress) (hn : j < length (c .net
     grant-is t time client name ys fs os q a k =
         ap (grant (poolsOf t) (map prefixOf ys)) (a .asked)
         ∙ sym (fit-grants (poolsOf t) (map prefixOf ys) (a .ordered) l (a .block))
-        ∙ sym (fitted .best (omega (arith, a .block .1)) ∙ ap (λ (gs : List Gap). lowestPart l (fitIn l gs)) (k .gaps))
+        ∙ sym (fitted .best (omega (arith, a .block .1))
+        ∙ ap (lowestPart l) (sym (fit-solid l none (heldIn (c .starts) (c .lasts) (p .gaps))) ∙ ap (fitIn l) (k .gaps)))
 
     -- Nothing fits.
     pub served-none : not (r .found) ≡ true → Served place l j c p cleared p
@@ -107,7 +109,7 @@ module _ (place l j : ℕ) (c : Columns) (p : Progress) (hn : j < length (c .net
     -- A REQUEST THAT IS GRANTED
 
     module _ (no-place : place ≡ noPlace) (e : not (r .found) ≡ false) (left : 0 < p .left) (starts lasts : List ℕ) (n : ℕ)
-        (kept : Kept (p .gaps) (without (prefix (r .network) l) (r .index) (heldIn (c .starts) (c .lasts) (p .gaps))) n starts lasts) where
+        (kept : Carved (p .gaps) (without (prefix (r .network) l) (r .index) (heldIn (c .starts) (c .lasts) (p .gaps))) n starts lasts) where
       abbrev after : Columns
       after = columns starts lasts (set (c .networks) j (r .network)) (set (set (c .lengths) j 0) j l)
 
@@ -131,13 +133,14 @@ module _ (place l j : ℕ) (c : Columns) (p : Progress) (hn : j < length (c .net
           → OffersHeld t time client name (add (offered time client name (q .h) (some (prefix (r .network) l))) ys) (fs ++ (flagOf (q .h) ∷ [])) (os ++ (offered time client name (q .h) (some (prefix (r .network) l)) ∷ [])) after on
       holds-more t time client name ys fs os q s a k =
           let x : Lease = record { network = r .network; length = l; client = client; leased = false; h = q .h; d = false; expires = time + holdTime; name = name } in
-          let lies : LiesIn (prefix (r .network) l) (r .index) (gapsOf (poolsOf t) (map prefixOf ys)) =
-          subst (LiesIn (prefix (r .network) l) (r .index)) (k .gaps) (fitted .place (not-back (r .found) false e)) in
+          let there = lies-solid (prefix (r .network) l) (r .index) (heldIn (c .starts) (c .lasts) (p .gaps)) (fitted .place (not-back (r .found) false e)) in
+          let lies : LiesIn (prefix (r .network) l) (there .index) (gapsOf (poolsOf t) (map prefixOf ys)) = subst (LiesIn (prefix (r .network) l) (there .index)) (k .gaps) (there .lies) in
           record {
             gaps =
                 kept .gaps
-                ∙ ap (without (prefix (r .network) l) (r .index)) (k .gaps)
-                ∙ sym (gaps-split (prefix (r .network) l) (poolsOf t) (map prefixOf ys) (a .ordered .poolsAscend) (a .ordered .leasesAscend) (r .index) lies)
+                ∙ there .split
+                ∙ ap (without (prefix (r .network) l) (there .index)) (k .gaps)
+                ∙ sym (gaps-split (prefix (r .network) l) (poolsOf t) (map prefixOf ys) (a .ordered .poolsAscend) (a .ordered .leasesAscend) (there .index) lies)
                 ∙ ap (gapsOf (poolsOf t)) (sym (insertBy-image prefixOf networkOf (λ (y : Prefix). y .network) x ys refl (all-every (λ y. refl) ys)));
             left = omega (arith, k .left, insertBy-longer networkOf x ys);
             held =

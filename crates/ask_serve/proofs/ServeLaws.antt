@@ -4,7 +4,7 @@ use Prim.Native.Nat.{ℕ, zero, suc, _+_, _≤_, _<_}
 use mathlib.Core.Path.{_≡_, refl, sym, ap, ap₂, subst, _∙_}
 use mathlib.Core.Logic.{⊎-elim}
 use mathlib.Core.Bool.{true, false, cond}
-use mathlib.Core.List.{List, [], _∷_, _++_, map-append}
+use mathlib.Core.List.{List, [], _∷_, _++_, map, map-append}
 use mathlib.Core.Option.{Option, none, some}
 use native.Mathlib.Omega.{arith}
 use native.Mathlib.Numerals.{add-one}
@@ -16,9 +16,11 @@ use Rattle.lists.specs.Lists.{All}
 use Rattle.lists.proofs.Tests.{bool-cases, cond-true, cond-false}
 use Rattle.lists.proofs.IndexLaws.{all-at}
 use Rattle.prefix.specs.Prefixes.{longest}
+use Rattle.gap_list.specs.Gaps.{solid}
+use Rattle.gap_list.proofs.SolidLaws.{gaps-solid}
 use Rattle.names.specs.declared.Name.{Name}
 use Rattle.table.specs.declared.{Lease.Lease, LeaseTable.LeaseTable}
-use Rattle.table.specs.Table.{leaseSlots, noLease, poolsOf}
+use Rattle.table.specs.Table.{leaseSlots, noLease, prefixOf, poolsOf}
 use Rattle.table.proofs.TableLaws.{Fine, sound-fine, sound-fewer}
 use Rattle.option.specs.Contents.{Request}
 use Rattle.option_scan.specs.Scanned.{flagOf}
@@ -63,7 +65,7 @@ module _ (t : LeaseTable) (time client : ℕ) (name : Name) (xs us : List Lease)
   module _ (starts lasts : List ℕ) (start : Start) (ask-lengths : List ℕ) (ready : Serving t time client xs rs starts lasts start ask-lengths) (same : length places ≡ length ask-lengths) where
     pub serve-start : (networks lengths : List ℕ) → After 0 (columns starts lasts networks lengths) (record { gaps = start .gaps; granted = 0; left = start .slots })
     unfolding restOffers addAll
-    serve-start networks lengths = record { gaps = ready .gaps; left = ready .empty; held = refl }
+    serve-start networks lengths = record { gaps = ap solid (ready .gaps) ∙ gaps-solid (poolsOf t) (map prefixOf xs); left = ready .empty; held = refl }
 
     pub requests-many : length rs ≡ length ask-lengths
     requests-many = sym (ap length (ready .askedLengths) ∙ length-map rs (λ (r : Request). r .length))

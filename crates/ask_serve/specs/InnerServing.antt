@@ -5,7 +5,7 @@ use mathlib.Core.List.{List, [], _∷_, _++_, map}
 use mathlib.Core.Option.{Option, none}
 use lib.ListN.{length}
 use Rattle.free_space.specs.Serving.{Length, Ordered}
-use Rattle.gap_list.specs.Gaps.{gapsOf}
+use Rattle.gap_list.specs.Gaps.{gapsOf, solid}
 use Rattle.gap_list.specs.Columns.{heldIn}
 use Rattle.names.specs.declared.Name.{Name}
 use Rattle.table.specs.declared.{Lease.Lease, LeaseTable.LeaseTable}
@@ -27,9 +27,9 @@ pub record Columns : Type 0 where
 abbrev pub columns : List ℕ → List ℕ → List ℕ → List ℕ → Columns
 columns starts lasts networks lengths = record { starts = starts; lasts = lasts; networks = networks; lengths = lengths }
 
--- The columns hold the gaps of a table's pools and of the leases ys, and what the first requests, those with the h fs, are offered.
+-- The columns hold the gaps of a table's pools and of the leases ys, beside empty ones, and what the first requests, those with the h fs, are offered.
 pub record OffersHeld (t : LeaseTable) (time client : ℕ) (name : Name) (ys : List Lease) (fs : List ℕ) (os : List (Option Lease)) (c : Columns) (p : Progress) : Type 0 where
-  pub gaps : heldIn (c .starts) (c .lasts) (p .gaps) ≡ gapsOf (poolsOf t) (map prefixOf ys)
+  pub gaps : solid (heldIn (c .starts) (c .lasts) (p .gaps)) ≡ gapsOf (poolsOf t) (map prefixOf ys)
   pub left : p .left ≡ leaseSlots - length ys
   pub held : offersIn client (time + holdTime) name (c .networks) (c .lengths) fs ≡ os
 

@@ -10,9 +10,9 @@ use lib.Seq.{take-suc-set, length-take-le, take-set-lt, getD-take}
 use Rattle.lists.proofs.TakeLaws.{take-short}
 use Rattle.prefix.specs.declared.Prefix.{Prefix}
 use Rattle.prefix.specs.Prefixes.{size, prefix, end}
-use Rattle.gap_list.specs.Gaps.{Gap, between, without, LiesIn}
-use Rattle.gap_list.specs.Columns.{held, heldIn, Kept}
-use Rattle.gap_list.specs.InnerSearch.{doubled, left}
+use Rattle.gap_list.specs.Gaps.{Gap, between, without, LiesIn, solid}
+use Rattle.gap_list.specs.Columns.{held, heldIn, Kept, Carved}
+use Rattle.gap_list.specs.InnerSearch.{doubled}
 use Rattle.gap_list.proofs.FitLaws.{between-some, between-none}
 
 held-snoc : (ss ls : List ℕ) → length ss ≡ length ls → (a b : ℕ) → held (ss ++ (a ∷ [])) (ls ++ (b ∷ [])) ≡ held ss ls ++ (record { from = a; to = b + 1 } ∷ [])
@@ -85,12 +85,12 @@ module _ (p : Prefix) where
   split-above (suc i) (s ∷ ss) (l ∷ ls) k low high = ap (λ (gs : List Gap). record { from = s; to = l + 1 } ∷ gs) (split-above i ss ls k low high)
 
   split-none : (i : ℕ) (ss ls : List ℕ) → LiesIn p i (held ss ls) → p .network ≤ getD ss i 0 → getD ls i 0 < end p
-      → held (left ss i) (left ls i) ≡ without p i (held ss ls)
+      → solid (held (set ss i 1) (set ls i 0)) ≡ solid (without p i (held ss ls))
   split-none i [] ls k low high = absurd k
   split-none i (s ∷ ss) [] k low high = absurd k
   split-none zero (s ∷ ss) (l ∷ ls) k low high =
-      sym (ap₂ (λ (gs hs : List Gap). gs ++ (hs ++ held ss ls)) (between-none s (p .network) low) (between-none (end p) (l + 1) (omega arith)))
-  split-none (suc i) (s ∷ ss) (l ∷ ls) k low high = ap (λ (gs : List Gap). record { from = s; to = l + 1 } ∷ gs) (split-none i ss ls k low high)
+      sym (ap₂ (λ (gs hs : List Gap). solid (gs ++ (hs ++ held ss ls))) (between-none s (p .network) low) (between-none (end p) (l + 1) (omega arith)))
+  split-none (suc i) (s ∷ ss) (l ∷ ls) k low high = ap (λ (gs : List Gap). between s (l + 1) ++ gs) (split-none i ss ls k low high)
 
 pub lies-below : (p : Prefix) (i : ℕ) (starts lasts : List ℕ) (n : ℕ) → LiesIn p i (heldIn starts lasts n) → i < n
 lies-below p i starts lasts n k = omega (arith, lies-within p i (take n starts) (take n lasts) k .0, take-short n starts)
@@ -105,36 +105,40 @@ module _ (starts lasts : List ℕ) (n i network l : ℕ) (within : i < n) (lies 
 
   pub part-both : (ss ls : List ℕ) → take (n + 1) ss ≡ doubled (take n starts) i → take (n + 1) ls ≡ doubled (take n lasts) i
       → (after : ℕ) → after ≡ network + size l → getD starts i 0 < network → after ≤ getD lasts i 0
-      → Kept n (without (prefix network l) i (heldIn starts lasts n)) (n + 1) (set ss (i + 1) after) (set ls i (network - 1))
+      → Carved n (without (prefix network l) i (heldIn starts lasts n)) (n + 1) (set ss (i + 1) after) (set ls i (network - 1))
   part-both ss ls e f after g low high = record {
     gaps =
-        ap₂ held
+        ap solid
+        (ap₂ held
         (take-set-lt (n + 1) ss (i + 1) after (omega arith) ∙ ap₂ (λ (m : List ℕ) (j : ℕ). set m j after) e (add-one i) ∙ ap (set (doubled (take n starts) i) (suc i)) g)
         (take-set-lt (n + 1) ls i (network - 1) (omega arith) ∙ ap (λ (m : List ℕ). set m i (network - 1)) f)
-        ∙ split-both (prefix network l) i (take n starts) (take n lasts) lies (omega (arith, start-is)) (omega (arith, last-is));
+        ∙ split-both (prefix network l) i (take n starts) (take n lasts) lies (omega (arith, start-is)) (omega (arith, last-is)));
     few = omega arith;
   }
 
-  pub part-below : getD starts i 0 < network → getD lasts i 0 < network + size l → Kept n (without (prefix network l) i (heldIn starts lasts n)) n starts (set lasts i (network - 1))
+  pub part-below : getD starts i 0 < network → getD lasts i 0 < network + size l → Carved n (without (prefix network l) i (heldIn starts lasts n)) n starts (set lasts i (network - 1))
   part-below low high = record {
     gaps =
-        ap (held (take n starts)) (take-set-lt n lasts i (network - 1) within)
-        ∙ split-below (prefix network l) i (take n starts) (take n lasts) lies (omega (arith, start-is)) (omega (arith, last-is));
+        ap solid
+        (ap (held (take n starts)) (take-set-lt n lasts i (network - 1) within)
+        ∙ split-below (prefix network l) i (take n starts) (take n lasts) lies (omega (arith, start-is)) (omega (arith, last-is)));
     few = omega arith;
   }
 
   pub part-above : (after : ℕ) → after ≡ network + size l → network ≤ getD starts i 0 → after ≤ getD lasts i 0
-      → Kept n (without (prefix network l) i (heldIn starts lasts n)) n (set starts i after) lasts
+      → Carved n (without (prefix network l) i (heldIn starts lasts n)) n (set starts i after) lasts
   part-above after g low high = record {
     gaps =
-        ap (λ (m : List ℕ). held m (take n lasts)) (take-set-lt n starts i after within ∙ ap (set (take n starts) i) g)
-        ∙ split-above (prefix network l) i (take n starts) (take n lasts) lies (omega (arith, start-is)) (omega (arith, last-is));
+        ap solid
+        (ap (λ (m : List ℕ). held m (take n lasts)) (take-set-lt n starts i after within ∙ ap (set (take n starts) i) g)
+        ∙ split-above (prefix network l) i (take n starts) (take n lasts) lies (omega (arith, start-is)) (omega (arith, last-is)));
     few = omega arith;
   }
 
-  pub part-none : (ss ls : List ℕ) → take (n - 1) ss ≡ left (take n starts) i → take (n - 1) ls ≡ left (take n lasts) i → network ≤ getD starts i 0 → getD lasts i 0 < network + size l
-      → Kept n (without (prefix network l) i (heldIn starts lasts n)) (n - 1) ss ls
-  part-none ss ls e f low high = record {
-    gaps = ap₂ held e f ∙ split-none (prefix network l) i (take n starts) (take n lasts) lies (omega (arith, start-is)) (omega (arith, last-is));
+  pub part-none : network ≤ getD starts i 0 → getD lasts i 0 < network + size l → Carved n (without (prefix network l) i (heldIn starts lasts n)) n (set starts i 1) (set lasts i 0)
+  part-none low high = record {
+    gaps =
+        ap₂ (λ (ss ls : List ℕ). solid (held ss ls)) (take-set-lt n starts i 1 within) (take-set-lt n lasts i 0 within)
+        ∙ split-none (prefix network l) i (take n starts) (take n lasts) lies (omega (arith, start-is)) (omega (arith, last-is));
     few = omega arith;
   }

@@ -41,7 +41,7 @@ fit-exact l best (g ∷ gs) e =
     fit-exact l (inGap l best (g .from) (g .to)) gs (ap lengthOf same ∙ e) ∙ same
 
 -- An empty gap has nothing.
-fit-between : (l : ℕ) (best : Option Prefix) (a b : ℕ) → fitFrom l best (between a b) ≡ inGap l best a b
+pub fit-between : (l : ℕ) (best : Option Prefix) (a b : ℕ) → fitFrom l best (between a b) ≡ inGap l best a b
 fit-between l best a b =
     ⊎-elim (λ (t : ltb a b ≡ true). ap (fitFrom l best) (between-some a b (ltb-true a b t)))
     (λ (t : ltb a b ≡ false).

@@ -1,14 +1,14 @@
--- Elements of a column moved one place up or down, one at a time, in its first places.
+-- Elements of a column moved one place up, one at a time, in its first places.
 -- Assumes nothing.
 use Prim.Native.Nat.{ℕ, zero, suc, _+_, _-_, _≤_, _<_}
 use mathlib.Core.Path.{_≡_, refl, sym, ap, ap₂, _∙_}
 use mathlib.Core.List.{List, [], _∷_, _++_}
 use native.Mathlib.Omega.{arith}
 use native.Mathlib.Numerals.{add-one}
-use lib.ListN.{length, take, drop, set, getD, length-append, length-drop, length-set}
-use lib.Seq.{take-nil, length-take-le, take-take, take-set-lt, getD-take, take-at}
-use Rattle.lists.proofs.ShiftLaws.{shifted, shifted-none, shifted-more, lowered, lowered-none, lowered-more}
-use Rattle.gap_list.specs.InnerSearch.{doubled, left}
+use lib.ListN.{length, take, drop, set, getD, length-set}
+use lib.Seq.{take-nil, length-take-le, take-take, take-set-lt, getD-take}
+use Rattle.lists.proofs.ShiftLaws.{shifted, shifted-none, shifted-more}
+use Rattle.gap_list.specs.InnerSearch.{doubled}
 
 drop-take : {A : Type 0} (i n : ℕ) (l : List A) → drop i (take n l) ≡ take (n - i) (drop i l)
 drop-take zero n l = let e : n ≡ n - 0 = omega arith in ap (λ (m : ℕ). take m l) e
@@ -21,14 +21,7 @@ pub record Up (n : ℕ) (l : List ℕ) (k : ℕ) (m : List ℕ) : Type 0 where
   pub moved : take (n + 1) m ≡ shifted n (take (n + 1) l) k
   pub long : length m ≡ length l
 
--- The elements of l between i and k one place down, with the one at k kept in its place too.
-pub record Down (i : ℕ) (l : List ℕ) (k : ℕ) (m : List ℕ) : Type 0 where
-  pub moved : m ≡ lowered l i k
-  pub long : length m ≡ length l
-
 module _ (n : ℕ) (l : List ℕ) where
-  -- up
-
   pub up-none : n < length l → Up n l n l
   up-none h = record { moved = shifted-none n (take (n + 1) l) (length-take-le (n + 1) l (omega arith)); long = refl }
 
@@ -49,28 +42,3 @@ module _ (n : ℕ) (l : List ℕ) where
       let high : take (n - i) (drop i (take (n + 1) l)) ≡ drop i (take n l) =
       ap (take (n - i)) (drop-take i (n + 1) l) ∙ take-take (n - i) (n + 1 - i) (drop i l) (omega arith) ∙ sym (drop-take i n l) in
       u .moved ∙ ap (shifted n (take (n + 1) l)) e ∙ ap₂ (λ (a b : List ℕ). a ++ b) low high
-
-  -- down
-
-  pub down-none : (i : ℕ) → Down i l i l
-  down-none i = record { moved = lowered-none l i; long = refl }
-
-  pub down-more : (m : List ℕ) (i k : ℕ) → i ≤ k → k + 1 < length l → Down i l k m → Down i l (k + 1) (set m k (getD m (k + 1) 0))
-  down-more m i k h lt u = record {
-    moved = ap (λ (a : List ℕ). set a k (getD a (k + 1) 0)) (u .moved) ∙ lowered-more l i 0 k h lt;
-    long = length-set m k (getD m (k + 1) 0) ∙ u .long;
-  }
-
-  pub down-done : (m : List ℕ) (i k : ℕ) → n ≤ length l → i ≤ k → k + 1 ≡ n → Down i l k m → take (n - 1) m ≡ left (take n l) i
-  down-done m i k h le last u =
-      let front : List ℕ = take i l ++ take (k - i) (drop (i + 1) l) in
-      let rest : k - i ≤ length (drop (i + 1) l) = rw length-drop (omega arith) in
-      let long : length front ≡ n - 1 =
-      length-append (take i l) (take (k - i) (drop (i + 1) l))
-      ∙ omega (arith, length-take-le i l (omega arith), length-take-le (k - i) (drop (i + 1) l) rest) in
-      let s : i + 1 ≡ suc i = add-one i in
-      let count : k - i ≡ n - suc i = omega arith in
-      ap (take (n - 1)) (u .moved)
-      ∙ take-at front (drop k l) (n - 1) long
-      ∙ ap₂ (λ (a b : List ℕ). a ++ b) (sym (take-take i n l (omega arith)))
-      (ap₂ (λ (m j : ℕ). take m (drop j l)) count s ∙ sym (drop-take (suc i) n l))

@@ -9,7 +9,7 @@ use Rattle.prefix.specs.declared.Prefix.{Prefix}
 use Rattle.prefix.specs.Prefixes.{prefix}
 use Rattle.free_space.specs.Grant.{lowestPart}
 use Rattle.gap_list.specs.declared.Choice.{Choice}
-use Rattle.gap_list.specs.Gaps.{Gap, fitIn, LiesIn}
+use Rattle.gap_list.specs.Gaps.{Gap, fitIn, LiesIn, solid}
 
 -- The gaps that two columns hold, each by its first and its last address.
 abbrev pub held : List ℕ → List ℕ → List Gap
@@ -23,6 +23,11 @@ heldIn starts lasts n = held (take n starts) (take n lasts)
 -- The columns hold these gaps, r of them, at most one more than n.
 pub record Kept (n : ℕ) (gs : List Gap) (r : ℕ) (starts lasts : List ℕ) : Type 0 where
   pub gaps : heldIn starts lasts r ≡ gs
+  pub few : r ≤ n + 1
+
+-- The columns hold these gaps but for empty ones, in r places, at most one more than n.
+pub record Carved (n : ℕ) (gs : List Gap) (r : ℕ) (starts lasts : List ℕ) : Type 0 where
+  pub gaps : solid (heldIn starts lasts r) ≡ solid gs
   pub few : r ≤ n + 1
 
 -- What a search answers.

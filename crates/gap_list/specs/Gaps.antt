@@ -53,3 +53,8 @@ abbrev pub LiesIn : Prefix → ℕ → List Gap → Type 0
 LiesIn p i [] = ⊥
 LiesIn p zero (g ∷ gs) = (g .from ≤ p .network) × (end p ≤ g .to)
 LiesIn p (suc i) (g ∷ gs) = LiesIn p i gs
+
+-- The gaps that are not empty.
+abbrev pub solid : List Gap → List Gap
+solid [] = []
+solid (g ∷ gs) = between (g .from) (g .to) ++ solid gs

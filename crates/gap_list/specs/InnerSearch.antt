@@ -14,12 +14,9 @@ use Rattle.gap_list.specs.declared.Best.{Best}
 use Rattle.gap_list.specs.Gaps.{Gap, fitFrom}
 use Rattle.gap_list.specs.Columns.{held, heldIn}
 
--- The first n elements of a column, with the one at i twice; and without the one at i.
+-- The first n elements of a column, with the one at i twice.
 abbrev pub doubled : List ℕ → ℕ → List ℕ
 doubled xs i = take (suc i) xs ++ drop i xs
-
-abbrev pub left : List ℕ → ℕ → List ℕ
-left xs i = take i xs ++ drop (suc i) xs
 
 -- The gaps from i on.
 abbrev pub heldFrom : List ℕ → List ℕ → ℕ → ℕ → List Gap

@@ -7,8 +7,8 @@ ghost use lib.Bits.{bitOr};
 ghost use lib.ListN.{length as lengthOf, take};
 ghost use Rattle.prefix.specs.Prefixes.{prefix};
 ghost use Rattle.gap_list.specs.Gaps.{between, without, LiesIn};
-ghost use Rattle.gap_list.specs.Columns.{heldIn, Kept, Fitted};
-ghost use Rattle.gap_list.specs.InnerSearch.{doubled, left, Passed, NextLarge, bitsOf, AtEnd};
+ghost use Rattle.gap_list.specs.Columns.{heldIn, Kept, Carved, Fitted};
+ghost use Rattle.gap_list.specs.InnerSearch.{doubled, Passed, NextLarge, bitsOf, AtEnd};
 
 // One gap more after the first n, if it is not empty; answers how many there are.
 pub fn push(starts: &mut [u32], lasts: &mut [u32], n: usize, from: u64, to: u64) -> usize
@@ -153,20 +153,8 @@ fn move_up(starts: &mut [u32], lasts: &mut [u32], index: usize, n: usize)
     }
 }
 
-// The gaps after `index`, up to n, one place down.
-fn move_down(starts: &mut [u32], lasts: &mut [u32], index: usize, n: usize)
-    requires { ⌜ (index < n) × (n ≤ lengthOf (now starts)) × (n ≤ lengthOf (now lasts)) ⌝ }
-    ensures { λ _. ⌜ (take (n - 1) (now (starts .exit)) ≡ left (take n (now (starts .entry))) index) × (take (n - 1) (now (lasts .exit)) ≡ left (take n (now (lasts .entry))) index) ⌝ }
-{
-    let mut k = index;
-    while k + 1 < n {
-        starts[k] = starts[k + 1];
-        lasts[k] = lasts[k + 1];
-        k += 1;
-    }
-}
-
-// A prefix taken out of the gap that it lies in: what is left of the gap on both sides stays in its place.
+// A prefix taken out of the gap that it lies in: what is left of the gap on both sides stays in its place. Where nothing is left an empty gap stays, one
+// that ends before it begins: no search finds anything in it, and none of the others has to move.
 pub fn carve(
     starts: &mut [u32],
     lasts: &mut [u32],
@@ -176,7 +164,7 @@ pub fn carve(
     length: u8,
 ) -> usize
     requires { ⌜ (index < n) × (n < lengthOf (now starts)) × (n < lengthOf (now lasts)) × LiesIn (prefix network length) index (heldIn (now starts) (now lasts) n) ⌝ }
-    ensures { λ r. ⌜ Kept n (without (prefix network length) index (heldIn (now (starts .entry)) (now (lasts .entry)) n)) r (now (starts .exit)) (now (lasts .exit)) ⌝ }
+    ensures { λ r. ⌜ Carved n (without (prefix network length) index (heldIn (now (starts .entry)) (now (lasts .entry)) n)) r (now (starts .exit)) (now (lasts .exit)) ⌝ }
 {
     let last = lasts[index] as u64;
     let after = (network as u64) + prefix::size(length);
@@ -194,6 +182,7 @@ pub fn carve(
         starts[index] = after as u32;
         return n;
     }
-    move_down(starts, lasts, index, n);
-    n - 1
+    starts[index] = 1;
+    lasts[index] = 0;
+    n
 }

@@ -48,12 +48,10 @@ returns-3 c =
 
 returns-4 : tie.Need-returns-4
 returns-4 c =
-    let t = c .before .before .before .before .before .before .before in
-    let b = t .before .before .before .before .before .before .before in
+    let b = c .before .before .before .before .before .before .before in
     let a = b .args in
-    let m = c .before .before .before .before .move-down .ensures in
     part-none (a .starts .now) (a .lasts .now) (a .n) (a .index) (a .network) (a .length) (b .pre .0) (b .pre .3)
-    _ _ (m .0) (m .1) (t .before .if1 .left) (omega (arith, t .if3 .left, t .before .before .before .size .ensures .0))
+    (c .before .if1 .left) (omega (arith, c .if3 .left, c .before .before .before .size .ensures .0))
 
 pub carve-spec : {M : Type 1} → statement M
 carve-spec =
@@ -62,4 +60,4 @@ carve-spec =
     (λ c. search needs) (λ c κs. search needs) cast-starts (λ c. search needs) (λ c. search needs) (λ c. search needs) (λ c. search needs)
     (λ c. search needs) (λ c. search needs) (λ c. search needs) (λ c. search needs) (λ c. search needs) returns (λ c. search needs)
     (λ c. search needs) (λ c. search needs) (λ c. search needs) returns-2 cast-starts-2 (λ c. search needs) (λ c. search needs)
-    (λ c. search needs) returns-3 (λ c κs. search needs) (λ c. search needs) (λ c. search needs) (λ c. search needs) returns-4)
+    (λ c. search needs) returns-3 (λ c. search needs) (λ c. search needs) (λ c. search needs) (λ c. search needs) (λ c. search needs) (λ c. search needs) returns-4)
