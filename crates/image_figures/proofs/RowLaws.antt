@@ -18,9 +18,9 @@ use Rattle.image.specs.Fields.{number16, number32}
 use Rattle.image.specs.Image.{le16, le32}
 use Rattle.image.proofs.FieldLaws.{spell32, number-from}
 use Rattle.image.proofs.ImageLaws.{length-concatMap}
-use Rattle.image_records.proofs.PutForms.{put-behind, put-front}
+use Rattle.image_records.proofs.PutForms.{put-behind, put-front, put-over-last}
 use Rattle.figures.specs.declared.FigureRow.{FigureRow}
-use Rattle.figures.specs.Figures.{emptyRow, ofLease?}
+use Rattle.figures.specs.Figures.{untold, untoldRow, emptyRow, ofLease?}
 use Rattle.figures.proofs.FoundLaws.{lease-other}
 use Rattle.image_figures.specs.Sheets.{rowSize, rowBytes, sheetOf, rowIn}
 
@@ -54,6 +54,32 @@ row-put r at l l₁ l₂ l₃ l₄ e₁ e₂ e₃ e₄ =
     let f₂ : l₂ ≡ put l at b₃ = put-more l m l₂ at b₂ (at + 5) (le16 (r .«high_water» .0)) f₁ refl e₂ in
     let f₃ : l₃ ≡ put l at b₄ = put-more l l₂ l₃ at b₃ (at + 7) (le16 (r .«in_use» .0)) f₂ refl e₃ in
     put-more l l₃ l₄ at b₄ (at + 9) (le16 (r .unusable .0)) f₃ refl e₄
+
+-- An untold row in three words: the last byte of the second is the first of the third.
+untold-word : (n : ℕ) → n < 256 → le32 (4294967040 + n) ≡ n ∷ 255 ∷ 255 ∷ 255 ∷ []
+unfolding le32
+untold-word n h =
+    let e₁ : (4294967040 + n) % 256 ≡ n = omega arith in
+    let q₂ : (4294967040 + n) / 256 ≡ 16777215 = omega arith in
+    let q₃ : (4294967040 + n) / 65536 ≡ 65535 = omega arith in
+    let e₂ : (4294967040 + n) / 256 % 256 ≡ 255 = ap (λ (q : ℕ). q % 256) q₂ in
+    let e₃ : (4294967040 + n) / 65536 % 256 ≡ 255 = ap (λ (q : ℕ). q % 256) q₃ in
+    let e₄ : (4294967040 + n) / 16777216 ≡ 255 = omega arith in
+    ap₂ (λ (a b : ℕ). a ∷ b ∷ (4294967040 + n) / 65536 % 256 ∷ (4294967040 + n) / 16777216 ∷ []) e₁ e₂ ∙ ap₂ (λ (a b : ℕ). n ∷ 255 ∷ a ∷ b ∷ []) e₃ e₄
+
+untold-is : (network len at : ℕ) (l l₁ l₂ l₃ : List ℕ) → len < 256 → l₁ ≡ put l at (le32 network) → l₂ ≡ put l₁ (at + 4) (le32 (4294967040 + len)) → l₃ ≡ put l₂ (at + 7) (le32 4294967295)
+    → l₃ ≡ put l at (rowBytes (rowOf network len untold untold untold))
+unfolding rowBytes le16 le32
+untold-is network len at l l₁ l₂ l₃ short e₁ e₂ e₃ =
+    let front : List ℕ = le32 network ++ (len ∷ 255 ∷ 255 ∷ []) in
+    let f₂ : l₂ ≡ put l at (front ++ (255 ∷ [])) =
+    put-more l l₁ l₂ at (le32 network) (at + 4) (len ∷ 255 ∷ 255 ∷ 255 ∷ []) e₁ refl (e₂ ∙ ap (put l₁ (at + 4)) (untold-word len short)) in
+    e₃ ∙ ap (λ (m : List ℕ). put m (at + 7) (le32 4294967295)) f₂ ∙ put-over-last front (255 ∷ []) (255 ∷ 255 ∷ 255 ∷ 255 ∷ []) l at (omega arith)
+
+pub untold-put : (x : Lease) (network len at : ℕ) (l l₁ l₂ l₃ : List ℕ) → len < 256 → x .network ≡ network → x .length ≡ len → l₁ ≡ put l at (le32 network)
+    → l₂ ≡ put l₁ (at + 4) (le32 (4294967040 + len)) → l₃ ≡ put l₂ (at + 7) (le32 4294967295) → l₃ ≡ put l at (rowBytes (untoldRow x))
+untold-put x network len at l l₁ l₂ l₃ short en el e₁ e₂ e₃ =
+    untold-is network len at l l₁ l₂ l₃ short e₁ e₂ e₃ ∙ sym (ap₂ (λ (n m : ℕ). put l at (rowBytes (rowOf n m untold untold untold))) en el)
 
 -- ONE FIELD OF A ROW
 

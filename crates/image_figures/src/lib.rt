@@ -463,6 +463,16 @@ pub fn spread(sheet: &mut [u8], n: usize, image: &[u8], from: usize, leases: usi
 
 // FILLING
 
+// The row of a lease of which nothing is told, in three words, as `empty_at` reads them.
+fn put_untold(sheet: &mut [u8], at: usize, network: u32, len: u8)
+    requires { ⌜ at + rowSize ≤ length (now sheet) ⌝ }
+    ensures { λ _. ⌜ ((x : Lease) → x .network ≡ network → x .length ≡ len → now (sheet .exit) ≡ put (now (sheet .entry)) at (rowBytes (untoldRow x))) ⌝ }
+{
+    image_records::put32(sheet, at, network);
+    image_records::put32(sheet, at + LENGTH, EMPTY_FROM_LENGTH + (len as u32));
+    image_records::put32(sheet, at + IN_USE, EMPTY_END);
+}
+
 // The rows of n leases, of which nothing is told.
 fn fill_leases(sheet: &mut [u8], image: &[u8], from: usize, n: usize)
     requires { ⌜ (rowSize * n ≤ length (now sheet)) × (from + leaseSize * n ≤ length (now image)) ⌝ }
@@ -472,11 +482,9 @@ fn fill_leases(sheet: &mut [u8], image: &[u8], from: usize, n: usize)
     let mut i: usize = 0;
     while i < n {
         let place = from + LEASE * i;
-        let new = figures::untold_row(
-            image::network_at(image, place),
-            image::length_at(image, place),
-        );
-        put_row(sheet, ROW * i, new);
+        let network = image::network_at(image, place);
+        let len = image::length_at(image, place);
+        put_untold(sheet, ROW * i, network, len);
         i = i + 1;
     }
 }

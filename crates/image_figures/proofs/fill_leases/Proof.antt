@@ -6,6 +6,7 @@ use native.Mathlib.Omega.{arith}
 use lib.ListN.{length, drop}
 use Rattle.image.specs.Image.{leaseSize}
 use Rattle.image.specs.Reading.{leaseIn}
+use Rattle.figures.specs.Figures.{untoldRow}
 use Rattle.image_figures.proofs.FillLaws.{Filling, filling-none, filling-more, filling-all}
 use borrow.Author.Needs.{needs}
 use Rattle.image_figures.proofs.fill_leases.Statement.{statement}
@@ -25,16 +26,15 @@ loop-holds c =
 loop-again : tie.Need-loop-again Inv-loop μ-loop
 loop-again c =
     let written = c .before .before in
-    let new = written .before .before in
-    let len = new .before in
+    let len = written .before .before in
     let network = len .before in
     let loop = network .before .before .loop in
     let a = network .before .before .before .before .before .args in
     let x = leaseIn (drop (a .from + leaseSize * loop .i) (a .image .now)) in (
       omega arith,
-      written .put-row .kept .0 ∙ loop .inv .1,
-      filling-more (a .sheet .now) (a .image .now) (a .from) (a .n) (loop .sheet) _ (loop .i) x (new .untold-row .result) (omega arith) (loop .inv .2) refl
-          (new .untold-row .ensures x (sym (network .network-at .ensures)) (sym (len .length-at .ensures))) (written .put-row .ensures),
+      written .put-untold .kept .0 ∙ loop .inv .1,
+      filling-more (a .sheet .now) (a .image .now) (a .from) (a .n) (loop .sheet) _ (loop .i) x (untoldRow x) (omega arith) (loop .inv .2) refl refl
+          (written .put-untold .ensures x (sym (network .network-at .ensures)) (sym (len .length-at .ensures))),
     )
 
 same-length : tie.Need-same-length Inv-loop μ-loop
@@ -49,5 +49,5 @@ returns c =
 pub fill-leases-spec : {M : Type 1} → statement M
 fill-leases-spec =
     tie.close
-    (tie.spec Inv-loop μ-loop loop-holds (λ c. search needs) (λ c. search needs) (λ c κs. search needs) (λ c κs. search needs) (λ c κs. search needs) (λ c. search needs)
+    (tie.spec Inv-loop μ-loop loop-holds (λ c. search needs) (λ c. search needs) (λ c κs. search needs) (λ c κs. search needs) (λ c. search needs)
     (λ c κs. search needs) (λ c. search needs) (λ c. search needs) loop-again same-length returns)
