@@ -5,7 +5,7 @@ use native.Mathlib.Omega.{arith}
 use mathlib.Core.Path.{_≡_, refl, sym, ap, ap₂, _∙_}
 use mathlib.Core.List.{List, _∷_, _++_, map, append-nil}
 use lib.ListN.{length, getD, take, drop, replicate, length-append, length-map, length-replicate, List·getD-map}
-use lib.Seq.{take-all}
+use lib.Seq.{take-all, take-at}
 use Rattle.lists.specs.Put.{put}
 use Rattle.lists.proofs.DropLaws.{drop-end}
 use Rattle.lists.proofs.ConcatMapLaws.{concatMap-append}
@@ -17,7 +17,7 @@ use Rattle.image.specs.Image.{leaseSize}
 use Rattle.image.specs.Reading.{leaseIn}
 use Rattle.image.proofs.WriteLaws.{more-put}
 use Rattle.image_records.specs.Records.{Records}
-use Rattle.image_records.proofs.PutForms.{put-over-last}
+use Rattle.image_records.proofs.PutForms.{put-over-last, drop-put-at}
 use Rattle.image_records.proofs.RecordLaws.{lease-in-place}
 use Rattle.figures.specs.declared.FigureRow.{FigureRow}
 use Rattle.figures.specs.Figures.{untoldRow, emptyRow}
@@ -46,6 +46,18 @@ module _ (l : List ℕ) (first : ℕ) where
       ∙ ap₂ (λ (s : List ℕ) (n : ℕ). put s n (emptyBytes m)) (e₁ ∙ ap (put l (rowSize * first)) (ap emptyBytes before ∙ empty-append (j - first) (i - j))) place
       ∙ put-over-last p q (emptyBytes m) l (rowSize * first) (omega (arith, length-empty (i - j), length-empty m))
       ∙ ap (put l (rowSize * first)) (sym (empty-append (j - first) m) ∙ ap emptyBytes after)
+
+-- So many rows are cleared, and the last ones up to the end are a copy of them.
+pub cleared-twice : (slots : ℕ) (l l₁ l₂ : List ℕ) (n half : ℕ) → n + half ≤ slots → slots ≤ n + half + half → length l ≡ rowSize * slots → l₁ ≡ put l (rowSize * n) (emptyBytes (n + half - n))
+    → l₂ ≡ put l₁ (rowSize * (slots - half)) (take (rowSize * half) (drop (rowSize * n) l₁)) → l₂ ≡ put l (rowSize * n) (emptyBytes (slots - n))
+cleared-twice slots l l₁ l₂ n half h k size e₁ e₂ =
+    let many : n + half - n ≡ half = omega arith in
+    let empty : List ℕ = emptyBytes half in
+    let same : take (rowSize * half) (drop (rowSize * n) l₁) ≡ empty =
+    ap (λ (s : List ℕ). take (rowSize * half) (drop (rowSize * n) s)) (e₁ ∙ ap (λ (m : ℕ). put l (rowSize * n) (emptyBytes m)) many)
+    ∙ ap (take (rowSize * half)) (drop-put-at empty l (rowSize * n) (omega (arith, length-empty half)))
+    ∙ take-at empty (drop (rowSize * n + length empty) l) (rowSize * half) (length-empty half) in
+    cleared-more l n l₁ l₂ (n + half) (slots - half) half slots (omega arith) (omega arith) h (omega arith) e₁ (e₂ ∙ ap (put l₁ (rowSize * (slots - half))) same)
 
 -- UNTOLD ROWS
 

@@ -489,13 +489,45 @@ fn fill_leases(sheet: &mut [u8], image: &[u8], from: usize, n: usize)
     }
 }
 
+// n bytes from `at` on also from `to` on, by way of an array, which tells the compiler that this is one move: the array itself is never laid out.
+fn copy_bytes(sheet: &mut [u8], at: usize, to: usize, n: usize)
+    requires { ⌜ (at + n ≤ length (now sheet)) × (to + n ≤ length (now sheet)) × (n ≤ figuresSize) ⌝ }
+    ensures { λ _. ⌜ now (sheet .exit) ≡ put (now (sheet .entry)) to (take n (drop at (now (sheet .entry)))) ⌝ }
+{
+    let mut bytes = [0u8; FIGURES];
+    let mut k: usize = 0;
+    while k < n {
+        bytes[k] = sheet[at + k];
+        k = k + 1;
+    }
+    let mut j: usize = 0;
+    while j < n {
+        sheet[to + j] = bytes[j];
+        j = j + 1;
+    }
+}
+
+// Rows of empty slots from the place n on. Of many the second half is a copy of the first, which costs less than to make it.
+fn clear_rest(sheet: &mut [u8], n: usize)
+    requires { ⌜ (n ≤ leaseSlots) × (length (now sheet) ≡ figuresSize) ⌝ }
+    ensures { λ _. ⌜ now (sheet .exit) ≡ put (now (sheet .entry)) (rowSize * n) (sheetOf (replicate (leaseSlots - n) emptyRow)) ⌝ }
+{
+    if LEASES < n + 128 {
+        clear_rows(sheet, n, LEASES);
+        return;
+    }
+    let half = (LEASES + 1 - n) / 2;
+    clear_rows(sheet, n, n + half);
+    copy_bytes(sheet, ROW * n, ROW * (LEASES - half), ROW * half);
+}
+
 // The rows of a fresh or a loaded image, whatever stood in the sheet.
 pub fn fill(sheet: &mut [u8], image: &[u8], from: usize, n: usize)
     requires { ⌜ (n ≤ leaseSlots) × (length (now sheet) ≡ figuresSize) × (from + leaseSize * n ≤ length (now image)) ⌝ }
     ensures { λ _. ⌜ ((xs : List Lease) → Records (now (image .entry)) from xs → n ≡ length xs → now (sheet .exit) ≡ sheetOf (map untoldRow (padded xs))) ⌝ }
 {
     fill_leases(sheet, image, from, n);
-    clear_rows(sheet, n, LEASES);
+    clear_rest(sheet, n);
 }
 
 // FILING
