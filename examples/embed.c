@@ -10,9 +10,12 @@
  * answer goes to standard output, both in the console's words:
  *
  *     open TERM DEFAULT START PREFIX..       a new book, where there is none yet
- *     ask|take|list|return CLIENT NOW OPTION the option in hexadecimal
+ *     ask|take CLIENT NOW OPTION [OPTION]    option 220 in hexadecimal, and option 118 where the message has one
+ *     list|return CLIENT NOW OPTION
  *     mark NOW PREFIX 0|1
  *     sheet                                  the book as text
+ *
+ * This server has option 118 enabled: what a message has of it goes to the call.
  *
  * A client gets its answer only after the new image is on the disk: it is written to another file, which is synced and
  * then renamed over the old one, and the directory is synced. So a server that is killed between any two steps finds at
@@ -331,9 +334,10 @@ static int call_mark(struct server *s, char *rest, struct flockdrift_answer *a)
 /* The call that a message asks for; -1 where the line is none. */
 static int call(struct server *s, const char *verb, char *rest, struct flockdrift_answer *a, uint8_t *reply)
 {
-    uint8_t option[OPTION_CAPACITY];
-    uint32_t client, now;
-    size_t bytes;
+    uint8_t option[OPTION_CAPACITY], selection[OPTION_CAPACITY];
+    uint32_t client, now, selected;
+    size_t bytes, selection_bytes = 0;
+    char *text;
 
     if (strcmp(verb, "open") == 0)
         return call_open(s, rest, a);
@@ -346,14 +350,22 @@ static int call(struct server *s, const char *verb, char *rest, struct flockdrif
         return 0;
     }
     if (number(word(&rest), &client) != 0 || number(word(&rest), &now) != 0 ||
-        octets(word(&rest), option, &bytes) != 0 || word(&rest) != NULL)
+        octets(word(&rest), option, &bytes) != 0)
+        return -1;
+    text = word(&rest);
+    selected = text != NULL;
+    if (selected && (octets(text, selection, &selection_bytes) != 0 || word(&rest) != NULL))
         return -1;
     if (strcmp(verb, "ask") == 0)
-        *a = flockdrift_book_ask(&s->book, client, now, option, bytes, reply, FLOCKDRIFT_REPLY_CAPACITY);
+        *a = flockdrift_book_ask(&s->book, client, now, option, bytes, selected, selection, selection_bytes, reply,
+                                 FLOCKDRIFT_SELECTED_REPLY_CAPACITY);
     else if (strcmp(verb, "take") == 0)
-        *a = flockdrift_book_take(&s->book, client, now, option, bytes, reply, FLOCKDRIFT_REPLY_CAPACITY);
+        *a = flockdrift_book_take(&s->book, client, now, option, bytes, selected, selection, selection_bytes, reply,
+                                  FLOCKDRIFT_SELECTED_REPLY_CAPACITY);
+    else if (selected)
+        return -1;
     else if (strcmp(verb, "list") == 0)
-        *a = flockdrift_book_list(&s->book, client, now, option, bytes, reply, FLOCKDRIFT_REPLY_CAPACITY);
+        *a = flockdrift_book_list(&s->book, client, now, option, bytes, reply, FLOCKDRIFT_SELECTED_REPLY_CAPACITY);
     else if (strcmp(verb, "return") == 0)
         *a = flockdrift_book_release(&s->book, client, now, option, bytes);
     else
@@ -365,7 +377,7 @@ static int call(struct server *s, const char *verb, char *rest, struct flockdrif
 static int serve(struct server *s, char *line, unsigned long count)
 {
     const struct flockdrift_book before = s->book;
-    uint8_t reply[FLOCKDRIFT_REPLY_CAPACITY];
+    uint8_t reply[FLOCKDRIFT_SELECTED_REPLY_CAPACITY];
     struct flockdrift_answer a;
     char *rest;
     const char *verb = strtok_r(line, " \r\n", &rest);

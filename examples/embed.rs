@@ -124,8 +124,8 @@ enum Message {
         default_length: u32,
         start: u32,
     },
-    Ask(u32, u32, Vec<u8>),
-    Take(u32, u32, Vec<u8>),
+    Ask(u32, u32, Vec<u8>, Option<Vec<u8>>),
+    Take(u32, u32, Vec<u8>, Option<Vec<u8>>),
     List(u32, u32, Vec<u8>),
     Return(u32, u32, Vec<u8>),
     Mark(u32, (u32, u8), bool),
@@ -179,10 +179,20 @@ fn message(words: &[&str]) -> Option<Message> {
             Some(Message::Mark(number(now)?, prefix(lease)?, *flag == "1"))
         }
         ["sheet"] => Some(Message::Sheet),
+        [verb @ ("ask" | "take"), client, now, option, selection @ ..] => {
+            let selection = match selection {
+                [] => None,
+                [selection] => Some(octets(selection)?),
+                _ => return None,
+            };
+            let (client, now, option) = (number(client)?, number(now)?, octets(option)?);
+            Some(match *verb {
+                "ask" => Message::Ask(client, now, option, selection),
+                _ => Message::Take(client, now, option, selection),
+            })
+        }
         [verb, client, now, option] => {
             let make = match *verb {
-                "ask" => Message::Ask,
-                "take" => Message::Take,
                 "list" => Message::List,
                 "return" => Message::Return,
                 _ => return None,
@@ -197,10 +207,10 @@ fn message(words: &[&str]) -> Option<Message> {
 
 /// The words of a reply.
 fn shown(reply: Reply) -> String {
-    let octets: String = reply.option().iter().map(|b| format!("{b:02x}")).collect();
+    let octets: String = reply.bytes().iter().map(|b| format!("{b:02x}")).collect();
     format!(
         "ok bytes={} count={} {octets}",
-        reply.option().len(),
+        reply.bytes().len(),
         reply.count()
     )
 }
@@ -218,8 +228,18 @@ fn call(book: &mut Book, message: &Message) -> Result<String, Refusal> {
             *book = Book::open(networks, lengths, *term, *default_length, *start)?;
             Ok("ok".into())
         }
-        Message::Ask(client, now, option) => Ok(shown(book.ask(*client, *now, option)?)),
-        Message::Take(client, now, option) => Ok(shown(book.take(*client, *now, option)?)),
+        Message::Ask(client, now, option, selection) => Ok(shown(book.ask(
+            *client,
+            *now,
+            option,
+            selection.as_deref(),
+        )?)),
+        Message::Take(client, now, option, selection) => Ok(shown(book.take(
+            *client,
+            *now,
+            option,
+            selection.as_deref(),
+        )?)),
         Message::List(client, now, option) => Ok(shown(book.list(*client, *now, option)?)),
         Message::Return(client, now, option) => {
             Ok(format!("ok count={}", book.release(*client, *now, option)?))

@@ -9,7 +9,7 @@
  *     static struct flockdrift_book book;            all zeros: no table yet, open or load makes one
  *     struct flockdrift_answer a = flockdrift_book_load(&book, saved, saved_bytes);
  *     if (a.number == 0)
- *         a = flockdrift_book_ask(&book, client, now, option, option_bytes, reply, sizeof reply);
+ *         a = flockdrift_book_ask(&book, client, now, option, option_bytes, 0, NULL, 0, reply, sizeof reply);
  *     if (a.number != 0)
  *         puts(flockdrift_text(a.number));
  *
@@ -30,6 +30,17 @@
  * Networks are IPv4 addresses as numbers, 10.0.1.0 being 0x0a000100, and lengths are prefix lengths. Times are seconds
  * of the server's clock, which does not run backwards. A client is a number that the server gives it, not 0. Options
  * are whole options, from the code byte to the last byte that the length byte counts: 220, and 118 where it says so.
+ *
+ * OPTION 118 (RFC 3011) names the subnet that a client is to be served from, by an address in it. Whether it is enabled
+ * is the server's choice, made anew with each ask and take: `selected` is not 0 where it is enabled and the message
+ * carried one, and `selection` is then the whole option, of `selection_bytes`, whatever its bytes are: a bad one is
+ * refused with 6. Where `selected` is 0 the call is one without option 118: `selection` is not looked at, and may be null
+ * with size 0. The other calls never carry it.
+ *
+ * With it the call is about one pool, that which contains the address: all that an ask offers lies in it, what it offers
+ * again too, and a take does not find what lies in another. An accepted call's reply has the option, byte for byte, after
+ * option 220, so the reply buffer must have FLOCKDRIFT_SELECTED_REPLY_CAPACITY; `bytes` of the answer counts both, and
+ * `count` the entries of option 220.
  *
  * C99 or later, C++ too; flockdrift.rs beside this file has the same for Rust, rust/flockdrift a safe wrapper. Link
  * with libflockdrift.a, which `rt staticlib flockdrift` makes in target/staticlib.
@@ -97,7 +108,7 @@ extern "C" {
 #endif
 
 /* Of this header and of the library that belongs to it. */
-#define FLOCKDRIFT_VERSION "0.14.0"
+#define FLOCKDRIFT_VERSION "0.15.0"
 
 /*
  * The image of a full table: 8 pools and 256 leases. No image is longer, and a book's buffer must not be smaller. After
@@ -120,8 +131,12 @@ extern "C" {
 #define FLOCKDRIFT_COUNTS_ROWS 8
 #define FLOCKDRIFT_COUNTS_LENGTHS 23
 
-/* What the smallest reply buffer has. No reply is longer. */
+/*
+ * What the smallest reply buffer has, and what it has for an ask or a take that carries an option 118. No reply is
+ * longer: one of the second size serves every call.
+ */
 #define FLOCKDRIFT_REPLY_CAPACITY 257
+#define FLOCKDRIFT_SELECTED_REPLY_CAPACITY 263
 
 /* An option 118 has this size. */
 #define FLOCKDRIFT_SELECTION_CAPACITY 6
@@ -148,12 +163,14 @@ struct flockdrift_answer {
 
 /*
  * Why a call is refused. If several apply, the answer is the first in this order: 1, 5, 15, 2, 3, 4, 6, 7 and 16, 8, 17,
- * 9, 10, 11, 12, 18, 14. 7 and 16 stand in one row: the first bad suboption decides which, and of one that is bad in both
- * ways the framing, all of which is looked at before any field.
+ * 19, 9, 10, 11, 12, 18, 14. 6 is one row for both options: a bad option 118 comes before a bad suboption of option 220.
+ * 7 and 16 stand in one row: the first bad suboption decides which, and of one that is bad in both ways the framing, all
+ * of which is looked at before any field.
  */
 enum {
     FLOCKDRIFT_ACCEPTED = 0,
-    FLOCKDRIFT_REPLY_TOO_SMALL = 1,   /* the reply buffer is below FLOCKDRIFT_REPLY_CAPACITY */
+    FLOCKDRIFT_REPLY_TOO_SMALL = 1,   /* the reply buffer is below FLOCKDRIFT_REPLY_CAPACITY; ask and take with an
+                                         option 118, also a bad one: below FLOCKDRIFT_SELECTED_REPLY_CAPACITY */
     FLOCKDRIFT_NO_CLIENT = 2,         /* client 0 */
     FLOCKDRIFT_TOO_EARLY = 3,         /* now is before the time of the last accepted call that changed the table */
     FLOCKDRIFT_TOO_LATE = 4,          /* now is above 4,292,375,295 */
@@ -161,14 +178,17 @@ enum {
                                          sheet, it is of the first form; or their buffer is below
                                          FLOCKDRIFT_IMAGE_CAPACITY or below image_bytes; or, where counts are lent to be
                                          read, one of them is not the table's */
-    FLOCKDRIFT_NOT_THE_OPTION = 6,    /* the input is not exactly one option 220; read_selection: one option 118 */
+    FLOCKDRIFT_NOT_THE_OPTION = 6,    /* the input is not exactly one option 220; or, where `selected` says that there
+                                         is one, and in read_selection, not exactly one option 118 */
     FLOCKDRIFT_BAD_SUBOPTION = 7,     /* a suboption's framing is bad, as of a message that was cut: no Len byte, a Len
                                          past the end or one that the suboption cannot have, an entry cut short, a
                                          figure length odd or past the end; `place` says which suboption */
     FLOCKDRIFT_WRONG_SUBOPTIONS = 8,  /* requests or entries are not those that this call takes */
     FLOCKDRIFT_TABLE_FULL = 9,        /* ask: 256 leases are present, and nothing is offered again */
-    FLOCKDRIFT_NO_SPACE = 10,         /* ask: no free prefix of the length, and nothing is offered again */
-    FLOCKDRIFT_NOT_FOUND = 11,        /* take, list, release, mark: no such lease; pool, lease: none with the index */
+    FLOCKDRIFT_NO_SPACE = 10,         /* ask: no free prefix of the length, with an option 118 none in its pool, and
+                                         nothing is offered again */
+    FLOCKDRIFT_NOT_FOUND = 11,        /* take, list, release, mark: no such lease, in a take with an option 118 none in
+                                         its pool; pool, lease: none with the index */
     FLOCKDRIFT_OUTSIDE_RULES = 12,    /* open: pools, term, default length or start */
     FLOCKDRIFT_BUFFER_TOO_SMALL = 14, /* open, load: the image buffer is below FLOCKDRIFT_IMAGE_CAPACITY, or the
                                          figures sheet is not of FLOCKDRIFT_FIGURES_CAPACITY; save, sheet,
@@ -180,7 +200,8 @@ enum {
                                          prefix, a name's last octet zero; `place` says which suboption */
     FLOCKDRIFT_NAME_TOO_LONG = 17,    /* ask: the option's first name has more than FLOCKDRIFT_NAME_CAPACITY octets,
                                          whatever would be offered */
-    FLOCKDRIFT_NAMES_LOST = 18        /* save in the first form: a lease has a name */
+    FLOCKDRIFT_NAMES_LOST = 18,       /* save in the first form: a lease has a name */
+    FLOCKDRIFT_NOT_IN_A_POOL = 19     /* ask, take: no pool contains the address of option 118 */
 };
 
 /* A number in words, for a log; never null. */
@@ -205,6 +226,7 @@ static inline const char *flockdrift_text(uint32_t number)
     case FLOCKDRIFT_BAD_FIELD: return "a field outside the rules in the suboption";
     case FLOCKDRIFT_NAME_TOO_LONG: return "the name is too long";
     case FLOCKDRIFT_NAMES_LOST: return "names would be lost in the first form";
+    case FLOCKDRIFT_NOT_IN_A_POOL: return "no pool contains the address of option 118";
     default: return "no number of this library";
     }
 }
@@ -236,21 +258,28 @@ struct flockdrift_answer flockdrift_open(uint8_t *image, size_t capacity, size_t
  * prefixes. So a client whose answer was lost, and who asks again, gets the same prefixes.
  *
  * The leases that this call makes get the octets of the option's first name, or an empty name where it has none; names
- * after the first are not looked at. Numbers: 1, 5, 15, 2, 3, 4, 6, 7, 16, 8, 17, 9, 10.
+ * after the first are not looked at.
+ *
+ * With an option 118 all of this is about the leases and the free prefixes of one pool: what the client holds in another
+ * is not offered again, and stays as it is. The table is full as before, with the leases of all pools. Numbers: 1, 5, 15,
+ * 2, 3, 4, 6, 7, 16, 8, 17, 19, 9, 10.
  */
 struct flockdrift_answer flockdrift_ask(uint8_t *image, size_t capacity, size_t *image_bytes, uint8_t *figures,
                                         size_t figures_capacity, uint16_t *counts, uint32_t client, uint32_t now,
-                                        const uint8_t *option, size_t option_bytes, uint8_t *reply,
+                                        const uint8_t *option, size_t option_bytes, uint32_t selected,
+                                        const uint8_t *selection, size_t selection_bytes, uint8_t *reply,
                                         size_t reply_capacity);
 
 /*
  * Confirms or renews, for the table's term, the client's leases that the option's entries name, and files the figures
  * of these entries; the reply names the leases that were found, without figures. The option has entries and no request.
- * Numbers: 1, 5, 15, 2, 3, 4, 6, 7, 16, 8, 11.
+ * With an option 118 an entry outside its pool is not found, and its figures are not filed. Numbers: 1, 5, 15, 2, 3, 4,
+ * 6, 7, 16, 8, 19, 11.
  */
 struct flockdrift_answer flockdrift_take(uint8_t *image, size_t capacity, size_t *image_bytes, uint8_t *figures,
                                          size_t figures_capacity, uint16_t *counts, uint32_t client, uint32_t now,
-                                         const uint8_t *option, size_t option_bytes, uint8_t *reply,
+                                         const uint8_t *option, size_t option_bytes, uint32_t selected,
+                                         const uint8_t *selection, size_t selection_bytes, uint8_t *reply,
                                          size_t reply_capacity);
 
 /*
@@ -404,19 +433,25 @@ static inline struct flockdrift_answer flockdrift_book_open(struct flockdrift_bo
 }
 
 static inline struct flockdrift_answer flockdrift_book_ask(struct flockdrift_book *book, uint32_t client, uint32_t now,
-                                                           const uint8_t *option, size_t option_bytes, uint8_t *reply,
+                                                           const uint8_t *option, size_t option_bytes,
+                                                           uint32_t selected, const uint8_t *selection,
+                                                           size_t selection_bytes, uint8_t *reply,
                                                            size_t reply_capacity)
 {
     return flockdrift_ask(book->image, sizeof book->image, &book->bytes, book->figures, sizeof book->figures,
-                          book->counts[0], client, now, option, option_bytes, reply, reply_capacity);
+                          book->counts[0], client, now, option, option_bytes, selected, selection, selection_bytes,
+                          reply, reply_capacity);
 }
 
 static inline struct flockdrift_answer flockdrift_book_take(struct flockdrift_book *book, uint32_t client, uint32_t now,
-                                                            const uint8_t *option, size_t option_bytes, uint8_t *reply,
+                                                            const uint8_t *option, size_t option_bytes,
+                                                            uint32_t selected, const uint8_t *selection,
+                                                            size_t selection_bytes, uint8_t *reply,
                                                             size_t reply_capacity)
 {
     return flockdrift_take(book->image, sizeof book->image, &book->bytes, book->figures, sizeof book->figures,
-                           book->counts[0], client, now, option, option_bytes, reply, reply_capacity);
+                           book->counts[0], client, now, option, option_bytes, selected, selection, selection_bytes,
+                           reply, reply_capacity);
 }
 
 static inline struct flockdrift_answer flockdrift_book_list(const struct flockdrift_book *book, uint32_t client,

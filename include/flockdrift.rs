@@ -18,6 +18,8 @@ pub const COUNTS_ROWS: usize = 8;
 pub const COUNTS_LENGTHS: usize = 23;
 /// What the smallest reply buffer has.
 pub const REPLY_CAPACITY: usize = 257;
+/// What it has for an ask or a take that carries an option 118.
+pub const SELECTED_REPLY_CAPACITY: usize = 263;
 /// An option 118 has this size.
 pub const SELECTION_CAPACITY: usize = 6;
 /// A text buffer of this size holds every sheet.
@@ -106,6 +108,9 @@ unsafe extern "C" {
         now: u32,
         option: *const u8,
         option_bytes: usize,
+        selected: u32,
+        selection: *const u8,
+        selection_bytes: usize,
         reply: *mut u8,
         reply_capacity: usize,
     ) -> Answer;
@@ -120,6 +125,9 @@ unsafe extern "C" {
         now: u32,
         option: *const u8,
         option_bytes: usize,
+        selected: u32,
+        selection: *const u8,
+        selection_bytes: usize,
         reply: *mut u8,
         reply_capacity: usize,
     ) -> Answer;

@@ -2,7 +2,8 @@
 
 pub use crate::flockdrift::{
     Answer, FIGURES_CAPACITY as FIGURES, FIRST_FORM, FIRST_FORM_CAPACITY as FIRST_FULL, IMAGE_CAPACITY as FULL,
-    NAME_CAPACITY as NAME, REPLY_CAPACITY as REPLY, SECOND_FORM, TEXT_CAPACITY as SHEET,
+    NAME_CAPACITY as NAME, REPLY_CAPACITY as REPLY, SECOND_FORM, SELECTED_REPLY_CAPACITY as SELECTED_REPLY,
+    SELECTION_CAPACITY as SELECTION, TEXT_CAPACITY as SHEET,
 };
 
 impl Answer {
@@ -35,8 +36,8 @@ pub struct Lent<'a> {
 
 /// What is lent, networks, lengths, term, default length, start.
 pub type Open = fn(Lent, &[u32], &[u8], u32, u32, u32) -> Answer;
-/// What is lent, client, now, option, reply.
-pub type CallWithReply = fn(Lent, u32, u32, &[u8], &mut [u8]) -> Answer;
+/// What is lent, client, now, option, option 118 where it is enabled and was carried, reply.
+pub type CallWithReply = fn(Lent, u32, u32, &[u8], Option<&[u8]>, &mut [u8]) -> Answer;
 /// Image, image bytes, counts, client, now, option, reply.
 pub type List = fn(&[u8], usize, &Counts, u32, u32, &[u8], &mut [u8]) -> Answer;
 /// What is lent, client, now, option.

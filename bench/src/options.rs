@@ -52,6 +52,13 @@ pub fn entries_with_figures(entries: &[((u32, u8), [u16; 3])]) -> Vec<u8> {
     option(&bytes)
 }
 
+/// The option 118 of an address.
+pub fn selection(address: u32) -> Vec<u8> {
+    let mut option = vec![118, 4];
+    option.extend(address.to_be_bytes());
+    option
+}
+
 /// A list from the start.
 pub fn list() -> Vec<u8> {
     option(&request(2, 0))

@@ -28,7 +28,13 @@ fn open(lent: Lent, networks: &[u32], lengths: &[u8], term: u32, default_length:
     }
 }
 
-fn ask(lent: Lent, client: u32, now: u32, option: &[u8], reply: &mut [u8]) -> Answer {
+/// An option 118 as its truth value, its first byte and its size; null where there is none.
+fn selected(selection: Option<&[u8]>) -> (u32, *const u8, usize) {
+    selection.map_or((0, std::ptr::null(), 0), |option| (1, option.as_ptr(), option.len()))
+}
+
+fn ask(lent: Lent, client: u32, now: u32, option: &[u8], selection: Option<&[u8]>, reply: &mut [u8]) -> Answer {
+    let (selected, selection, selection_bytes) = selected(selection);
     unsafe {
         flockdrift_ask(
             lent.image.as_mut_ptr(),
@@ -41,13 +47,17 @@ fn ask(lent: Lent, client: u32, now: u32, option: &[u8], reply: &mut [u8]) -> An
             now,
             option.as_ptr(),
             option.len(),
+            selected,
+            selection,
+            selection_bytes,
             reply.as_mut_ptr(),
             reply.len(),
         )
     }
 }
 
-fn take(lent: Lent, client: u32, now: u32, option: &[u8], reply: &mut [u8]) -> Answer {
+fn take(lent: Lent, client: u32, now: u32, option: &[u8], selection: Option<&[u8]>, reply: &mut [u8]) -> Answer {
+    let (selected, selection, selection_bytes) = selected(selection);
     unsafe {
         flockdrift_take(
             lent.image.as_mut_ptr(),
@@ -60,6 +70,9 @@ fn take(lent: Lent, client: u32, now: u32, option: &[u8], reply: &mut [u8]) -> A
             now,
             option.as_ptr(),
             option.len(),
+            selected,
+            selection,
+            selection_bytes,
             reply.as_mut_ptr(),
             reply.len(),
         )

@@ -85,12 +85,12 @@ fn open(lent: Lent, networks: &[u32], lengths: &[u8], term: u32, default_length:
     })
 }
 
-fn ask(lent: Lent, client: u32, now: u32, option: &[u8], reply: &mut [u8]) -> Answer {
-    settle(lent, |table, figures| calls::ask(table, figures, client, now, option, reply))
+fn ask(lent: Lent, client: u32, now: u32, option: &[u8], selection: Option<&[u8]>, reply: &mut [u8]) -> Answer {
+    settle(lent, |table, figures| calls::ask(table, figures, client, now, option, selection, reply))
 }
 
-fn take(lent: Lent, client: u32, now: u32, option: &[u8], reply: &mut [u8]) -> Answer {
-    settle(lent, |table, figures| calls::take(table, figures, client, now, option, reply))
+fn take(lent: Lent, client: u32, now: u32, option: &[u8], selection: Option<&[u8]>, reply: &mut [u8]) -> Answer {
+    settle(lent, |table, figures| calls::take(table, figures, client, now, option, selection, reply))
 }
 
 fn list(image: &[u8], bytes: usize, counts: &Counts, client: u32, now: u32, option: &[u8], reply: &mut [u8]) -> Answer {

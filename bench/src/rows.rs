@@ -1,6 +1,6 @@
 //! The calls that are measured, each on eight different tables, so that no branch is learnt by heart.
 
-use crate::desk::{Answer, Counts, Desk, FIGURES, FIRST_FORM, FULL, LENGTHS, Lent, REPLY, SECOND_FORM, SHEET};
+use crate::desk::{Answer, Counts, Desk, FIGURES, FIRST_FORM, FULL, LENGTHS, Lent, SECOND_FORM, SELECTED_REPLY, SHEET};
 use crate::images::{self, EMPTY_ROW, LEASE, Lease, NO_NAME, ROW, Table};
 use crate::options;
 use crate::random::Random;
@@ -52,6 +52,8 @@ pub struct Case {
     pub counts: Counts,
     pub client: u32,
     pub option: Vec<u8>,
+    /// An option 118 that the message carries.
+    pub selection: Option<Vec<u8>>,
     pub prefix: (u32, u8),
 }
 
@@ -74,7 +76,7 @@ impl Buffers {
             bytes: 0,
             figures: EMPTY_ROW.repeat(FIGURES / ROW),
             counts: [[0; LENGTHS]; 8],
-            reply: vec![0; REPLY],
+            reply: vec![0; SELECTED_REPLY],
             saved: vec![0; FULL],
             text: vec![0; SHEET],
         }
@@ -140,12 +142,12 @@ pub struct Row {
 
 fn ask(desk: &Desk, case: &Case, buffers: &mut Buffers) -> Answer {
     let (lent, reply) = buffers.lent();
-    (desk.ask)(lent, case.client, NOW, &case.option, reply)
+    (desk.ask)(lent, case.client, NOW, &case.option, case.selection.as_deref(), reply)
 }
 
 fn take(desk: &Desk, case: &Case, buffers: &mut Buffers) -> Answer {
     let (lent, reply) = buffers.lent();
-    (desk.take)(lent, case.client, NOW, &case.option, reply)
+    (desk.take)(lent, case.client, NOW, &case.option, case.selection.as_deref(), reply)
 }
 
 fn list(desk: &Desk, case: &Case, buffers: &mut Buffers) -> Answer {
@@ -313,6 +315,8 @@ struct Plan {
     found: bool,
     /// Every lease has a name.
     names: bool,
+    /// Which root the call names, if any.
+    selection: fn(&mut Random, &Table, &[u8]) -> Option<Vec<u8>>,
 }
 
 fn row(plan: &Plan, shape: Shape, scale: usize, leases: usize) -> Row {
@@ -328,6 +332,7 @@ fn row(plan: &Plan, shape: Shape, scale: usize, leases: usize) -> Row {
             make_offers(&mut random, &mut table, count, h);
         }
         let option = (plan.option)(&mut random, &table);
+        let selection = (plan.selection)(&mut random, &table, &option);
         let mut prefix = named(&mut random, &table, 1)[0];
         if !plan.found {
             prefix.1 = 26;
@@ -349,7 +354,7 @@ fn row(plan: &Plan, shape: Shape, scale: usize, leases: usize) -> Row {
         if plan.number == 5 {
             counts[7][LENGTHS - 1] ^= 1;
         }
-        cases.push(Case { image, bytes, first, figures, counts, client: plan.client, option, prefix });
+        cases.push(Case { image, bytes, first, figures, counts, client: plan.client, option, selection, prefix });
     }
     Row {
         call: plan.call,
@@ -388,6 +393,23 @@ fn ask_offers(random: &mut Random, table: &Table) -> Vec<u8> {
     options::ask(&order.iter().map(|&place| lengths[place]).collect::<Vec<u8>>())
 }
 
+/// No root is named.
+fn anywhere(_: &mut Random, _: &Table, _: &[u8]) -> Option<Vec<u8>> {
+    None
+}
+
+/// An address in any of the roots.
+fn one_root(random: &mut Random, table: &Table, _: &[u8]) -> Option<Vec<u8>> {
+    let (network, length) = table.pools[random.below(table.pools.len() as u64) as usize];
+    Some(options::selection(network + random.below(1 << (32 - length)) as u32))
+}
+
+/// The network of the first entry.
+fn its_root(_: &mut Random, _: &Table, option: &[u8]) -> Option<Vec<u8>> {
+    let network = option.get(6..10)?.try_into().ok()?;
+    Some(options::selection(u32::from_be_bytes(network)))
+}
+
 fn ask_20(_: &mut Random, _: &Table) -> Vec<u8> {
     options::ask(&[20])
 }
@@ -402,6 +424,16 @@ fn ask_9_25(_: &mut Random, _: &Table) -> Vec<u8> {
 
 fn ask_28(_: &mut Random, _: &Table) -> Vec<u8> {
     options::ask(&[28])
+}
+
+fn ask_26(_: &mut Random, _: &Table) -> Vec<u8> {
+    options::ask(&[26])
+}
+
+/// Such that all are granted in each root of a fragmented table.
+fn ask_25_small(random: &mut Random, _: &Table) -> Vec<u8> {
+    let lengths: Vec<u8> = (0..25).map(|_| 27 + random.below(4) as u8).collect();
+    options::ask(&lengths)
 }
 
 fn ask_25(random: &mut Random, _: &Table) -> Vec<u8> {
@@ -466,6 +498,7 @@ pub fn rows(desks: &[&Desk]) -> Vec<Row> {
         option: listing,
         found: true,
         names: false,
+        selection: anywhere,
     };
     let plan = |call, command, run, option| Plan { call, command, run, option, ..plain };
     let mut rows = vec![row(&plan("open", "open", open, listing), Empty, 0, 0)];
@@ -565,6 +598,16 @@ pub fn rows(desks: &[&Desk]) -> Vec<Row> {
     add(&named(plan_ask("ask 1, names", ask_20_as)), &[(Packed, 64, 64), (Packed, 256, 255)]);
     add(&named(plan_ask("ask 25, names", ask_25_as)), &[(Packed, 64, 64), (Packed, 256, 231)]);
     add(&named(refused(plan_ask("ask 25, names", ask_25_too_long), 17)), &[(Packed, 64, 64), (Packed, 256, 231)]);
+
+    // A root named among eight: its gaps alone, and of 25 entries those that lie in it.
+    let in_one = |plan, selection| Plan { selection, ..plan };
+    let [few, one_less, room_for_25] = [(Fragmented, 64, 64), (Fragmented, 256, 255), (Fragmented, 256, 231)];
+    add(&in_one(plan_ask("ask 1, named root", ask_26), one_root), &[few, one_less]);
+    let many = Plan { grows: Some(25), ..plan_ask("ask 25, named root", ask_25_small) };
+    add(&in_one(many, one_root), &[few, room_for_25]);
+    add(&in_one(refused(plan_ask("ask 1, named root", ask_9), 10), one_root), &[few, one_less]);
+    let takes = plan("take 25, named root", "take", take, entries_25);
+    add(&in_one(takes, its_root), &[few, (Fragmented, 256, 256)]);
 
     for row in &mut rows {
         check(row, desks);

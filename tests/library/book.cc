@@ -12,16 +12,23 @@ int main()
     const uint8_t told[] = {0xdc, 13, 0, 2, 10, 0, 10, 0, 1, 0, 26, 0, 2, 1, 10};
     const uint8_t all[] = {0xdc, 5, 0, 1, 2, 2, 0};
     static char text[FLOCKDRIFT_TEXT_CAPACITY];
-    uint8_t reply[FLOCKDRIFT_REPLY_CAPACITY];
+    const uint8_t here[] = {118, 4, 10, 0, 1, 255};
+    const uint8_t nowhere[] = {118, 4, 10, 0, 2, 0};
+    uint8_t reply[FLOCKDRIFT_SELECTED_REPLY_CAPACITY];
     uint8_t saved[FLOCKDRIFT_IMAGE_CAPACITY];
     flockdrift_book book{};
 
     bool good = flockdrift_book_check(&book).number == FLOCKDRIFT_NOT_AN_IMAGE;
     good = good && flockdrift_book_open(&book, &network, 1, &length, 1, 3600, 28, 1000).number == 0;
     const flockdrift_book before = book;
-    good = good && flockdrift_book_ask(&book, 7, 1000, ask, sizeof ask, reply, sizeof reply).count == 1;
-    good = good && flockdrift_book_take(&book, 7, 1010, name, sizeof name, reply, sizeof reply).count == 1;
-    good = good && flockdrift_book_take(&book, 7, 1010, told, sizeof told, reply, sizeof reply).count == 1;
+    good = good && flockdrift_book_ask(&book, 7, 1000, ask, sizeof ask, 0, nullptr, 0, reply, sizeof reply).count == 1;
+    good = good && flockdrift_book_ask(&book, 7, 1000, ask, sizeof ask, 1, here, sizeof here, reply,
+                                       sizeof reply).bytes == 19;
+    good = good && flockdrift_book_ask(&book, 7, 1000, ask, sizeof ask, 1, nowhere, sizeof nowhere, reply,
+                                       sizeof reply).number == FLOCKDRIFT_NOT_IN_A_POOL;
+    good = good && flockdrift_book_take(&book, 7, 1010, name, sizeof name, 1, here, sizeof here, reply,
+                                        sizeof reply).count == 1;
+    good = good && flockdrift_book_take(&book, 7, 1010, told, sizeof told, 0, nullptr, 0, reply, sizeof reply).count == 1;
     const flockdrift_figures figures = flockdrift_book_figures(&book, 0);
     good = good && figures.network == network && figures.length == 26;
     good = good && figures.high_water == 266 && figures.in_use == FLOCKDRIFT_UNTOLD;

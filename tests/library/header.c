@@ -1,8 +1,8 @@
 /*
  * What include/flockdrift.h says, tried from C: the layout of the answers, sizes at their limits, null pointers, the
  * order of the refusals, what a refusal leaves, what an accepted call leaves behind the image, the figures sheet, the
- * counts, load and save, names and the two forms, what a book holds, options with no book, the struct of a book, and
- * several threads. Prints a line for each difference.
+ * counts, load and save, names and the two forms, option 118 with a call, what a book holds, options with no book, the
+ * struct of a book, and several threads. Prints a line for each difference.
  */
 #define _POSIX_C_SOURCE 200809L
 
@@ -30,6 +30,7 @@ enum {
     LENGTHS = FLOCKDRIFT_COUNTS_LENGTHS,
     COUNTS = FLOCKDRIFT_COUNTS_ROWS * LENGTHS,
     REPLY = FLOCKDRIFT_REPLY_CAPACITY,
+    SELECTED = FLOCKDRIFT_SELECTED_REPLY_CAPACITY,
     THREADS = 4,
     STACK = 32 * 1024 /* what the header says of a call's stack, and the rest for the thread itself */
 };
@@ -77,12 +78,13 @@ struct lent {
     size_t bytes;
     uint8_t figures[FIGURES + 8]; /* the last bytes stand outside of the sheet */
     uint16_t counts[COUNTS + 8];  /* the last stand outside of the counts */
-    uint8_t reply[REPLY + 8];
+    uint8_t reply[SELECTED + 8];
     uint8_t saved[BUFFER];
     char text[FLOCKDRIFT_TEXT_CAPACITY];
 };
 
 #define NO 0xff, 0xff /* a figure that was not told */
+#define NO_118 0, NULL, 0 /* a call without option 118 */
 
 static const uint32_t network[2] = {0x0a000800, 0x0a000100};
 static const uint8_t length[2] = {26, 24};
@@ -236,13 +238,13 @@ static struct flockdrift_answer open_at(struct lent *s, size_t capacity)
 
 static struct flockdrift_answer ask(struct lent *s, uint32_t client, uint32_t now, const uint8_t *option, size_t n)
 {
-    return flockdrift_ask(s->image, BUFFER, &s->bytes, s->figures, FIGURES, s->counts, client, now, option, n,
+    return flockdrift_ask(s->image, BUFFER, &s->bytes, s->figures, FIGURES, s->counts, client, now, option, n, NO_118,
                           s->reply, REPLY);
 }
 
 static struct flockdrift_answer take(struct lent *s, uint32_t client, uint32_t now, const uint8_t *option, size_t n)
 {
-    return flockdrift_take(s->image, BUFFER, &s->bytes, s->figures, FIGURES, s->counts, client, now, option, n,
+    return flockdrift_take(s->image, BUFFER, &s->bytes, s->figures, FIGURES, s->counts, client, now, option, n, NO_118,
                            s->reply, REPLY);
 }
 
@@ -360,19 +362,19 @@ static void nulls(struct lent *s)
     begin(s);
     REFUSED(s, flockdrift_open(NULL, 0, b, NULL, 0, s->counts, NULL, 0, NULL, 0, 3600, 28, 1000), 12, 0);
     REFUSED(s, flockdrift_open(NULL, 0, b, NULL, 0, s->counts, network, 2, length, 2, 3600, 28, 1000), 14, 0);
-    REFUSED(s, flockdrift_ask(NULL, 0, b, NULL, 0, s->counts, 0, 0, NULL, 0, NULL, 0), 1, 0);
-    REFUSED(s, flockdrift_ask(NULL, 0, b, NULL, 0, s->counts, 0, 0, NULL, 0, s->reply, REPLY), 5, 0);
-    REFUSED(s, flockdrift_take(NULL, 0, b, NULL, 0, s->counts, 0, 0, NULL, 0, NULL, 0), 1, 0);
-    REFUSED(s, flockdrift_take(NULL, 0, b, NULL, 0, s->counts, 0, 0, NULL, 0, s->reply, REPLY), 5, 0);
-    REFUSED(s, flockdrift_list(NULL, 0, 0, s->counts, 0, 0, NULL, 0, NULL, 0), 1, 0);
-    REFUSED(s, flockdrift_list(NULL, 0, 0, s->counts, 0, 0, NULL, 0, s->reply, REPLY), 5, 0);
+    REFUSED(s, flockdrift_ask(NULL, 0, b, NULL, 0, s->counts, 0, 0, NULL, 0, NO_118, NULL, 0), 1, 0);
+    REFUSED(s, flockdrift_ask(NULL, 0, b, NULL, 0, s->counts, 0, 0, NULL, 0, NO_118, s->reply, REPLY), 5, 0);
+    REFUSED(s, flockdrift_take(NULL, 0, b, NULL, 0, s->counts, 0, 0, NULL, 0, NO_118, NULL, 0), 1, 0);
+    REFUSED(s, flockdrift_take(NULL, 0, b, NULL, 0, s->counts, 0, 0, NULL, 0, NO_118, s->reply, REPLY), 5, 0);
+    REFUSED(s, flockdrift_list(NULL, 0, 0, s->counts, 0, NO_118, NULL, 0), 1, 0);
+    REFUSED(s, flockdrift_list(NULL, 0, 0, s->counts, 0, NO_118, s->reply, REPLY), 5, 0);
     REFUSED(s, flockdrift_release(NULL, 0, b, NULL, 0, s->counts, 0, 0, NULL, 0), 5, 0);
     REFUSED(s, flockdrift_mark(NULL, 0, b, NULL, 0, s->counts, 0, 0, 0, 0), 5, 0);
     REFUSED(s, flockdrift_load(NULL, 0, b, NULL, 0, s->counts, NULL, 0), 5, 0);
     REFUSED(s, flockdrift_load(NULL, 0, b, NULL, 0, s->counts, s->image, ONE), 14, 0);
     REFUSED(s, flockdrift_open(s->image, BUFFER, b, NULL, 0, s->counts, network, 2, length, 2, 3600, 28, 1000), 14, 0);
-    REFUSED(s, flockdrift_ask(s->image, BUFFER, b, NULL, 0, s->counts, 0, 0, NULL, 0, s->reply, REPLY), 15, 0);
-    REFUSED(s, flockdrift_take(s->image, BUFFER, b, NULL, 0, s->counts, 0, 0, NULL, 0, s->reply, REPLY), 15, 0);
+    REFUSED(s, flockdrift_ask(s->image, BUFFER, b, NULL, 0, s->counts, 0, 0, NULL, 0, NO_118, s->reply, REPLY), 15, 0);
+    REFUSED(s, flockdrift_take(s->image, BUFFER, b, NULL, 0, s->counts, 0, 0, NULL, 0, NO_118, s->reply, REPLY), 15, 0);
     REFUSED(s, flockdrift_release(s->image, BUFFER, b, NULL, 0, s->counts, 0, 0, NULL, 0), 15, 0);
     REFUSED(s, flockdrift_mark(s->image, BUFFER, b, NULL, 0, s->counts, 0, 0, 0, 0), 15, 0);
     REFUSED(s, flockdrift_save(NULL, 0, 0, s->counts, SECOND, NULL, 0), 5, 0);
@@ -399,12 +401,10 @@ static void sizes(struct lent *s)
     uint8_t *f = s->figures;
 
     begin(s);
-    REFUSED(s, flockdrift_ask(s->image, FULL - 1, b, f, FIGURES, s->counts, 7, 1000, ask_26, sizeof ask_26, s->reply,
-            REPLY), 5,
-            0);
-    REFUSED(s, flockdrift_take(s->image, FULL - 1, b, f, FIGURES, s->counts, 7, 1000, name_26, sizeof name_26,
-            s->reply, REPLY), 5,
-            0);
+    REFUSED(s, flockdrift_ask(s->image, FULL - 1, b, f, FIGURES, s->counts, 7, 1000, ask_26, sizeof ask_26, NO_118,
+            s->reply, REPLY), 5, 0);
+    REFUSED(s, flockdrift_take(s->image, FULL - 1, b, f, FIGURES, s->counts, 7, 1000, name_26, sizeof name_26, NO_118,
+            s->reply, REPLY), 5, 0);
     REFUSED(s, flockdrift_list(s->image, FULL - 1, ONE, s->counts, 7, 1000, list_all, sizeof list_all, s->reply,
             REPLY), 5, 0);
     REFUSED(s, flockdrift_release(s->image, FULL - 1, b, f, FIGURES, s->counts, 7, 1000, name_26, sizeof name_26), 5,
@@ -436,12 +436,10 @@ static void sizes(struct lent *s)
     POOL(pool(s, FULL, 1), 0, 0x0a000800, 26);
     LEASE(lease(s, FULL, 0), 0, 0x0a000800, 26, 7, 1, 0, 0, 1120);
     ACCEPTED(s, flockdrift_mark(s->image, FULL, b, f, FIGURES, s->counts, network[0], 26, 1, 1000), 0, 0, ONE);
-    ACCEPTED(s, flockdrift_ask(s->image, FULL, b, f, FIGURES, s->counts, 8, 1000, ask_two, sizeof ask_two, s->reply,
-             REPLY), 23, 2,
-             THREE);
-    ACCEPTED(s, flockdrift_take(s->image, FULL, b, f, FIGURES, s->counts, 7, 1000, name_26, sizeof name_26, s->reply,
-             REPLY), 13,
-             1, THREE);
+    ACCEPTED(s, flockdrift_ask(s->image, FULL, b, f, FIGURES, s->counts, 8, 1000, ask_two, sizeof ask_two, NO_118,
+             s->reply, REPLY), 23, 2, THREE);
+    ACCEPTED(s, flockdrift_take(s->image, FULL, b, f, FIGURES, s->counts, 7, 1000, name_26, sizeof name_26, NO_118,
+             s->reply, REPLY), 13, 1, THREE);
     READ(s, flockdrift_list(s->image, FULL, THREE, s->counts, 7, 1000, list_all, sizeof list_all, s->reply, REPLY), 13, 1);
     READ(s, flockdrift_save(s->image, FULL, THREE, s->counts, SECOND, s->saved, THREE), THREE, 0);
     ACCEPTED(s, flockdrift_release(s->image, FULL, b, f, FIGURES, s->counts, 7, 1000, name_26, sizeof name_26), 0, 1,
@@ -473,9 +471,11 @@ static void order(struct lent *s)
 
     begin(s);
     set_bytes(s, ONE - 1);
-    REFUSED(s, flockdrift_ask(s->image, BUFFER, b, f, FIGURES, s->counts, 0, 999, NULL, 0, s->reply, REPLY - 1), 1, 0);
+    REFUSED(s, flockdrift_ask(s->image, BUFFER, b, f, FIGURES, s->counts, 0, 999, NULL, 0, NO_118, s->reply,
+            REPLY - 1), 1, 0);
     REFUSED(s, ask(s, 0, 999, NULL, 0), 5, 0);
-    REFUSED(s, flockdrift_take(s->image, BUFFER, b, f, FIGURES, s->counts, 0, 999, NULL, 0, s->reply, REPLY - 1), 1, 0);
+    REFUSED(s, flockdrift_take(s->image, BUFFER, b, f, FIGURES, s->counts, 0, 999, NULL, 0, NO_118, s->reply,
+            REPLY - 1), 1, 0);
     REFUSED(s, take(s, 0, 999, NULL, 0), 5, 0);
     REFUSED(s, flockdrift_list(s->image, BUFFER, ONE - 1, s->counts, 0, 999, NULL, 0, s->reply, REPLY - 1), 1, 0);
     REFUSED(s, list(s, 0, 999, NULL, 0), 5, 0);
@@ -644,10 +644,12 @@ static void not_the_sheet(struct lent *s, size_t size)
     uint8_t *f = s->figures;
 
     keep(s);
-    REFUSED(s, flockdrift_ask(s->image, BUFFER, b, f, size, s->counts, 0, 999, NULL, 0, s->reply, REPLY - 1), 1, 0);
-    REFUSED(s, flockdrift_ask(s->image, BUFFER, b, f, size, s->counts, 0, 999, NULL, 0, s->reply, REPLY), 15, 0);
-    REFUSED(s, flockdrift_take(s->image, BUFFER, b, f, size, s->counts, 0, 999, NULL, 0, s->reply, REPLY - 1), 1, 0);
-    REFUSED(s, flockdrift_take(s->image, BUFFER, b, f, size, s->counts, 0, 999, NULL, 0, s->reply, REPLY), 15, 0);
+    REFUSED(s, flockdrift_ask(s->image, BUFFER, b, f, size, s->counts, 0, 999, NULL, 0, NO_118, s->reply,
+            REPLY - 1), 1, 0);
+    REFUSED(s, flockdrift_ask(s->image, BUFFER, b, f, size, s->counts, 0, 999, NULL, 0, NO_118, s->reply, REPLY), 15, 0);
+    REFUSED(s, flockdrift_take(s->image, BUFFER, b, f, size, s->counts, 0, 999, NULL, 0, NO_118, s->reply,
+            REPLY - 1), 1, 0);
+    REFUSED(s, flockdrift_take(s->image, BUFFER, b, f, size, s->counts, 0, 999, NULL, 0, NO_118, s->reply, REPLY), 15, 0);
     REFUSED(s, flockdrift_release(s->image, BUFFER, b, f, size, s->counts, 0, 999, NULL, 0), 15, 0);
     REFUSED(s, flockdrift_mark(s->image, BUFFER, b, f, size, s->counts, 0, 0, 0, 999), 15, 0);
     REFUSED(s, flockdrift_open(s->image, BUFFER, b, f, size, s->counts, network, 2, length, 2, 59, 28, 1000), 12, 0);
@@ -658,8 +660,8 @@ static void not_the_sheet(struct lent *s, size_t size)
         REFUSED(s, flockdrift_load(s->image, BUFFER, b, f, size, s->counts, s->saved, ONE), 14, 0);
     }
     set_bytes(s, bytes - 1);
-    REFUSED(s, flockdrift_ask(s->image, BUFFER, b, f, size, s->counts, 0, 999, NULL, 0, s->reply, REPLY), 5, 0);
-    REFUSED(s, flockdrift_take(s->image, BUFFER, b, f, size, s->counts, 0, 999, NULL, 0, s->reply, REPLY), 5, 0);
+    REFUSED(s, flockdrift_ask(s->image, BUFFER, b, f, size, s->counts, 0, 999, NULL, 0, NO_118, s->reply, REPLY), 5, 0);
+    REFUSED(s, flockdrift_take(s->image, BUFFER, b, f, size, s->counts, 0, 999, NULL, 0, NO_118, s->reply, REPLY), 5, 0);
     REFUSED(s, flockdrift_release(s->image, BUFFER, b, f, size, s->counts, 0, 999, NULL, 0), 5, 0);
     REFUSED(s, flockdrift_mark(s->image, BUFFER, b, f, size, s->counts, 0, 0, 0, 999), 5, 0);
     set_bytes(s, bytes);
@@ -698,9 +700,9 @@ static void not_the_counts(struct lent *s)
     uint8_t *f = s->figures;
 
     keep(s);
-    REFUSED(s, flockdrift_ask(s->image, BUFFER, b, f, 0, s->counts, 0, 999, NULL, 0, s->reply, REPLY - 1), 1, 0);
-    REFUSED(s, flockdrift_ask(s->image, BUFFER, b, f, 0, s->counts, 0, 999, NULL, 0, s->reply, REPLY), 5, 0);
-    REFUSED(s, flockdrift_take(s->image, BUFFER, b, f, 0, s->counts, 0, 999, NULL, 0, s->reply, REPLY), 5, 0);
+    REFUSED(s, flockdrift_ask(s->image, BUFFER, b, f, 0, s->counts, 0, 999, NULL, 0, NO_118, s->reply, REPLY - 1), 1, 0);
+    REFUSED(s, flockdrift_ask(s->image, BUFFER, b, f, 0, s->counts, 0, 999, NULL, 0, NO_118, s->reply, REPLY), 5, 0);
+    REFUSED(s, flockdrift_take(s->image, BUFFER, b, f, 0, s->counts, 0, 999, NULL, 0, NO_118, s->reply, REPLY), 5, 0);
     REFUSED(s, flockdrift_release(s->image, BUFFER, b, f, 0, s->counts, 0, 999, NULL, 0), 5, 0);
     REFUSED(s, flockdrift_mark(s->image, BUFFER, b, f, 0, s->counts, 0, 0, 0, 999), 5, 0);
     REFUSED(s, list(s, 0, 999, NULL, 0), 5, 0);
@@ -973,6 +975,102 @@ static void forms(struct lent *s)
     NAME(lease(s, BUFFER, 0), "west hall", 9);
 }
 
+/* An ask or a take that carries these bytes as option 118, with so much room for the reply. */
+static struct flockdrift_answer ask_118(struct lent *s, uint32_t client, const uint8_t *option, size_t n,
+                                        const uint8_t *carried, size_t m, size_t room)
+{
+    return flockdrift_ask(s->image, BUFFER, &s->bytes, s->figures, FIGURES, s->counts, client, 1000, option, n, 1, carried,
+                          m, s->reply, room);
+}
+
+static struct flockdrift_answer take_118(struct lent *s, uint32_t client, const uint8_t *option, size_t n,
+                                         const uint8_t *carried, size_t m, size_t room)
+{
+    return flockdrift_take(s->image, BUFFER, &s->bytes, s->figures, FIGURES, s->counts, client, 1000, option, n, 1,
+                           carried, m, s->reply, room);
+}
+
+/* Option 118 with an ask and a take: its pool, the reply with the option after it, sizes, numbers and their order. */
+static void selection(struct lent *s)
+{
+    static const uint8_t small[] = {118, 4, 10, 0, 8, 63};
+    static const uint8_t large[] = {118, 4, 10, 0, 1, 0};
+    static const uint8_t outside[][6] = {{118, 4, 10, 0, 0, 255}, {118, 4, 10, 0, 2, 0}, {118, 4, 10, 0, 7, 255},
+                                         {118, 4, 10, 0, 8, 64}, {118, 4, 0, 0, 0, 0}};
+    static const uint8_t bad[][7] = {{118, 4, 10, 0, 8}, {118, 3, 10, 0, 8, 0}, {119, 4, 10, 0, 8, 0},
+                                     {118, 5, 10, 0, 8, 0, 0}, {118, 4, 10, 0, 8, 0, 0}};
+    static const size_t bad_bytes[] = {5, 6, 6, 7, 7};
+    static const uint8_t in_small[] = {0xdc, 11, 0, 2, 8, 0, 10, 0, 8, 0, 26, 0, 0};
+    static const uint8_t in_large[] = {0xdc, 11, 0, 2, 8, 0, 10, 0, 1, 0, 26, 0, 0};
+    /* both leases, a high water of 266 told of each */
+    static const uint8_t tell_both[] = {0xdc, 22, 0,  2, 19, 0, 10, 0, 1, 0, 26, 0, 2, 1,
+                                        10,   10, 0,  8, 0,  26, 0, 2, 1, 10};
+    static const uint8_t rows[] = {0, 1, 0, 10, 26, NO, NO, NO, 0, 8, 0, 10, 26, 10, 1, NO, NO};
+    size_t i;
+
+    fill(s);
+    keep(s);
+    ACCEPTED(s, open_at(s, BUFFER), 0, 0, NONE);
+    /* the best fit is the small pool, the large one is named; the option follows, and is not counted as an entry */
+    ACCEPTED(s, ask_118(s, 7, ask_26, sizeof ask_26, large, sizeof large, SELECTED), 19, 1, ONE);
+    SAME("option 220", memcmp(s->reply, in_large, sizeof in_large) != 0, 0);
+    SAME("option 118 after it", memcmp(s->reply + 13, large, sizeof large) != 0, 0);
+    FILLED(s->reply + 19, sizeof s->reply - 19, REPLY_FILL);
+    /* held in the large pool, so not offered again in the small one, which is full then */
+    ACCEPTED(s, ask_118(s, 7, ask_26, sizeof ask_26, small, sizeof small, SELECTED), 19, 1, TWO);
+    SAME("option 220", memcmp(s->reply, in_small, sizeof in_small) != 0, 0);
+    REFUSED(s, ask_118(s, 8, ask_26, sizeof ask_26, small, sizeof small, SELECTED), 10, 0);
+    ACCEPTED(s, ask_118(s, 7, ask_26, sizeof ask_26, small, sizeof small, SELECTED + 8), 19, 1, TWO);
+
+    /* a take finds what lies in the pool, and files the figures of that alone */
+    REFUSED(s, take_118(s, 7, in_small, sizeof in_small, large, sizeof large, SELECTED), 11, 0);
+    ACCEPTED(s, take_118(s, 7, tell_both, sizeof tell_both, small, sizeof small, SELECTED), 19, 1, TWO);
+    SAME("option 220", memcmp(s->reply, in_small, sizeof in_small) != 0, 0);
+    SAME("option 118 after it", memcmp(s->reply + 13, small, sizeof small) != 0, 0);
+    LEASE(lease(s, BUFFER, 0), 0, 0x0a000100, 26, 7, FLOCKDRIFT_HELD, 0, 0, 1120);
+    LEASE(lease(s, BUFFER, 1), 0, 0x0a000800, 26, 7, FLOCKDRIFT_LEASED, 0, 0, 4600);
+    ROWS(s, rows, 2);
+
+    /* 263 with the option, also with a bad one; 257 without it, whatever the bytes are */
+    REFUSED(s, ask_118(s, 7, ask_26, sizeof ask_26, large, sizeof large, SELECTED - 1), 1, 0);
+    REFUSED(s, ask_118(s, 7, ask_26, sizeof ask_26, large, 1, REPLY), 1, 0);
+    REFUSED(s, ask_118(s, 7, ask_26, sizeof ask_26, NULL, 0, SELECTED - 1), 1, 0);
+    REFUSED(s, take_118(s, 7, in_small, sizeof in_small, small, sizeof small, SELECTED - 1), 1, 0);
+    REFUSED(s, take_118(s, 7, in_small, sizeof in_small, NULL, 0, REPLY), 1, 0);
+    ACCEPTED(s, flockdrift_take(s->image, BUFFER, &s->bytes, s->figures, FIGURES, s->counts, 7, 1000, in_small,
+             sizeof in_small, 0, large, 3, s->reply, REPLY), 13, 1, TWO);
+    ACCEPTED(s, flockdrift_ask(s->image, BUFFER, &s->bytes, s->figures, FIGURES, s->counts, 7, 1000, ask_26,
+             sizeof ask_26, 0, small, sizeof small, s->reply, REPLY), 13, 1, TWO);
+    /* any number but 0 says that there is one */
+    REFUSED(s, flockdrift_take(s->image, BUFFER, &s->bytes, s->figures, FIGURES, s->counts, 7, 1000, in_small,
+            sizeof in_small, UINT32_MAX, large, sizeof large, s->reply, SELECTED), 11, 0);
+
+    /* bad ones: 6, before 7, 16 and 8 of option 220, after 2 and 3 */
+    REFUSED(s, ask_118(s, 7, ask_26, sizeof ask_26, NULL, 0, SELECTED), 6, 0);
+    for (i = 0; i < sizeof bad / sizeof bad[0]; i++) {
+        REFUSED(s, ask_118(s, 7, ask_26, sizeof ask_26, bad[i], bad_bytes[i], SELECTED), 6, 0);
+        REFUSED(s, ask_118(s, 7, ask_31, sizeof ask_31, bad[i], bad_bytes[i], SELECTED), 6, 0);
+        REFUSED(s, ask_118(s, 7, in_small, sizeof in_small, bad[i], bad_bytes[i], SELECTED), 6, 0);
+        REFUSED(s, ask_118(s, 0, ask_26, sizeof ask_26, bad[i], bad_bytes[i], SELECTED), 2, 0);
+        REFUSED(s, take_118(s, 7, in_small, sizeof in_small, bad[i], bad_bytes[i], SELECTED), 6, 0);
+        REFUSED(s, take_118(s, 7, name_and_bad, sizeof name_and_bad, bad[i], bad_bytes[i], SELECTED), 6, 0);
+    }
+    /* one past the ends of the pools, and the address of an unused one: 19, after 6, 7, 16 and 8, before 10 and 11 */
+    for (i = 0; i < sizeof outside / sizeof outside[0]; i++) {
+        const uint8_t *at = outside[i];
+
+        REFUSED(s, ask_118(s, 7, ask_26, sizeof ask_26, at, 6, SELECTED), 19, 0);
+        REFUSED(s, ask_118(s, 7, ask_8, sizeof ask_8, at, 6, SELECTED), 19, 0);
+        REFUSED(s, ask_118(s, 7, ask_26, sizeof ask_26 - 1, at, 6, SELECTED), 6, 0);
+        REFUSED(s, ask_118(s, 7, ask_31, sizeof ask_31, at, 6, SELECTED), 16, 3);
+        REFUSED(s, ask_118(s, 7, in_small, sizeof in_small, at, 6, SELECTED), 8, 0);
+        REFUSED(s, take_118(s, 7, in_small, sizeof in_small, at, 6, SELECTED), 19, 0);
+        REFUSED(s, take_118(s, 9, in_small, sizeof in_small, at, 6, SELECTED), 19, 0);
+        REFUSED(s, take_118(s, 7, name_and_bad, sizeof name_and_bad, at, 6, SELECTED), 7, 13);
+        REFUSED(s, take_118(s, 7, ask_26, sizeof ask_26, at, 6, SELECTED), 8, 0);
+    }
+}
+
 /* The sheet, in a text buffer of no byte less than it has, and in one of one byte less. */
 static void sheet(struct lent *s)
 {
@@ -1078,11 +1176,11 @@ static void book(struct lent *s)
     SAME("open", flockdrift_book_open(&held, network, 2, length, 2, 3600, 28, 1000).number, 0);
     ACCEPTED(s, ask(s, 7, 1000, ask_26, sizeof ask_26), 13, 1, ONE);
     before = held;
-    SAME("ask", flockdrift_book_ask(&held, 7, 1000, ask_26, sizeof ask_26, s->reply, REPLY).bytes, 13);
+    SAME("ask", flockdrift_book_ask(&held, 7, 1000, ask_26, sizeof ask_26, NO_118, s->reply, REPLY).bytes, 13);
     held = before;
-    SAME("ask again", flockdrift_book_ask(&held, 7, 1000, ask_26, sizeof ask_26, s->reply, REPLY).count, 1);
+    SAME("ask again", flockdrift_book_ask(&held, 7, 1000, ask_26, sizeof ask_26, NO_118, s->reply, REPLY).count, 1);
     ACCEPTED(s, take(s, 7, 1010, tell_26, sizeof tell_26), 13, 1, ONE);
-    SAME("take", flockdrift_book_take(&held, 7, 1010, tell_26, sizeof tell_26, s->reply, REPLY).count, 1);
+    SAME("take", flockdrift_book_take(&held, 7, 1010, tell_26, sizeof tell_26, NO_118, s->reply, REPLY).count, 1);
     SAME("list", flockdrift_book_list(&held, 7, 1020, list_all, sizeof list_all, s->reply, REPLY).count, 1);
     ACCEPTED(s, mark(s, 0x0a000800, 26, 1, 1030), 0, 0, ONE);
     SAME("mark", flockdrift_book_mark(&held, 0x0a000800, 26, 1, 1030).number, 0);
@@ -1122,6 +1220,7 @@ static void book(struct lent *s)
     SAME("words", strcmp(flockdrift_text(FLOCKDRIFT_BAD_FIELD), "a field outside the rules in the suboption") != 0, 0);
     SAME("words", strcmp(flockdrift_text(FLOCKDRIFT_NAME_TOO_LONG), "the name is too long") != 0, 0);
     SAME("words", strcmp(flockdrift_text(18), "names would be lost in the first form") != 0, 0);
+    SAME("words", strcmp(flockdrift_text(19), "no pool contains the address of option 118") != 0, 0);
     SAME("words", strcmp(flockdrift_text(5), "not the image of a sound table, or not its counts") != 0, 0);
 }
 
@@ -1138,7 +1237,7 @@ static void full(struct lent *s)
     fill(s);
     ACCEPTED(s, flockdrift_open(s->image, FULL, b, f, FIGURES, s->counts, pools, 8, eights, 8, 60, 30, 0), 0, 0, 85);
     for (i = 1; i <= 256; i++) {
-        a = flockdrift_ask(s->image, FULL, b, f, FIGURES, s->counts, i, 0, ask_26, sizeof ask_26, s->reply, REPLY);
+        a = flockdrift_ask(s->image, FULL, b, f, FIGURES, s->counts, i, 0, ask_26, sizeof ask_26, NO_118, s->reply, REPLY);
         ACCEPTED(s, a, 13, 1, 85 + RECORD * i);
     }
     SAME("the length of a full image", s->bytes, FULL);
@@ -1147,11 +1246,11 @@ static void full(struct lent *s)
     LEASE(lease(s, FULL, 255), 0, 255u << 6, 26, 256, FLOCKDRIFT_HELD, 0, 0, 120);
     LEASE(lease(s, FULL, 256), 11, 0, 0, 0, 0, 0, 0, 0);
     /* neither a lease more nor a prefix of this length; what is offered again needs none */
-    REFUSED(s, flockdrift_ask(s->image, FULL, b, f, FIGURES, s->counts, 7, 0, ask_8, sizeof ask_8, s->reply, REPLY),
-            9, 0);
-    REFUSED(s, flockdrift_ask(s->image, FULL, b, f, FIGURES, s->counts, 257, 0, ask_26, sizeof ask_26, s->reply,
+    REFUSED(s, flockdrift_ask(s->image, FULL, b, f, FIGURES, s->counts, 7, 0, ask_8, sizeof ask_8, NO_118, s->reply,
             REPLY), 9, 0);
-    a = flockdrift_ask(s->image, FULL, b, f, FIGURES, s->counts, 256, 0, ask_26, sizeof ask_26, s->reply, REPLY);
+    REFUSED(s, flockdrift_ask(s->image, FULL, b, f, FIGURES, s->counts, 257, 0, ask_26, sizeof ask_26, NO_118, s->reply,
+            REPLY), 9, 0);
+    a = flockdrift_ask(s->image, FULL, b, f, FIGURES, s->counts, 256, 0, ask_26, sizeof ask_26, NO_118, s->reply, REPLY);
     ACCEPTED(s, a, 13, 1, FULL);
 
     REFUSED(s, save(s, FULL - 1), 14, 0);
@@ -1172,7 +1271,7 @@ static void full(struct lent *s)
     READ(s, a, a.bytes, 0);
 
     /* all of them end at 120 */
-    a = flockdrift_ask(s->image, FULL, b, f, FIGURES, s->counts, 7, 120, ask_26, sizeof ask_26, s->reply, REPLY);
+    a = flockdrift_ask(s->image, FULL, b, f, FIGURES, s->counts, 7, 120, ask_26, sizeof ask_26, NO_118, s->reply, REPLY);
     ACCEPTED(s, a, 13, 1, 129);
     FILLED(s->image + 129, FULL - 129, 0);
     ACCEPTED(s, load(s, FULL, FULL), 0, 0, FULL);
@@ -1227,6 +1326,7 @@ int main(void)
     load_and_save(s);
     names(s);
     forms(s);
+    selection(s);
     sheet(s);
     queries(s);
     options(s);

@@ -9,9 +9,11 @@
 use std::collections::BTreeMap;
 use std::process::exit;
 
-use bench::desk::{Answer, Counts, Desk, FIGURES, FIRST_FULL, FULL, LENGTHS, Lent, NAME, REPLY, SHEET};
+use bench::desk::{
+    Answer, Counts, Desk, FIGURES, FIRST_FULL, FULL, LENGTHS, Lent, NAME, REPLY, SELECTED_REPLY, SELECTION, SHEET,
+};
 use bench::images::{EMPTY_ROW, FIRST_LEASE, LEASE, Lease, NO_NAME, Name, ROW, ROWS, Table, name};
-use bench::options::{information, option, request};
+use bench::options::{self, information, option, request};
 use bench::peer::PEER;
 use bench::random::Random;
 use bench::reference::REFERENCE;
@@ -27,8 +29,8 @@ const UNTOLD: u16 = 0xffff;
 #[derive(Clone, Debug)]
 enum Call {
     Open { networks: Vec<u32>, lengths: Vec<u8>, term: u32, default_length: u32, start: u32 },
-    Ask { client: u32, now: u32, option: Vec<u8> },
-    Take { client: u32, now: u32, option: Vec<u8> },
+    Ask { client: u32, now: u32, option: Vec<u8>, selection: Option<Vec<u8>> },
+    Take { client: u32, now: u32, option: Vec<u8>, selection: Option<Vec<u8>> },
     List { client: u32, now: u32, option: Vec<u8> },
     Release { client: u32, now: u32, option: Vec<u8> },
     Mark { network: u32, length: u32, deprecated: u32, now: u32 },
@@ -70,8 +72,12 @@ impl Call {
             Call::Open { networks, lengths, term, default_length, start } => {
                 (desk.open)(lent, networks, lengths, *term, *default_length, *start)
             }
-            Call::Ask { client, now, option } => (desk.ask)(lent, *client, *now, option, out),
-            Call::Take { client, now, option } => (desk.take)(lent, *client, *now, option, out),
+            Call::Ask { client, now, option, selection } => {
+                (desk.ask)(lent, *client, *now, option, selection.as_deref(), out)
+            }
+            Call::Take { client, now, option, selection } => {
+                (desk.take)(lent, *client, *now, option, selection.as_deref(), out)
+            }
             Call::Release { client, now, option } => (desk.release)(lent, *client, *now, option),
             Call::Mark { network, length, deprecated, now } => (desk.mark)(lent, *network, *length, *deprecated, *now),
             Call::Load { saved } => (desk.load)(lent, saved),
@@ -86,6 +92,14 @@ impl Call {
             | Call::Take { option, .. }
             | Call::List { option, .. }
             | Call::Release { option, .. } => Some(option),
+            _ => None,
+        }
+    }
+
+    /// The option 118 that it carries.
+    fn selection(&self) -> Option<&[u8]> {
+        match self {
+            Call::Ask { selection, .. } | Call::Take { selection, .. } => selection.as_deref(),
             _ => None,
         }
     }
@@ -147,7 +161,8 @@ fn agreed(desks: &[Desk], call: &Call, given: &Buffers) -> Result<(Answer, Buffe
 /// The entries of an ask's reply, one in each information: network, length, flags.
 fn offers(reply: &[u8]) -> Vec<(u32, u8, u8)> {
     let entry = |offer: &[u8]| (u32::from_be_bytes(offer[3..7].try_into().unwrap()), offer[7], offer[8]);
-    reply[3..].chunks(10).map(entry).collect()
+    // An option 118 may follow.
+    reply[3..usize::from(reply[1]) + 2].chunks(10).map(entry).collect()
 }
 
 /// The octets of the first name of an option that is read.
@@ -186,6 +201,55 @@ fn offers_are_there(
     offers.sort_unstable();
     offers.dedup();
     if offers.len() < count { Err("something is offered twice".into()) } else { Ok(()) }
+}
+
+/// The pool of the table that contains the address of an option 118.
+fn named_pool(table: &Table, selection: &[u8]) -> Option<(u32, u8)> {
+    let [118, 4, a, b, c, d] = *selection else { return None };
+    let address = u32::from_be_bytes([a, b, c, d]);
+    table.pools.iter().copied().find(|pool| lies_in(*pool, address))
+}
+
+fn lies_in((network, length): (u32, u8), address: u32) -> bool {
+    (address ^ network) >> (32 - length) == 0
+}
+
+/// An accepted call with an option 118 returns it after option 220, and every entry of the reply lies in the named root.
+fn selection_is_kept(table: &Table, selection: &[u8], reply: &[u8]) -> Result<(), String> {
+    let end = usize::from(reply[1]) + 2;
+    if reply.len() != end + SELECTION || reply[end..] != *selection {
+        return Err("option 118 does not follow in the reply".into());
+    }
+    let Some(pool) = named_pool(table, selection) else {
+        return Err("it was accepted and names no root".into());
+    };
+    let entries = entries(&reply[..end]);
+    if entries.iter().any(|&(network, length)| length < pool.1 || !lies_in(pool, network)) {
+        return Err("an entry of the reply lies outside the named root".into());
+    }
+    Ok(())
+}
+
+/// The entries of an option that is read: network and length.
+fn entries(option: &[u8]) -> Vec<(u32, u8)> {
+    let mut entries = Vec::new();
+    for suboption in read220(option).unwrap_or_default() {
+        if let Suboption::Information(information) = suboption {
+            entries.extend(information.entries.iter().map(|entry| (entry.network, entry.prefix)));
+        }
+    }
+    entries
+}
+
+/// Whether a take names a lease of the client that lies outside the named root.
+fn names_outside(client: u32, now: u32, option: &[u8], selection: &[u8], table: &Table) -> bool {
+    let Some(pool) = named_pool(table, selection) else { return false };
+    entries(option).iter().any(|&(network, length)| {
+        let own = |lease: &Lease| {
+            (lease.network, lease.length, lease.client) == (network, length, client) && lease.expires > now
+        };
+        !lies_in(pool, network) && table.leases.iter().any(own)
+    })
 }
 
 /// Whether an accepted ask has given something again: an offer that was there before, as no new one lies where a lease is
@@ -240,7 +304,10 @@ fn plausible(call: &Call, given: &Buffers, answer: &Answer, left: &Buffers) -> R
         return Err("bytes past the image have changed".into());
     }
     let table = Table::of_image(&left.image[..left.bytes]);
-    if let Call::Ask { client, now, option } = call {
+    if let Some(selection) = call.selection() {
+        selection_is_kept(&table, selection, &left.out[..answer.bytes as usize])?;
+    }
+    if let Call::Ask { client, now, option, .. } = call {
         let before = Table::of_image(&given.image[..given.bytes]);
         offers_are_there(*client, *now, option, &left.out[..answer.bytes as usize], &before, &table)?;
     }
@@ -886,6 +953,39 @@ fn random_open(random: &mut Random) -> Call {
     }
 }
 
+/// An option 118, or none: an address in a root, at its ends, one past them, or any; now and then a bad option.
+fn random_selection(random: &mut Random, table: &Table) -> Option<Vec<u8>> {
+    if random.once_in(2) {
+        return None;
+    }
+    let (network, length) = random.pick(&table.pools);
+    let size = 1u64 << (32 - length);
+    let last = (u64::from(network) + size - 1) as u32;
+    let word = random.word() as u32;
+    let any = random.pick(&[0, 0, 1, u32::MAX, word]);
+    let address = match random.below(16) {
+        0 => network.wrapping_sub(1),
+        1 => last.wrapping_add(1),
+        2 | 3 => last,
+        4 | 5 => network,
+        6 => any,
+        _ => network + random.below(size) as u32,
+    };
+    let mut bytes = options::selection(address);
+    if random.once_in(12) {
+        let at = random.below(6) as usize;
+        match random.below(6) {
+            0 => bytes.truncate(at),
+            1 => bytes.push(random.word() as u8),
+            2 => bytes[1] = random.pick(&[0, 3, 5, 255]),
+            3 => bytes[0] = random.pick(&[0, 117, 119, 220]),
+            4 => bytes.extend(options::selection(address)),
+            _ => bytes.clear(),
+        }
+    }
+    Some(bytes)
+}
+
 fn random_call(random: &mut Random, table: &Table) -> Call {
     let client = random_client(random);
     let now = random_time(random, table.last);
@@ -893,9 +993,12 @@ fn random_call(random: &mut Random, table: &Table) -> Call {
         0..=31 => {
             let again = if random.once_in(3) { random_again(random, table) } else { None };
             let (client, option) = again.unwrap_or_else(|| (client, random_option(random, table, 0)));
-            Call::Ask { client, now, option }
+            Call::Ask { client, now, option, selection: random_selection(random, table) }
         }
-        32..=49 => Call::Take { client, now, option: random_option(random, table, 1) },
+        32..=49 => {
+            let option = random_option(random, table, 1);
+            Call::Take { client, now, option, selection: random_selection(random, table) }
+        }
         50..=63 => Call::List { client, now, option: random_option(random, table, 2) },
         64..=76 => Call::Release { client, now, option: random_option(random, table, 1) },
         77..=87 => {
@@ -1069,11 +1172,15 @@ fn random_given(random: &mut Random, image: &[u8], figures: &[u8]) -> (Call, Buf
             let size = (REFERENCE.sheet)(&buffer[..bytes], &mut text).bytes as usize;
             random.pick(&[size, size, size + 1, size + 40, size.saturating_sub(1), 0])
         }
-        _ => match random.below(30) {
-            0 => random.below(REPLY as u64) as usize,
-            1..=3 => REPLY + random.below(60) as usize,
-            _ => REPLY,
-        },
+        _ => {
+            let least = if call.selection().is_some() { SELECTED_REPLY } else { REPLY };
+            match random.below(30) {
+                0 => random.below(least as u64) as usize,
+                1 => random.pick(&[REPLY - 1, REPLY, SELECTED_REPLY - 1, SELECTED_REPLY]),
+                2..=4 => least + random.below(60) as usize,
+                _ => least,
+            }
+        }
     };
     buffer.truncate(capacity);
     let mut out = vec![0; room];
@@ -1112,6 +1219,7 @@ fn main() {
     let (mut in_one, mut in_two, mut last_place) = (0u64, 0u64, 0u64);
     let (mut named, mut kept, mut first_loads, mut first_saves) = (0u64, 0u64, 0u64, 0u64);
     let (mut in_place, mut lost_and_short) = (0u64, 0u64);
+    let (mut bad_selections, mut below_263, mut in_a_root, mut left_out) = (0u64, 0u64, 0u64, 0u64);
     let (mut image, mut figures) = (Vec::new(), Vec::new());
     for index in 0..calls {
         if index % HISTORY == 0 {
@@ -1143,6 +1251,19 @@ fn main() {
                 }
                 if !matches!(call, Call::Open { .. } | Call::Load { .. } | Call::Sheet) {
                     in_place += u64::from(answer.number == 5 && given.image.get(2) == Some(&1));
+                }
+                if let Some(selection) = call.selection() {
+                    let well_framed = call
+                        .option()
+                        .is_some_and(|option| read220(option).map_or_else(|refusal| refusal.number != 6, |_| true));
+                    bad_selections += u64::from(answer.number == 6 && well_framed);
+                    below_263 += u64::from(answer.number == 1 && given.out.len() >= REPLY);
+                    let accepted = answer.number == 0;
+                    in_a_root += u64::from(accepted && matches!(call, Call::Ask { .. }));
+                    if let (Call::Take { client, now, option, .. }, true) = (&call, accepted) {
+                        let before = Table::of_image(&given.image[..given.bytes]);
+                        left_out += u64::from(names_outside(*client, *now, option, selection, &before));
+                    }
                 }
                 if answer.number == 0 {
                     full += u64::from(left.bytes == FULL);
@@ -1209,6 +1330,11 @@ fn main() {
          accepted: {first_loads}; calls refused on a book of the first form: {in_place}",
         refused(17),
         refused(18)
+    );
+    println!(
+        "calls refused with 19: {}, with 6 because of option 118: {bad_selections}, with 1 because of 263: {below_263}; asks \
+         granted in a named root: {in_a_root}; takes that left entries outside: {left_out}",
+        refused(19)
     );
     println!("agree: {calls} calls, the same answer, image, figures, counts and output by all {}", names.len());
 }

@@ -126,6 +126,14 @@ pub struct Pools {
     pub length: [u8; POOLS],
 }
 
+impl Pools {
+    /// The pool that an address lies in; none of the unused ones.
+    pub fn of(&self, address: u32) -> Option<usize> {
+        let address = u64::from(address);
+        (0..self.count).find(|&pool| (self.from[pool]..self.to[pool]).contains(&address))
+    }
+}
+
 /// What the pass over a sound image found.
 pub struct Summary {
     pub term: u32,
@@ -190,6 +198,10 @@ pub struct Met {
 
 /// What a call notes in the pass over an image. (No closure: those are not always inlined.)
 pub trait Notes {
+    /// All pools were read, and no lease.
+    #[inline(always)]
+    fn begin(&mut self, _: &Pools) {}
+
     fn lease(&mut self, lease: Met, pools: &Pools);
 
     /// All leases were met.
@@ -260,6 +272,7 @@ pub fn check<const N: usize>(image: &[u8], notes: &mut impl Notes) -> Option<Sum
     if pools.count == 0 || !left.is_empty() || leases.len() > LEASES {
         return None;
     }
+    notes.begin(&pools);
     // Pools and leases both ascend, so the pool that a lease lies in moves only forward.
     let (mut pool, mut pool_from, mut pool_to) = (0, pools.from[0], pools.to[0]);
     let mut levels = Levels::new();

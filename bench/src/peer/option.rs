@@ -46,6 +46,21 @@ pub fn read(option: &[u8], pieces: &mut impl Pieces) -> Result<(), Answer> {
     Ok(())
 }
 
+/// The address of an option 118.
+pub fn selection(option: &[u8]) -> Option<u32> {
+    match *option {
+        [118, 4, a, b, c, d] => Some(u32::from_be_bytes([a, b, c, d])),
+        _ => None,
+    }
+}
+
+/// Puts an option 118 after an option 220 of so many bytes, where there is one; answers the bytes of both.
+pub fn put_selection(reply: &mut [u8], bytes: usize, option: Option<&[u8]>) -> usize {
+    let option = option.unwrap_or(&[]);
+    reply[bytes..bytes + option.len()].copy_from_slice(option);
+    bytes + option.len()
+}
+
 /// The suboption at the front of the bytes; answers its size, or the number of a bad one.
 fn suboption(bytes: &[u8], pieces: &mut impl Pieces) -> Result<usize, u32> {
     let (&[number, len], rest) = bytes.split_first_chunk().ok_or(FRAMING)?;

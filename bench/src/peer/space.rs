@@ -55,6 +55,16 @@ impl Gaps {
         self.enter(pools, pools.count);
     }
 
+    /// Begins in one pool, whose leases alone are met.
+    pub fn enter_only(&mut self, pools: &Pools, pool: usize) {
+        (self.pool, self.free_from) = (pool, pools.from[pool]);
+    }
+
+    /// No lease of that pool is left.
+    pub fn finish_only(&mut self, pools: &Pools) {
+        self.push(self.free_from, pools.to[self.pool]);
+    }
+
     /// Takes the best fit for a length and answers its network.
     ///
     /// The whole free prefixes of at least this size in a gap are those of the gap cut to multiples of the size. Their

@@ -8,7 +8,7 @@ use mathlib.Core.Logic.{⊎-elim}
 use mathlib.Core.Bool.{Bool, true, false, cond, _&&_, true≢false}
 use mathlib.Core.List.{List, [], _∷_, _++_, map}
 use lib.Dec.{ltb, eqb}
-use lib.ListN.{length, replicate}
+use lib.ListN.{length, drop, replicate, take}
 use borrow.Author.Tests.{eqb-true, ltb-true, lt-ltb}
 use Rattle.lists.specs.Lists.{All, any?, catMaybes}
 use Rattle.lists.proofs.Tests.{bool-cases, cond-true, cond-false, or-to}
@@ -30,6 +30,7 @@ use Rattle.figures.proofs.MatchLaws.{used-fits}
 use Rattle.figures.proofs.KeptLaws.{kept-padded}
 use Rattle.ledger.specs.Ledger.{holdTime, again, holdAgain, heldAgain}
 use Rattle.ledger.proofs.AgainLaws.{again-all, held, held-place, held-length}
+use Rattle.ask_commit.proofs.GroundHeld.{present-inner}
 
 -- LISTS
 
@@ -88,10 +89,13 @@ given-present now xs (y ∷ ys) a =
     all-map₂ {P = λ z. y .network ≡ z .network → now < z .expires} {Q = λ z. any? (λ w. eqb (w .network) (z .network)) ys ≡ true → now < z .expires}
     (λ z k m e. ⊎-elim (λ h. k (eqb-true (y .network) (z .network) h)) m (or-to (eqb (y .network) (z .network)) (any? (λ w. eqb (w .network) (z .network)) ys) e)) xs (a .0) (given-present now xs ys (a .1))
 
-pub given-alone : (t : LeaseTable) → sound t ≡ true → (now client : ℕ) (rs : List Request) → All (Alone now (usedLeases t)) (catMaybes (again t client (present now (usedLeases t)) rs))
-given-alone t ok now client rs =
+-- So is that of one given again, of the n leases from the place f on.
+pub given-alone : (t : LeaseTable) → sound t ≡ true → (u : LeaseTable) (now client f n : ℕ) (rs : List Request)
+    → All (Alone now (usedLeases t)) (catMaybes (again u client (present now (take n (drop f (usedLeases t)))) rs))
+given-alone t ok u now client f n rs =
     let us : List Lease = usedLeases t in
-    all-map (λ x k. k .1) (catMaybes (again t client (present now us) rs)) (again-all t client (Alone now us) rs (present now us) (present-alone now us (sound-ascending t ok)))
+    let ms : List Lease = present now (take n (drop f us)) in
+    all-map (λ x k. k .1) (catMaybes (again u client ms rs)) (again-all u client (Alone now us) rs ms (present-inner now f n (Alone now us) us (present-alone now us (sound-ascending t ok))))
 
 -- THE TABLE
 

@@ -35,7 +35,7 @@ use Rattle.ledger.proofs.ReplyLaws.{ask-bytes}
 use Rattle.ask_again.specs.Places.{noPlace, Within, leaseAt, givenIn}
 use Rattle.ask_serve.specs.Granting.{grantedLease, offerIn, offersIn, restOffers}
 use Rattle.ask_serve.proofs.ColumnLaws.{offers-in-snoc, offers-in-length}
-use Rattle.ask_commit.specs.InnerReply.{Shown, givenOr, eitherOf, eachOf}
+use Rattle.ask_commit.specs.InnerReply.{Shown, givenOr, eitherOf, eachOf, Replied}
 
 -- One information: three bytes, and seven of its entry.
 one-information : (x : Lease) → suboptionBytes (informationFor x) ≡ informationHead 8 false false ++ entryHead (x .network) (x .length) (x .h) (x .d) 0
@@ -80,12 +80,16 @@ shown-more l₀ l at gs x before l₁ at₁ next on =
     }
 
 -- All of them, and the head before them.
-pub shown-all : (l₀ l : List ℕ) (at : ℕ) (gs : List Lease) → Shown l₀ l at gs → (l₁ : List ℕ) → l₁ ≡ put l 0 (optionHead (at - 2)) → l₁ ≡ put l₀ 0 (optionBytes (map informationFor gs))
+pub shown-all : (l₀ l : List ℕ) (at : ℕ) (gs : List Lease) → Shown l₀ l at gs → (l₁ : List ℕ) → l₁ ≡ put l 0 (optionHead (at - 2)) → Replied l₀ l₁ at (map informationFor gs)
 unfolding optionBytes optionHead
 shown-all l₀ l at gs shown l₁ head =
     let len : at - 2 ≡ 1 + length (suboptionsBytes (map informationFor gs)) = omega (arith, shown .ends, informations-bytes gs) in
-    head ∙ ap₂ (λ (m : List ℕ) (n : ℕ). put m 0 (optionHead n)) (shown .bytes) len
-    ∙ put-before (optionHead (1 + length (suboptionsBytes (map informationFor gs)))) l₀ 0 (suboptionsBytes (map informationFor gs))
+    record {
+      bytes-are = shown .ends ∙ sym (ask-bytes gs);
+      after-is =
+          head ∙ ap₂ (λ (m : List ℕ) (n : ℕ). put m 0 (optionHead n)) (shown .bytes) len
+          ∙ put-before (optionHead (1 + length (suboptionsBytes (map informationFor gs)))) l₀ 0 (suboptionsBytes (map informationFor gs));
+    }
 
 -- WHAT ONE REQUEST GETS
 

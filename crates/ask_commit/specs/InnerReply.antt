@@ -7,7 +7,8 @@ use mathlib.Core.Option.{Option, none, some}
 use lib.Dec.{eqb}
 use lib.ListN.{length}
 use Rattle.lists.specs.Put.{put}
-use Rattle.option.specs.Writing.{suboptionsBytes}
+use Rattle.option.specs.Values.{SuboptionValue}
+use Rattle.option.specs.Writing.{suboptionsBytes, optionBytes}
 use Rattle.table.specs.declared.Lease.{Lease}
 use Rattle.ledger.specs.Ledger.{informationFor}
 use Rattle.ask_again.specs.Places.{noPlace}
@@ -30,3 +31,8 @@ abbrev pub eachOf : List (Option Lease) → List (Option Lease) → List (Option
 eachOf [] os = []
 eachOf (g ∷ gs) [] = []
 eachOf (g ∷ gs) (o ∷ os) = eitherOf g o ∷ eachOf gs os
+
+-- The option of these suboptions is put at the front of the reply, and has so many bytes.
+pub record Replied (before after : List ℕ) (bytes : ℕ) (ss : List SuboptionValue) : Type 0 where
+  pub bytes-are : bytes ≡ length (optionBytes ss)
+  pub after-is : after ≡ put before 0 (optionBytes ss)

@@ -2,7 +2,9 @@
 // and rows of the figures sheet, and the reply.
 use ask_again::Asker;
 use ask_again::NONE;
+use ask_gaps::Span;
 use ask_serve::Start;
+use call_ground::Ground;
 use image::HEAD;
 use image::LEASE;
 use image::POOL;
@@ -13,27 +15,32 @@ use table::LEASES;
 use table::Lease;
 use table::POOLS;
 ghost use mathlib.Core.Path.{_≡_};
+ghost use mathlib.Core.Bool.{true};
 ghost use mathlib.Core.List.{List, [], _∷_, _++_, map};
+ghost use mathlib.Core.Option.{Option};
 ghost use Prim.Native.Nat.{ℕ, _+_, _-_, _*_, _≤_};
 ghost use lib.ListN.{length as lengthOf, drop};
 ghost use Rattle.lists.specs.Lists.{All, catMaybes};
 ghost use Rattle.lists.specs.Put.{put};
 ghost use Rattle.prefix.specs.Prefixes.{longest};
-ghost use Rattle.option.specs.Values.{mostRequests};
+ghost use Rattle.option.specs.Values.{longestOption, mostRequests};
 ghost use Rattle.option.specs.Contents.{Request};
-ghost use Rattle.option.specs.Writing.{suboptionBytes, optionBytes};
+ghost use Rattle.option.specs.Writing.{suboptionBytes};
 ghost use Rattle.names.specs.declared.Name.{Name};
 ghost use Rattle.table.specs.declared.Lease.{Lease};
 ghost use Rattle.table.specs.Table.{leaseSlots, present};
 ghost use Rattle.image.specs.Image.{leaseSize};
 ghost use Rattle.image.specs.Reading.{leaseIn};
 ghost use Rattle.image_records.specs.Records.{Records};
-ghost use Rattle.ledger.specs.Ledger.{call, result, informationFor};
+ghost use Rattle.ledger.specs.Ledger.{Call, callWith, result, narrowed, informationFor};
 ghost use Rattle.ask_again.specs.Places.{noPlace, Within, InBuffer, givenIn, othersIn};
 ghost use Rattle.ask_serve.specs.Granting.{offersIn, leasesIn, Granted};
-ghost use Rattle.call_spec.specs.ImageCalls.{lent, tableIn, askImage};
-ghost use Rattle.ask_commit.specs.Asking.{OfAdmitted, Ready, Asking};
-ghost use Rattle.ask_commit.specs.InnerReply.{Shown, givenOr, eachOf};
+ghost use Rattle.call_spec.specs.ImageCalls.{Lent, lent, tableIn, askImage};
+ghost use Rattle.call_rows.specs.Admission.{Admitted};
+ghost use Rattle.call_ground.specs.Ground.{Grounds, returning};
+ghost use Rattle.ask_commit.specs.Asking.{WithinSite, Ready, Asking};
+ghost use Rattle.ask_commit.specs.InnerReply.{Shown, givenOr, eachOf, Replied};
+ghost use Rattle.ask_commit.specs.InnerRest.{AdmittedImage};
 
 // How many gaps there can be: one before each lease, and one at the end of each pool.
 const GAPS: usize = LEASES + POOLS;
@@ -71,8 +78,8 @@ fn put_one(reply: &mut [u8], at: usize, image: &[u8], from: usize, place: u16, x
     at
 }
 
-// An information for each request that gets something, in order, and the option's head before them. An entry shows neither the
-// client nor the end nor the name.
+// An information for each request that gets something, in order, and the option's head before them; answers how many bytes that
+// is. An entry shows neither the client nor the end nor the name.
 fn put_offers(
     reply: &mut [u8],
     image: &[u8],
@@ -81,12 +88,13 @@ fn put_offers(
     networks: &[u32],
     lengths: &[u8],
     flags: &[u8],
-)
+) -> usize
     requires { ⌜ (lengthOf (now flags) ≤ mostRequests) × (3 + 10 * lengthOf (now flags) ≤ lengthOf (now reply)) × (lengthOf (now places) ≡ lengthOf (now flags)) × (lengthOf (now flags) ≤ lengthOf (now networks))
         × (lengthOf (now flags) ≤ lengthOf (now lengths)) × All (InBuffer from (lengthOf (now image))) (now places) ⌝ }
-    ensures { λ _. ⌜ ((client expires : ℕ) (name : Name) (us : List Lease) → Records (now (image .entry)) from us → All (Within (lengthOf us)) (now (places .entry))
-        → now (reply .exit) ≡ put (now (reply .entry)) 0
-        (optionBytes (map informationFor (catMaybes (eachOf (givenIn us (now (places .entry))) (offersIn client expires name (now (networks .entry)) (now (lengths .entry)) (now (flags .entry)))))))) ⌝ }
+    ensures { λ r. ⌜ r ≤ 3 + 10 * lengthOf (now (flags .entry)) ⌝ }
+    ensures { λ r. ⌜ ((client expires : ℕ) (name : Name) (us : List Lease) → Records (now (image .entry)) from us → All (Within (lengthOf us)) (now (places .entry))
+        → Replied (now (reply .entry)) (now (reply .exit)) r
+        (map informationFor (catMaybes (eachOf (givenIn us (now (places .entry))) (offersIn client expires name (now (networks .entry)) (now (lengths .entry)) (now (flags .entry))))))) ⌝ }
 {
     let nobody = Asker {
         client: 0,
@@ -101,15 +109,22 @@ fn put_offers(
         j = j + 1;
     }
     option_reply::put_option_head(reply, (at - 2) as u8);
+    at
 }
 
 // THE CALL
 
-// The requests that have no place, served on the gaps of an image; answers how many are granted. Where there are none, or no slot
+// What the check found of an image, and the ground of the call in it.
+pub struct Site {
+    pub summary: ImageSummary,
+    pub ground: Ground,
+}
+
+// The requests that have no place, served on the gaps of the ground; answers how many are granted. Where there are none, or no slot
 // is empty, the gaps are not looked for.
 fn serve_rest(
     image: &[u8],
-    summary: ImageSummary,
+    site: Site,
     asker: Asker,
     ask_lengths: &[u8],
     places: &[u16],
@@ -117,30 +132,31 @@ fn serve_rest(
     networks: &mut [u32],
     lengths: &mut [u8],
 ) -> usize
-    requires { ⌜ OfAdmitted (now image) (asker .time) (asker .client) summary × (lengthOf (now places) ≡ lengthOf (now «ask_lengths»)) × (again ≡ othersIn noPlace (now places) (lengthOf (now «ask_lengths»)))
+    requires { ⌜ AdmittedImage (now image) (asker .time) (asker .client) (site .summary) × WithinSite site × (lengthOf (now places) ≡ lengthOf (now «ask_lengths»)) × (again ≡ othersIn noPlace (now places) (lengthOf (now «ask_lengths»)))
         × (lengthOf (now «ask_lengths») ≤ lengthOf (now networks)) × (lengthOf (now «ask_lengths») ≤ lengthOf (now lengths)) × (leasesIn (now lengths) (lengthOf (now «ask_lengths»)) ≡ 0) ⌝ }
-    ensures { λ r. ⌜ (r ≤ lengthOf (now («ask_lengths» .entry))) × (r ≤ leaseSlots - (summary .leases - summary .expired)) × (r ≡ leasesIn (now (lengths .exit)) (lengthOf (now («ask_lengths» .entry)))) ⌝ }
-    ensures { λ _. ⌜ ((o : OfAdmitted (now (image .entry)) (asker .time) (asker .client) summary) (us : List Lease) (rs : List Request)
+    ensures { λ r. ⌜ (r ≤ lengthOf (now («ask_lengths» .entry))) × (r ≤ leaseSlots - (site .summary .leases - site .summary .expired)) × (r ≡ leasesIn (now (lengths .exit)) (lengthOf (now («ask_lengths» .entry)))) ⌝ }
+    ensures { λ _. ⌜ ((h : Lent) (c : Call) (us : List Lease) (rs : List Request) → h .image ≡ now (image .entry) → Admitted true h (asker .time) (asker .client) (site .summary) → Grounds h c (site .summary) (site .ground)
         → now («ask_lengths» .entry) ≡ map (λ r. r .length) rs → All (λ r. r .length ≤ longest) rs
-        → Granted (tableIn (o .lent)) (asker .time) (asker .client) (asker .name) (present (asker .time) (tableIn (o .lent) .leases)) (givenIn us (now (places .entry))) rs (now (networks .exit)) (now (lengths .exit))) ⌝ }
+        → Granted (narrowed (tableIn h) c) (asker .time) (asker .client) (asker .name) (present (asker .time) (tableIn h .leases)) (givenIn us (now (places .entry))) rs (now (networks .exit)) (now (lengths .exit))) ⌝ }
 {
     if again == ask_lengths.len() {
         return 0;
     }
+    let summary = site.summary;
     let present = summary.leases - summary.expired;
     if LEASES <= present {
         return 0;
     }
+    let ground = site.ground;
+    let span = Span {
+        pool: ground.pool,
+        pools: ground.pools,
+        from: HEAD + POOL * summary.pools + LEASE * ground.first,
+        leases: ground.leases,
+    };
     let mut starts = [0u32; GAPS];
     let mut lasts = [0u32; GAPS];
-    let gaps = ask_gaps::gaps_in(
-        image,
-        summary.pools,
-        summary.leases,
-        asker.time,
-        &mut starts,
-        &mut lasts,
-    );
+    let gaps = ask_gaps::gaps_in(image, span, asker.time, &mut starts, &mut lasts);
     let start = Start {
         default_length: summary.default_length,
         gaps,
@@ -157,31 +173,35 @@ fn serve_rest(
     )
 }
 
-// Rows 9 and 10, and what the requests get, once every row before them has passed. Nothing is written before a request gets
-// something. The columns have the length and h of each request.
+// Rows 9 and 10, and what the requests get, once every row before them has passed, but for option 118 in the reply. Nothing is
+// written before a request gets something. The columns have the length and h of each request.
 pub fn grant(
     image: &mut [u8],
     image_bytes: &mut usize,
     figures: &mut [u8],
     asker: Asker,
     reply: &mut [u8],
-    summary: ImageSummary,
+    site: Site,
     ask_lengths: &[u8],
     ask_h: &[u8],
 ) -> Answer
-    requires { ⌜ Ready (lent (now image) (now «image_bytes») (now figures)) (asker .time) (asker .client) (now reply) summary (now «ask_lengths») (now «ask_h») ⌝ }
-    ensures { λ r. ⌜ ((option : List ℕ)
-        → Asking (lent (now (image .entry)) (now («image_bytes» .entry)) (now (figures .entry))) (asker .time) (asker .name) (call (asker .client) option (now (reply .entry))) (now («ask_lengths» .entry)) (now («ask_h» .entry))
-        → result r (lent (now (image .exit)) (now («image_bytes» .exit)) (now (figures .exit))) (now (reply .exit))
-        ≡ askImage (lent (now (image .entry)) (now («image_bytes» .entry)) (now (figures .entry))) (asker .time) (call (asker .client) option (now (reply .entry)))) ⌝ }
+    requires { ⌜ Ready (lent (now image) (now «image_bytes») (now figures)) (asker .time) (asker .client) (now reply) site (now «ask_lengths») (now «ask_h») ⌝ }
+    ensures { λ r. ⌜ r .bytes ≤ longestOption ⌝ }
+    ensures { λ r. ⌜ ((option : List ℕ) (selection : Option (List ℕ))
+        → Asking (lent (now (image .entry)) (now («image_bytes» .entry)) (now (figures .entry))) (asker .time) (asker .name) (callWith (asker .client) option selection (now (reply .entry))) site (now («ask_lengths» .entry)) (now («ask_h» .entry))
+        → returning selection (result r (lent (now (image .exit)) (now («image_bytes» .exit)) (now (figures .exit))) (now (reply .exit)))
+        ≡ askImage (lent (now (image .entry)) (now («image_bytes» .entry)) (now (figures .entry))) (asker .time) (callWith (asker .client) option selection (now (reply .entry)))) ⌝ }
 {
-    let from = HEAD + POOL * summary.pools;
+    let summary = site.summary;
+    let ground = site.ground;
+    // Where the leases on the ground begin: places are counted from there.
+    let from = HEAD + POOL * summary.pools + LEASE * ground.first;
     let requests = ask_lengths.len();
     let mut places = [0u16; MOST_REQUESTS];
     let again = ask_again::find_held(
         image,
         from,
-        summary.leases,
+        ground.leases,
         asker,
         summary.default_length,
         ask_lengths,
@@ -192,7 +212,7 @@ pub fn grant(
     let mut lengths = [0u8; MOST_REQUESTS];
     let granted = serve_rest(
         image,
-        summary,
+        site,
         asker,
         ask_lengths,
         &places[..requests],
@@ -207,7 +227,7 @@ pub fn grant(
         }
         return call_spec::refused(10, 0);
     }
-    put_offers(
+    let bytes = put_offers(
         reply,
         image,
         from,
@@ -226,5 +246,5 @@ pub fn grant(
         &lengths,
         ask_h,
     );
-    call_spec::accepted((3 + 10 * count) as u32, count as u32)
+    call_spec::accepted(bytes as u32, count as u32)
 }

@@ -1,10 +1,11 @@
 -- The ground of a sound table's image, and how many gaps it can have.
 -- Assumes nothing.
-use Prim.Native.Nat.{ℕ, suc, _+_, _≤_, _<_}
+use Prim.Native.Nat.{ℕ, suc, _+_, _*_, _≤_, _<_}
 use mathlib.Core.Path.{_≡_, refl, sym, ap, subst, _∙_}
 use mathlib.Core.Logic.{⊎-elim}
 use mathlib.Core.Bool.{true, false}
 use mathlib.Core.List.{List, [], _∷_}
+use native.Mathlib.Nat.{zero-add}
 use native.Mathlib.Omega.{arith}
 use lib.ListN.{length, take, drop, getD, length-append, length-map, List·getD-map}
 use lib.Seq.{length-take-le}
@@ -17,7 +18,7 @@ use Rattle.prefix.specs.Prefixes.{end}
 use Rattle.table.specs.declared.LeaseTable.{LeaseTable}
 use Rattle.table.specs.Table.{addresses, noPool, poolPrefix, prefixesOf, poolsOf, sound}
 use Rattle.table.proofs.TableLaws.{sound-pools, GoodPool}
-use Rattle.image.specs.Image.{headSize, usedPools, usedLeases, imageOf}
+use Rattle.image.specs.Image.{headSize, poolSize, usedPools, usedLeases, imageOf}
 use Rattle.image_check.specs.Inner.{nthPool}
 use Rattle.image_records.proofs.PoolRecords.{image-pools}
 use Rattle.image_records.proofs.SoundLaws.{image-records}
@@ -32,11 +33,11 @@ module _ (t : LeaseTable) (e : sound t ≡ true) (l : List ℕ) (bytes : ℕ) (i
   ground-pools : (k : ℕ) → k < length (usedPools t) → nthPool (drop headSize l) k ≡ poolPrefix (getD (usedPools t) k noPool)
   ground-pools k h = ap poolPrefix (image-pools t l bytes image k h)
 
-  pub ground : Ground l (length (usedPools t)) (length (usedLeases t)) (poolsOf t) (usedLeases t)
+  pub ground : Ground l 0 (length (usedPools t)) (headSize + poolSize * length (usedPools t)) (length (usedLeases t)) (poolsOf t) (usedLeases t)
   unfolding prefixesOf
   ground = record {
     pools-are = sym (length-map (usedPools t) poolPrefix);
-    pool-at = λ k h. let lt : k < length (usedPools t) = omega (arith, length-map (usedPools t) poolPrefix) in ground-pools k lt ∙ sym (List·getD-map poolPrefix (usedPools t) k noPool);
+    pool-at = λ k h. let lt : k < length (usedPools t) = omega (arith, length-map (usedPools t) poolPrefix) in ap (nthPool (drop headSize l)) (zero-add k) ∙ ground-pools k lt ∙ sym (List·getD-map poolPrefix (usedPools t) k noPool);
     leases-are = refl;
     leases-at = image-records t l bytes image;
   }

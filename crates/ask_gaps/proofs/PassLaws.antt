@@ -11,7 +11,7 @@ use Rattle.prefix.specs.Prefixes.{prefix, end}
 use Rattle.table.specs.declared.Lease.{Lease}
 use Rattle.table.specs.Table.{noLease, prefixOf, present}
 use Rattle.table.proofs.TableLaws.{present-yes, present-no}
-use Rattle.image.specs.Image.{leaseSize, headSize, poolSize}
+use Rattle.image.specs.Image.{leaseSize, headSize}
 use Rattle.image.specs.Reading.{leaseIn}
 use Rattle.image_check.specs.Inner.{nthPool}
 use Rattle.image_records.specs.Records.{Records}
@@ -119,10 +119,10 @@ module _ (image : List ℕ) (from n time network stop : ℕ) (p : Pass) (starts 
 
 -- ALL POOLS
 
-module _ (image : List ℕ) (pools leases time : ℕ) where
+module _ (image : List ℕ) (pool pools from leases time : ℕ) where
   -- After k pools: the gaps so far, and those of the pools and leases that are left, are all.
   pub Passed : ℕ → Pass → List ℕ → List ℕ → Type 0
-  Passed k p ss ls = (ps : List Prefix) (xs : List Lease) → Ground image pools leases ps xs
+  Passed k p ss ls = (ps : List Prefix) (xs : List Lease) → Ground image pool pools from leases ps xs
       → heldIn ss ls (p .gaps) ++ gapsOf (drop k ps) (ahead time (p .leases) xs) ≡ gapsOf ps (ahead time 0 xs)
 
   pub passed-none : (ss ls : List ℕ) → Passed 0 (record { leases = 0; gaps = 0 }) ss ls
@@ -130,8 +130,8 @@ module _ (image : List ℕ) (pools leases time : ℕ) where
   passed-none ss ls ps xs ground = refl
 
   module _ (k : ℕ) (p : Pass) (ss ls : List ℕ) (passed : Passed k p ss ls) where
-    pub passed-pool : k < pools → (q : Pass) (ss₁ ls₁ : List ℕ) (here : Prefix) → here ≡ nthPool (drop headSize image) k
-        → Went image (headSize + poolSize * pools) leases time (here .network) (end here) p ss ls q ss₁ ls₁ → Passed (k + 1) q ss₁ ls₁
+    pub passed-pool : k < pools → (q : Pass) (ss₁ ls₁ : List ℕ) (here : Prefix) → here ≡ nthPool (drop headSize image) (pool + k)
+        → Went image from leases time (here .network) (end here) p ss ls q ss₁ ls₁ → Passed (k + 1) q ss₁ ls₁
     unfolding Passed
     passed-pool lt q ss₁ ls₁ here is went ps xs ground =
         let it : here ≡ getD ps k (prefix 0 0) = is ∙ ground .pool-at k (omega (arith, ground .pools-are)) in
@@ -143,7 +143,7 @@ module _ (image : List ℕ) (pools leases time : ℕ) where
         ∙ ap (λ (qs : List Prefix). heldIn ss ls (p .gaps) ++ gapsOf qs (ahead time (p .leases) xs)) (sym pools-left)
         ∙ passed ps xs ground
 
-    pub passed-all : pools ≤ k → (ps : List Prefix) (xs : List Lease) → Ground image pools leases ps xs → heldIn ss ls (p .gaps) ≡ gapsOf ps (ahead time 0 xs)
+    pub passed-all : pools ≤ k → (ps : List Prefix) (xs : List Lease) → Ground image pool pools from leases ps xs → heldIn ss ls (p .gaps) ≡ gapsOf ps (ahead time 0 xs)
     unfolding Passed
     passed-all past ps xs ground =
         sym (append-nil (heldIn ss ls (p .gaps)))

@@ -1,9 +1,9 @@
--- The ground of an image: its pools and its leases in place.
-use Prim.Native.Nat.{ℕ, _+_, _*_, _<_}
+-- The ground of an image: pools and leases of it in place.
+use Prim.Native.Nat.{ℕ, _+_, _<_}
 use mathlib.Core.Path.{_≡_}
 use mathlib.Core.List.{List, map}
 use lib.ListN.{length, drop, getD}
-use Rattle.image.specs.Image.{headSize, poolSize}
+use Rattle.image.specs.Image.{headSize}
 use Rattle.prefix.specs.declared.Prefix.{Prefix}
 use Rattle.prefix.specs.Prefixes.{prefix}
 use Rattle.table.specs.declared.Lease.{Lease}
@@ -15,9 +15,9 @@ use Rattle.image_records.specs.Records.{Records}
 abbrev pub ahead : ℕ → ℕ → List Lease → List Prefix
 ahead time i xs = map prefixOf (present time (drop i xs))
 
--- The pools and the leases that stand in an image, after its head.
-pub record Ground (image : List ℕ) (pools leases : ℕ) (ps : List Prefix) (xs : List Lease) : Type 0 where
+-- The pools that stand in an image from the place `pool` on, after its head, and the leases whose records stand from the byte `from` on.
+pub record Ground (image : List ℕ) (pool pools from leases : ℕ) (ps : List Prefix) (xs : List Lease) : Type 0 where
   pub pools-are : pools ≡ length ps
-  pub pool-at : (k : ℕ) → k < length ps → nthPool (drop headSize image) k ≡ getD ps k (prefix 0 0)
+  pub pool-at : (k : ℕ) → k < length ps → nthPool (drop headSize image) (pool + k) ≡ getD ps k (prefix 0 0)
   pub leases-are : leases ≡ length xs
-  pub leases-at : Records image (headSize + poolSize * pools) xs
+  pub leases-at : Records image from xs

@@ -1,7 +1,6 @@
-// The free space of an image: the gaps of its pools and leases, pushed into two lent columns in one pass over both.
+// The free space of an image: the gaps of some of its pools and leases, pushed into two lent columns in one pass over both.
 use image::HEAD;
 use image::LEASE;
-use image::POOL;
 use prefix::Prefix;
 ghost use mathlib.Core.Path.{_≡_};
 ghost use mathlib.Core.List.{List};
@@ -63,26 +62,28 @@ fn in_pool(
     }
 }
 
-// The gaps that the pools and the present leases of an image leave, in order; how many there are.
-pub fn gaps_in(
-    image: &[u8],
-    pools: usize,
-    leases: usize,
-    time: u32,
-    starts: &mut [u32],
-    lasts: &mut [u32],
-) -> usize
-    requires { ⌜ (headSize + poolSize * pools + leaseSize * leases ≤ length (now image)) × (pools + leases ≤ length (now starts)) × (pools + leases ≤ length (now lasts)) × ((k : ℕ) → k < pools → end (nthPool (drop headSize (now image)) k) ≤ addresses) ⌝ }
-    ensures { λ r. ⌜ r ≤ pools + leases ⌝ }
-    ensures { λ r. ⌜ ((ps : List Prefix) (xs : List Lease) → Ground (now (image .entry)) pools leases ps xs
+// A part of an image's pools and leases: the pools from a place on, so many of them; so many leases, whose records stand from a byte on.
+pub struct Span {
+    pub pool: usize,
+    pub pools: usize,
+    pub from: usize,
+    pub leases: usize,
+}
+
+// The gaps that those pools and the present ones of those leases leave, in order; how many there are.
+pub fn gaps_in(image: &[u8], span: Span, time: u32, starts: &mut [u32], lasts: &mut [u32]) -> usize
+    requires { ⌜ (headSize + poolSize * (span .pool + span .pools) ≤ length (now image)) × (span .from + leaseSize * span .leases ≤ length (now image))
+        × (span .pools + span .leases ≤ length (now starts)) × (span .pools + span .leases ≤ length (now lasts))
+        × ((k : ℕ) → k < span .pools → end (nthPool (drop headSize (now image)) (span .pool + k)) ≤ addresses) ⌝ }
+    ensures { λ r. ⌜ r ≤ span .pools + span .leases ⌝ }
+    ensures { λ r. ⌜ ((ps : List Prefix) (xs : List Lease) → Ground (now (image .entry)) (span .pool) (span .pools) (span .from) (span .leases) ps xs
         → heldIn (now (starts .exit)) (now (lasts .exit)) r ≡ gapsOf ps (ahead time 0 xs)) ⌝ }
 {
-    let from = HEAD + POOL * pools;
     let mut at = Pass { leases: 0, gaps: 0 };
     let mut k: usize = 0;
-    while k < pools {
-        let p = image_check::pool(&image[HEAD..], k);
-        at = in_pool(image, from, leases, time, p, at, starts, lasts);
+    while k < span.pools {
+        let p = image_check::pool(&image[HEAD..], span.pool + k);
+        at = in_pool(image, span.from, span.leases, time, p, at, starts, lasts);
         k += 1;
     }
     at.gaps

@@ -12,12 +12,13 @@ use lib.Dec.{eqb}
 use lib.ListN.{length, set, getD, length-set}
 use lib.Seq.{getD-set-same, set-set}
 use borrow.Author.Tests.{ne-eqb}
-use Rattle.lists.proofs.ListLaws.{all-every}
 use Rattle.lists.proofs.Tests.{cond-true, cond-false}
-use Rattle.lists.proofs.SortingLaws.{insertBy-longer, insertBy-image}
+use Rattle.lists.proofs.SortingLaws.{insertBy-longer}
 use Rattle.prefix.specs.declared.Prefix.{Prefix}
 use Rattle.prefix.specs.Prefixes.{prefix}
 use Rattle.free_space.specs.Grant.{lowestPart, grant}
+use Rattle.free_space.proofs.ListTheorem.{granted-free}
+use Rattle.free_space.proofs.WithinLaws.{grant-within}
 use Rattle.gap_list.specs.declared.Choice.{Choice}
 use Rattle.gap_list.specs.Gaps.{Gap, gapsOf, fitIn, without, LiesIn}
 use Rattle.gap_list.specs.Columns.{heldIn, Carved, fitOf, Fitted}
@@ -36,7 +37,8 @@ use Rattle.ask_again.specs.Places.{noPlace}
 use Rattle.ask_again.proofs.Counting.{others-same, others-more}
 use Rattle.ask_serve.specs.declared.Progress.{Progress}
 use Rattle.ask_serve.specs.Granting.{grantedLease, offerIn, offersIn, leasesIn}
-use Rattle.ask_serve.specs.InnerServing.{Columns, columns, OffersHeld, Asked, Served}
+use Rattle.ask_serve.specs.InnerServing.{Columns, columns, within, OffersHeld, Asked, Served}
+use Rattle.ask_serve.proofs.GroundLaws.{within-more}
 use Rattle.ask_serve.proofs.ColumnLaws.{offers-in-snoc, networks-behind, lengths-behind}
 
 flag-back : (b : Bool) → eqb (flagOf b) 1 ≡ b
@@ -93,7 +95,8 @@ module _ (place l j : ℕ) (c : Columns) (p : Progress) (hn : j < length (c .net
         → grant (poolsOf t) (map prefixOf ys) (askLength t q) ≡ fitOf r l
     grant-is t time client name ys fs os q a k =
         ap (grant (poolsOf t) (map prefixOf ys)) (a .asked)
-        ∙ sym (fit-grants (poolsOf t) (map prefixOf ys) (a .ordered) l (a .block))
+        ∙ grant-within (poolsOf t) (map prefixOf ys) (a .ordered .good .lengths) (a .parted) l
+        ∙ sym (fit-grants (poolsOf t) (within (poolsOf t) (map prefixOf ys)) (a .ordered) l (a .block))
         ∙ sym (fitted .best (omega (arith, a .block .1))
         ∙ ap (lowestPart l) (sym (fit-solid l none (heldIn (c .starts) (c .lasts) (p .gaps))) ∙ ap (fitIn l) (k .gaps)))
 
@@ -133,15 +136,19 @@ module _ (place l j : ℕ) (c : Columns) (p : Progress) (hn : j < length (c .net
           → OffersHeld t time client name (add (offered time client name (q .h) (some (prefix (r .network) l))) ys) (fs ++ (flagOf (q .h) ∷ [])) (os ++ (offered time client name (q .h) (some (prefix (r .network) l)) ∷ [])) after on
       holds-more t time client name ys fs os q s a k =
           let x : Lease = record { network = r .network; length = l; client = client; leased = false; h = q .h; d = false; expires = time + holdTime; name = name } in
+          let own : List Prefix = within (poolsOf t) (map prefixOf ys) in
+          let granted : grant (poolsOf t) (map prefixOf ys) (askLength t q) ≡ some (prefix (r .network) l) =
+          grant-is t time client name ys fs os q a k ∙ cond-true (r .found) (some (prefix (r .network) l)) none (not-back (r .found) false e) in
+          let inside = granted-free (poolsOf t) (a .ordered .good) (map prefixOf ys) (askLength t q) (prefix (r .network) l) granted .0 .pooled in
           let there = lies-solid (prefix (r .network) l) (r .index) (heldIn (c .starts) (c .lasts) (p .gaps)) (fitted .place (not-back (r .found) false e)) in
-          let lies : LiesIn (prefix (r .network) l) (there .index) (gapsOf (poolsOf t) (map prefixOf ys)) = subst (LiesIn (prefix (r .network) l) (there .index)) (k .gaps) (there .lies) in
+          let lies : LiesIn (prefix (r .network) l) (there .index) (gapsOf (poolsOf t) own) = subst (LiesIn (prefix (r .network) l) (there .index)) (k .gaps) (there .lies) in
           record {
             gaps =
                 kept .gaps
                 ∙ there .split
                 ∙ ap (without (prefix (r .network) l) (there .index)) (k .gaps)
-                ∙ sym (gaps-split (prefix (r .network) l) (poolsOf t) (map prefixOf ys) (a .ordered .poolsAscend) (a .ordered .leasesAscend) (there .index) lies)
-                ∙ ap (gapsOf (poolsOf t)) (sym (insertBy-image prefixOf networkOf (λ (y : Prefix). y .network) x ys refl (all-every (λ y. refl) ys)));
+                ∙ sym (gaps-split (prefix (r .network) l) (poolsOf t) own (a .ordered .poolsAscend) (a .ordered .leasesAscend) (there .index) lies)
+                ∙ ap (gapsOf (poolsOf t)) (sym (within-more (poolsOf t) x ys inside (a .ascend)));
             left = omega (arith, k .left, insertBy-longer networkOf x ys);
             held =
                 stored client (time + holdTime) name fs (flagOf (q .h)) s (a .block .0)

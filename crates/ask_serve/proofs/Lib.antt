@@ -1,4 +1,5 @@
 pub mod ColumnLaws
 pub mod RestLaws
+pub mod GroundLaws
 pub mod GrantLaws
 pub mod ServeLaws

@@ -16,7 +16,7 @@ use Rattle.lists.specs.Lists.{All}
 use Rattle.lists.proofs.Tests.{bool-cases, cond-true, cond-false}
 use Rattle.lists.proofs.IndexLaws.{all-at}
 use Rattle.prefix.specs.Prefixes.{longest}
-use Rattle.gap_list.specs.Gaps.{solid}
+use Rattle.gap_list.specs.Gaps.{gapsOf, solid}
 use Rattle.gap_list.proofs.SolidLaws.{gaps-solid}
 use Rattle.names.specs.declared.Name.{Name}
 use Rattle.table.specs.declared.{Lease.Lease, LeaseTable.LeaseTable}
@@ -24,14 +24,16 @@ use Rattle.table.specs.Table.{leaseSlots, noLease, prefixOf, poolsOf}
 use Rattle.table.proofs.TableLaws.{Fine, sound-fine, sound-fewer}
 use Rattle.option.specs.Contents.{Request}
 use Rattle.option_scan.specs.Scanned.{flagOf}
-use Rattle.ledger.specs.Ledger.{askLength, holdTime, offer, add, addAll, restOf}
+use Rattle.ledger.specs.Ledger.{Call, narrowed, usableLeases, askLength, holdTime, offer, add, addAll, restOf}
 use Rattle.ledger.proofs.AgainLaws.{rest-all}
+use Rattle.ledger.proofs.GroundLaws.{ground, narrowed-default}
 use Rattle.ledger.proofs.OfferLaws as offer-laws
 use Rattle.ask_again.specs.Places.{noPlace, leaseAt, givenIn, flagsOf}
 use Rattle.ask_serve.specs.declared.Progress.{Progress}
 use Rattle.ask_serve.specs.declared.Start.{Start}
 use Rattle.ask_serve.specs.Granting.{offersIn, restOffers, Serving, Granted}
 use Rattle.ask_serve.specs.InnerServing.{Columns, columns, OffersHeld, Asked, Served}
+use Rattle.ask_serve.proofs.GroundLaws.{ground-ascend, ground-parted, ground-ordered, ground-leases}
 use Rattle.ask_serve.proofs.RestLaws.{rest-again, rest-next, rest-added}
 
 -- A length that is asked for is not 0, once the default stands for 0.
@@ -51,7 +53,11 @@ all-take zero l b = tt
 all-take (suc j) [] b = tt
 all-take (suc j) (x ∷ l) b = (b .0, all-take j l (b .1))
 
-module _ (t : LeaseTable) (time client : ℕ) (name : Name) (xs us : List Lease) (places : List ℕ) (rs : List Request) where
+module _ (u : LeaseTable) (call : Call) (time client : ℕ) (name : Name) (xs us : List Lease) (places : List ℕ) (rs : List Request) where
+  -- The table with the ground that they are served on.
+  abbrev t : LeaseTable
+  t = narrowed u call
+
   -- What the first j requests get again and are offered, and the columns after them.
   abbrev given : ℕ → List (Option Lease)
   given j = givenIn us (take j places)
@@ -62,10 +68,20 @@ module _ (t : LeaseTable) (time client : ℕ) (name : Name) (xs us : List Lease)
   abbrev pub After : ℕ → Columns → Progress → Type 0
   After j c p = OffersHeld t time client name (addAll (offered j) xs) (flagsOf (take j rs)) (offered j) c p
 
-  module _ (starts lasts : List ℕ) (start : Start) (ask-lengths : List ℕ) (ready : Serving t time client xs rs starts lasts start ask-lengths) (same : length places ≡ length ask-lengths) where
+  module _ (starts lasts : List ℕ) (start : Start) (ask-lengths : List ℕ) (ready : Serving u call time client xs rs starts lasts start ask-lengths) (same : length places ≡ length ask-lengths) where
+    fine-before : Fine (poolsOf u) time 0 xs
+    fine-before = subst (Fine (poolsOf u) time 0) (sym (ready .presentLeases)) (sound-fine u (ready .soundTable) time)
+
     pub serve-start : (networks lengths : List ℕ) → After 0 (columns starts lasts networks lengths) (record { gaps = start .gaps; granted = 0; left = start .slots })
     unfolding restOffers addAll
-    serve-start networks lengths = record { gaps = ap solid (ready .gaps) ∙ gaps-solid (poolsOf t) (map prefixOf xs); left = ready .empty; held = refl }
+    serve-start networks lengths = record {
+      gaps =
+          ap solid (ready .gaps)
+          ∙ gaps-solid (poolsOf t) (map prefixOf (usableLeases u call xs))
+          ∙ ap (gapsOf (poolsOf t)) (ground-leases u call (ready .soundTable) time xs fine-before);
+      left = ready .empty;
+      held = refl;
+    }
 
     pub requests-many : length rs ≡ length ask-lengths
     requests-many = sym (ap length (ready .askedLengths) ∙ length-map rs (λ (r : Request). r .length))
@@ -73,15 +89,13 @@ module _ (t : LeaseTable) (time client : ℕ) (name : Name) (xs us : List Lease)
     given-many : (j : ℕ) → j ≤ length rs → length (given j) ≡ length (take j rs)
     given-many j h = length-map (take j places) (leaseAt us) ∙ length-take-le j places (omega (arith, requests-many)) ∙ sym (length-take-le j rs h)
 
-    fine-so-far : (j : ℕ) → j ≤ length rs → Fine (poolsOf t) time 0 (addAll (offered j) xs)
+    fine-so-far : (j : ℕ) → j ≤ length rs → Fine (poolsOf u) time 0 (addAll (offered j) xs)
     fine-so-far j h =
-        subst (Fine (poolsOf t) time 0) (sym (rest-added t time client name (given j) (take j rs) xs xs (given-many j h)))
-        (offer-laws.offers-inv t time client name (offer-laws.pools-good t (ready .soundTable)) (ready .soundTable) (ready .named) (restOf (given j) (take j rs)) xs
+        let g = ground u call (ready .soundTable) in
+        subst (Fine (poolsOf u) time 0) (sym (rest-added t time client name (given j) (take j rs) xs xs (given-many j h)))
+        (offer-laws.offers-inv t time client name (g .good) (poolsOf u) g (ready .named) (restOf (given j) (take j rs)) xs
         (rest-all (λ r. r .length ≤ longest) (given j) (take j rs) (all-take j rs (ready .long)))
-        (record {
-          fine = subst (Fine (poolsOf t) time 0) (sym (ready .presentLeases)) (sound-fine t (ready .soundTable) time);
-          fit = subst (λ (l : List Lease). length l ≤ leaseSlots) (sym (ready .presentLeases)) (sound-fewer t (ready .soundTable) time);
-        }) .fine)
+        (record { fine = fine-before; fit = subst (λ (l : List Lease). length l ≤ leaseSlots) (sym (ready .presentLeases)) (sound-fewer u (ready .soundTable) time) }) .fine)
 
     asked : (j : ℕ) → j < length rs
         → Asked t (addAll (offered j) xs) (getD rs j nothing) (cond (eqb (getD ask-lengths j 0) 0) (start .«default_length») (getD ask-lengths j 0))
@@ -89,12 +103,15 @@ module _ (t : LeaseTable) (time client : ℕ) (name : Name) (xs us : List Lease)
         let r : Request = getD rs j nothing in
         let same-length : getD ask-lengths j 0 ≡ r .length = ap (λ (l : List ℕ). getD l j 0) (ready .askedLengths) ∙ List·getD-map (λ (q : Request). q .length) rs j nothing in
         let comes : askLength t r ≡ cond (eqb (getD ask-lengths j 0) 0) (start .«default_length») (getD ask-lengths j 0) =
-        ap₂ (λ (d l : ℕ). cond (eqb l 0) d l) (sym (ready .byDefault)) (sym same-length) in
+        ap₂ (λ (d l : ℕ). cond (eqb l 0) d l) (narrowed-default u call ∙ sym (ready .byDefault)) (sym same-length) in
+        let so-far = fine-so-far j (omega arith) in
         record {
-          ordered = offer-laws.ordered t (ready .soundTable) time (addAll (offered j) xs) (fine-so-far j (omega arith));
+          ordered = ground-ordered u call (ready .soundTable) time (addAll (offered j) xs) so-far;
+          ascend = ground-ascend u call (ready .soundTable) time (addAll (offered j) xs) so-far;
+          parted = ground-parted u call (ready .soundTable) time (addAll (offered j) xs) so-far;
           asked = comes;
           block = subst (λ (l : ℕ). (1 ≤ l) × (l ≤ longest)) comes
-              (offer-laws.length-bounds t (ready .soundTable) r (all-at (λ q. q .length ≤ longest) rs (ready .long) j nothing lt));
+              (offer-laws.length-bounds t (ground u call (ready .soundTable) .default) r (all-at (λ q. q .length ≤ longest) rs (ready .long) j nothing lt));
         }
 
     -- One more request.
@@ -144,7 +161,7 @@ module _ (t : LeaseTable) (time client : ℕ) (name : Name) (xs us : List Lease)
           (served .passed (eqb-false place noPlace b) t time client name (addAll (offered j) xs) (flagsOf (take j rs)) (offered j) (flagOf (r .h)) flags-many holds))
           (bool-cases (eqb place noPlace))
 
-    pub serve-end : (j : ℕ) (c : Columns) (p : Progress) → length ask-lengths ≤ j → After j c p → Granted t time client name xs (givenIn us places) rs (c .networks) (c .lengths)
+    pub serve-end : (j : ℕ) (c : Columns) (p : Progress) → length ask-lengths ≤ j → After j c p → Granted (narrowed u call) time client name xs (givenIn us places) rs (c .networks) (c .lengths)
     serve-end j c p past holds =
         let all : take j rs ≡ rs = take-all j rs (omega (arith, requests-many)) in
         let every : take j places ≡ places = take-all j places (omega arith) in

@@ -14,7 +14,7 @@ use Rattle.names.specs.declared.Name.{Name}
 use Rattle.table.specs.declared.{Lease.Lease, LeaseTable.LeaseTable}
 use Rattle.table.specs.Table.{leaseSlots, prefixOf, poolsOf, present, sound}
 use Rattle.option.specs.Contents.{Request}
-use Rattle.ledger.specs.Ledger.{holdTime, offer, add}
+use Rattle.ledger.specs.Ledger.{Call, narrowed, usableLeases, holdTime, offer, add}
 use Rattle.ask_again.specs.Places.{othersIn, flagsOf}
 use Rattle.ask_serve.specs.declared.Start.{Start}
 
@@ -46,17 +46,18 @@ restOffers t now client name xs [] (r ∷ rs) = []
 restOffers t now client name xs (some x ∷ gs) (r ∷ rs) = none ∷ restOffers t now client name xs gs rs
 restOffers t now client name xs (none ∷ gs) (r ∷ rs) = let o = offer t now client name xs r in o ∷ restOffers t now client name (add o xs) gs rs
 
--- What serving asks for: a sound table, the leases present in it, its gaps in columns, how many slots are empty, and requests of lengths that an option can have.
-pub record Serving (t : LeaseTable) (time client : ℕ) (xs : List Lease) (rs : List Request) (starts lasts : List ℕ) (start : Start) (ask-lengths : List ℕ) : Type 0 where
+-- What serving asks for: a sound table, the leases present in it, the gaps of the ground of a call in columns, how many slots are empty, and requests of lengths that
+-- an option can have. The gaps are those of the pools and the leases on that ground; slots are counted for the whole table.
+pub record Serving (t : LeaseTable) (c : Call) (time client : ℕ) (xs : List Lease) (rs : List Request) (starts lasts : List ℕ) (start : Start) (ask-lengths : List ℕ) : Type 0 where
   pub soundTable : sound t ≡ true
   pub presentLeases : xs ≡ present time (t .leases)
   pub named : client ≡ 0 → ⊥
-  pub gaps : heldIn starts lasts (start .gaps) ≡ gapsOf (poolsOf t) (map prefixOf xs)
+  pub gaps : heldIn starts lasts (start .gaps) ≡ gapsOf (poolsOf (narrowed t c)) (map prefixOf (usableLeases t c xs))
   pub empty : start .slots ≡ leaseSlots - length xs
   pub byDefault : start .«default_length» ≡ t .«default_length»
   pub askedLengths : ask-lengths ≡ map (λ r. r .length) rs
   pub long : All (λ r. r .length ≤ longest) rs
 
--- What serving answers: the columns have what the rest is offered, place for place.
+-- What serving answers: the columns have what the rest is offered on the ground of t, place for place.
 pub record Granted (t : LeaseTable) (time client : ℕ) (name : Name) (xs : List Lease) (gs : List (Option Lease)) (rs : List Request) (networks lengths : List ℕ) : Type 0 where
   pub held : offersIn client (time + holdTime) name networks lengths (flagsOf rs) ≡ restOffers t time client name xs gs rs

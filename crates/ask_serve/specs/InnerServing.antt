@@ -1,10 +1,14 @@
 -- What is kept in columns while the requests of an ask are served, in the ledger's terms.
 use Prim.Native.Nat.{ℕ, _+_, _-_, _≤_}
 use mathlib.Core.Path.{_≡_}
+use mathlib.Core.Logic.{_⊎_}
 use mathlib.Core.List.{List, [], _∷_, _++_, map}
 use mathlib.Core.Option.{Option, none}
 use lib.ListN.{length}
-use Rattle.free_space.specs.Serving.{Length, Ordered}
+use Rattle.lists.specs.Lists.{All, Any, Pairwise, any?, filter}
+use Rattle.prefix.specs.declared.Prefix.{Prefix}
+use Rattle.prefix.specs.Prefixes.{Inside, Apart, inside?}
+use Rattle.free_space.specs.Serving.{Length, Before, Ordered}
 use Rattle.gap_list.specs.Gaps.{gapsOf, solid}
 use Rattle.gap_list.specs.Columns.{heldIn}
 use Rattle.names.specs.declared.Name.{Name}
@@ -27,15 +31,22 @@ pub record Columns : Type 0 where
 abbrev pub columns : List ℕ → List ℕ → List ℕ → List ℕ → Columns
 columns starts lasts networks lengths = record { starts = starts; lasts = lasts; networks = networks; lengths = lengths }
 
--- The columns hold the gaps of a table's pools and of the leases ys, beside empty ones, and what the first requests, those with the h fs, are offered.
+-- Those of some prefixes that lie in one of these pools.
+abbrev pub within : List Prefix → List Prefix → List Prefix
+within pools ps = filter (λ p. any? (inside? p) pools) ps
+
+-- The columns hold the gaps of a table's pools and of those leases of ys that lie in them, beside empty ones, and what the first requests, those with the h fs,
+-- are offered.
 pub record OffersHeld (t : LeaseTable) (time client : ℕ) (name : Name) (ys : List Lease) (fs : List ℕ) (os : List (Option Lease)) (c : Columns) (p : Progress) : Type 0 where
-  pub gaps : solid (heldIn (c .starts) (c .lasts) (p .gaps)) ≡ gapsOf (poolsOf t) (map prefixOf ys)
+  pub gaps : solid (heldIn (c .starts) (c .lasts) (p .gaps)) ≡ gapsOf (poolsOf t) (within (poolsOf t) (map prefixOf ys))
   pub left : p .left ≡ leaseSlots - length ys
   pub held : offersIn client (time + holdTime) name (c .networks) (c .lengths) fs ≡ os
 
--- A request on leases in order, and the length that it comes to.
+-- A request on leases in order, each of which lies in a pool of the table or shares no address with any, and the length that it comes to.
 pub record Asked (t : LeaseTable) (ys : List Lease) (r : Request) (l : ℕ) : Type 0 where
-  pub ordered : Ordered (poolsOf t) (map prefixOf ys)
+  pub ordered : Ordered (poolsOf t) (within (poolsOf t) (map prefixOf ys))
+  pub ascend : Pairwise Before (map prefixOf ys)
+  pub parted : All (λ p. Any (Inside p) (poolsOf t) ⊎ All (Apart p) (poolsOf t)) (map prefixOf ys)
   pub asked : askLength t r ≡ l
   pub block : Length l
 

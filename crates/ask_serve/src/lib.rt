@@ -8,6 +8,7 @@ ghost use Rattle.names.specs.declared.Name.{Name};
 ghost use Rattle.table.specs.declared.Lease.{Lease};
 ghost use Rattle.table.specs.declared.LeaseTable.{LeaseTable};
 ghost use Rattle.option.specs.Contents.{Request};
+ghost use Rattle.ledger.specs.Ledger.{Call, narrowed};
 ghost use Rattle.ask_again.specs.Places.{givenIn};
 ghost use Rattle.ask_serve.specs.Granting.{leasesIn, Serving, Granted};
 ghost use Rattle.ask_serve.specs.InnerServing.{columns, Served};
@@ -80,9 +81,9 @@ pub fn serve(
     ensures { λ r. ⌜ r ≤ lengthOf (now («ask_lengths» .entry)) ⌝ }
     ensures { λ r. ⌜ r ≤ start .slots ⌝ }
     ensures { λ r. ⌜ r ≡ leasesIn (now (lengths .exit)) (lengthOf (now («ask_lengths» .entry))) ⌝ }
-    ensures { λ _. ⌜ ((t : LeaseTable) (time client : ℕ) (name : Name) (xs us : List Lease) (rs : List Request)
-        → Serving t time client xs rs (now (starts .entry)) (now (lasts .entry)) start (now («ask_lengths» .entry))
-        → Granted t time client name xs (givenIn us (now (places .entry))) rs (now (networks .exit)) (now (lengths .exit))) ⌝ }
+    ensures { λ _. ⌜ ((t : LeaseTable) (c : Call) (time client : ℕ) (name : Name) (xs us : List Lease) (rs : List Request)
+        → Serving t c time client xs rs (now (starts .entry)) (now (lasts .entry)) start (now («ask_lengths» .entry))
+        → Granted (narrowed t c) time client name xs (givenIn us (now (places .entry))) rs (now (networks .exit)) (now (lengths .exit))) ⌝ }
 {
     let default_length = start.default_length;
     let mut at = Progress {

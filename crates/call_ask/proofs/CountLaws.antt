@@ -4,7 +4,7 @@ use Prim.Native.Nat.{ℕ, _+_, _-_, _<_}
 use native.Mathlib.Omega.{arith}
 use mathlib.Core.Path.{_≡_, refl, sym, ap, _∙_}
 use mathlib.Core.Bool.{Bool, true, false, not, cond, _&&_}
-use mathlib.Core.List.{List, [], _∷_, map}
+use mathlib.Core.List.{List, [], _∷_, _++_, map}
 use mathlib.Core.Option.{Option, none, some}
 use lib.Dec.{ltb, eqb}
 use lib.ListN.{length, length-map}
@@ -14,7 +14,6 @@ use Rattle.lists.proofs.Tests.{and-to}
 use Rattle.lists.specs.Lists.{All, any?, catMaybes}
 use Rattle.lists.proofs.SortingLaws.{insertBy-longer}
 use Rattle.lists.proofs.FilterLaws.{filter-pass, filter-yes}
-use Rattle.names.specs.declared.Name.{Name}
 use Rattle.table.specs.declared.Lease.{Lease}
 use Rattle.table.specs.declared.Pool.{Pool}
 use Rattle.table.specs.declared.LeaseTable.{LeaseTable}
@@ -26,10 +25,11 @@ use Rattle.image_check.specs.declared.ImageSummary.{ImageSummary}
 use Rattle.counts.specs.Counts.{countsOf}
 use Rattle.option.specs.Contents.{Request, requestsIn}
 use Rattle.ledger.specs.declared.Answer.{Answer}
-use Rattle.ledger.specs.Ledger.{State, left, Call, Result, result, orElse, refuse, accept, refusalPlace, askName, holdTime, offers, addAll, restOf, again, holdAgain, heldAgain, askHeld, askOffers, askGives, askLeases, informationFor, askRows, ask}
+use Rattle.ledger.specs.Ledger.{State, left, Call, Result, result, orElse, refuse, accept, refusalPlace, returned, narrowed, usableLeases, askName, offers, addAll, restOf, again, holdAgain, heldAgain, askHeld, askOffers, givesIn, leasesIn, informationFor, askRows, ask}
+use Rattle.ledger.proofs.GroundLaws.{ground}
 use Rattle.option.specs.Writing.{optionBytes}
 use Rattle.ledger.proofs.RowLaws.{accepted-none, numbered-ask}
-use Rattle.ledger.proofs.OfferLaws.{pools-good, offers-all, addAll-all}
+use Rattle.ledger.proofs.OfferLaws.{offers-all, addAll-all}
 use Rattle.ledger.proofs.SoundKept.{ask-sound}
 use Rattle.call_spec.specs.ImageCalls.{Lent, tableIn, stateIn, storedIn, askImage}
 use Rattle.call_spec.proofs.StoreLaws.{settled-accepted}
@@ -66,9 +66,9 @@ any-request : (rs : List Request) → All (λ r. Unit {0}) rs
 any-request [] = tt
 any-request (r ∷ rs) = (tt, any-request rs)
 
-offers-late : (t : LeaseTable) (now client : ℕ) (name : Name) → sound t ≡ true → (xs : List Lease) (rs : List Request) → All (Late now) (catMaybes (offers t now client name xs rs))
-offers-late t now client name so xs rs =
-    offers-all t now client name (pools-good t so) (λ r. Unit {0}) (Late now) (λ us r x q f. lt-ltb now (x .expires) (omega (arith, f .until))) rs xs (any-request rs)
+offers-late : (t : LeaseTable) (c : Call) (now : ℕ) → sound t ≡ true → (xs : List Lease) (rs : List Request) → All (Late now) (catMaybes (offers (narrowed t c) now (c .client) (askName c) xs rs))
+offers-late t c now so xs rs =
+    offers-all (narrowed t c) now (c .client) (askName c) (ground t c so .good) (λ r. Unit {0}) (Late now) (λ us r x q f. lt-ltb now (x .expires) (omega (arith, f .until))) rs xs (any-request rs)
 
 -- What becomes of each lease that is present.
 abbrev heldOne : ℕ → List Lease → Lease → Lease
@@ -90,14 +90,11 @@ held-all now given (x ∷ xs) a =
 -- THE CALL
 
 module _ (s : State) (now : ℕ) (c : Call) (z : ask s now c .answer .number ≡ 0) where
-  abbrev here : List Lease
-  here = present now (s .table .leases)
-
-  ask-leaves : ask s now c .state .table ≡ store (s .table) now (askLeases (s .table) now (c .client) (askName c) here (requestsIn (c .option)))
+  ask-leaves : ask s now c .state .table ≡ store (s .table) now (leasesIn (s .table) now c)
   unfolding ask left
   ask-leaves =
-      let granted : List Lease = catMaybes (askGives (s .table) now (c .client) (askName c) here (requestsIn (c .option))) in
-      let accepted : Result State = accept (left s now (askLeases (s .table) now (c .client) (askName c) here (requestsIn (c .option)))) (optionBytes (map informationFor granted)) (length granted) (c .reply) in
+      let granted : List Lease = catMaybes (givesIn (s .table) now c) in
+      let accepted : Result State = accept (left s now (leasesIn (s .table) now c)) (optionBytes (map informationFor granted) ++ returned (c .selection)) (length granted) (c .reply) in
       ap (λ (o : Option ℕ). orElse o (λ number. refuse number (refusalPlace (c .option) number) s (c .reply)) accepted .state .table)
       (accepted-none (askRows s now c) (refusalPlace (c .option)) s (c .reply) accepted (numbered-ask s now c) z)
 
@@ -112,14 +109,24 @@ module _ (h : Lent) (now : ℕ) (c : Call) (summary : ImageSummary) (o : Admitte
   abbrev rs : List Request
   rs = requestsIn (c .option)
 
+  -- The table with the ground of the call, and the leases on it.
+  abbrev u : LeaseTable
+  u = narrowed t c
+
+  abbrev hs : List Lease
+  hs = usableLeases t c xs
+
   abbrev given : List Lease
-  given = catMaybes (again t (c .client) xs rs)
+  given = catMaybes (again u (c .client) hs rs)
+
+  abbrev held : List Lease
+  held = askHeld u now (c .client) hs xs rs
 
   abbrev os : List (Option Lease)
-  os = askOffers t now (c .client) (askName c) xs rs
+  os = askOffers u now (c .client) (askName c) hs xs rs
 
   abbrev zs : List Lease
-  zs = askLeases t now (c .client) (askName c) xs rs
+  zs = leasesIn t now c
 
   zero : ask (stateIn h) now c .answer .number ≡ 0
   zero = sym (ap (λ (w : Answer). w .number) (ap (λ (w : Result Lent). w .answer) is ∙ follows-all .asks h now c .answer)) ∙ z
@@ -140,7 +147,7 @@ module _ (h : Lent) (now : ℕ) (c : Call) (summary : ImageSummary) (o : Admitte
   here-late = filter-pass (λ x. ltb now (x .expires)) (t .leases)
 
   all-here : present now zs ≡ zs
-  all-here = all-late now zs (addAll-all (Late now) os (askHeld t now (c .client) xs rs) (offers-late t now (c .client) (askName c) (o .sound) (askHeld t now (c .client) xs rs) (restOf (again t (c .client) xs rs) rs)) (held-all now given xs here-late))
+  all-here = all-late now zs (addAll-all (Late now) os held (offers-late t c now (o .sound) held (restOf (again u (c .client) hs rs) rs)) (held-all now given xs here-late))
 
   -- How many leases are left.
   used-are : usedLeases (tableIn g) ≡ zs
@@ -157,8 +164,8 @@ module _ (h : Lent) (now : ℕ) (c : Call) (summary : ImageSummary) (o : Admitte
       let all-used : xs ≡ usedLeases t = o .present-used ∙ o .none-expired none-gone in
       let as-many : length zs ≡ length xs =
       omega (arith, length-image t, length-image (tableIn g), size-before, size-after, same, same-pools, ap length used-are, ap length all-used) in
-      let none-new : length (catMaybes os) ≡ 0 = omega (arith, as-many, added os (askHeld t now (c .client) xs rs), length-map xs (heldOne now given)) in
-      ap countsOf (table-is ∙ ap (store t now) (nothing-added os (askHeld t now (c .client) xs rs) none-new))
+      let none-new : length (catMaybes os) ≡ 0 = omega (arith, as-many, added os held, length-map xs (heldOne now given)) in
+      ap countsOf (table-is ∙ ap (store t now) (nothing-added os held none-new))
       ∙ unmoved now (heldOne now given) (λ x. held-place now (any? (λ y. eqb (y .network) (x .network)) given) x) (λ x. held-late now (any? (λ y. eqb (y .network) (x .network)) given) x) true h (c .client) summary o none-gone
 
   -- By what the code looks at.

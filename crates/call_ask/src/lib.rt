@@ -1,5 +1,7 @@
 // Ask as a call on an image, in place.
 use ask_again::Asker;
+use ask_commit::Site;
+use call_spec::Message;
 use counts::Counts;
 use ledger::Answer;
 use option_scan::MOST_ENTRIES;
@@ -10,7 +12,8 @@ ghost use mathlib.Core.List.{[], _∷_};
 ghost use lib.Dec.{leb, eqb};
 ghost use Rattle.lists.specs.Lists.{and};
 ghost use Rattle.option.specs.Values.{mostRequests};
-ghost use Rattle.ledger.specs.Ledger.{call, result};
+ghost use Rattle.ledger.specs.Ledger.{callWith, result};
+ghost use Rattle.call_spec.specs.ImageCalls.{carriedIf};
 ghost use Rattle.call_spec.specs.Books.{bookOf, askBook};
 
 // Row 8: "the option has 1 to 25 requests, none with i".
@@ -41,27 +44,27 @@ pub fn ask(
     image_bytes: &mut usize,
     figures: &mut [u8],
     counts: &mut Counts,
-    client: u32,
-    time: u32,
+    message: Message,
     option: &[u8],
+    selection: &[u8],
     reply: &mut [u8],
 ) -> Answer
     ensures { λ r. ⌜ result r (bookOf (now (image .exit)) (now («image_bytes» .exit)) (now (figures .exit)) (now (counts .exit))) (now (reply .exit))
-        ≡ askBook (bookOf (now (image .entry)) (now («image_bytes» .entry)) (now (figures .entry)) (now (counts .entry))) time (call client (now (option .entry)) (now (reply .entry))) ⌝ }
+        ≡ askBook (bookOf (now (image .entry)) (now («image_bytes» .entry)) (now (figures .entry)) (now (counts .entry))) (message .time)
+        (callWith (message .client) (now (option .entry)) (carriedIf (message .selected) (now (selection .entry))) (now (reply .entry))) ⌝ }
 {
     let bytes = *image_bytes;
-    let admission = call_rows::admit(
-        image,
-        bytes,
-        figures,
-        true,
-        counts,
-        reply.len(),
-        client,
-        time,
-    );
+    let client = message.client;
+    let time = message.time;
+    let selected = message.selected;
+    let short = call_rows::too_short(reply.len(), selected);
+    let admission = call_rows::admit(image, bytes, figures, true, counts, short, client, time);
     if admission.number != 0 {
         return call_spec::refused(admission.number, 0);
+    }
+    let chosen = call_rows::read_selection(selected, selection);
+    if chosen.bad {
+        return call_spec::refused(6, 0);
     }
     let mut ask_lengths = [0u8; MOST_REQUESTS];
     let mut ask_h = [0u8; MOST_REQUESTS];
@@ -88,20 +91,24 @@ pub fn ask(
     if names::LONGEST < name_bytes {
         return call_spec::refused(17, 0);
     }
-    let name = names::name_in(option, contents.name, name_bytes);
     let summary = admission.summary;
+    let ground = call_ground::ground_of(image, summary, selected, chosen.address);
+    if ground.pools == 0 {
+        return call_spec::refused(19, 0);
+    }
+    let name = names::name_in(option, contents.name, name_bytes);
     let answer = ask_commit::grant(
         image,
         image_bytes,
         figures,
         Asker { client, time, name },
         reply,
-        summary,
+        Site { summary, ground },
         &ask_lengths[..n],
         &ask_h[..n],
     );
     let after = *image_bytes;
     let moved = moved(summary.expired, bytes, after);
     call_rows::settle(answer.number, moved, image, after, summary.pools, counts);
-    answer
+    call_ground::return_selection(answer, selected, selection, reply)
 }

@@ -3,11 +3,12 @@
 use Prim.Native.Nat.{ℕ}
 use native.Mathlib.Omega.{arith}
 use mathlib.Core.Path.{_≡_, refl, sym, ap, subst, _∙_}
-use mathlib.Core.Bool.{true}
-use mathlib.Core.List.{List, _++_, map}
+use mathlib.Core.Bool.{Bool, true, false, not}
+use mathlib.Core.List.{List, _∷_, _++_, map}
 use lib.ListN.{length, take, length-map}
 use Rattle.option.specs.Values.{Entry}
-use Rattle.option.specs.Contents.{entriesIn}
+use Rattle.option.specs.Reading.{readOption}
+use Rattle.option.specs.Contents.{suboptions, entriesIn}
 use Rattle.table.specs.declared.Lease.{Lease}
 use Rattle.table.specs.Table.{present, store}
 use Rattle.image.specs.Image.{usedLeases}
@@ -16,14 +17,14 @@ use Rattle.image_records.specs.Records.{Records}
 use Rattle.ledger.specs.declared.Answer.{Answer}
 use Rattle.figures.specs.declared.FigureRow.{FigureRow}
 use Rattle.image_figures.specs.Sheets.{sheetOf}
-use Rattle.ledger.specs.Ledger.{State, state, Call, Result, result, Row, firstOf, byRows, refusalPlace}
+use Rattle.ledger.specs.Ledger.{State, state, Call, Result, result, Row, firstOf, byRows, refusalPlace, badSelection?, optionRows, forTake}
 use Rattle.ledger.proofs.RowLaws.{first-before}
 use Rattle.call_spec.specs.ImageCalls.{Lent, lent, tableIn, stateIn, storedIn, settled}
 use Rattle.call_spec.specs.Books.{Book, lentIn}
 use Rattle.call_spec.proofs.StoreLaws.{row-refuses}
 use Rattle.call_rows.specs.declared.Admission.{Admission}
 use Rattle.call_rows.specs.Admission.{admissionRows, leasesFrom, Admitted, Admits, Finished}
-use Rattle.call_rows.proofs.RowLaws.{admitted-rows}
+use Rattle.call_rows.proofs.RowLaws.{rows-without, admitted-rows}
 use Rattle.call_rows.proofs.FinishLaws.{finished-in-place}
 use Rattle.call_rows.proofs.SettleLaws.{admitted-lent}
 use Rattle.call_entries.specs.declared.EntriesRead.{EntriesRead}
@@ -34,22 +35,27 @@ use Rattle.call_entries.proofs.EntriesLaws.{changed-holds}
 
 -- THE ROWS UP TO 8
 
--- The call is admitted, and its entries are read.
-pub record EntriesCall (room : ℕ) (h : Lent) (now : ℕ) (c : Call) : Type 0 where
+-- The call is admitted, its option 118 is not bad if it has one, and its entries are read.
+pub record EntriesCall (short : Bool) (h : Lent) (now : ℕ) (c : Call) : Type 0 where
   pub admission : Admission
-  pub admits : Admits true room h now (c .client) admission
+  pub admits : Admits true short h now (c .client) admission
   pub admitted : admission .number ≡ 0
+  pub selected : badSelection? (c .selection) ≡ false
   pub read : EntriesRead
   pub networks : List ℕ
   pub lengths : List ℕ
   pub reads : ReadsEntries (c .option) read networks lengths
 
-module _ (room : ℕ) (h : Lent) (now : ℕ) (c : Call) (own : List Row) (s : EntriesCall room h now c) where
+module _ (short : Bool) (h : Lent) (now : ℕ) (c : Call) (own : List Row) (s : EntriesCall short h now c) where
   abbrev rows : List Row
-  rows = admissionRows true room h now (c .client) ++ (entryRows (c .option) ++ own)
+  rows = admissionRows true short h now (c .client) ++ (optionRows c ++ ((8, not (forTake (suboptions (readOption (c .option))))) ∷ own))
+
+  same-rows : rows ≡ admissionRows true short h now (c .client) ++ (entryRows (c .option) ++ own)
+  same-rows =
+      ap (λ (os : List Row). admissionRows true short h now (c .client) ++ (os ++ ((8, not (forTake (suboptions (readOption (c .option))))) ∷ own))) (rows-without c (s .selected))
 
   from-6 : firstOf rows ≡ firstOf (entryRows (c .option) ++ own)
-  from-6 = admitted-rows true room h now (c .client) (s .admission) (s .admits) (entryRows (c .option) ++ own) (s .admitted)
+  from-6 = ap firstOf same-rows ∙ admitted-rows true short h now (c .client) (s .admission) (s .admits) (entryRows (c .option) ++ own) (s .admitted)
 
   -- Rows 6, 7, 16 and 8.
   pub refused-entries : (accepted : Result State) → (s .read .answer .number ≡ 0 → ⊥)
@@ -79,15 +85,16 @@ module _ (room : ℕ) (h : Lent) (now : ℕ) (c : Call) (own : List Row) (s : En
 
 -- ON THE OPEN BOOK: a call that is admitted is the one on what is lent.
 
-module _ (room : ℕ) (b : Book) (now : ℕ) (c : Call) (s : EntriesCall room (lentIn b) now c) where
+module _ (short : Bool) (b : Book) (now : ℕ) (c : Call) (s : EntriesCall short (lentIn b) now c) where
   pub as-lent : lentIn b ≡ b .lent
   as-lent = admitted-lent true b now (c .client) (s .admission .summary) (s .admits .admitted (s .admitted))
 
-  abbrev pub on-lent : EntriesCall room (b .lent) now c
+  abbrev pub on-lent : EntriesCall short (b .lent) now c
   on-lent = record {
     admission = s .admission;
-    admits = subst (λ (h : Lent). Admits true room h now (c .client) (s .admission)) as-lent (s .admits);
+    admits = subst (λ (h : Lent). Admits true short h now (c .client) (s .admission)) as-lent (s .admits);
     admitted = s .admitted;
+    selected = s .selected;
     read = s .read;
     networks = s .networks;
     lengths = s .lengths;

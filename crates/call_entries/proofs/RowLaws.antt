@@ -53,7 +53,7 @@ module _ (option : List ℕ) (m : Contents) (c : Columns) (reads : Reads option 
   -- Rows 6, 7 and 16.
   pub read-bad : (a .number ≡ 0 → ⊥) → ReadsEntries option (record { answer = a; count = 0 }) (c .networks) (c .lengths)
   read-bad k = record {
-    refused = option-refuses by m c reads a g ((8, not right) ∷ []);
+    refused = option-refuses by refl m c reads a g ((8, not right) ∷ []);
     passed = λ z. absurd (k z);
     few = omega arith;
     left = λ z. absurd (k z);
@@ -62,10 +62,10 @@ module _ (option : List ℕ) (m : Contents) (c : Columns) (reads : Reads option 
 
   module _ (good : a .number ≡ 0) where
     none-of-three : firstOf (optionRows by) ≡ none
-    none-of-three = option-none by m c reads a g good
+    none-of-three = option-none by refl m c reads a g good
 
     holding : ScannedOf m c (suboptions (readOption option))
-    holding = scanned by m c reads a g good
+    holding = scanned by refl m c reads a g good
 
     -- The figures are left to read.
     figures-left : LeftAt option firstEntries (entriesIn option)

@@ -8,7 +8,7 @@ use mathlib.Core.List.{List, [], _∷_, map}
 use mathlib.Core.Option.{Option}
 use lib.ListN.{length, take, drop}
 use lib.Dec.{ltb, eqb}
-use borrow.Author.Tests.{ne-eqb}
+use borrow.Author.Tests.{ne-eqb, ltb-false}
 use Rattle.lists.specs.Lists.{filter}
 use Rattle.lists.specs.Put.{put}
 use Rattle.lists.proofs.TakeLaws.{take-short, short-none, short-of}
@@ -33,7 +33,7 @@ use Rattle.call_spec.specs.Books.{Book, lentIn, listBook}
 use Rattle.call_spec.proofs.StoreLaws.{list-row-refuses, list-no-row}
 use Rattle.call_rows.specs.declared.Admission.{Admission}
 use Rattle.call_rows.specs.Admission.{Admits}
-use Rattle.call_rows.proofs.RowLaws.{ReadCall, RefusedBy, rowsWith8, scan-of, admitted-room, refused-admission, refused-option, refused-8, own-left, nothing-found, none-left}
+use Rattle.call_rows.proofs.RowLaws.{ReadCall, RefusedBy, rowsWith8, scan-of, admitted-short, refused-admission, refused-option, refused-8, own-left, nothing-found, none-left}
 use Rattle.call_rows.proofs.SettleLaws.{admitted-lent}
 use Rattle.call_list.specs.declared.Page.{Page}
 use Rattle.call_list.specs.InnerPage.{shown?, startOf, PageOf}
@@ -85,32 +85,32 @@ page-none now client reply (x ∷ xs) e from = absurd (omega arith)
 -- THE CALL, UP TO ROW 8
 
 module _ (h : Lent) (now : ℕ) (c : Call) where
-  by-row : RefusedBy (rowsWith8 false (length (c .reply)) h now c wanted (eleven h now c)) h c (listImage h now c)
+  by-row : RefusedBy (rowsWith8 false (ltb (length (c .reply)) leastReply) h now c wanted (eleven h now c)) h c (listImage h now c)
   unfolding list listRows
   by-row = list-row-refuses h (listRows (stateIn h) now c) (refusalPlace (c .option)) (c .reply) (outcome (stateIn h) (listedBy h now c) (c .reply))
 
-  pub list-refused : (a : Admission) → Admits false (length (c .reply)) h now (c .client) a → (a .number ≡ 0 → ⊥) → result (refusal (a .number) 0) h (c .reply) ≡ listImage h now c
-  list-refused = refused-admission false (length (c .reply)) h now c wanted (eleven h now c) (listImage h now c) by-row
+  pub list-refused : (a : Admission) → Admits false (ltb (length (c .reply)) leastReply) h now (c .client) a → (a .number ≡ 0 → ⊥) → result (refusal (a .number) 0) h (c .reply) ≡ listImage h now c
+  list-refused = refused-admission false (ltb (length (c .reply)) leastReply) h now c wanted (eleven h now c) (listImage h now c) by-row
 
-  module _ (s : ReadCall false (length (c .reply)) h now c) where
+  module _ (s : ReadCall false (ltb (length (c .reply)) leastReply) h now c) where
     pub list-unread : (s .answer .number ≡ 0 → ⊥) → result (s .answer) h (c .reply) ≡ listImage h now c
-    list-unread = refused-option false (length (c .reply)) h now c wanted (eleven h now c) (listImage h now c) by-row s
+    list-unread = refused-option false (ltb (length (c .reply)) leastReply) h now c wanted (eleven h now c) (listImage h now c) by-row s
 
     module _ (good : s .answer .number ≡ 0) (b : Bool) (is : b ≡ (not (eqb (s .contents .requests) 0) && eqb (s .contents .listing) (s .contents .requests))) where
       asks-are : b ≡ forList (requestsIn (c .option))
-      asks-are = let holding = scan-of false (length (c .reply)) h now c s good in is ∙ rw (holding .requests, holding .listing) (sym (for-list (requestsIn (c .option))))
+      asks-are = let holding = scan-of false (ltb (length (c .reply)) leastReply) h now c s good in is ∙ rw (holding .requests, holding .listing) (sym (for-list (requestsIn (c .option))))
 
       pub list-wrong : b ≡ false → result (refusal 8 0) h (c .reply) ≡ listImage h now c
-      list-wrong w = refused-8 false (length (c .reply)) h now c wanted (eleven h now c) (listImage h now c) by-row s good (sym asks-are ∙ w)
+      list-wrong w = refused-8 false (ltb (length (c .reply)) leastReply) h now c wanted (eleven h now c) (listImage h now c) by-row s good (sym asks-are ∙ w)
 
       -- Every row before 11 has passed.
       pub list-passed : b ≡ true → Listing h now c (s .admission .summary) (s .contents)
       unfolding listRows
       list-passed w = record {
         admitted = s .admits .admitted (s .admitted);
-        room = admitted-room false (length (c .reply)) h now (c .client) (s .admission) (s .admits) [] (s .admitted);
-        left-rows = own-left false (length (c .reply)) h now c wanted (eleven h now c) (listImage h now c) by-row s good (sym asks-are ∙ w);
-        position-is = scan-of false (length (c .reply)) h now c s good .position;
+        room = ltb-false (length (c .reply)) leastReply (admitted-short false (ltb (length (c .reply)) leastReply) h now (c .client) (s .admission) (s .admits) [] (s .admitted));
+        left-rows = own-left false (ltb (length (c .reply)) leastReply) h now c wanted (eleven h now c) (listImage h now c) by-row s good (sym asks-are ∙ w);
+        position-is = scan-of false (ltb (length (c .reply)) leastReply) h now c s good .position;
       }
 
 -- ROW 11, AND THE PAGE

@@ -145,7 +145,7 @@ pub fn list(
         &image[..0],
         false,
         counts,
-        reply.len(),
+        reply.len() < call_rows::SHORTEST_REPLY,
         client,
         time,
     );

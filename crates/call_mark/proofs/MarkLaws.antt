@@ -38,7 +38,7 @@ use Rattle.image_figures.proofs.AcceptedLaws.{strike-changed, nothing-changed, 
 use Rattle.image_check.specs.declared.ImageSummary.{ImageSummary}
 use Rattle.counts.specs.Counts.{countsOf}
 use Rattle.ledger.specs.declared.Answer.{Answer}
-use Rattle.ledger.specs.Ledger.{State, left, Result, result, refusal, acceptance, accept, Row, firstOf, leastReply, at?, withD, markRows, mark}
+use Rattle.ledger.specs.Ledger.{State, left, Result, result, refusal, acceptance, accept, Row, firstOf, at?, withD, markRows, mark}
 use Rattle.ledger.proofs.RowLaws.{none-first, first-after, served-or-not}
 use Rattle.ledger.proofs.SoundKept.{mark-sound}
 use Rattle.call_spec.specs.ImageCalls.{Lent, lent, tableIn, stateIn, markImage}
@@ -142,19 +142,19 @@ abbrev outcome : Lent → ℕ → ℕ → ℕ → Bool → Result State
 outcome h now network len d = accept (left (stateIn h) now (map (λ x. cond (at? network len x) (withD d x) x) (present now (tableIn h .leases)))) [] 0 []
 
 module _ (h : Lent) (now network len : ℕ) (d : Bool) where
-  by-row : (n : ℕ) → (n ≡ 0 → ⊥) → firstOf (admissionRows true leastReply h now 1 ++ own h now network len) ≡ some n → result (refusal n 0) h [] ≡ markImage h now network len d
+  by-row : (n : ℕ) → (n ≡ 0 → ⊥) → firstOf (admissionRows true false h now 1 ++ own h now network len) ≡ some n → result (refusal n 0) h [] ≡ markImage h now network len d
   unfolding mark markRows
   by-row n k e = row-refuses h (markRows (stateIn h) now network len) (λ m. 0) [] (outcome h now network len d) n k e
 
-  pub mark-refused : (a : Admission) → Admits true leastReply h now 1 a → (a .number ≡ 0 → ⊥) → result (refusal (a .number) 0) h [] ≡ markImage h now network len d
-  mark-refused a ad k = by-row (a .number) k (not-admitted true leastReply h now 1 a ad (own h now network len) k .0)
+  pub mark-refused : (a : Admission) → Admits true false h now 1 a → (a .number ≡ 0 → ⊥) → result (refusal (a .number) 0) h [] ≡ markImage h now network len d
+  mark-refused a ad k = by-row (a .number) k (not-admitted true false h now 1 a ad (own h now network len) k .0)
 
   module _ (summary : ImageSummary) (o : Admitted true h now 1 summary) where
     -- The rows before its own have passed.
-    row-left : firstOf (admissionRows true leastReply h now 1 ++ own h now network len) ≡ firstOf (own h now network len)
+    row-left : firstOf (admissionRows true false h now 1 ++ own h now network len) ≡ firstOf (own h now network len)
     row-left =
-        first-after (admissionRows true leastReply h now 1) (own h now network len)
-        (none-first (admissionRows true leastReply h now 1) (
+        first-after (admissionRows true false h now 1) (own h now network len)
+        (none-first (admissionRows true false h now 1) (
           refl,
           (
             not-to (sound (tableIn h)) (o .sound),
@@ -223,7 +223,7 @@ module _ (h : Lent) (now network len : ℕ) (d : Bool) where
               ∙ ap (λ (y : Lease). set (leasesIn h) (r - 1) (withD d y)) (sym it-is)
 
           -- No row applies.
-          no-row-left : firstOf (admissionRows true leastReply h now 1 ++ own h now network len) ≡ none
+          no-row-left : firstOf (admissionRows true false h now 1 ++ own h now network len) ≡ none
           no-row-left =
               row-left ∙ cond-false (not (meant? h now network len)) (some 11) none
               (not-to (meant? h now network len) (found-is ∙ found-any network (leasesIn h) (o .ascending) r c (marked? now network len) only above here))
@@ -294,7 +294,7 @@ mark-unmoved h now network len d summary o none-gone =
     served-or-not (λ (r : Result State). countsOf (r .state .table) ≡ countsOf (tableIn h)) (markRows (stateIn h) now network len) _ _ (λ n. refl)
     (λ e. unmoved now (λ (x : Lease). cond (at? network len x) (withD d x) x) (λ x. mark-prefix d (at? network len x) x) (λ x. mark-later now d (at? network len x) x) true h 1 summary o none-gone)
 
-module _ (b : Book) (now network len : ℕ) (d : Bool) (a : Admission) (ad : Admits true leastReply (lentIn b) now 1 a) where
+module _ (b : Book) (now network len : ℕ) (d : Bool) (a : Admission) (ad : Admits true false (lentIn b) now 1 a) where
   pub book-refused : (a .number ≡ 0 → ⊥) → (r : Answer) → r ≡ refusal (a .number) 0 → result r b [] ≡ markBook b now network len d
   book-refused k r is =
       refuses-book b (markImage (lentIn b) now network len d) r (lentIn b) [] (ap (λ (y : Answer). result y (lentIn b) []) is ∙ mark-refused (lentIn b) now network len d a ad k)

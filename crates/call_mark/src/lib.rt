@@ -77,16 +77,7 @@ pub fn mark(
         ≡ markBook (bookOf (now (image .entry)) (now («image_bytes» .entry)) (now (figures .entry)) (now (counts .entry))) time network length (not (eqb deprecated 0)) ⌝ }
 {
     let bytes = *image_bytes;
-    let admission = call_rows::admit(
-        image,
-        bytes,
-        figures,
-        true,
-        counts,
-        call_rows::SHORTEST_REPLY,
-        ANY_CLIENT,
-        time,
-    );
+    let admission = call_rows::admit(image, bytes, figures, true, counts, false, ANY_CLIENT, time);
     if admission.number != 0 {
         return call_spec::refused(admission.number, 0);
     }

@@ -22,7 +22,7 @@ use Rattle.image_figures.specs.Sheets.{sheetOf}
 use Rattle.image_figures.proofs.AcceptedLaws.{strike-changed, stays-follow}
 use Rattle.counts.specs.Counts.{countsOf}
 use Rattle.ledger.specs.declared.Answer.{Answer}
-use Rattle.ledger.specs.Ledger.{State, left, Call, Result, result, refusal, acceptance, accept, refusalPlace, leastReply, forTake, namedBy?, releaseRows, release}
+use Rattle.ledger.specs.Ledger.{State, left, Call, Result, result, refusal, acceptance, accept, refusalPlace, forTake, namedBy?, releaseRows, release}
 use Rattle.ledger.proofs.SoundKept.{release-sound}
 use Rattle.call_spec.specs.ImageCalls.{Lent, lent, tableIn, stateIn, releaseImage}
 use Rattle.call_spec.specs.Books.{Book, lentIn, releaseBook}
@@ -57,19 +57,19 @@ module _ (h : Lent) (now : ℕ) (c : Call) where
   unfolding release
   by-row = row-refuses h (releaseRows (stateIn h) now c) (refusalPlace (c .option)) (c .reply) (outcome h now c)
 
-  pub release-refused : (a : Admission) → Admits true leastReply h now (c .client) a → (a .number ≡ 0 → ⊥) → result (refusal (a .number) 0) h (c .reply) ≡ releaseImage h now c
+  pub release-refused : (a : Admission) → Admits true false h now (c .client) a → (a .number ≡ 0 → ⊥) → result (refusal (a .number) 0) h (c .reply) ≡ releaseImage h now c
   unfolding releaseRows
-  release-refused = refused-admission true leastReply h now c forTake (eleven h now c) (releaseImage h now c) by-row
+  release-refused = refused-admission true false h now c forTake (eleven h now c) (releaseImage h now c) by-row
 
-  module _ (s : EntriesCall leastReply h now c) where
+  module _ (s : EntriesCall false h now c) where
     pub release-unread : (s .read .answer .number ≡ 0 → ⊥) → result (s .read .answer) h (c .reply) ≡ releaseImage h now c
     unfolding release releaseRows
-    release-unread = refused-entries leastReply h now c (eleven h now c) s (outcome h now c)
+    release-unread = refused-entries false h now c (eleven h now c) s (outcome h now c)
 
     -- Every row before 11 has passed.
     pub release-passed : s .read .answer .number ≡ 0 → Releasing h now c (s .admission .summary) (upTo (s .read .count) (s .networks)) (upTo (s .read .count) (s .lengths))
     unfolding releaseRows
-    release-passed = entries-passed leastReply h now c (eleven h now c) s
+    release-passed = entries-passed false h now c (eleven h now c) s
 
 -- ROW 11, AND WHAT IS FOUND
 
@@ -148,13 +148,13 @@ module _ (h : Lent) (now : ℕ) (c : Call) (summary : ImageSummary) (networks le
 -- ON THE OPEN BOOK
 
 module _ (b : Book) (now : ℕ) (c : Call) where
-  pub book-refused : (a : Admission) → Admits true leastReply (lentIn b) now (c .client) a → (a .number ≡ 0 → ⊥) → (r : Answer) → r ≡ refusal (a .number) 0
+  pub book-refused : (a : Admission) → Admits true false (lentIn b) now (c .client) a → (a .number ≡ 0 → ⊥) → (r : Answer) → r ≡ refusal (a .number) 0
       → result r b (c .reply) ≡ releaseBook b now c
   book-refused a ad k r is =
       refuses-book b (releaseImage (lentIn b) now c) r (lentIn b) (c .reply) (ap (λ (y : Answer). result y (lentIn b) (c .reply)) is ∙ release-refused (lentIn b) now c a ad k)
       (λ z. k (sym (ap (λ (y : Answer). y .number) is) ∙ z))
 
-  module _ (s : EntriesCall leastReply (lentIn b) now c) where
+  module _ (s : EntriesCall false (lentIn b) now c) where
     pub book-unread : (s .read .answer .number ≡ 0 → ⊥) → result (s .read .answer) b (c .reply) ≡ releaseBook b now c
     book-unread k = refuses-book b (releaseImage (lentIn b) now c) (s .read .answer) (lentIn b) (c .reply) (release-unread (lentIn b) now c s k) k
 
@@ -163,10 +163,10 @@ module _ (b : Book) (now : ℕ) (c : Call) where
       pub release-countable : LeftIfAccepted (a .number) (lent (g .image) (g .bytes) []) (s .admission .summary .pools)
       release-countable =
           countable (b .lent) (release (stateIn (b .lent)) now c) (follows-all .releases (b .lent) now c) (release-sound (stateIn (b .lent)) now c)
-          (release-pools (stateIn (b .lent)) now c) a g (c .reply) is (s .admission .summary .pools) (on-lent leastReply b now c s .admits .admitted (s .admitted) .pools)
+          (release-pools (stateIn (b .lent)) now c) a g (c .reply) is (s .admission .summary .pools) (on-lent false b now c s .admits .admitted (s .admitted) .pools)
 
       pub release-settles : (counts : List (List ℕ)) → counts ≡ cond (eqb (a .number) 0 && true) (countsOf (tableIn (lent (g .image) (g .bytes) []))) (b .counts)
           → result a (record { lent = g; counts = counts }) (c .reply) ≡ releaseBook b now c
       release-settles counts left =
-          settles b (as-lent leastReply b now c s) (release (stateIn (b .lent)) now c) (λ (h : Lent). releaseImage h now c) (follows-all .releases (b .lent) now c) a g (c .reply) is true counts left
+          settles b (as-lent false b now c s) (release (stateIn (b .lent)) now c) (λ (h : Lent). releaseImage h now c) (follows-all .releases (b .lent) now c) a g (c .reply) is true counts left
           (λ z e. absurd (true≢false e))

@@ -150,16 +150,7 @@ pub fn release(
         ≡ releaseBook (bookOf (now (image .entry)) (now («image_bytes» .entry)) (now (figures .entry)) (now (counts .entry))) time (call client (now (option .entry)) []) ⌝ }
 {
     let bytes = *image_bytes;
-    let admission = call_rows::admit(
-        image,
-        bytes,
-        figures,
-        true,
-        counts,
-        call_rows::SHORTEST_REPLY,
-        client,
-        time,
-    );
+    let admission = call_rows::admit(image, bytes, figures, true, counts, false, client, time);
     if admission.number != 0 {
         return call_spec::refused(admission.number, 0);
     }

@@ -1,18 +1,18 @@
 -- Laws of the admission: by row 1, and by the others.
 -- Assumes nothing.
-use Prim.Native.Nat.{ℕ, _≤_, _<_}
+use Prim.Native.Nat.{ℕ}
 use native.Mathlib.Omega.{arith}
 use mathlib.Core.Path.{_≡_, refl, sym, ap, subst, _∙_}
 use mathlib.Core.Bool.{Bool, true, false, not, cond, _||_}
 use mathlib.Core.List.{List, [], _∷_, _++_}
 use mathlib.Core.Option.{some}
 use lib.Dec.{ltb, eqb}
-use borrow.Author.Tests.{lt-ltb, le-ltb, ltb-false, not-false}
+use borrow.Author.Tests.{ltb-false, not-false}
 use Rattle.lists.proofs.Tests.{cond-true, cond-false}
 use Rattle.table.specs.Table.{latest, sound}
 use Rattle.figures.specs.Figures.{matches?}
 use Rattle.ledger.specs.Sizes.{Bytes}
-use Rattle.ledger.specs.Ledger.{Row, firstOf, leastReply, timeRows}
+use Rattle.ledger.specs.Ledger.{Row, firstOf, timeRows}
 use Rattle.ledger.specs.FiguresKept.{Matched}
 use Rattle.ledger.proofs.RowLaws.{first-none}
 use Rattle.image_check.specs.declared.ImageSummary.{ImageSummary}
@@ -37,10 +37,10 @@ row-15 false true matches passes later e = ap (λ (p : Bool). firstOf ((15, not 
 sheet-of : (h : Lent) → sound (tableIn h) ≡ true → Bytes (h .figures) → Matched (stateIn h) → SheetIn h
 sheet-of h s b m = record { matched = m; size = held-size h s m; whole = held-sheet h s m b }
 
-module _ (sheet : Bool) (room : ℕ) (h : Lent) (now client : ℕ) (a : Admission) where
-  pub admit-short : room < leastReply → a .number ≡ 1 → Admits sheet room h now client a
-  admit-short short e = record {
-    number = e ∙ ap numberOf (sym (cond-true (ltb room leastReply) (some 1) _ (lt-ltb room leastReply short)));
+module _ (sheet short : Bool) (h : Lent) (now client : ℕ) (a : Admission) where
+  pub admit-short : short ≡ true → a .number ≡ 1 → Admits sheet short h now client a
+  admit-short is e = record {
+    number = e ∙ ap numberOf (sym (cond-true short (some 1) _ is));
     admitted = λ z. absurd (omega (arith, e, z));
   }
 
@@ -48,15 +48,15 @@ module _ (sheet : Bool) (room : ℕ) (h : Lent) (now client : ℕ) (a : Admissio
   abbrev rest : Bool → Bool → ℕ → List Row
   rest sound? passes last = (5, not sound?) ∷ (15, not passes) ∷ (2, eqb client 0) ∷ (3, ltb now last) ∷ (4, ltb latest now) ∷ []
 
-  pub admit-rest : leastReply ≤ room → Bytes (h .image) → Bytes (h .figures) → SummaryIn h now (a .summary) → (passes : Bool) → SheetPasses sheet (a .summary) (h .image) (h .figures) passes
-      → a .number ≡ numberOf (firstOf (rest (a .summary .sound) passes (a .summary .last))) → Admits sheet room h now client a
+  pub admit-rest : short ≡ false → Bytes (h .image) → Bytes (h .figures) → SummaryIn h now (a .summary) → (passes : Bool) → SheetPasses sheet (a .summary) (h .image) (h .figures) passes
+      → a .number ≡ numberOf (firstOf (rest (a .summary .sound) passes (a .summary .last))) → Admits sheet short h now client a
   admit-rest long b k i passes p e =
       let rows : List Row = rest (sound (tableIn h)) passes (tableIn h .last) in
       let same : a .number ≡ numberOf (firstOf rows) = e ∙ rw (i .sound, i .last) in
       let is : sound (tableIn h) ≡ true → passes ≡ (not sheet || matches? (tableIn h .leases) (stateIn h .rows)) = λ s. passes-is h now b (a .summary) i s sheet passes p in
       let by-sheet = row-15 sheet (sound (tableIn h)) (matches? (tableIn h .leases) (stateIn h .rows)) passes ((2, eqb client 0) ∷ timeRows (stateIn h) now) is in
       record {
-        number = same ∙ ap numberOf (by-sheet ∙ sym (cond-false (ltb room leastReply) (some 1) _ (le-ltb room leastReply long)));
+        number = same ∙ ap numberOf (by-sheet ∙ sym (cond-false short (some 1) _ long));
         admitted = λ z.
             let r = first-none rows (number-none rows (refl, (refl, (refl, (refl, (refl, tt))))) (a .number) same z) in
             let s : sound (tableIn h) ≡ true = not-false (sound (tableIn h)) (r .0) in
@@ -74,13 +74,13 @@ module _ (b : Book) (now : ℕ) (image : Bytes (b .lent .image)) (summary : Imag
   pub book-measured : Measured summary (b .lent .image)
   book-measured = subst (Measured summary) (same-buffers b .0) (measured (lentIn b) now given-bytes summary i)
 
-module _ (sheet : Bool) (room : ℕ) (b : Book) (now client : ℕ) (a : Admission) where
-  pub admit-book : leastReply ≤ room → Bytes (b .lent .image) → Bytes (b .lent .figures) → SummaryIn (lentIn b) now (a .summary) → (passes : Bool)
+module _ (sheet short : Bool) (b : Book) (now client : ℕ) (a : Admission) where
+  pub admit-book : short ≡ false → Bytes (b .lent .image) → Bytes (b .lent .figures) → SummaryIn (lentIn b) now (a .summary) → (passes : Bool)
       → SheetPasses sheet (a .summary) (b .lent .image) (b .lent .figures) passes
       → a .number ≡ numberOf (firstOf ((5, not (a .summary .sound)) ∷ (15, not passes) ∷ (2, eqb client 0) ∷ (3, ltb now (a .summary .last)) ∷ (4, ltb latest now) ∷ []))
-      → Admits sheet room (lentIn b) now client a
+      → Admits sheet short (lentIn b) now client a
   admit-book long image figures i passes p e =
       let same = same-buffers b in
-      admit-rest sheet room (lentIn b) now client a long (subst Bytes (sym (same .0)) image) (subst Bytes (sym (same .1)) figures) i passes
+      admit-rest sheet short (lentIn b) now client a long (subst Bytes (sym (same .0)) image) (subst Bytes (sym (same .1)) figures) i passes
       (subst (λ (f : List ℕ). SheetPasses sheet (a .summary) (lentIn b .image) f passes) (sym (same .1))
       (subst (λ (l : List ℕ). SheetPasses sheet (a .summary) l (b .lent .figures) passes) (sym (same .0)) p)) e

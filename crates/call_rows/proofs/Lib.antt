@@ -1,5 +1,6 @@
 pub mod SummaryLaws
 pub mod BookSummary
+pub mod SelectionLaws
 pub mod RowLaws
 pub mod AdmitLaws
 pub mod FinishLaws

@@ -4,25 +4,26 @@
 use Prim.Native.Nat.{ℕ, _≤_}
 use native.Mathlib.Omega.{arith}
 use mathlib.Core.Path.{_≡_, refl, sym, ap, subst, _∙_}
-use mathlib.Core.Bool.{Bool, true, false, not, cond}
+use mathlib.Core.Bool.{Bool, true, false, not, cond, _||_}
 use mathlib.Core.List.{List, [], _∷_, _++_}
 use mathlib.Core.Option.{Option, none, some}
 use lib.ListN.{length}
 use lib.Dec.{eqb}
-use borrow.Author.Tests.{eqb-false, ltb-false}
+use borrow.Author.Tests.{eqb-false}
 use Rattle.lists.specs.Lists.{All}
 use Rattle.lists.proofs.Tests.{cond-true, cond-false, not-of, not-to}
 use Rattle.lists.proofs.ListLaws.{all-map}
 use Rattle.option.specs.Reading.{readSuboptions, readOption}
 use Rattle.option.specs.Values.{SuboptionValue, Outcome}
 use Rattle.option.specs.Values as values
-use Rattle.option.specs.Contents.{placeIn, suboptions}
+use Rattle.option.specs.Contents.{refuses?, placeIn, suboptions}
 use Rattle.option.specs.Answers.{checkedOf, placeOf}
 use Rattle.option.specs.declared.Fault.the-variants.{Framing, Field}
 use Rattle.option.specs.declared.Checked.{Checked}
 use Rattle.option.specs.declared.Checked.the-variants.{NotTheOption, BadSuboption}
+use Rattle.table.specs.Table.{poolsOf}
 use Rattle.ledger.specs.declared.Answer.{Answer}
-use Rattle.ledger.specs.Ledger.{State, Call, Result, result, refusal, Row, firstOf, byRows, placed?, refusalPlace, leastReply, nothing?, optionRows}
+use Rattle.ledger.specs.Ledger.{State, Call, call, Result, result, refusal, Row, firstOf, byRows, placed?, refusalPlace, nothing?, badSelection?, narrowed, optionRows, groundRows}
 use Rattle.ledger.specs.Sizes.{Bytes}
 use Rattle.ledger.specs.Answers.{checkedAnswer, answered}
 use Rattle.ledger.proofs.ReadLaws.{place-short}
@@ -30,7 +31,7 @@ use Rattle.ledger.proofs.RowLaws.{Numbered, first-none, first-number, first-bef
 use Rattle.ledger.proofs.CommonRows.{option-rows, option-passed}
 use Rattle.option_scan.specs.declared.Contents.{Contents}
 use Rattle.option_scan.specs.Scanned.{Columns, ScannedOf, Reads}
-use Rattle.call_spec.specs.ImageCalls.{Lent, stateIn, storedIn, settled}
+use Rattle.call_spec.specs.ImageCalls.{Lent, tableIn, stateIn, storedIn, settled}
 use Rattle.call_spec.proofs.StoreLaws.{settled-accepted, no-row}
 use Rattle.call_rows.specs.declared.Admission.{Admission}
 use Rattle.call_rows.specs.Admission.{admissionRows, numberOf, Admits}
@@ -68,20 +69,20 @@ module _ (rows : List Row) (numbered : Numbered rows) (n : ℕ) (e : n ≡ numbe
 -- THE ROWS UP TO THE OPTION, AND WHAT FOLLOWS THEM
 
 -- None of them has number 0, or one that has a place.
-admission-numbers : (sheet : Bool) (room : ℕ) (h : Lent) (now client : ℕ)
-    → All (λ (r : Row). (eqb (r .0) 0 ≡ false) × (placed? (r .0) ≡ false)) (admissionRows sheet room h now client)
-admission-numbers true room h now client = ((refl, refl), ((refl, refl), ((refl, refl), ((refl, refl), ((refl, refl), ((refl, refl), tt))))))
-admission-numbers false room h now client = ((refl, refl), ((refl, refl), ((refl, refl), ((refl, refl), ((refl, refl), tt)))))
+admission-numbers : (sheet short : Bool) (h : Lent) (now client : ℕ)
+    → All (λ (r : Row). (eqb (r .0) 0 ≡ false) × (placed? (r .0) ≡ false)) (admissionRows sheet short h now client)
+admission-numbers true short h now client = ((refl, refl), ((refl, refl), ((refl, refl), ((refl, refl), ((refl, refl), ((refl, refl), tt))))))
+admission-numbers false short h now client = ((refl, refl), ((refl, refl), ((refl, refl), ((refl, refl), ((refl, refl), tt)))))
 
-module _ (sheet : Bool) (room : ℕ) (h : Lent) (now client : ℕ) (a : Admission) (ad : Admits sheet room h now client a) (rest : List Row) where
+module _ (sheet short : Bool) (h : Lent) (now client : ℕ) (a : Admission) (ad : Admits sheet short h now client a) (rest : List Row) where
   abbrev first : List Row
-  first = admissionRows sheet room h now client
+  first = admissionRows sheet short h now client
 
   numbered : Numbered first
-  numbered = all-map (λ (r : Row) (k : (eqb (r .0) 0 ≡ false) × (placed? (r .0) ≡ false)). k .0) first (admission-numbers sheet room h now client)
+  numbered = all-map (λ (r : Row) (k : (eqb (r .0) 0 ≡ false) × (placed? (r .0) ≡ false)). k .0) first (admission-numbers sheet short h now client)
 
   placeless : All (λ (r : Row). placed? (r .0) ≡ false) first
-  placeless = all-map (λ (r : Row) (k : (eqb (r .0) 0 ≡ false) × (placed? (r .0) ≡ false)). k .1) first (admission-numbers sheet room h now client)
+  placeless = all-map (λ (r : Row) (k : (eqb (r .0) 0 ≡ false) × (placed? (r .0) ≡ false)). k .1) first (admission-numbers sheet short h now client)
 
   pub not-admitted : (a .number ≡ 0 → ⊥) → (firstOf (first ++ rest) ≡ some (a .number)) × (placed? (a .number) ≡ false)
   not-admitted k =
@@ -92,17 +93,22 @@ module _ (sheet : Bool) (room : ℕ) (h : Lent) (now client : ℕ) (a : Admissio
   none-of = number-none first numbered (a .number) (ad .number)
 
   -- Row 1 has passed.
-  pub admitted-room : a .number ≡ 0 → leastReply ≤ room
-  admitted-room z = ltb-false room leastReply (first-none first (none-of z) .0)
+  pub admitted-short : a .number ≡ 0 → short ≡ false
+  admitted-short z = first-none first (none-of z) .0
 
   pub admitted-rows : a .number ≡ 0 → firstOf (first ++ rest) ≡ firstOf rest
   admitted-rows z = first-after first rest (none-of z)
 
+-- OPTION 118 that is not bad leaves rows 6, 7 and 16 as they are without it.
+pub rows-without : (c : Call) → badSelection? (c .selection) ≡ false → optionRows c ≡ optionRows (call 0 (c .option) [])
+rows-without c e =
+    ap (λ (b : Bool). (6, refuses? 6 (readOption (c .option)) || b) ∷ (7, refuses? 7 (readOption (c .option))) ∷ (16, refuses? 16 (readOption (c .option))) ∷ []) e
+
 -- ROWS 6, 7 AND 16, what follows them, and what is read of an option that passes them.
 
-module _ (c : Call) (m : Contents) (k : Columns) (reads : Reads (c .option) m k) (ans : Answer) (g : ans ≡ checkedAnswer (m .checked)) where
+module _ (c : Call) (selected : badSelection? (c .selection) ≡ false) (m : Contents) (k : Columns) (reads : Reads (c .option) m k) (ans : Answer) (g : ans ≡ checkedAnswer (m .checked)) where
   answer-is : ans ≡ answered (firstOf (optionRows c)) (c .option)
-  answer-is = g ∙ ap checkedAnswer (reads .checked) ∙ option-rows c
+  answer-is = g ∙ ap checkedAnswer (reads .checked) ∙ option-rows c selected
 
   pub option-refuses : (own : List Row) → (ans .number ≡ 0 → ⊥)
       → (firstOf (optionRows c ++ own) ≡ some (ans .number)) × (ans ≡ refusal (ans .number) (refusalPlace (c .option) (ans .number)))
@@ -132,56 +138,68 @@ module _ (c : Call) (m : Contents) (k : Columns) (reads : Reads (c .option) m k)
 
 -- A CALL WITH AN OPTION, at each of its steps. Its rows are those up to the option, rows 6, 7 and 16, row 8, which is about the option's suboptions, and its own.
 
--- It is admitted, its option is read, and this is the answer of rows 6, 7 and 16.
-pub record ReadCall (sheet : Bool) (room : ℕ) (h : Lent) (now : ℕ) (c : Call) : Type 0 where
+-- It is admitted, its option 118 is not bad if it has one, its option is read, and this is the answer of rows 6, 7 and 16.
+pub record ReadCall (sheet short : Bool) (h : Lent) (now : ℕ) (c : Call) : Type 0 where
   pub admission : Admission
-  pub admits : Admits sheet room h now (c .client) admission
+  pub admits : Admits sheet short h now (c .client) admission
   pub admitted : admission .number ≡ 0
+  pub selected : badSelection? (c .selection) ≡ false
   pub contents : Contents
   pub columns : Columns
   pub reads : Reads (c .option) contents columns
   pub answer : Answer
   pub answer-is : answer ≡ checkedAnswer (contents .checked)
 
-pub scan-of : (sheet : Bool) (room : ℕ) (h : Lent) (now : ℕ) (c : Call) (s : ReadCall sheet room h now c) → s .answer .number ≡ 0
+pub scan-of : (sheet short : Bool) (h : Lent) (now : ℕ) (c : Call) (s : ReadCall sheet short h now c) → s .answer .number ≡ 0
     → ScannedOf (s .contents) (s .columns) (suboptions (readOption (c .option)))
-scan-of sheet room h now c s = scanned c (s .contents) (s .columns) (s .reads) (s .answer) (s .answer-is)
+scan-of sheet short h now c s = scanned c (s .selected) (s .contents) (s .columns) (s .reads) (s .answer) (s .answer-is)
 
 -- The call gives `after`, whichever of these rows refuses it (`row-refuses`, `list-row-refuses` of crate `call_spec`).
 abbrev pub RefusedBy : List Row → Lent → Call → Result Lent → Type 0
 RefusedBy rows h c after = (n : ℕ) → (n ≡ 0 → ⊥) → firstOf rows ≡ some n → result (refusal n (refusalPlace (c .option) n)) h (c .reply) ≡ after
 
-abbrev pub rowsWith8 : Bool → ℕ → Lent → ℕ → Call → (List SuboptionValue → Bool) → List Row → List Row
-rowsWith8 sheet room h now c wanted own = admissionRows sheet room h now (c .client) ++ (optionRows c ++ ((8, not (wanted (suboptions (readOption (c .option))))) ∷ own))
+or-second : (a b : Bool) → b ≡ true → (a || b) ≡ true
+or-second true b e = refl
+or-second false b e = e
 
-module _ (sheet : Bool) (room : ℕ) (h : Lent) (now : ℕ) (c : Call) (wanted : List SuboptionValue → Bool) (own : List Row) (after : Result Lent)
-    (by-row : RefusedBy (rowsWith8 sheet room h now c wanted own) h c after) where
+abbrev pub rowsWith8 : Bool → Bool → Lent → ℕ → Call → (List SuboptionValue → Bool) → List Row → List Row
+rowsWith8 sheet short h now c wanted own = admissionRows sheet short h now (c .client) ++ (optionRows c ++ ((8, not (wanted (suboptions (readOption (c .option))))) ∷ own))
+
+module _ (sheet short : Bool) (h : Lent) (now : ℕ) (c : Call) (wanted : List SuboptionValue → Bool) (own : List Row) (after : Result Lent)
+    (by-row : RefusedBy (rowsWith8 sheet short h now c wanted own) h c after) where
   abbrev row-8 : List Row
   row-8 = (8, not (wanted (suboptions (readOption (c .option))))) ∷ own
 
   abbrev rows : List Row
-  rows = rowsWith8 sheet room h now c wanted own
+  rows = rowsWith8 sheet short h now c wanted own
 
   -- Rows 1, 5, 15, 2, 3 and 4: none of them has a place.
-  pub refused-admission : (a : Admission) → Admits sheet room h now (c .client) a → (a .number ≡ 0 → ⊥) → result (refusal (a .number) 0) h (c .reply) ≡ after
+  pub refused-admission : (a : Admission) → Admits sheet short h now (c .client) a → (a .number ≡ 0 → ⊥) → result (refusal (a .number) 0) h (c .reply) ≡ after
   refused-admission a ad k =
-      let r = not-admitted sheet room h now (c .client) a ad (optionRows c ++ row-8) k in
+      let r = not-admitted sheet short h now (c .client) a ad (optionRows c ++ row-8) k in
       ap (λ (p : ℕ). result (refusal (a .number) p) h (c .reply)) (sym (cond-false (placed? (a .number)) (placeIn (readOption (c .option))) 0 (r .1)))
       ∙ by-row (a .number) k (r .0)
 
-  module _ (s : ReadCall sheet room h now c) where
+  -- Row 6 of option 118, whatever option 220 is.
+  pub refused-selection : (a : Admission) → Admits sheet short h now (c .client) a → a .number ≡ 0 → badSelection? (c .selection) ≡ true → result (refusal 6 0) h (c .reply) ≡ after
+  refused-selection a ad z bad =
+      by-row 6 (λ e. omega arith)
+      (admitted-rows sheet short h now (c .client) a ad (optionRows c ++ row-8) z
+      ∙ cond-true (refuses? 6 (readOption (c .option)) || badSelection? (c .selection)) (some 6) _ (or-second (refuses? 6 (readOption (c .option))) (badSelection? (c .selection)) bad))
+
+  module _ (s : ReadCall sheet short h now c) where
     up-to-option : firstOf rows ≡ firstOf (optionRows c ++ row-8)
-    up-to-option = admitted-rows sheet room h now (c .client) (s .admission) (s .admits) (optionRows c ++ row-8) (s .admitted)
+    up-to-option = admitted-rows sheet short h now (c .client) (s .admission) (s .admits) (optionRows c ++ row-8) (s .admitted)
 
     -- Rows 6, 7 and 16.
     pub refused-option : (s .answer .number ≡ 0 → ⊥) → result (s .answer) h (c .reply) ≡ after
     refused-option some-row =
-        let r = option-refuses c (s .contents) (s .columns) (s .reads) (s .answer) (s .answer-is) row-8 some-row in
+        let r = option-refuses c (s .selected) (s .contents) (s .columns) (s .reads) (s .answer) (s .answer-is) row-8 some-row in
         ap (λ (y : Answer). result y h (c .reply)) (r .1) ∙ by-row (s .answer .number) some-row (up-to-option ∙ r .0)
 
     module _ (good : s .answer .number ≡ 0) where
       up-to-8 : firstOf rows ≡ firstOf row-8
-      up-to-8 = up-to-option ∙ first-after (optionRows c) row-8 (option-none c (s .contents) (s .columns) (s .reads) (s .answer) (s .answer-is) good)
+      up-to-8 = up-to-option ∙ first-after (optionRows c) row-8 (option-none c (s .selected) (s .contents) (s .columns) (s .reads) (s .answer) (s .answer-is) good)
 
       -- Row 8.
       pub refused-8 : wanted (suboptions (readOption (c .option))) ≡ false → result (refusal 8 0) h (c .reply) ≡ after
@@ -189,6 +207,15 @@ module _ (sheet : Bool) (room : ℕ) (h : Lent) (now : ℕ) (c : Call) (wanted :
 
       pub own-left : wanted (suboptions (readOption (c .option))) ≡ true → firstOf rows ≡ firstOf own
       own-left e = up-to-8 ∙ cond-false (not (wanted (suboptions (readOption (c .option))))) (some 8) (firstOf own) (not-to (wanted (suboptions (readOption (c .option)))) e)
+
+-- WHERE ROW 19 IS LEFT, of an ask or a take: the address of its option 118 lies in no pool, or it has its ground.
+
+module _ (h : Lent) (c : Call) (rows : List Row) (after : Result Lent) (by-row : RefusedBy rows h c after) (own : List Row) (left : firstOf rows ≡ firstOf (groundRows (tableIn h) c ++ own)) where
+  pub no-ground : nothing? (poolsOf (narrowed (tableIn h) c)) ≡ true → result (refusal 19 0) h (c .reply) ≡ after
+  no-ground e = by-row 19 (λ z. omega arith) (left ∙ cond-true (nothing? (poolsOf (narrowed (tableIn h) c))) (some 19) (firstOf own) e)
+
+  pub ground-left : nothing? (poolsOf (narrowed (tableIn h) c)) ≡ false → firstOf rows ≡ firstOf own
+  ground-left e = left ∙ cond-false (nothing? (poolsOf (narrowed (tableIn h) c))) (some 19) (firstOf own) e
 
 -- WHERE ROW 11 IS LEFT: nothing is found, or something.
 

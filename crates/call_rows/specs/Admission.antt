@@ -6,9 +6,10 @@ use mathlib.Core.Bool.{Bool, true, false, cond}
 use mathlib.Core.List.{List, _∷_, _++_}
 use mathlib.Core.Option.{Option}
 use lib.ListN.{length, take, replicate}
-use lib.Dec.{leb, ltb, eqb}
+use lib.Dec.{leb, eqb}
 use Rattle.lists.specs.Lists.{filter, concatMap}
 use Rattle.lists.specs.Put.{put}
+use Rattle.option.specs.Reading.{four}
 use Rattle.table.specs.declared.Lease.{Lease}
 use Rattle.table.specs.Table.{poolSlots, leaseSlots, latest, present}
 use Rattle.table.specs.Table.{sound as soundOf}
@@ -17,17 +18,17 @@ use Rattle.image.specs.Reading.{lastAt}
 use Rattle.image_check.specs.declared.ImageSummary.{ImageSummary}
 use Rattle.image_records.specs.Records.{Records, Ascending}
 use Rattle.image_figures.specs.Sheets.{figuresSize, sheetOf}
-use Rattle.ledger.specs.Ledger.{Row, firstOf, orElse, leastReply, tableRows, stateRows, timeRows}
+use Rattle.ledger.specs.Ledger.{Row, firstOf, orElse, badSelection?, tableRows, stateRows, timeRows}
 use Rattle.ledger.specs.FiguresKept.{Matched}
-use Rattle.call_spec.specs.ImageCalls.{Lent, tableIn, stateIn}
-use Rattle.call_rows.specs.declared.Admission.{Admission}
+use Rattle.call_spec.specs.ImageCalls.{Lent, tableIn, stateIn, carriedIf}
+use Rattle.call_rows.specs.declared.{Admission.Admission, SelectionRead.SelectionRead}
 
 -- ADMISSION
 
--- The rows up to the option, of a call with this client whose reply buffer has so many bytes; row 15 only if it has the figures sheet. A call that has no
+-- The rows up to the option, of a call with this client whose reply buffer is too short or not; row 15 only if it has the figures sheet. A call that has no
 -- reply buffer, or no client, passes what no row refuses.
-abbrev pub admissionRows : Bool → ℕ → Lent → ℕ → ℕ → List Row
-admissionRows sheet room h now client = (1, ltb room leastReply) ∷ (cond sheet (stateRows (stateIn h)) (tableRows (stateIn h)) ++ ((2, eqb client 0) ∷ timeRows (stateIn h) now))
+abbrev pub admissionRows : Bool → Bool → Lent → ℕ → ℕ → List Row
+admissionRows sheet short h now client = (1, short) ∷ (cond sheet (stateRows (stateIn h)) (tableRows (stateIn h)) ++ ((2, eqb client 0) ∷ timeRows (stateIn h) now))
 
 -- The number of the row that applies; 0 where none does.
 abbrev pub numberOf : Option ℕ → ℕ
@@ -68,9 +69,16 @@ pub record Admitted (sheet : Bool) (h : Lent) (now client : ℕ) (summary : Imag
   pub sheet-in : sheet ≡ true → SheetIn h
 
 -- What the admission answers.
-pub record Admits (sheet : Bool) (room : ℕ) (h : Lent) (now client : ℕ) (a : Admission) : Type 0 where
-  pub number : a .number ≡ numberOf (firstOf (admissionRows sheet room h now client))
+pub record Admits (sheet short : Bool) (h : Lent) (now client : ℕ) (a : Admission) : Type 0 where
+  pub number : a .number ≡ numberOf (firstOf (admissionRows sheet short h now client))
   pub admitted : a .number ≡ 0 → Admitted sheet h now client (a .summary)
+
+-- OPTION 118
+
+-- Row 6 of it, and where that does not apply the address.
+pub record ReadsSelection (carried : Bool) (s : List ℕ) (r : SelectionRead) : Type 0 where
+  pub bad : r .bad ≡ badSelection? (carriedIf carried s)
+  pub address : carried ≡ true → r .bad ≡ false → r .address ≡ four s 2
 
 -- WHAT AN ACCEPTED CALL LEAVES
 

@@ -8,6 +8,7 @@ use image::POOL;
 use image_check::ImageSummary;
 use ledger::Answer;
 use option::Checked;
+use option::Selection;
 ghost use mathlib.Core.Path.{_≡_};
 ghost use mathlib.Core.Bool.{not, cond, _&&_};
 ghost use mathlib.Core.List.{List, [], _∷_};
@@ -22,19 +23,60 @@ ghost use Rattle.option.specs.Answers.{placeOf};
 ghost use Rattle.image_records.specs.Records.{Records, ExpiredIn};
 ghost use Rattle.figures.specs.declared.FigureRow.{FigureRow};
 ghost use Rattle.image_figures.specs.Sheets.{rowSize, sheetOf};
-ghost use Rattle.ledger.specs.Ledger.{firstOf};
+ghost use Rattle.ledger.specs.Ledger.{firstOf, leastFor};
 ghost use Rattle.ledger.specs.Answers.{checkedAnswer};
 ghost use Rattle.counts.specs.Counts.{countsOf};
-ghost use Rattle.call_spec.specs.ImageCalls.{lent, tableIn};
+ghost use Rattle.call_spec.specs.ImageCalls.{lent, tableIn, carriedIf};
 ghost use Rattle.call_spec.specs.Books.{bookOf, lentIn};
-ghost use Rattle.call_rows.specs.Admission.{numberOf, Admits, Finished, LeftIfAccepted};
+ghost use Rattle.call_rows.specs.Admission.{numberOf, ReadsSelection, Admits, Finished, LeftIfAccepted};
 ghost use Rattle.call_rows.specs.StruckRows.{struckIf};
 ghost use Rattle.call_rows.specs.InnerSummary.{SummaryIn, Measured, SheetPasses};
 
 // Row 1: no reply buffer is below this size.
 pub const SHORTEST_REPLY: usize = option::LONGEST_OPTION;
 
+// The bytes of option 118.
+pub const SELECTION: usize = 6;
+
 // ADMISSION
+
+// Row 1: whether so many bytes are too few for the reply of a call that carries an enabled option 118, or does not.
+pub fn too_short(room: usize, carried: bool) -> bool
+    ensures { λ r. ⌜ ((s : List ℕ) → r ≡ ltb room (leastFor (carriedIf carried s))) ⌝ }
+{
+    if carried {
+        return room < SHORTEST_REPLY + SELECTION;
+    }
+    room < SHORTEST_REPLY
+}
+
+// Option 118: whether it is bad, and its address where it is not.
+pub struct SelectionRead {
+    pub bad: bool,
+    pub address: u32,
+}
+
+// Row 6 of option 118. Where the message carries none that is enabled, its bytes are not looked at.
+pub fn read_selection(carried: bool, selection: &[u8]) -> SelectionRead
+    ensures { λ r. ⌜ ReadsSelection carried (now (selection .entry)) r ⌝ }
+{
+    if !carried {
+        return SelectionRead {
+            bad: false,
+            address: 0,
+        };
+    }
+    match option::read_selection(selection) {
+        Selection::Address(address) => SelectionRead {
+            bad: false,
+            address,
+        },
+        Selection::NotTheOption => SelectionRead {
+            bad: true,
+            address: 0,
+        },
+    }
+}
 
 // The number of the first row up to the option that applies, or 0; then what the check of the image found.
 pub struct Admission {
@@ -107,21 +149,21 @@ fn first_row(summary: ImageSummary, matched: bool, client: u32, time: u32) -> u3
     0
 }
 
-// The rows up to the option, in their order. `room` is the length of the reply buffer. A call without the figures sheet has no
-// row 15.
+// The rows up to the option, in their order. `short` says whether the reply buffer is too short (`too_short`; false of a call
+// that has none). A call without the figures sheet has no row 15.
 pub fn admit(
     image: &[u8],
     image_bytes: usize,
     figures: &[u8],
     has_sheet: bool,
     counts: &Counts,
-    room: usize,
+    short: bool,
     client: u32,
     time: u32,
 ) -> Admission
-    ensures { λ r. ⌜ Admits «has_sheet» room (lentIn (bookOf (now (image .entry)) «image_bytes» (now (figures .entry)) (now (counts .entry)))) time client r ⌝ }
+    ensures { λ r. ⌜ Admits «has_sheet» short (lentIn (bookOf (now (image .entry)) «image_bytes» (now (figures .entry)) (now (counts .entry)))) time client r ⌝ }
 {
-    if room < SHORTEST_REPLY {
+    if short {
         let summary = image_check::check(&image[..0], time);
         return Admission { number: 1, summary };
     }

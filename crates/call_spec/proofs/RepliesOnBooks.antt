@@ -1,5 +1,5 @@
--- WHAT EACH CALL ON IMAGES ANSWERS, by the law that whatever follows the ledger keeps its theorems: what take and list write reads back, a refusal leaves every
--- byte, a struck lease leaves nothing behind, usage figures and names are kept, and resuming a list skips and repeats nothing.
+-- WHAT EACH CALL ON IMAGES ANSWERS, by the law that whatever follows the ledger keeps its theorems: what take and list write reads back, option 118 is returned
+-- and obeyed, a refusal leaves every byte, a struck lease leaves nothing behind, usage figures and names are kept, and resuming a list skips and repeats nothing.
 -- Assumes nothing.
 use Prim.Native.Nat.{ℕ}
 use mathlib.Core.Path.{_≡_, refl, sym, ap, subst, _∙_}
@@ -18,7 +18,8 @@ use Rattle.image_figures.specs.Sheets.{sheetOf, sheetRows}
 use Rattle.ledger.specs.Ledger.{Call, Result, result, refuse, accept, firstOf, orElse, openRows}
 use Rattle.ledger.specs.Demand3.{none?}
 use Rattle.ledger.specs.Sizes.{Bytes}
-use Rattle.ledger.specs.ReadBack.{TakesReadBack, ListsReadBack}
+use Rattle.ledger.specs.ReadBack.{TakesReadBack, SelectionReturned, ListsReadBack}
+use Rattle.ledger.specs.OnGround.{OnGround}
 use Rattle.ledger.specs.Refusals.{Unchanged, UnchangedIfRefused, RefusalsLeave}
 use Rattle.ledger.specs.NothingBehind.{EndedForgotten, Clears}
 use Rattle.ledger.specs.FiguresKept.{Matched, FiguresKept, AlwaysMatched, AllUntold}
@@ -27,7 +28,7 @@ use Rattle.ledger.specs.Resuming.{Resumes}
 use Rattle.ledger.proofs.SoundKept.{refused-by}
 use Rattle.ledger.proofs.ListDependsHolds.{list-without-rows}
 use Rattle.ledger.proofs.FiguresHold.{filled-untold}
-use Rattle.ledger.proofs.FollowingReplies.{takes-read-back-followed, lists-read-back-followed, refusals-leave-followed, ended-forgotten-followed, clears-followed, figures-kept-followed, names-kept-followed, always-matched-followed, resumes-followed}
+use Rattle.ledger.proofs.FollowingReplies.{takes-read-back-followed, selection-returned-followed, on-ground-followed, lists-read-back-followed, refusals-leave-followed, ended-forgotten-followed, clears-followed, figures-kept-followed, names-kept-followed, always-matched-followed, resumes-followed}
 use Rattle.call_spec.specs.ImageCalls.{Lent, lent, tableIn, stateIn, listImage, openImage, loadInto, roomRows, saveRows, saveFrom}
 use Rattle.call_spec.specs.Books.{Book, bookOf, counted?, lentIn, kept, bookCalls}
 use Rattle.call_spec.specs.OnBooks.{Begins, opened, loaded, StartsUntold, RefusalsLeaveBook, WithoutSheet}
@@ -38,6 +39,14 @@ use Rattle.call_spec.proofs.OnBooks.{books-follow, opened-book-holds, l
 -- WHAT TAKE AND LIST WRITE reads back.
 pub take-reads-back-on-books : TakesReadBack bookCalls
 take-reads-back-on-books = takes-read-back-followed bookCalls books-follow
+
+-- Option 118 follows it, unaltered.
+pub selection-returned-on-books : SelectionReturned bookCalls
+selection-returned-on-books = selection-returned-followed bookCalls books-follow
+
+-- And every entry before it lies on the ground that it names.
+pub on-ground-on-books : OnGround bookCalls
+on-ground-on-books = on-ground-followed bookCalls books-follow
 
 pub list-reads-back-on-books : ListsReadBack bookCalls
 list-reads-back-on-books = lists-read-back-followed bookCalls books-follow

@@ -1,7 +1,7 @@
 -- THE CALLS ON WHAT THE CODE IS LENT. A server that embeds the calls holds the table as its image, at the front of a buffer, the image's length beside it,
 -- and the figures sheet; all three go from call to call. Each call is the ledger's on the table that the image is of and the sheet's rows, and leaves the
 -- image and the sheet of what the ledger leaves.
-use Rattle.lists.specs.Basics.{ℕ, _-_, Bool, not, cond, _&&_, _||_, List, [], _∷_, _++_, length, drop, replicate, take as upTo, leb, ltb, eqb}
+use Rattle.lists.specs.Basics.{ℕ, _-_, Bool, not, cond, _&&_, _||_, List, [], _∷_, _++_, Option, none, some, length, drop, replicate, take as upTo, leb, ltb, eqb}
 use Rattle.table.specs.declared.LeaseTable.{LeaseTable}
 use Rattle.table.specs.Table.{sound}
 use Rattle.table_open.specs.Open.{given, fresh}
@@ -56,6 +56,10 @@ unfoldable pub settled : Result State → Lent → Result Lent
 settled r h = cond (eqb (r .answer .number) 0) (result (r .answer) (storedIn (r .state) (h .bytes) h) (r .reply)) (result (r .answer) h (r .reply))
 
 -- THE CALLS
+
+-- The option 118 of a message, "Where the caller says with the call that it is enabled"; where not, its bytes are not looked at.
+abbrev pub carriedIf : Bool → List ℕ → Option (List ℕ)
+carriedIf selected s = cond selected (some s) none
 
 abbrev pub askImage : Lent → ℕ → Call → Result Lent
 askImage h now c = settled (ask (stateIn h) now c) h

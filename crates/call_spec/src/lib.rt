@@ -1,9 +1,17 @@
-// The answers of calls. What a call leaves of what it is lent is a definition, in `specs/`.
+// What comes with a message beside its bytes, and the answers of calls. What a call leaves of what it is lent is a definition, in `specs/`.
 use ledger::Answer;
 ghost use mathlib.Core.Path.{_≡_};
 ghost use mathlib.Core.Bool.{cond};
 ghost use lib.Dec.{ltb};
 ghost use Rattle.ledger.specs.Ledger.{refusal, acceptance};
+
+// Who sent the message that an ask or a take is for, when it came, and whether it carries an option 118 that the caller says is
+// enabled. Where it does not, the bytes lent for that option are not looked at.
+pub struct Message {
+    pub client: u32,
+    pub time: u32,
+    pub selected: bool,
+}
 
 // A refusal with its place (rows 7 and 16 only), all counts 0.
 pub fn refused(number: u32, place: u32) -> Answer

@@ -1,4 +1,5 @@
 pub mod PlaceLaws
 pub mod RenewLaws
 pub mod FileLaws
+pub mod OnGround
 pub mod TakeLaws

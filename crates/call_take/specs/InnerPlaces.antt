@@ -1,8 +1,8 @@
 -- Where the leases stand that entries name, in whose rows the entries' figures are filed.
-use Prim.Native.Nat.{ℕ, suc}
+use Prim.Native.Nat.{ℕ, suc, _+_}
 use mathlib.Core.Path.{_≡_}
 use mathlib.Core.Bool.{Bool, true, cond}
-use mathlib.Core.List.{List, [], _∷_, map}
+use mathlib.Core.List.{List, [], _∷_, _++_, map}
 use lib.ListN.{length, getD, set}
 use lib.Dec.{ltb}
 use Rattle.option_entry.specs.declared.Figures.{Figures}
@@ -25,16 +25,17 @@ placeOf g (x ∷ xs) = let rest = placeOf g xs in cond (g x) 0 (suc rest)
 abbrev pub placesOf : ℕ → ℕ → List Lease → List Entry → List ℕ
 placesOf now client xs es = map (λ e. placeOf (named? now client (e .network) (e .length)) xs) es
 
--- The rows with these figures filed at a place below n.
-abbrev pub filedAt : ℕ → ℕ → Figures → List FigureRow → List FigureRow
-filedAt n place f rows = cond (ltb place n) (set rows place (filed f (getD rows place emptyRow))) rows
+-- The rows with these figures filed at a place below n, counted from the row `first` on.
+abbrev pub filedAt : ℕ → ℕ → ℕ → Figures → List FigureRow → List FigureRow
+filedAt first n place f rows = cond (ltb place n) (set rows (first + place) (filed f (getD rows (first + place) emptyRow))) rows
 
 -- What is known where figures are filed: the entries are left to read, these are the places of the n leases that they name, and the sheet has a row for
--- each lease.
-pub record ToFile (option places sheet : List ℕ) (n now client : ℕ) (xs : List Lease) (es : List Entry) (rs : List FigureRow) : Type 0 where
+-- each lease, after `first` others.
+pub record ToFile (option places sheet : List ℕ) (first n now client : ℕ) (xs : List Lease) (es : List Entry) (before rs : List FigureRow) : Type 0 where
   pub left : LeftAt option firstEntries es
   pub places-are : places ≡ placesOf now client xs es
   pub counted : n ≡ length xs
   pub ascending : Ascending xs
-  pub sheet-is : sheet ≡ sheetOf rs
+  pub behind : first ≡ length before
+  pub sheet-is : sheet ≡ sheetOf (before ++ rs)
   pub matched : leasesMatch? xs rs ≡ true

@@ -1,5 +1,7 @@
 // Take as a call on an open book, in place.
 use call_entries::Expiry;
+use call_ground::Ground;
+use call_spec::Message;
 use counts::Counts;
 use image::HEAD;
 use image::LEASE;
@@ -8,10 +10,11 @@ use image_check::ImageSummary;
 use ledger::Answer;
 use option::Figures;
 ghost use mathlib.Core.Path.{_≡_};
-ghost use mathlib.Core.List.{List};
+ghost use mathlib.Core.List.{List, _++_};
+ghost use mathlib.Core.Option.{Option};
 ghost use Prim.Native.Nat.{ℕ, _+_, _*_, _≤_, _<_};
 ghost use lib.ListN.{length, take as upTo};
-ghost use Rattle.option.specs.Values.{Entry};
+ghost use Rattle.option.specs.Values.{longestOption, Entry};
 ghost use Rattle.table.specs.declared.Lease.{Lease};
 ghost use Rattle.table.specs.Table.{addresses, poolSlots, leaseSlots};
 ghost use Rattle.image_check.specs.declared.ImageSummary.{ImageSummary};
@@ -20,29 +23,36 @@ ghost use Rattle.image.specs.Image.{leaseSize};
 ghost use Rattle.figures.specs.declared.FigureRow.{FigureRow};
 ghost use Rattle.figures.specs.Inner.{withEach, filing};
 ghost use Rattle.image_figures.specs.Sheets.{rowSize, sheetOf};
-ghost use Rattle.ledger.specs.Ledger.{call, result};
+ghost use Rattle.ledger.specs.Ledger.{callWith, result};
 ghost use Rattle.call_entries.specs.EntryLeases.{Hold};
-ghost use Rattle.call_spec.specs.ImageCalls.{lent, takeImage};
+ghost use Rattle.call_ground.specs.declared.Ground.{Ground};
+ghost use Rattle.call_ground.specs.Ground.{returning};
+ghost use Rattle.call_spec.specs.ImageCalls.{lent, takeImage, carriedIf};
 ghost use Rattle.call_spec.specs.Books.{bookOf, takeBook};
 ghost use Rattle.call_take.specs.InnerTaking.{renewalOf, TakeSized, Taking};
 ghost use Rattle.call_take.specs.InnerRenewed.{Renewed};
 ghost use Rattle.call_take.specs.InnerPlaces.{filedAt, ToFile};
 
-// The n leases from `from` on, of which so many have expired, and what becomes of those that are named.
+// The n leases from `from` on, of which so many have expired; those of them on the ground of the call, so many from the place
+// `first` on; and what becomes of those that are named.
 struct Renewal {
     from: usize,
     n: usize,
+    first: usize,
+    leases: usize,
     expired: usize,
     expiry: Expiry,
 }
 
-fn renewal_of(summary: ImageSummary, client: u32, time: u32) -> Renewal
+fn renewal_of(summary: ImageSummary, ground: Ground, client: u32, time: u32) -> Renewal
     requires { ⌜ (summary .pools ≤ poolSlots) × (time + summary .term < addresses) ⌝ }
-    ensures { λ r. ⌜ r ≡ renewalOf client time summary ⌝ }
+    ensures { λ r. ⌜ r ≡ renewalOf client time summary ground ⌝ }
 {
     Renewal {
         from: HEAD + POOL * summary.pools,
         n: summary.leases,
+        first: ground.first,
+        leases: ground.leases,
         expired: summary.expired,
         expiry: Expiry {
             client,
@@ -52,8 +62,9 @@ fn renewal_of(summary: ImageSummary, client: u32, time: u32) -> Renewal
     }
 }
 
-// Renews each lease that an entry names, and shows it in the reply; how many. The first one makes the call an accepted one,
-// so the image and the reply may be written at once. For each entry the place of its lease is kept, or n.
+// Renews each lease on the ground that an entry names, and shows it in the reply; how many. The first one makes the call an
+// accepted one, so the image and the reply may be written at once. For each entry the place of its lease among those on the ground
+// is kept, or how many these are.
 fn renew_named(
     image: &mut [u8],
     renewal: Renewal,
@@ -62,14 +73,15 @@ fn renew_named(
     places: &mut [u16],
     reply: &mut [u8],
 ) -> usize
-    requires { ⌜ (renewal .from + leaseSize * renewal .n ≤ length (now image)) × (renewal .n ≤ leaseSlots) × (length (now networks) ≡ length (now lengths)) × (length (now networks) ≤ length (now places)) × (6 + 7 * length (now networks) ≤ length (now reply)) × (renewal .expiry .time < renewal .expiry .expires) ⌝ }
+    requires { ⌜ (renewal .from + leaseSize * renewal .n ≤ length (now image)) × (renewal .n ≤ leaseSlots) × (renewal .first + renewal .leases ≤ renewal .n) × (length (now networks) ≡ length (now lengths)) × (length (now networks) ≤ length (now places)) × (6 + 7 * length (now networks) ≤ length (now reply)) × (renewal .expiry .time < renewal .expiry .expires) ⌝ }
     ensures { λ r. ⌜ r ≤ length (now (networks .entry)) ⌝ }
-    ensures { λ r. ⌜ ((xs : List Lease) → Records (now (image .entry)) (renewal .from) xs → renewal .n ≡ length xs → Ascending xs → (es : List Entry) → Hold (now (networks .entry)) (now (lengths .entry)) es
-        → Renewed (now (image .entry)) (renewal .from) xs (renewal .expiry .time) (renewal .expiry .client) (renewal .expiry .expires) es (now (reply .entry))
+    ensures { λ r. ⌜ ((xs : List Lease) → Records (now (image .entry)) (renewal .from + leaseSize * renewal .first) xs → renewal .leases ≡ length xs → Ascending xs
+        → (es : List Entry) → Hold (now (networks .entry)) (now (lengths .entry)) es
+        → Renewed (now (image .entry)) (renewal .from + leaseSize * renewal .first) xs (renewal .expiry .time) (renewal .expiry .client) (renewal .expiry .expires) es (now (reply .entry))
         (now (image .exit)) (upTo (length (now (networks .entry))) (now (places .exit))) (now (reply .exit)) r) ⌝ }
 {
-    let from = renewal.from;
-    let n = renewal.n;
+    let from = renewal.from + LEASE * renewal.first;
+    let n = renewal.leases;
     let mut shown: usize = 0;
     let mut k: usize = 0;
     while k < networks.len() {
@@ -91,10 +103,10 @@ fn wide(x: u16) -> usize
     x as usize
 }
 
-// Files figures in the row at a place below n. Where there are none the row is as it was.
-fn file_at(sheet: &mut [u8], n: usize, place: usize, f: Figures)
-    requires { ⌜ rowSize * n ≤ length (now sheet) ⌝ }
-    ensures { λ _. ⌜ ((rows : List FigureRow) → now (sheet .entry) ≡ sheetOf rows → now (sheet .exit) ≡ sheetOf (filedAt n place f rows)) ⌝ }
+// Files figures in the row at a place below n, counted from the row `first` on. Where there are none the row is as it was.
+fn file_at(sheet: &mut [u8], first: usize, n: usize, place: usize, f: Figures)
+    requires { ⌜ rowSize * (first + n) ≤ length (now sheet) ⌝ }
+    ensures { λ _. ⌜ ((rows : List FigureRow) → now (sheet .entry) ≡ sheetOf rows → now (sheet .exit) ≡ sheetOf (filedAt first n place f rows)) ⌝ }
 {
     if f.count == 0 {
         return;
@@ -102,28 +114,30 @@ fn file_at(sheet: &mut [u8], n: usize, place: usize, f: Figures)
     if n <= place {
         return;
     }
-    image_figures::file(sheet, place, f);
+    image_figures::file(sheet, first + place, f);
 }
 
-// Files the figures of each entry in the row of the lease that it names: the places are those of the leases, or n. The option is
-// read once more, as only an accepted take has a use for figures.
-fn file_named(figures: &mut [u8], option: &[u8], places: &[u16], n: usize)
-    requires { ⌜ rowSize * n ≤ length (now figures) ⌝ }
-    ensures { λ _. ⌜ ((time client : ℕ) (xs : List Lease) (es : List Entry) (rs : List FigureRow) → ToFile (now (option .entry)) (now (places .entry)) (now (figures .entry)) n time client xs es rs
-        → now (figures .exit) ≡ sheetOf (withEach (filing time client es) xs rs)) ⌝ }
+// Files the figures of each entry in the row of the lease that it names: the places are those of the leases, or n, counted from
+// the row `first` on. The option is read once more, as only an accepted take has a use for figures.
+fn file_named(figures: &mut [u8], option: &[u8], places: &[u16], first: usize, n: usize)
+    requires { ⌜ rowSize * (first + n) ≤ length (now figures) ⌝ }
+    ensures { λ _. ⌜ ((time client : ℕ) (xs : List Lease) (es : List Entry) (before rs : List FigureRow)
+        → ToFile (now (option .entry)) (now (places .entry)) (now (figures .entry)) first n time client xs es before rs
+        → now (figures .exit) ≡ sheetOf (before ++ withEach (filing time client es) xs rs)) ⌝ }
 {
     let mut entries = call_entries::first_entries();
     let mut k: usize = 0;
     while k < places.len() {
         let read = call_entries::read_figures(option, entries);
         let place = wide(places[k]);
-        file_at(figures, n, place, read.figures);
+        file_at(figures, first, n, place, read.figures);
         entries = read.next;
         k = k + 1;
     }
 }
 
-// Row 11, and what is found, once every row before it has passed. The columns have the networks and lengths of the entries.
+// Row 11, and what is found, once every row before it has passed; option 118 still has to follow in the reply. The columns have
+// the networks and lengths of the entries.
 fn renew_found(
     image: &mut [u8],
     image_bytes: &mut usize,
@@ -135,10 +149,12 @@ fn renew_found(
     reply: &mut [u8],
 ) -> Answer
     requires { ⌜ TakeSized (lent (now image) (now «image_bytes») (now figures)) renewal (now reply) (now networks) (now lengths) ⌝ }
-    ensures { λ r. ⌜ ((client time : ℕ) (summary : ImageSummary) → renewal ≡ renewalOf client time summary
-        → Taking (lent (now (image .entry)) (now («image_bytes» .entry)) (now (figures .entry))) time (call client (now (option .entry)) (now (reply .entry))) summary (now (networks .entry)) (now (lengths .entry))
-        → result r (lent (now (image .exit)) (now («image_bytes» .exit)) (now (figures .exit))) (now (reply .exit))
-        ≡ takeImage (lent (now (image .entry)) (now («image_bytes» .entry)) (now (figures .entry))) time (call client (now (option .entry)) (now (reply .entry)))) ⌝ }
+    ensures { λ r. ⌜ r .bytes ≤ longestOption ⌝ }
+    ensures { λ r. ⌜ ((client time : ℕ) (summary : ImageSummary) (ground : Ground) (selection : Option (List ℕ)) → renewal ≡ renewalOf client time summary ground
+        → Taking (lent (now (image .entry)) (now («image_bytes» .entry)) (now (figures .entry))) time (callWith client (now (option .entry)) selection (now (reply .entry)))
+        summary ground (now (networks .entry)) (now (lengths .entry))
+        → returning selection (result r (lent (now (image .exit)) (now («image_bytes» .exit)) (now (figures .exit))) (now (reply .exit)))
+        ≡ takeImage (lent (now (image .entry)) (now («image_bytes» .entry)) (now (figures .entry))) time (callWith client (now (option .entry)) selection (now (reply .entry)))) ⌝ }
 {
     let mut places = [0u16; option_scan::MOST_ENTRIES];
     let shown = renew_named(image, renewal, networks, lengths, &mut places, reply);
@@ -146,9 +162,16 @@ fn renew_found(
         return call_spec::refused(11, 0);
     }
     let reply_bytes = option_reply::put_heads(reply, shown, false, false);
+    let first = renewal.first;
+    file_named(
+        figures,
+        option,
+        &places[..networks.len()],
+        first,
+        renewal.leases,
+    );
     let from = renewal.from;
     let n = renewal.n;
-    file_named(figures, option, &places[..networks.len()], n);
     let expired = renewal.expired;
     let time = renewal.expiry.time;
     call_rows::strike_expired(figures, image, from, n, expired, time);
@@ -161,19 +184,27 @@ pub fn take(
     image_bytes: &mut usize,
     figures: &mut [u8],
     counts: &mut Counts,
-    client: u32,
-    time: u32,
+    message: Message,
     option: &[u8],
+    selection: &[u8],
     reply: &mut [u8],
 ) -> Answer
     ensures { λ r. ⌜ result r (bookOf (now (image .exit)) (now («image_bytes» .exit)) (now (figures .exit)) (now (counts .exit))) (now (reply .exit))
-        ≡ takeBook (bookOf (now (image .entry)) (now («image_bytes» .entry)) (now (figures .entry)) (now (counts .entry))) time (call client (now (option .entry)) (now (reply .entry))) ⌝ }
+        ≡ takeBook (bookOf (now (image .entry)) (now («image_bytes» .entry)) (now (figures .entry)) (now (counts .entry))) (message .time)
+        (callWith (message .client) (now (option .entry)) (carriedIf (message .selected) (now (selection .entry))) (now (reply .entry))) ⌝ }
 {
     let bytes = *image_bytes;
-    let room = reply.len();
-    let admission = call_rows::admit(image, bytes, figures, true, counts, room, client, time);
+    let client = message.client;
+    let time = message.time;
+    let selected = message.selected;
+    let short = call_rows::too_short(reply.len(), selected);
+    let admission = call_rows::admit(image, bytes, figures, true, counts, short, client, time);
     if admission.number != 0 {
         return call_spec::refused(admission.number, 0);
+    }
+    let chosen = call_rows::read_selection(selected, selection);
+    if chosen.bad {
+        return call_spec::refused(6, 0);
     }
     let mut networks = [0u32; option_scan::MOST_ENTRIES];
     let mut lengths = [0u8; option_scan::MOST_ENTRIES];
@@ -184,7 +215,11 @@ pub fn take(
     }
     let n = read.count;
     let summary = admission.summary;
-    let renewal = renewal_of(summary, client, time);
+    let ground = call_ground::ground_of(image, summary, selected, chosen.address);
+    if ground.pools == 0 {
+        return call_spec::refused(19, 0);
+    }
+    let renewal = renewal_of(summary, ground, client, time);
     let answer = renew_found(
         image,
         image_bytes,
@@ -205,5 +240,5 @@ pub fn take(
         summary.pools,
         counts,
     );
-    answer
+    call_ground::return_selection(answer, selected, selection, reply)
 }

@@ -2,6 +2,7 @@
 -- Assumes nothing.
 use Prim.Native.Nat.{ℕ, _-_, _≤_}
 use mathlib.Core.Path.{_≡_, refl, sym, subst}
+use mathlib.Core.Bool.{Bool}
 use mathlib.Core.List.{List, [], append-nil}
 use native.Mathlib.Omega.{arith}
 use lib.ListN.{length, take, drop}
@@ -9,7 +10,7 @@ use Rattle.text.specs.Wrote.{Wrote}
 use Rattle.call_spec.specs.Books.{Book}
 use Rattle.console_words.specs.Prefixes.{prefixesOf}
 use Rattle.console_script.specs.declared.Command.{Command}
-use Rattle.console_script.specs.Commands.{CommandValue, mostPrefixes, withPrefixes, valueIn, read, write, buffer, nothing, bad}
+use Rattle.console_script.specs.Commands.{CommandValue, mostPrefixes, withPrefixes, valueIn, read, write, buffer, selection, nothing, bad}
 use Rattle.console_lines.specs.Lines.{okLine, errorLine}
 use Rattle.console_commands.specs.Commands.{Given, Ran, Read, WroteOption}
 use Rattle.console_commands.proofs.CommandLaws.{appended, rest-of}
@@ -35,6 +36,9 @@ module _ (g : Given) (old : List ℕ) (at : ℕ) where
 
   pub ok-ran : (n : ℕ) (new : List ℕ) (next : ℕ) → next ≤ length old → Wrote old at okLine new next → Ran (buffer n) g (g .book) old at new next
   ok-ran n new next within w = record { text = okLine; does = (refl, refl); wrote = appended old at okLine new next within w }
+
+  pub selection-ran : (on : Bool) (new : List ℕ) (next : ℕ) → next ≤ length old → Wrote old at okLine new next → Ran (selection on) g (g .book) old at new next
+  selection-ran on new next within w = record { text = okLine; does = (refl, refl); wrote = appended old at okLine new next within w }
 
   pub nothing-ran : Ran nothing g (g .book) old at old at
   nothing-ran = record { text = []; does = (refl, refl); wrote = record { output = sym (append-nil (take at old)); place = omega arith } }

@@ -6,7 +6,7 @@ use mathlib.Core.List.{List, [], _++_}
 use lib.ListN.{length, drop}
 use Rattle.text.specs.Ascii.{ascii}
 use Rattle.call_spec.specs.Books.{Book}
-use Rattle.console_script.specs.Commands.{CommandValue, call, mark, «open», load, save, sheet, read, write, figures, setFigures, counts, setCounts, whole, buffer, nothing, bad}
+use Rattle.console_script.specs.Commands.{CommandValue, call, mark, «open», load, save, sheet, read, write, figures, setFigures, counts, setCounts, whole, buffer, selection, nothing, bad}
 use Rattle.console_script.specs.Parsing.{parseLine}
 use Rattle.console_session.specs.declared.State.{State}
 use Rattle.console_session.specs.States.{nextLine}
@@ -14,7 +14,7 @@ use Rattle.console_commands.specs.Commands.{given, Does, Appended}
 
 -- "the reply buffer's length from now on"
 abbrev pub replyAfter : CommandValue → ℕ → ℕ
-replyAfter (call x client time option) old = old
+replyAfter (call x client time option carried) old = old
 replyAfter (mark time network len d) old = old
 replyAfter («open» term len start networks lengths) old = old
 replyAfter (load image) old = old
@@ -28,12 +28,33 @@ replyAfter counts old = old
 replyAfter (setCounts octets) old = old
 replyAfter (whole len) old = old
 replyAfter (buffer n) old = n
+replyAfter (selection on) old = old
 replyAfter nothing old = old
 replyAfter bad old = old
 
+-- "from now on the caller says with each call that option 118 is enabled, or not"
+abbrev pub selectedAfter : CommandValue → Bool → Bool
+selectedAfter (call x client time option carried) old = old
+selectedAfter (mark time network len d) old = old
+selectedAfter («open» term len start networks lengths) old = old
+selectedAfter (load image) old = old
+selectedAfter (save form) old = old
+selectedAfter sheet old = old
+selectedAfter (read octets) old = old
+selectedAfter (write words) old = old
+selectedAfter figures old = old
+selectedAfter (setFigures octets) old = old
+selectedAfter counts old = old
+selectedAfter (setCounts octets) old = old
+selectedAfter (whole len) old = old
+selectedAfter (buffer n) old = old
+selectedAfter (selection on) old = on
+selectedAfter nothing old = old
+selectedAfter bad old = old
+
 -- "A line with no word, or whose first word begins with `#`, is passed over and writes nothing."
 abbrev pub passedOver? : CommandValue → Bool
-passedOver? (call x client time option) = false
+passedOver? (call x client time option carried) = false
 passedOver? (mark time network len d) = false
 passedOver? («open» term len start networks lengths) = false
 passedOver? (load image) = false
@@ -47,6 +68,7 @@ passedOver? counts = false
 passedOver? (setCounts octets) = false
 passedOver? (whole len) = false
 passedOver? (buffer n) = false
+passedOver? (selection on) = false
 passedOver? nothing = true
 passedOver? bad = false
 
@@ -59,12 +81,13 @@ echoText false line = []
 abbrev pub echoOf : State → List ℕ → List ℕ
 echoOf s line = echoText (s .echo && not (passedOver? (parseLine line))) line
 
--- A line has run from the state s: what its command does with the state's reply length and the next line's number, the output that was there with the
+-- A line has run from the state s: what its command does with the state's reply length and its word on option 118 and the next line's number, the output that was there with the
 -- echo and the answer's text behind it, and the state that is left.
 pub record RanLine (s : State) (line : List ℕ) (book : Book) (old : List ℕ) (r : State) (book₁ : Book) (new : List ℕ) : Type 0 where
   pub text : List ℕ
-  pub does : Does (parseLine line) (given book (s .«reply_length») (nextLine (s .lines)) (drop (s .at + length (echoOf s line)) old)) book₁ text
+  pub does : Does (parseLine line) (given book (s .«reply_length») (s .selected) (nextLine (s .lines)) (drop (s .at + length (echoOf s line)) old)) book₁ text
   pub wrote : Appended old (s .at) (echoOf s line ++ text) new (r .at)
   pub counted : r .lines ≡ nextLine (s .lines)
   pub reply : r .«reply_length» ≡ replyAfter (parseLine line) (s .«reply_length»)
+  pub selects : r .selected ≡ selectedAfter (parseLine line) (s .selected)
   pub echoes : r .echo ≡ s .echo

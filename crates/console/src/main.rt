@@ -18,9 +18,9 @@ ghost use Rattle.console_session.specs.States.{AnswerFits, LineFits, OutputHold
 ghost use Rattle.console_script.specs.Commands.{Within, valueIn, longestReply};
 ghost use Rattle.console_commands.specs.Commands.{given, Ran};
 ghost use Rattle.console.specs.Runs.{RanLine};
-ghost use Rattle.console.specs.InnerRuns.{Echoed, Buffered};
+ghost use Rattle.console.specs.InnerRuns.{Echoed, Set};
 
-const HELP: [u8; 826] = *b"usage: console [--echo] [FILE]
+const HELP: [u8; 896] = *b"usage: console [--echo] [FILE]
 
 Runs the commands in FILE, one to a line, and prints what each call answers. Without FILE,
 or where it is -, the commands are read from standard input.
@@ -31,10 +31,11 @@ or where it is -, the commands are read from standard input.
   --version  print the version
 
 Commands:
-  open TERM DEFAULT START PREFIX..    ask, take, list, return STATION NOW OPTION
-  mark NOW PREFIX D                   save [FORM], load IMAGE, sheet
-  read OPTION, write ITEM..           figures [SHEET], buffer N
-  whole LENGTH                        counts [COUNTS]
+  open TERM DEFAULT START PREFIX..    ask, take STATION NOW OPTION [HEX]
+  mark NOW PREFIX D                   list, return STATION NOW OPTION
+  read OPTION, write ITEM..           save [FORM], load IMAGE, sheet
+  whole LENGTH                        figures [SHEET], counts [COUNTS]
+  buffer N                            selection on|off
 
 A line that is no command answers 'error line N', and standard error has the reason. What
 cannot be read or written is told there too. The exit status is always 0.
@@ -61,17 +62,20 @@ fn run(
     requires { ⌜ length (now figures) ≡ figuresSize ⌝ }
     ensures { λ r. ⌜ r ≤ length (now (out .entry)) ⌝ }
     ensures { λ r. ⌜ Ran (valueIn (now (line .entry)) command)
-        (given (bookOf (now (image .entry)) (now («image_bytes» .entry)) (now (figures .entry)) (now (counts .entry))) (s .«reply_length») (s .lines) (drop (s .at) (now (out .entry))))
+        (given (bookOf (now (image .entry)) (now («image_bytes» .entry)) (now (figures .entry)) (now (counts .entry))) (s .«reply_length») (s .selected) (s .lines) (drop (s .at) (now (out .entry))))
         (bookOf (now (image .exit)) (now («image_bytes» .exit)) (now (figures .exit)) (now (counts .exit))) (now (out .entry)) (s .at) (now (out .exit)) r ⌝ }
 {
     match command {
         Command::Call(c) => {
-            let from = c.from;
-            let to = c.to;
+            let from = c.message.from;
+            let to = c.message.to;
+            let selection_from = c.message.selection_from;
+            let selection_to = c.message.selection_to;
             console_commands::call(
                 s,
                 c,
                 &line[from..to],
+                &line[selection_from..selection_to],
                 image,
                 image_bytes,
                 figures,
@@ -125,17 +129,21 @@ fn run(
             console_commands::whole(s, c.length, image, *image_bytes, counts, out)
         }
         Command::Buffer(_) => console_lines::ok(out, s.at),
+        Command::Selection(_) => console_lines::ok(out, s.at),
         Command::Nothing => s.at,
         Command::Bad => console_lines::error(out, s.at, s.lines),
     }
 }
 
-// The length of the reply buffer from now on.
-fn buffered(s: State, command: Command) -> State
-    ensures { λ r. ⌜ (r .at ≡ s .at) × (r .lines ≡ s .lines) × (r .echo ≡ s .echo) × Buffered command (s .«reply_length») (r .«reply_length») ⌝ }
+// The length of the reply buffer from now on, and whether option 118 is enabled.
+fn set(s: State, command: Command) -> State
+    ensures { λ r. ⌜ (r .at ≡ s .at) × (r .lines ≡ s .lines) × (r .echo ≡ s .echo) × Set command s r ⌝ }
 {
     if let Command::Buffer(c) = command {
         return console_session::with_reply_length(s, c.length);
+    }
+    if let Command::Selection(c) = command {
+        return console_session::with_selected(s, c.on);
     }
     s
 }
@@ -202,7 +210,7 @@ fn run_line(
         out,
     );
     explain(begun, end, kept, out);
-    buffered(console_session::with_output(begun, end), command)
+    set(console_session::with_output(begun, end), command)
 }
 
 // Runs the line if it is whole, unless the output has failed.

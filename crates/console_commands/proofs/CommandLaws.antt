@@ -3,7 +3,7 @@
 use Prim.Native.Nat.{ℕ, _+_, _-_, _≤_, _<_}
 use native.Mathlib.Omega.{arith}
 use mathlib.Core.Path.{_≡_, refl, sym, ap, ap₂, subst, _∙_}
-use mathlib.Core.Bool.{Bool, true, false, cond}
+use mathlib.Core.Bool.{Bool, true, false, cond, _&&_}
 use mathlib.Core.Option.{Option, none, some}
 use mathlib.Core.Logic.{inl, inr}
 use mathlib.Core.List.{List, [], _++_, append-nil}
@@ -14,10 +14,10 @@ use Rattle.lists.proofs.PutLaws.{put-fits}
 use Rattle.lists.proofs.DropLaws.{drop-end}
 use Rattle.text.specs.Wrote.{Wrote}
 use Rattle.ledger.specs.declared.Answer.{Answer}
-use Rattle.ledger.specs.Ledger.{Result, result}
+use Rattle.ledger.specs.Ledger.{Call, Result, result, callWith as messageWith}
 use Rattle.table.specs.Table.{sound}
 use Rattle.image.specs.Image.{fullImage, formNumbered}
-use Rattle.call_spec.specs.ImageCalls.{tableIn}
+use Rattle.call_spec.specs.ImageCalls.{tableIn, carriedIf}
 use Rattle.call_spec.specs.Books.{Book, bookOf, lentIn, openBook, saveBook}
 use Rattle.call_spec.specs.OnBooks.{GivenAlike}
 use Rattle.call_sheet.specs.SheetImage.{sheetImage}
@@ -32,7 +32,7 @@ use Rattle.console_lines.specs.Lines.{errorLine, refusedLine, doneLine, written
 use Rattle.console_write.specs.declared.Outcome.{Outcome}
 use Rattle.console_write.specs.declared.Outcome.the-variants as outcome
 use Rattle.console_write.specs.Writes.{Writes, WroteOne}
-use Rattle.console_commands.specs.Commands.{Given, callOn, callLine, savedLine, With, Done, Appended, Ran, WroteOption, sheetText, ofSound}
+use Rattle.console_commands.specs.Commands.{Given, enabled, callOn, callLine, savedLine, With, Done, Appended, Ran, WroteOption, sheetText, ofSound}
 use Rattle.console_commands.proofs.QueryLaws.{shown-text}
 
 -- OUTPUT
@@ -70,13 +70,23 @@ beside image bytes figures counts f alike a after same = ap (λ (q : Result Book
 pub done-does : (a : Answer) (h : Book) (q : Result Book) → result a h [] ≡ q → Done q h (doneLine a)
 done-does a h q same = record { leaves = ap (λ (r : Result Book). r .state) same; says = ap (λ (r : Result Book). doneLine (r .answer)) same }
 
+-- The option 118 of a line is that of its call where it is enabled.
+both-tests : (selected has : Bool) (bytes : List ℕ) → carriedIf (selected && has) bytes ≡ enabled selected (carriedIf has bytes)
+both-tests true has bytes = refl
+both-tests false has bytes = refl
+
+pub with-selection : (f : Call → Result Book) (client : ℕ) (option bytes reply : List ℕ) (b selected has : Bool) → b ≡ (selected && has)
+    → f (messageWith client option (carriedIf b bytes) reply) ≡ f (messageWith client option (enabled selected (carriedIf has bytes)) reply)
+with-selection f client option bytes reply b selected has e = ap (λ (o : Option (List ℕ)). f (messageWith client option o reply)) (ap (λ (x : Bool). carriedIf x bytes) e ∙ both-tests selected has bytes)
+
 module _ (g : Given) (a : Answer) (h : Book) (old : List ℕ) (at : ℕ) (new : List ℕ) (next : ℕ) (inside : next ≤ length old) where
-  pub call-ran : (x y : OptionCall) (client time : ℕ) (option reply after : List ℕ) → x ≡ y → length reply ≡ g .replyLength → result a h after ≡ callOn y (g .book) client time option reply
-      → Wrote old at (callLine y (result a h after)) new next → Ran (call x client time option) g h old at new next
-  call-ran x y client time option reply after e size same w =
+  pub call-ran : (x y : OptionCall) (client time : ℕ) (option : List ℕ) (carried : Option (List ℕ)) (reply after : List ℕ) → x ≡ y → length reply ≡ g .replyLength
+      → result a h after ≡ callOn y (g .book) (g .selected) client time option carried reply
+      → Wrote old at (callLine y (result a h after)) new next → Ran (call x client time option carried) g h old at new next
+  call-ran x y client time option carried reply after e size same w =
       record {
         text = callLine y (result a h after);
-        does = subst (λ (z : OptionCall). With (g .replyLength) (callOn z (g .book) client time option) (callLine z) h (callLine y (result a h after))) (sym e)
+        does = subst (λ (z : OptionCall). With (g .replyLength) (callOn z (g .book) (g .selected) client time option carried) (callLine z) h (callLine y (result a h after))) (sym e)
             (record { buffer = reply; size = size; leaves = ap (λ (q : Result Book). q .state) same; says = ap (callLine y) same });
         wrote = appended old at _ new next inside w;
       }

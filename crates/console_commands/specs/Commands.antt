@@ -2,14 +2,15 @@
 -- The book is the open book: the image in its buffer, with its length, and the figures sheet and the counts beside it.
 use Prim.Native.Nat.{ℕ, _+_}
 use mathlib.Core.Path.{_≡_}
-use mathlib.Core.Bool.{not, cond}
+use mathlib.Core.Bool.{Bool, not, cond}
 use mathlib.Core.Logic.{_⊎_}
+use mathlib.Core.Option.{Option, none}
 use mathlib.Core.List.{List, [], _++_}
 use lib.ListN.{length, take}
 use lib.Dec.{eqb}
 use Rattle.ledger.specs.declared.Answer.{Answer}
 use Rattle.ledger.specs.Ledger.{Result, firstOf, orElse, tableRows}
-use Rattle.ledger.specs.Ledger.{call as message}
+use Rattle.ledger.specs.Ledger.{call as message, callWith as messageWith}
 use Rattle.image_figures.specs.Sheets.{sheetRows}
 use Rattle.call_spec.specs.ImageCalls.{tableIn}
 use Rattle.call_spec.specs.Books.{Book, bookOf, stateInBook, askBook, takeBook, listBook, releaseBook, markBook, openBook, loadBook, saveBook, wholeBook}
@@ -17,7 +18,7 @@ use Rattle.image.specs.Image.{fullImage, formNumbered, usedPools}
 use Rattle.call_sheet.specs.SheetImage.{sheetImage}
 use Rattle.console_script.specs.declared.OptionCall.{OptionCall}
 use Rattle.console_script.specs.declared.OptionCall.the-variants.{Ask, Take, List as ListCall, Return}
-use Rattle.console_script.specs.Commands.{CommandValue, call, mark, «open», load, save, sheet, read, write, figures, setFigures, counts, setCounts, whole, buffer, nothing, bad}
+use Rattle.console_script.specs.Commands.{CommandValue, call, mark, «open», load, save, sheet, read, write, figures, setFigures, counts, setCounts, whole, buffer, selection, nothing, bad}
 use Rattle.console_script.specs.CountOctets.{countsIn}
 use Rattle.console_lines.specs.Lines.{okLine, errorLine, refusedLine, doneLine, countedLine, repliedLine, writtenLine}
 use Rattle.console_lines.specs.FigureLines.{figuresText}
@@ -25,19 +26,25 @@ use Rattle.console_lines.specs.CountLines.{countsText}
 use Rattle.console_write.specs.Writes.{writtenAs}
 use Rattle.option.specs.Writing.{Writing}
 
--- What a command is given beside its line: the book, the reply buffer's length, the number of its line, and what is left of the output.
+-- What a command is given beside its line: the book, the reply buffer's length, whether option 118 is enabled, the number of its line, and what is left of the
+-- output.
 pub record Given : Type 0 where
   pub book : Book
   pub replyLength : ℕ
+  pub selected : Bool
   pub line : ℕ
   pub room : List ℕ
 
--- "STATION NOW OPTION: the call, with the reply buffer"; return has none.
-abbrev pub callOn : OptionCall → Book → ℕ → ℕ → List ℕ → List ℕ → Result Book
-callOn Ask b client time option reply = askBook b time (message client option reply)
-callOn Take b client time option reply = takeBook b time (message client option reply)
-callOn ListCall b client time option reply = listBook b time (message client option reply)
-callOn Return b client time option reply = releaseBook b time (message client option [])
+-- The option 118 that came with a message, where it is enabled.
+abbrev pub enabled : Bool → Option (List ℕ) → Option (List ℕ)
+enabled selected carried = cond selected carried none
+
+-- "STATION NOW OPTION [HEX]: the call, with the reply buffer"; return has none. "`list` and `return` never have it."
+abbrev pub callOn : OptionCall → Book → Bool → ℕ → ℕ → List ℕ → Option (List ℕ) → List ℕ → Result Book
+callOn Ask b selected client time option carried reply = askBook b time (messageWith client option (enabled selected carried) reply)
+callOn Take b selected client time option carried reply = takeBook b time (messageWith client option (enabled selected carried) reply)
+callOn ListCall b selected client time option carried reply = listBook b time (message client option reply)
+callOn Return b selected client time option carried reply = releaseBook b time (message client option [])
 
 abbrev pub callLine : OptionCall → Result Book → List ℕ
 callLine Ask q = repliedLine (q .answer) (q .reply)
@@ -77,7 +84,7 @@ pub record Written (n : ℕ) (text : List ℕ) : Type 0 where
 
 -- What a command does. Of `read` nothing is said but that it leaves the book and all earlier output; of `write`, not which option its words make.
 abbrev pub Does : CommandValue → Given → Book → List ℕ → Type 0
-Does (call x client time option) g book text = With (g .replyLength) (callOn x (g .book) client time option) (callLine x) book text
+Does (call x client time option carried) g book text = With (g .replyLength) (callOn x (g .book) (g .selected) client time option carried) (callLine x) book text
 Does (mark time network len d) g book text = Done (markBook (g .book) time network len (not (eqb d 0))) book text
 Does («open» term len start networks lengths) g book text = Done (openBook (g .book) networks lengths term len start) book text
 Does (load image) g book text = Done (loadBook (g .book) image) book text
@@ -91,6 +98,7 @@ Does counts g book text = (book ≡ g .book) × (text ≡ ofSound (g .book) (cou
 Does (setCounts octets) g book text = (book ≡ record { lent = g .book .lent; counts = countsIn octets }) × (text ≡ okLine)
 Does (whole len) g book text = (book ≡ g .book) × (text ≡ countedLine (wholeBook (g .book) len))
 Does (buffer n) g book text = (book ≡ g .book) × (text ≡ okLine)
+Does (selection on) g book text = (book ≡ g .book) × (text ≡ okLine)
 Does nothing g book text = (book ≡ g .book) × (text ≡ [])
 Does bad g book text = (book ≡ g .book) × (text ≡ errorLine (g .line))
 
@@ -115,5 +123,5 @@ pub record WroteOption (line n : ℕ) (old : List ℕ) (at : ℕ) (new : List �
   pub says : (text ≡ errorLine line) ⊎ Written n text
   pub wrote : Appended old at text new next
 
-abbrev pub given : Book → ℕ → ℕ → List ℕ → Given
-given book n line room = record { book = book; replyLength = n; line = line; room = room }
+abbrev pub given : Book → ℕ → Bool → ℕ → List ℕ → Given
+given book n selected line room = record { book = book; replyLength = n; selected = selected; line = line; room = room }

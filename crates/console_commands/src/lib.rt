@@ -1,5 +1,6 @@
 // The commands of a script: each is its call with the arguments of its line, and the line of its answer in the output.
 use call_open::Terms;
+use call_spec::Message;
 use console_script::CallLine;
 use console_script::LONGEST_REPLY;
 use console_script::MarkLine;
@@ -11,10 +12,12 @@ use counts::Counts;
 use image::FULL_IMAGE;
 use image::HEAD;
 ghost use mathlib.Core.Path.{_≡_};
+ghost use mathlib.Core.Bool.{_&&_};
 ghost use Prim.Native.Nat.{ℕ, _≤_};
 ghost use lib.ListN.{length, drop};
 ghost use mathlib.Core.List.{List};
 ghost use Rattle.image_figures.specs.Sheets.{figuresSize};
+ghost use Rattle.call_spec.specs.ImageCalls.{carriedIf};
 ghost use Rattle.call_spec.specs.Books.{bookOf};
 ghost use Rattle.console_script.specs.Commands.{
   call as callValue,
@@ -43,11 +46,22 @@ const PREFIXES: usize = 16;
 // The reply buffer.
 const REPLY: usize = LONGEST_REPLY as usize;
 
-// ask, take, list, return: STATION NOW OPTION
+// Whether the call of a line carries option 118: it is enabled, and the line has one.
+fn carried(enabled: bool, has: bool) -> bool
+    ensures { λ r. ⌜ r ≡ (enabled && has) ⌝ }
+{
+    if enabled {
+        return has;
+    }
+    false
+}
+
+// ask, take, list, return: STATION NOW OPTION [HEX]
 pub fn call(
     s: State,
     c: CallLine,
     option: &[u8],
+    selection: &[u8],
     image: &mut [u8],
     image_bytes: &mut usize,
     figures: &mut [u8],
@@ -56,14 +70,19 @@ pub fn call(
 ) -> usize
     requires { ⌜ AnswerFits (s .at) (now out) × (s .«reply_length» ≤ longestReply) ⌝ }
     ensures { λ r. ⌜ r ≤ length (now (out .entry)) ⌝ }
-    ensures { λ r. ⌜ Ran (callValue (c .call) (c .client) (c .time) (now (option .entry)))
-        (given (bookOf (now (image .entry)) (now («image_bytes» .entry)) (now (figures .entry)) (now (counts .entry))) (s .«reply_length») (s .lines) (drop (s .at) (now (out .entry))))
+    ensures { λ r. ⌜ Ran (callValue (c .call) (c .client) (c .time) (now (option .entry)) (carriedIf (c .message .carries) (now (selection .entry))))
+        (given (bookOf (now (image .entry)) (now («image_bytes» .entry)) (now (figures .entry)) (now (counts .entry))) (s .«reply_length») (s .selected) (s .lines) (drop (s .at) (now (out .entry))))
         (bookOf (now (image .exit)) (now («image_bytes» .exit)) (now (figures .exit)) (now (counts .exit))) (now (out .entry)) (s .at) (now (out .exit)) r ⌝ }
 {
     let mut reply = [0u8; REPLY];
     let n = s.reply_length;
     let client = c.client;
     let time = c.time;
+    let message = Message {
+        client,
+        time,
+        selected: carried(s.selected, c.message.carries),
+    };
     let call = c.call;
     match call {
         OptionCall::Ask => {
@@ -72,9 +91,9 @@ pub fn call(
                 image_bytes,
                 figures,
                 counts,
-                client,
-                time,
+                message,
                 option,
+                selection,
                 &mut reply[0..n],
             );
             console_lines::replied(out, s.at, a, &reply[0..n])
@@ -85,9 +104,9 @@ pub fn call(
                 image_bytes,
                 figures,
                 counts,
-                client,
-                time,
+                message,
                 option,
+                selection,
                 &mut reply[0..n],
             );
             console_lines::replied(out, s.at, a, &reply[0..n])
@@ -132,7 +151,7 @@ pub fn mark(
     requires { ⌜ AnswerFits (s .at) (now out) ⌝ }
     ensures { λ r. ⌜ r ≤ length (now (out .entry)) ⌝ }
     ensures { λ r. ⌜ Ran (markValue (c .time) (c .network) (c .length) (c .deprecated))
-        (given (bookOf (now (image .entry)) (now («image_bytes» .entry)) (now (figures .entry)) (now (counts .entry))) (s .«reply_length») (s .lines) (drop (s .at) (now (out .entry))))
+        (given (bookOf (now (image .entry)) (now («image_bytes» .entry)) (now (figures .entry)) (now (counts .entry))) (s .«reply_length») (s .selected) (s .lines) (drop (s .at) (now (out .entry))))
         (bookOf (now (image .exit)) (now («image_bytes» .exit)) (now (figures .exit)) (now (counts .exit))) (now (out .entry)) (s .at) (now (out .exit)) r ⌝ }
 {
     let a = call_mark::mark(
@@ -162,7 +181,7 @@ pub fn open(
     requires { ⌜ AnswerFits (s .at) (now out) ⌝ }
     ensures { λ r. ⌜ r ≤ length (now (out .entry)) ⌝ }
     ensures { λ r. ⌜ Ran (withPrefixes (prefixesOf mostPrefixes (now (words .entry))) (openValue (c .term) (c .«default_length») (c .start)))
-        (given (bookOf (now (image .entry)) (now («image_bytes» .entry)) (now (figures .entry)) (now (counts .entry))) (s .«reply_length») (s .lines) (drop (s .at) (now (out .entry))))
+        (given (bookOf (now (image .entry)) (now («image_bytes» .entry)) (now (figures .entry)) (now (counts .entry))) (s .«reply_length») (s .selected) (s .lines) (drop (s .at) (now (out .entry))))
         (bookOf (now (image .exit)) (now («image_bytes» .exit)) (now (figures .exit)) (now (counts .exit))) (now (out .entry)) (s .at) (now (out .exit)) r ⌝ }
 {
     let mut networks = [0u32; PREFIXES];
@@ -202,7 +221,7 @@ pub fn load(
     requires { ⌜ AnswerFits (s .at) (now out) ⌝ }
     ensures { λ r. ⌜ r ≤ length (now (out .entry)) ⌝ }
     ensures { λ r. ⌜ Ran (loadValue (now (saved .entry)))
-        (given (bookOf (now (image .entry)) (now («image_bytes» .entry)) (now (figures .entry)) (now (counts .entry))) (s .«reply_length») (s .lines) (drop (s .at) (now (out .entry))))
+        (given (bookOf (now (image .entry)) (now («image_bytes» .entry)) (now (figures .entry)) (now (counts .entry))) (s .«reply_length») (s .selected) (s .lines) (drop (s .at) (now (out .entry))))
         (bookOf (now (image .exit)) (now («image_bytes» .exit)) (now (figures .exit)) (now (counts .exit))) (now (out .entry)) (s .at) (now (out .exit)) r ⌝ }
 {
     let a = call_load::load(image, image_bytes, figures, counts, saved);
@@ -221,7 +240,7 @@ pub fn save(
     requires { ⌜ AnswerFits (s .at) (now out) ⌝ }
     ensures { λ r. ⌜ r ≤ length (now (out .entry)) ⌝ }
     ensures { λ r. ⌜ ((figures : List ℕ) → Ran (saveValue form)
-        (given (bookOf (now (image .entry)) «image_bytes» figures (now (counts .entry))) (s .«reply_length») (s .lines) (drop (s .at) (now (out .entry))))
+        (given (bookOf (now (image .entry)) «image_bytes» figures (now (counts .entry))) (s .«reply_length») (s .selected) (s .lines) (drop (s .at) (now (out .entry))))
         (bookOf (now (image .entry)) «image_bytes» figures (now (counts .entry))) (now (out .entry)) (s .at) (now (out .exit)) r) ⌝ }
 {
     let mut buffer = [0u8; FULL_IMAGE];
@@ -240,7 +259,7 @@ pub fn sheet(s: State, image: &[u8], image_bytes: usize, counts: &Counts, out: &
     requires { ⌜ AnswerFits (s .at) (now out) ⌝ }
     ensures { λ r. ⌜ r ≤ length (now (out .entry)) ⌝ }
     ensures { λ r. ⌜ ((figures : List ℕ) → Ran sheetValue
-        (given (bookOf (now (image .entry)) «image_bytes» figures (now (counts .entry))) (s .«reply_length») (s .lines) (drop (s .at) (now (out .entry))))
+        (given (bookOf (now (image .entry)) «image_bytes» figures (now (counts .entry))) (s .«reply_length») (s .selected) (s .lines) (drop (s .at) (now (out .entry))))
         (bookOf (now (image .entry)) «image_bytes» figures (now (counts .entry))) (now (out .entry)) (s .at) (now (out .exit)) r) ⌝ }
 {
     let at = s.at;
@@ -262,7 +281,7 @@ pub fn counts(s: State, image: &[u8], image_bytes: usize, counts: &Counts, out: 
     requires { ⌜ AnswerFits (s .at) (now out) ⌝ }
     ensures { λ r. ⌜ r ≤ length (now (out .entry)) ⌝ }
     ensures { λ r. ⌜ ((figures : List ℕ) → Ran countsValue
-        (given (bookOf (now (image .entry)) «image_bytes» figures (now (counts .entry))) (s .«reply_length») (s .lines) (drop (s .at) (now (out .entry))))
+        (given (bookOf (now (image .entry)) «image_bytes» figures (now (counts .entry))) (s .«reply_length») (s .selected) (s .lines) (drop (s .at) (now (out .entry))))
         (bookOf (now (image .entry)) «image_bytes» figures (now (counts .entry))) (now (out .entry)) (s .at) (now (out .exit)) r) ⌝ }
 {
     let a = call_query::check(image, image_bytes, counts);
@@ -284,7 +303,7 @@ pub fn whole(
     requires { ⌜ AnswerFits (s .at) (now out) ⌝ }
     ensures { λ r. ⌜ r ≤ length (now (out .entry)) ⌝ }
     ensures { λ r. ⌜ ((figures : List ℕ) → Ran (wholeValue len)
-        (given (bookOf (now (image .entry)) «image_bytes» figures (now (counts .entry))) (s .«reply_length») (s .lines) (drop (s .at) (now (out .entry))))
+        (given (bookOf (now (image .entry)) «image_bytes» figures (now (counts .entry))) (s .«reply_length») (s .selected) (s .lines) (drop (s .at) (now (out .entry))))
         (bookOf (now (image .entry)) «image_bytes» figures (now (counts .entry))) (now (out .entry)) (s .at) (now (out .exit)) r) ⌝ }
 {
     let a = call_query::whole(image, image_bytes, counts, len);
@@ -321,7 +340,7 @@ pub fn figures(s: State, sheet: &[u8], out: &mut [u8]) -> usize
     requires { ⌜ AnswerFits (s .at) (now out) × (length (now sheet) ≡ figuresSize) ⌝ }
     ensures { λ r. ⌜ r ≤ length (now (out .entry)) ⌝ }
     ensures { λ r. ⌜ ((image : List ℕ) (bytes : ℕ) (counts : List (List ℕ)) → Ran figuresValue
-        (given (bookOf image bytes (now (sheet .entry)) counts) (s .«reply_length») (s .lines) (drop (s .at) (now (out .entry))))
+        (given (bookOf image bytes (now (sheet .entry)) counts) (s .«reply_length») (s .selected) (s .lines) (drop (s .at) (now (out .entry))))
         (bookOf image bytes (now (sheet .entry)) counts) (now (out .entry)) (s .at) (now (out .exit)) r) ⌝ }
 {
     console_lines::figures_sheet(out, s.at, sheet)
@@ -332,7 +351,7 @@ pub fn set_figures(s: State, octets: &[u8], sheet: &mut [u8], out: &mut [u8]) ->
     requires { ⌜ AnswerFits (s .at) (now out) × (length (now octets) ≡ figuresSize) × (length (now sheet) ≡ figuresSize) ⌝ }
     ensures { λ r. ⌜ r ≤ length (now (out .entry)) ⌝ }
     ensures { λ r. ⌜ ((image : List ℕ) (bytes : ℕ) (counts : List (List ℕ)) → Ran (setFiguresValue (now (octets .entry)))
-        (given (bookOf image bytes (now (sheet .entry)) counts) (s .«reply_length») (s .lines) (drop (s .at) (now (out .entry))))
+        (given (bookOf image bytes (now (sheet .entry)) counts) (s .«reply_length») (s .selected) (s .lines) (drop (s .at) (now (out .entry))))
         (bookOf image bytes (now (sheet .exit)) counts) (now (out .entry)) (s .at) (now (out .exit)) r) ⌝ }
 {
     bytes::copy(octets, sheet);
@@ -344,7 +363,7 @@ pub fn set_counts(s: State, octets: &[u8], counts: &mut Counts, out: &mut [u8]) 
     requires { ⌜ AnswerFits (s .at) (now out) × (length (now octets) ≡ countsSize) ⌝ }
     ensures { λ r. ⌜ r ≤ length (now (out .entry)) ⌝ }
     ensures { λ r. ⌜ ((image : List ℕ) (bytes : ℕ) (figures : List ℕ) → Ran (setCountsValue (now (octets .entry)))
-        (given (bookOf image bytes figures (now (counts .entry))) (s .«reply_length») (s .lines) (drop (s .at) (now (out .entry))))
+        (given (bookOf image bytes figures (now (counts .entry))) (s .«reply_length») (s .selected) (s .lines) (drop (s .at) (now (out .entry))))
         (bookOf image bytes figures (now (counts .exit))) (now (out .entry)) (s .at) (now (out .exit)) r) ⌝ }
 {
     *counts = console_script::counts_in(octets);

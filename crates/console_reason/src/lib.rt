@@ -3,6 +3,8 @@ use console_script::COUNTS;
 use console_script::LONGEST;
 use console_script::LONGEST_REPLY;
 use console_script::Name;
+use console_script::OptionCall;
+use console_script::Switch;
 use console_words::Number;
 use console_words::PrefixWord;
 use console_write::FiguresWord;
@@ -40,7 +42,7 @@ enum Fault {
 }
 
 // KINDS. What a word should be is told by a letter:
-// n a number, b a number below 256, r a length of the reply buffer, f 0 or 1, v the form of a saved book, p a prefix, a an address, x octets, t those of a figures sheet, u those of counts;
+// n a number, b a number below 256, r a length of the reply buffer, f 0 or 1, v the form of a saved book, o on or off, p a prefix, a an address, x octets, t those of a figures sheet, u those of counts;
 // of `write` h, i, c, s and d a bit behind its key, l `prefix=` and a length, g `figures=` and figures, w a word that begins an item, e an entry in its place.
 
 fn is_number(n: Number) -> bool {
@@ -55,6 +57,13 @@ fn is_at_most(word: &[u8], most: u32) -> bool {
     match console_words::read_number(word) {
         Number::Of(n) => n <= most,
         Number::Bad => false,
+    }
+}
+
+fn is_switch(word: &[u8]) -> bool {
+    match console_script::read_switch(word) {
+        Switch::Of(_) => true,
+        Switch::Bad => false,
     }
 }
 
@@ -135,6 +144,7 @@ fn is_of(kind: u8, word: &[u8]) -> bool {
         b'r' => is_at_most(word, LONGEST_REPLY),
         b'f' => is_number(console_words::read_flag(word)),
         b'v' => is_number(console_script::read_form(word)),
+        b'o' => is_switch(word),
         b'p' => is_prefix(word),
         b'a' => is_number(console_words::read_network(word)),
         b'x' => is_octets(word),
@@ -259,13 +269,24 @@ fn write_fault(s: &[u8], from: usize) -> Fault
     items_fault(s, from)
 }
 
+// The words of a call: behind the option there may be another one.
+fn call_fault(call: OptionCall, s: &[u8], from: usize) -> Fault
+    requires { ⌜ from ≤ length (now s) ⌝ }
+    ensures { λ r. ⌜ Within from (length (now (s .entry))) r ⌝ }
+{
+    if console_script::carries(call) {
+        return line_fault(s, from, b"nnxx", 3);
+    }
+    line_fault(s, from, b"nnx", 3)
+}
+
 // The words of a command, behind its name.
 fn command_fault(name: Name, s: &[u8], from: usize) -> Fault
     requires { ⌜ from ≤ length (now s) ⌝ }
     ensures { λ r. ⌜ Within from (length (now (s .entry))) r ⌝ }
 {
     match name {
-        Name::Call(_) => line_fault(s, from, b"nnx", 3),
+        Name::Call(c) => call_fault(c, s, from),
         Name::Mark => line_fault(s, from, b"npf", 3),
         // Up to 16 prefixes.
         Name::Open => line_fault(s, from, b"nbnpppppppppppppppp", 3),
@@ -278,6 +299,7 @@ fn command_fault(name: Name, s: &[u8], from: usize) -> Fault
         Name::Counts => line_fault(s, from, b"u", 0),
         Name::Whole => line_fault(s, from, b"n", 1),
         Name::Buffer => line_fault(s, from, b"r", 1),
+        Name::Selection => line_fault(s, from, b"o", 1),
         Name::Other => Fault::None(from),
     }
 }
@@ -355,6 +377,7 @@ fn put_kind(out: &mut [u8], at: usize, kind: u8) -> usize
         b'r' => console_text::fill(out, at, b"a number up to %", &[LONGEST_REPLY]),
         b'f' => console_text::text(out, at, b"0 or 1"),
         b'v' => console_text::text(out, at, b"1 or 2"),
+        b'o' => console_text::text(out, at, b"on or off"),
         b'p' => console_text::text(out, at, b"a prefix A.B.C.D/L"),
         b'a' => console_text::text(out, at, b"an address A.B.C.D"),
         b'x' => console_text::text(out, at, b"hexadecimal digits, two for each byte, or -"),
@@ -408,13 +431,23 @@ fn put_fault(out: &mut [u8], at: usize, s: &[u8], f: Fault) -> usize
     }
 }
 
+fn put_call_form(out: &mut [u8], at: usize, call: OptionCall) -> usize
+    requires { ⌜ at + formMost ≤ length (now out) ⌝ }
+    ensures { λ r. ⌜ r ≤ at + formMost ⌝ }
+{
+    if console_script::carries(call) {
+        return console_text::text(out, at, b" STATION NOW OPTION [HEX])\n");
+    }
+    console_text::text(out, at, b" STATION NOW OPTION)\n")
+}
+
 // What follows the name of a command.
 fn put_form(out: &mut [u8], at: usize, name: Name) -> usize
     requires { ⌜ at + formMost ≤ length (now out) ⌝ }
     ensures { λ r. ⌜ r ≤ at + formMost ⌝ }
 {
     match name {
-        Name::Call(_) => console_text::text(out, at, b" STATION NOW OPTION)\n"),
+        Name::Call(c) => put_call_form(out, at, c),
         Name::Mark => console_text::text(out, at, b" NOW PREFIX D)\n"),
         Name::Open => console_text::text(out, at, b" TERM DEFAULT START PREFIX.., 16 at most)\n"),
         Name::Load => console_text::text(out, at, b" IMAGE)\n"),
@@ -426,6 +459,7 @@ fn put_form(out: &mut [u8], at: usize, name: Name) -> usize
         Name::Counts => console_text::text(out, at, b" alone, or COUNTS)\n"),
         Name::Whole => console_text::text(out, at, b" LENGTH)\n"),
         Name::Buffer => console_text::text(out, at, b" N)\n"),
+        Name::Selection => console_text::text(out, at, b" on|off)\n"),
         Name::Other => console_text::text(out, at, b")\n"),
     }
 }

@@ -1,3 +1,4 @@
 pub mod NameLaws
 pub mod LineLaws
+mod MessageLaws
 mod CountOctetLaws

@@ -22,8 +22,9 @@ use Rattle.console_words.specs.Prefixes.{prefixOf, prefixesOf, NextPrefix}
 use Rattle.console_words.specs.Octets.{lastOctets, octetsIn}
 use Rattle.console_script.specs.declared.OptionCall.{OptionCall}
 use Rattle.console_script.specs.declared.Name.{Name}
-use Rattle.console_script.specs.Commands.{CommandValue, call, mark, «open», load, save, sheet, read, whole, buffer, nothing, bad, longestLine, longestReply, mostPrefixes, withPrefixes}
-use Rattle.console_script.specs.Parsing.{withNumber, withOctets, ofSize, aloneOr, atEnd, nameOf, parseCall, parseMark, parseOpen, formOf, parseLoad, parseSave, parseRead, parseWhole, parseBuffer, parseSheet, parseWords, parseLine, unreturned}
+use Rattle.console_script.specs.declared.Switch.the-variants as switch
+use Rattle.console_script.specs.Commands.{CommandValue, call, mark, «open», load, save, sheet, read, whole, buffer, selection, nothing, bad, Message, longestLine, longestReply, mostPrefixes, withPrefixes}
+use Rattle.console_script.specs.Parsing.{withNumber, withOctets, withMessage, messageOf, switchOf, ofSize, aloneOr, atEnd, nameOf, parseCall, parseMark, parseOpen, formOf, parseLoad, parseSave, parseRead, parseWhole, parseBuffer, parseSelection, parseSheet, parseWords, parseLine, unreturned}
 
 -- What the next word spells, where xs is left of the line.
 pub spells : (spelt : List ℕ → Number) (s : List ℕ) (from : ℕ) (r : NumberAt) (xs : List ℕ) (n : Number) → NextNumber spelt s from r → drop from s ≡ xs → r .number ≡ n → spelt (firstWord xs) ≡ n
@@ -41,7 +42,7 @@ octets-good good s start end xs e g = sym e ∙ ap (λ (b : Bool). octetsIn b s 
 pub octets-bad : (good : Bool) (s : List ℕ) (start end : ℕ) (xs : List ℕ) → octetsIn good s start end ≡ lastOctets xs → good ≡ false → lastOctets xs ≡ none
 octets-bad good s start end xs e g = sym e ∙ ap (λ (b : Bool). octetsIn b s start end) g
 
--- STATION NOW OPTION
+-- STATION NOW OPTION [HEX]
 module _ (c : OptionCall) (xs : List ℕ) where
   pub call-no-client : numberOf (firstWord xs) ≡ number.Bad → bad ≡ parseCall c xs
   unfolding parseCall
@@ -53,13 +54,13 @@ module _ (c : OptionCall) (xs : List ℕ) where
     call-no-time e = rw (e₁, e) refl
 
     module _ (time : ℕ) (e₂ : numberOf (firstWord (afterWord xs)) ≡ number.Of time) where
-      pub call-no-option : lastOctets (afterWord (afterWord xs)) ≡ none → bad ≡ parseCall c xs
+      pub call-no-message : messageOf c (afterWord (afterWord xs)) ≡ none → bad ≡ parseCall c xs
       unfolding parseCall
-      call-no-option e = rw (e₁, e₂) (sym (ap (λ (o : Option (List ℕ)). withOctets o (λ option. call c client time option)) e))
+      call-no-message e = rw (e₁, e₂) (sym (ap (λ (o : Option Message). withMessage o (λ option carried. call c client time option carried)) e))
 
-      pub call-of : (option : List ℕ) → lastOctets (afterWord (afterWord xs)) ≡ some option → call c client time option ≡ parseCall c xs
+      pub call-of : (option : List ℕ) (carried : Option (List ℕ)) → messageOf c (afterWord (afterWord xs)) ≡ some (option, carried) → call c client time option carried ≡ parseCall c xs
       unfolding parseCall
-      call-of option e = rw (e₁, e₂) (sym (ap (λ (o : Option (List ℕ)). withOctets o (λ l. call c client time l)) e))
+      call-of option carried e = rw (e₁, e₂) (sym (ap (λ (o : Option Message). withMessage o (λ l m. call c client time l m)) e))
 
 -- NOW PREFIX D
 module _ (xs : List ℕ) where
@@ -214,6 +215,21 @@ module _ (xs : List ℕ) where
       pub buffer-of : last? (afterWord xs) ≡ true → buffer n ≡ parseBuffer xs
       unfolding parseBuffer
       buffer-of e = rw (e₁, le-ltb longestReply n short) (sym (ap (λ (b : Bool). cond b (buffer n) bad) e))
+
+-- on or off
+module _ (xs : List ℕ) where
+  pub selection-no-switch : switchOf (firstWord xs) ≡ switch.Bad → bad ≡ parseSelection xs
+  unfolding parseSelection
+  selection-no-switch e = rw e refl
+
+  module _ (on : Bool) (e₁ : switchOf (firstWord xs) ≡ switch.Of on) where
+    pub selection-more : last? (afterWord xs) ≡ false → bad ≡ parseSelection xs
+    unfolding parseSelection
+    selection-more e = rw e₁ (sym (ap (λ (b : Bool). cond b (selection on) bad) e))
+
+    pub selection-of : last? (afterWord xs) ≡ true → selection on ≡ parseSelection xs
+    unfolding parseSelection
+    selection-of e = rw e₁ (sym (ap (λ (b : Bool). cond b (selection on) bad) e))
 
 -- Nothing more.
 pub sheet-more : (xs : List ℕ) → last? xs ≡ false → bad ≡ parseSheet xs

@@ -1,6 +1,7 @@
 -- Commands as values, and what a command of the code stands for: the octets and words at its places in the line.
 use Prim.Native.Nat.{ℕ, _-_, _*_, _≤_}
 use mathlib.Core.Path.{_≡_}
+use mathlib.Core.Bool.{Bool, cond}
 use mathlib.Core.Option.{Option, none, some}
 use mathlib.Core.List.{List}
 use lib.ListN.{drop}
@@ -9,12 +10,13 @@ use Rattle.image_figures.specs.Sheets.{figuresSize}
 use Rattle.counts.specs.Counts.{countedLengths}
 use Rattle.console_words.specs.Words.{between}
 use Rattle.console_words.specs.Prefixes.{Columns, prefixesOf}
-use Rattle.console_script.specs.declared.{OptionCall.OptionCall, Command.Command}
+use Rattle.console_words.specs.Octets.{octetsIn}
+use Rattle.console_script.specs.declared.{OptionCall.OptionCall, Command.Command, MessageWords.MessageWords}
 use Rattle.console_script.specs.declared.Command.the-variants as command
 
 pub data CommandValue : Type 0 where
-  -- ask, take, list and return: client, time, the option's octets
-  call : OptionCall → ℕ → ℕ → List ℕ → CommandValue
+  -- ask, take, list and return: client, time, the option's octets, and those of option 118, if the line has it
+  call : OptionCall → ℕ → ℕ → List ℕ → Option (List ℕ) → CommandValue
   -- time, network, length, D
   mark : ℕ → ℕ → ℕ → ℕ → CommandValue
   -- term, default length, start, and networks and lengths of the pools
@@ -38,6 +40,8 @@ pub data CommandValue : Type 0 where
   whole : ℕ → CommandValue
   -- the reply buffer's length
   buffer : ℕ → CommandValue
+  -- whether option 118 is enabled
+  selection : Bool → CommandValue
   -- no word, or a comment
   nothing : CommandValue
   -- "a line that is no command: it changes nothing"
@@ -63,8 +67,22 @@ abbrev pub withPrefixes : Option Columns → (List ℕ → List ℕ → CommandV
 withPrefixes none f = bad
 withPrefixes (some p) f = f (p .0) (p .1)
 
+-- The octets of an option 118 at their places in a line, if it has one.
+abbrev pub carriedIn : List ℕ → MessageWords → Option (List ℕ)
+carriedIn s m = octetsIn (m .carries) s (m .«selection_from») (m .«selection_to»)
+
+-- An option, and an option 118 if it comes with one.
+abbrev pub Message : Type 0
+Message = List ℕ × Option (List ℕ)
+
+abbrev pub messageIn : List ℕ → MessageWords → Option Message
+messageIn s m = cond (m .good) (some (between (m .from) (m .to) s, carriedIn s m)) none
+
+abbrev pub MessageWithin : ℕ → MessageWords → Type 0
+MessageWithin n m = (m .from ≤ m .to) × (m .to ≤ n) × (m .«selection_from» ≤ m .«selection_to») × (m .«selection_to» ≤ n)
+
 abbrev pub valueIn : List ℕ → Command → CommandValue
-valueIn s (command.Call c) = call (c .call) (c .client) (c .time) (between (c .from) (c .to) s)
+valueIn s (command.Call c) = call (c .call) (c .client) (c .time) (between (c .message .from) (c .message .to) s) (carriedIn s (c .message))
 valueIn s (command.Mark c) = mark (c .time) (c .network) (c .length) (c .deprecated)
 valueIn s (command.Open c) = withPrefixes (prefixesOf mostPrefixes (drop (c .from) s)) («open» (c .term) (c .«default_length») (c .start))
 valueIn s (command.Load c) = load (between (c .from) (c .to) s)
@@ -78,12 +96,13 @@ valueIn s command.Counts = counts
 valueIn s (command.SetCounts c) = setCounts (between (c .from) (c .to) s)
 valueIn s (command.Whole c) = whole (c .length)
 valueIn s (command.Buffer c) = buffer (c .length)
+valueIn s (command.Selection c) = selection (c .on)
 valueIn s command.Nothing = nothing
 valueIn s command.Bad = bad
 
 -- The places of a command are within a line of n bytes; a sheet has its size, and so have counts.
 abbrev pub Within : ℕ → Command → Type 0
-Within n (command.Call c) = (c .from ≤ c .to) × (c .to ≤ n)
+Within n (command.Call c) = MessageWithin n (c .message)
 Within n (command.Mark c) = Unit {0}
 Within n (command.Open c) = c .from ≤ n
 Within n (command.Load c) = (c .from ≤ c .to) × (c .to ≤ n)
@@ -97,5 +116,6 @@ Within n command.Counts = Unit {0}
 Within n (command.SetCounts c) = (c .from ≤ c .to) × (c .to ≤ n) × (c .to - c .from ≡ countsSize)
 Within n (command.Whole c) = Unit {0}
 Within n (command.Buffer c) = c .length ≤ longestReply
+Within n (command.Selection c) = Unit {0}
 Within n command.Nothing = Unit {0}
 Within n command.Bad = Unit {0}

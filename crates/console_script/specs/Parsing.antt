@@ -13,11 +13,12 @@ use Rattle.image_figures.specs.Sheets.{figuresSize}
 use Rattle.console_words.specs.Words.{firstWord, afterWord, empty?, last?}
 use Rattle.console_words.specs.Numbers.{numberOf, flagOf}
 use Rattle.console_words.specs.Prefixes.{prefixOf, prefixesOf}
-use Rattle.console_words.specs.Octets.{lastOctets}
-use Rattle.console_script.specs.declared.{OptionCall.OptionCall, Name.Name}
+use Rattle.console_words.specs.Octets.{octetsOf, lastOctets}
+use Rattle.console_script.specs.declared.{OptionCall.OptionCall, Name.Name, Switch.Switch}
 use Rattle.console_script.specs.declared.OptionCall.the-variants.{Ask, Take, List as ListCall, Return}
 use Rattle.console_script.specs.declared.Name.the-variants as name
-use Rattle.console_script.specs.Commands.{CommandValue, call, mark, «open», load, save, sheet, read, write, figures, setFigures, counts, setCounts, whole, buffer, nothing, bad, longestLine, longestReply, countsSize, mostPrefixes, withPrefixes}
+use Rattle.console_script.specs.declared.Switch.the-variants as switch
+use Rattle.console_script.specs.Commands.{CommandValue, call, mark, «open», load, save, sheet, read, write, figures, setFigures, counts, setCounts, whole, buffer, selection, nothing, bad, Message, longestLine, longestReply, countsSize, mostPrefixes, withPrefixes}
 
 -- NAMES
 
@@ -36,7 +37,8 @@ otherName w =
     (cond (same? w (ascii "figures")) name.Figures
     (cond (same? w (ascii "counts")) name.Counts
     (cond (same? w (ascii "whole")) name.Whole
-    (cond (same? w (ascii "buffer")) name.Buffer name.Other)))))
+    (cond (same? w (ascii "buffer")) name.Buffer
+    (cond (same? w (ascii "selection")) name.Selection name.Other))))))
 
 unfoldable pub nameOf : List ℕ → Name
 nameOf w =
@@ -68,12 +70,39 @@ withOctets (some octets) f = f octets
 abbrev pub atEnd : List ℕ → CommandValue → CommandValue
 atEnd xs v = cond (last? xs) v bad
 
--- STATION NOW OPTION
+abbrev pub withMessage : Option Message → (List ℕ → Option (List ℕ) → CommandValue) → CommandValue
+withMessage none f = bad
+withMessage (some m) f = f (m .0) (m .1)
+
+-- "`list` and `return` never have it."
+abbrev pub carries? : OptionCall → Bool
+carries? Ask = true
+carries? Take = true
+carries? ListCall = false
+carries? Return = false
+
+-- "Without HEX the message came without option 118; `-` is an option 118 of no bytes".
+abbrev pub alone : Option (List ℕ) → Option Message
+alone none = none
+alone (some option) = some (option, none)
+
+abbrev pub bothOctets : Option (List ℕ) → Option (List ℕ) → Option Message
+bothOctets (some option) (some carried) = some (option, some carried)
+bothOctets (some option) none = none
+bothOctets none o = none
+
+-- OPTION [HEX]
+unfoldable pub messageOf : OptionCall → List ℕ → Option Message
+messageOf c xs =
+    cond (last? (afterWord xs)) (alone (octetsOf (firstWord xs)))
+    (cond (carries? c) (bothOctets (octetsOf (firstWord xs)) (lastOctets (afterWord xs))) none)
+
+-- STATION NOW OPTION [HEX]
 unfoldable pub parseCall : OptionCall → List ℕ → CommandValue
 parseCall c xs =
     withNumber (numberOf (firstWord xs)) (λ client.
     withNumber (numberOf (firstWord (afterWord xs))) (λ time.
-    withOctets (lastOctets (afterWord (afterWord xs))) (λ option. call c client time option)))
+    withMessage (messageOf c (afterWord (afterWord xs))) (λ option carried. call c client time option carried)))
 
 -- NOW PREFIX D
 unfoldable pub parseMark : List ℕ → CommandValue
@@ -131,6 +160,18 @@ parseWhole xs = withNumber (numberOf (firstWord xs)) (λ n. atEnd (afterWord xs)
 unfoldable pub parseBuffer : List ℕ → CommandValue
 parseBuffer xs = withNumber (numberOf (firstWord xs)) (λ n. cond (ltb longestReply n) bad (atEnd (afterWord xs) (buffer n)))
 
+-- The word on or the word off.
+unfoldable pub switchOf : List ℕ → Switch
+switchOf w = cond (same? w (ascii "on")) (switch.Of true) (cond (same? w (ascii "off")) (switch.Of false) switch.Bad)
+
+abbrev pub withSwitch : Switch → (Bool → CommandValue) → CommandValue
+withSwitch (switch.Of on) f = f on
+withSwitch switch.Bad f = bad
+
+-- "`selection on`, `selection off`"
+unfoldable pub parseSelection : List ℕ → CommandValue
+parseSelection xs = withSwitch (switchOf (firstWord xs)) (λ on. atEnd (afterWord xs) (selection on))
+
 -- Nothing more.
 unfoldable pub parseSheet : List ℕ → CommandValue
 parseSheet xs = atEnd xs sheet
@@ -148,6 +189,7 @@ parseWords name.Figures xs = parseFigures xs
 parseWords name.Counts xs = parseCounts xs
 parseWords name.Whole xs = parseWhole xs
 parseWords name.Buffer xs = parseBuffer xs
+parseWords name.Selection xs = parseSelection xs
 parseWords name.Other xs = bad
 
 -- LINES

@@ -6,16 +6,21 @@ use counts::LENGTHS;
 use image_figures::FIGURES;
 use table::POOLS;
 ghost use mathlib.Core.Path.{_≡_};
+ghost use mathlib.Core.Bool.{false};
 ghost use Prim.Native.Nat.{_+_, _*_, _≤_};
 ghost use lib.ListN.{length, drop};
 ghost use Rattle.counts.specs.Counts.{countedLengths};
-ghost use Rattle.console_script.specs.Commands.{valueIn, Within, countsSize};
+ghost use Rattle.console_script.specs.Commands.{valueIn, messageIn, Within, MessageWithin, countsSize};
 ghost use Rattle.console_script.specs.CountOctets.{numbersIn, countsIn};
 ghost use Rattle.console_script.specs.Parsing.{
   same?,
   otherName,
   nameOf,
   formOf,
+  switchOf,
+  carries?,
+  messageOf,
+  bothOctets,
   parseCall,
   parseMark,
   parseOpen,
@@ -25,12 +30,15 @@ ghost use Rattle.console_script.specs.Parsing.{
   parseCounts,
   parseWhole,
   parseBuffer,
+  parseSelection,
   parseSave,
   parseSheet,
   parseWords,
   parseLine,
   unreturned,
 };
+ghost use Rattle.console_words.specs.Words.{between};
+ghost use Rattle.console_words.specs.Octets.{octetsOf, lastOctets};
 
 // The longest line, without its newline and a carriage return before that.
 pub const LONGEST: usize = 100000;
@@ -49,13 +57,22 @@ pub enum OptionCall {
     Return,
 }
 
-// STATION NOW OPTION: the option's octets stand in the line from a place to before another.
+// OPTION [HEX]: whether the words are that, where the option's octets stand in the line, whether it has an option 118, and where the octets of that stand.
+pub struct MessageWords {
+    pub good: bool,
+    pub from: usize,
+    pub to: usize,
+    pub carries: bool,
+    pub selection_from: usize,
+    pub selection_to: usize,
+}
+
+// STATION NOW OPTION [HEX]
 pub struct CallLine {
     pub call: OptionCall,
     pub client: u32,
     pub time: u32,
-    pub from: usize,
-    pub to: usize,
+    pub message: MessageWords,
 }
 
 // NOW PREFIX D
@@ -100,6 +117,16 @@ pub struct BufferLine {
     pub length: u32,
 }
 
+// on or off
+pub struct SelectionLine {
+    pub on: bool,
+}
+
+pub enum Switch {
+    Of(bool),
+    Bad,
+}
+
 // A line that has no word, or whose first word begins with `#`, has nothing to do; a bad one is no command.
 pub enum Command {
     Call(CallLine),
@@ -116,6 +143,7 @@ pub enum Command {
     SetCounts(OctetLine),
     Whole(WholeLine),
     Buffer(BufferLine),
+    Selection(SelectionLine),
     Nothing,
     Bad,
 }
@@ -134,6 +162,7 @@ pub enum Name {
     Counts,
     Whole,
     Buffer,
+    Selection,
     Other,
 }
 
@@ -167,6 +196,9 @@ fn other_name(word: &[u8]) -> Name
     }
     if is(word, b"buffer") {
         return Name::Buffer;
+    }
+    if is(word, b"selection") {
+        return Name::Selection;
     }
     Name::Other
 }
@@ -206,7 +238,79 @@ pub fn read_name(word: &[u8]) -> Name
 
 // LINES: what the words after a name spell.
 
-// STATION NOW OPTION
+// The calls whose message may come with an option 118.
+pub fn carries(call: OptionCall) -> bool
+    ensures { λ r. ⌜ r ≡ carries? call ⌝ }
+{
+    match call {
+        OptionCall::Ask => true,
+        OptionCall::Take => true,
+        OptionCall::List => false,
+        OptionCall::Return => false,
+    }
+}
+
+fn no_message() -> MessageWords
+    ensures { λ r. ⌜ (r .good ≡ false) × (r .from ≡ 0) × (r .to ≡ 0) × (r .«selection_from» ≡ 0) × (r .«selection_to» ≡ 0) ⌝ }
+{
+    MessageWords {
+        good: false,
+        from: 0,
+        to: 0,
+        carries: false,
+        selection_from: 0,
+        selection_to: 0,
+    }
+}
+
+// OPTION HEX, the first of which stands from a place to before another. The octets of each are written within its own part of the line.
+fn both_octets(s: &mut [u8], begin: usize, end: usize) -> MessageWords
+    requires { ⌜ (begin ≤ end) × (end ≤ length (now s)) ⌝ }
+    ensures { λ r. ⌜ MessageWithin (length (now (s .entry))) r ⌝ }
+    ensures { λ r. ⌜ messageIn (now (s .exit)) r ≡ bothOctets (octetsOf (between begin end (now (s .entry)))) (lastOctets (drop end (now (s .entry)))) ⌝ }
+{
+    let second = console_words::last_octets(&mut s[end..], 0);
+    if !second.good {
+        return no_message();
+    }
+    let first = console_words::read_octets(&mut s[0..end], begin, end);
+    MessageWords {
+        good: first.good,
+        from: first.start,
+        to: first.end,
+        carries: true,
+        selection_from: end + second.start,
+        selection_to: end + second.end,
+    }
+}
+
+// OPTION [HEX]
+fn message_words(call: OptionCall, s: &mut [u8], from: usize) -> MessageWords
+    requires { ⌜ from ≤ length (now s) ⌝ }
+    ensures { λ r. ⌜ MessageWithin (length (now (s .entry))) r ⌝ }
+    ensures { λ r. ⌜ messageIn (now (s .exit)) r ≡ messageOf call (drop from (now (s .entry))) ⌝ }
+{
+    let w = console_words::next_word(s, from);
+    let begin = w.start;
+    let end = w.end;
+    if console_words::ends(s, end) {
+        let octets = console_words::read_octets(s, begin, end);
+        return MessageWords {
+            good: octets.good,
+            from: octets.start,
+            to: octets.end,
+            carries: false,
+            selection_from: 0,
+            selection_to: 0,
+        };
+    }
+    if !carries(call) {
+        return no_message();
+    }
+    both_octets(s, begin, end)
+}
+
+// STATION NOW OPTION [HEX]
 fn call_line(call: OptionCall, s: &mut [u8], from: usize) -> Command
     requires { ⌜ from ≤ length (now s) ⌝ }
     ensures { λ r. ⌜ Within (length (now (s .entry))) r ⌝ }
@@ -222,16 +326,15 @@ fn call_line(call: OptionCall, s: &mut [u8], from: usize) -> Command
     let Number::Of(time) = now else {
         return Command::Bad;
     };
-    let octets = console_words::last_octets(s, b.end);
-    if !octets.good {
+    let message = message_words(call, s, b.end);
+    if !message.good {
         return Command::Bad;
     }
     Command::Call(CallLine {
         call,
         client,
         time,
-        from: octets.start,
-        to: octets.end,
+        message,
     })
 }
 
@@ -447,6 +550,38 @@ fn buffer_line(s: &[u8], from: usize) -> Command
     Command::Buffer(BufferLine { length })
 }
 
+// The word on or the word off.
+pub fn read_switch(word: &[u8]) -> Switch
+    ensures { λ r. ⌜ r ≡ switchOf (now (word .entry)) ⌝ }
+{
+    if is(word, b"on") {
+        return Switch::Of(true);
+    }
+    if is(word, b"off") {
+        return Switch::Of(false);
+    }
+    Switch::Bad
+}
+
+// on or off
+fn selection_line(s: &[u8], from: usize) -> Command
+    requires { ⌜ from ≤ length (now s) ⌝ }
+    ensures { λ r. ⌜ Within (length (now (s .entry))) r ⌝ }
+    ensures { λ r. ⌜ valueIn (now (s .entry)) r ≡ parseSelection (drop from (now (s .entry))) ⌝ }
+{
+    let w = console_words::next_word(s, from);
+    let begin = w.start;
+    let end = w.end;
+    let switch = read_switch(&s[begin..end]);
+    let Switch::Of(on) = switch else {
+        return Command::Bad;
+    };
+    if !console_words::ends(s, end) {
+        return Command::Bad;
+    }
+    Command::Selection(SelectionLine { on })
+}
+
 // No further word.
 fn sheet_line(s: &[u8], from: usize) -> Command
     requires { ⌜ from ≤ length (now s) ⌝ }
@@ -478,6 +613,7 @@ fn read_words(name: Name, s: &mut [u8], from: usize) -> Command
         Name::Counts => counts_line(s, from),
         Name::Whole => whole_line(s, from),
         Name::Buffer => buffer_line(s, from),
+        Name::Selection => selection_line(s, from),
         Name::Other => Command::Bad,
     }
 }

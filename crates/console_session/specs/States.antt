@@ -1,7 +1,7 @@
 -- What goes from line to line of a script beside the book, and room in the output.
 use Prim.Native.Nat.{ℕ, _+_, _≤_}
 use mathlib.Core.Path.{_≡_}
-use mathlib.Core.Bool.{cond}
+use mathlib.Core.Bool.{Bool, false, cond}
 use mathlib.Core.List.{List}
 use lib.ListN.{length, replicate}
 use lib.Dec.{ltb}
@@ -12,9 +12,9 @@ use Rattle.counts.specs.Counts.{countedLengths}
 use Rattle.console_input.specs.Lines.{lineSpace}
 use Rattle.console_session.specs.declared.State.{State}
 
--- The reply buffer's length, the number of lines and whether commands are echoed are as before.
+-- The reply buffer's length, whether option 118 is enabled, the number of lines and whether commands are echoed are as before.
 abbrev pub Unchanged : State → State → Type 0
-Unchanged s r = (r .«reply_length» ≡ s .«reply_length») × (r .lines ≡ s .lines) × (r .echo ≡ s .echo)
+Unchanged s r = (r .«reply_length» ≡ s .«reply_length») × (r .selected ≡ s .selected) × (r .lines ≡ s .lines) × (r .echo ≡ s .echo)
 
 -- "Lines are counted from 1", as far as 64 bits go.
 abbrev pub nextLine : ℕ → ℕ
@@ -23,6 +23,10 @@ nextLine n = cond (ltb n 18446744073709551615) (n + 1) n
 -- The reply buffer's length: "257 at first".
 abbrev pub firstReply : ℕ
 firstReply = 257
+
+-- Whether option 118 is enabled: "at first: off".
+abbrev pub firstSelected : Bool
+firstSelected = false
 
 -- "Before the first accepted open or load the sheet is all empty lines' rows."
 abbrev pub firstSheet : List ℕ

@@ -12,6 +12,7 @@ ghost use Rattle.console_session.specs.States.{
   Unchanged,
   nextLine,
   firstReply,
+  firstSelected,
   firstSheet,
   firstCounts,
   outputSpace,
@@ -35,6 +36,8 @@ const REPLY_AT_FIRST: usize = 257;
 pub struct State {
     // The reply buffer's length.
     pub reply_length: usize,
+    // The caller says with each call that option 118 is enabled.
+    pub selected: bool,
     // How many lines have ended.
     pub lines: u64,
     // How much of the output waits to be written out.
@@ -46,10 +49,11 @@ pub struct State {
 }
 
 pub fn first_state(echo: bool) -> State
-    ensures { λ r. ⌜ (r .«reply_length» ≡ firstReply) × (r .lines ≡ 0) × (r .at ≡ 0) × (r .echo ≡ echo) ⌝ }
+    ensures { λ r. ⌜ (r .«reply_length» ≡ firstReply) × (r .selected ≡ firstSelected) × (r .lines ≡ 0) × (r .at ≡ 0) × (r .echo ≡ echo) ⌝ }
 {
     State {
         reply_length: REPLY_AT_FIRST,
+        selected: false,
         lines: 0,
         at: 0,
         echo,
@@ -59,7 +63,7 @@ pub fn first_state(echo: bool) -> State
 
 // The state at the next line.
 pub fn next_line(s: State) -> State
-    ensures { λ r. ⌜ (r .«reply_length» ≡ s .«reply_length») × (r .lines ≡ nextLine (s .lines)) × (r .at ≡ s .at) × (r .echo ≡ s .echo) ⌝ }
+    ensures { λ r. ⌜ (r .«reply_length» ≡ s .«reply_length») × (r .selected ≡ s .selected) × (r .lines ≡ nextLine (s .lines)) × (r .at ≡ s .at) × (r .echo ≡ s .echo) ⌝ }
 {
     let mut next = s;
     if s.lines < u64::MAX {
@@ -80,10 +84,19 @@ pub fn with_output(s: State, at: usize) -> State
 
 // The state with another length of the reply buffer.
 pub fn with_reply_length(s: State, length: u32) -> State
-    ensures { λ r. ⌜ (r .«reply_length» ≡ length) × (r .lines ≡ s .lines) × (r .at ≡ s .at) × (r .echo ≡ s .echo) ⌝ }
+    ensures { λ r. ⌜ (r .«reply_length» ≡ length) × (r .selected ≡ s .selected) × (r .lines ≡ s .lines) × (r .at ≡ s .at) × (r .echo ≡ s .echo) ⌝ }
 {
     let mut next = s;
     next.reply_length = length as usize;
+    next
+}
+
+// The state with option 118 enabled or not.
+pub fn with_selected(s: State, selected: bool) -> State
+    ensures { λ r. ⌜ (r .«reply_length» ≡ s .«reply_length») × (r .selected ≡ selected) × (r .lines ≡ s .lines) × (r .at ≡ s .at) × (r .echo ≡ s .echo) ⌝ }
+{
+    let mut next = s;
+    next.selected = selected;
     next
 }
 

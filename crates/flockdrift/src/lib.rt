@@ -6,6 +6,7 @@ use call_option::SelectionAnswer;
 use call_query::HeadAnswer;
 use call_query::LeaseAnswer;
 use call_query::PoolAnswer;
+use call_spec::Message;
 use counts::Counts;
 use ledger::Answer;
 ghost use mathlib.Core.Path.{_≡_};
@@ -13,7 +14,8 @@ ghost use mathlib.Core.Bool.{not};
 ghost use mathlib.Core.List.{[]};
 ghost use lib.Dec.{eqb};
 ghost use Rattle.image.specs.Image.{formNumbered};
-ghost use Rattle.ledger.specs.Ledger.{call, result};
+ghost use Rattle.ledger.specs.Ledger.{call, callWith, result};
+ghost use Rattle.call_spec.specs.ImageCalls.{carriedIf};
 ghost use Rattle.call_spec.specs.Books.{
   bookOf,
   lentIn,
@@ -108,19 +110,27 @@ pub extern "C" fn flockdrift_ask(
     client: u32,
     time: u32,
     option: &[u8],
+    selected: u32,
+    selection: &[u8],
     reply: &mut [u8],
 ) -> Answer
     ensures { λ r. ⌜ result r (bookOf (now (image .exit)) (now («image_bytes» .exit)) (now (figures .exit)) (now (counts .exit))) (now (reply .exit))
-        ≡ askBook (bookOf (now (image .entry)) (now («image_bytes» .entry)) (now (figures .entry)) (now (counts .entry))) time (call client (now (option .entry)) (now (reply .entry))) ⌝ }
+        ≡ askBook (bookOf (now (image .entry)) (now («image_bytes» .entry)) (now (figures .entry)) (now (counts .entry))) time
+        (callWith client (now (option .entry)) (carriedIf (not (eqb selected 0)) (now (selection .entry))) (now (reply .entry))) ⌝ }
 {
+    let message = Message {
+        client,
+        time,
+        selected: selected != 0,
+    };
     call_ask::ask(
         image,
         image_bytes,
         figures,
         counts,
-        client,
-        time,
+        message,
         option,
+        selection,
         reply,
     )
 }
@@ -134,19 +144,27 @@ pub extern "C" fn flockdrift_take(
     client: u32,
     time: u32,
     option: &[u8],
+    selected: u32,
+    selection: &[u8],
     reply: &mut [u8],
 ) -> Answer
     ensures { λ r. ⌜ result r (bookOf (now (image .exit)) (now («image_bytes» .exit)) (now (figures .exit)) (now (counts .exit))) (now (reply .exit))
-        ≡ takeBook (bookOf (now (image .entry)) (now («image_bytes» .entry)) (now (figures .entry)) (now (counts .entry))) time (call client (now (option .entry)) (now (reply .entry))) ⌝ }
+        ≡ takeBook (bookOf (now (image .entry)) (now («image_bytes» .entry)) (now (figures .entry)) (now (counts .entry))) time
+        (callWith client (now (option .entry)) (carriedIf (not (eqb selected 0)) (now (selection .entry))) (now (reply .entry))) ⌝ }
 {
+    let message = Message {
+        client,
+        time,
+        selected: selected != 0,
+    };
     call_take::take(
         image,
         image_bytes,
         figures,
         counts,
-        client,
-        time,
+        message,
         option,
+        selection,
         reply,
     )
 }

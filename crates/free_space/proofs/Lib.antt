@@ -2,6 +2,7 @@ pub mod Weights
 pub mod WalkLaws
 pub mod BestLaws
 pub mod GrantLaws
+pub mod WithinLaws
 pub mod Rules
 pub mod ListTheorem
 pub mod OrderTheorem

@@ -255,19 +255,19 @@ module _ (t : LeaseTable) (client : ℕ) where
       ap₂ (λ (g : Option Lease) (l : List (Option Lease)). g ∷ l) (none-first f xs (all-map (λ x (e : heldBy? client x ≡ false). not-held r x e) xs a))
       (nothing-again rs (butFirst f xs) (but-first-all f (λ x. heldBy? client x ≡ false) xs a))
 
-  module _ (name : Name) (now : ℕ) (xs : List Lease) (rs : List Request) (a : All (λ x. heldBy? client x ≡ false) xs) where
-    nothing-held : askHeld t now client xs rs ≡ xs
-    nothing-held = ap (λ (gs : List (Option Lease)). heldAgain now (catMaybes gs) xs) (nothing-again rs xs a) ∙ ap (λ (ys : List Lease). heldAgain now ys xs) (no-lease rs) ∙ held-none now xs
+  module _ (name : Name) (now : ℕ) (hs xs : List Lease) (rs : List Request) (a : All (λ x. heldBy? client x ≡ false) hs) where
+    nothing-held : askHeld t now client hs xs rs ≡ xs
+    nothing-held = ap (λ (gs : List (Option Lease)). heldAgain now (catMaybes gs) xs) (nothing-again rs hs a) ∙ ap (λ (ys : List Lease). heldAgain now ys xs) (no-lease rs) ∙ held-none now xs
 
-    nothing-offers : askOffers t now client name xs rs ≡ offers t now client name xs rs
+    nothing-offers : askOffers t now client name hs xs rs ≡ offers t now client name xs rs
     nothing-offers =
-        ap₂ (λ (ys : List Lease) (gs : List (Option Lease)). offers t now client name ys (restOf gs rs)) nothing-held (nothing-again rs xs a) ∙ ap (offers t now client name xs) (all-rest rs)
+        ap₂ (λ (ys : List Lease) (gs : List (Option Lease)). offers t now client name ys (restOf gs rs)) nothing-held (nothing-again rs hs a) ∙ ap (offers t now client name xs) (all-rest rs)
 
-    pub nothing-gives : askGives t now client name xs rs ≡ offers t now client name xs rs
+    pub nothing-gives : askGives t now client name hs xs rs ≡ offers t now client name xs rs
     nothing-gives =
-        ap₂ (inTurn now) (nothing-again rs xs a) nothing-offers ∙ all-offered now rs (offers t now client name xs rs) (offers-length t now client name rs xs)
+        ap₂ (inTurn now) (nothing-again rs hs a) nothing-offers ∙ all-offered now rs (offers t now client name xs rs) (offers-length t now client name rs xs)
 
-    pub nothing-leases : askLeases t now client name xs rs ≡ addAll (offers t now client name xs rs) xs
+    pub nothing-leases : askLeases t now client name hs xs rs ≡ addAll (offers t now client name xs rs) xs
     nothing-leases = ap₂ addAll nothing-offers nothing-held
 
 -- THE REST is offered what it would be offered on the leases as they stood: offers go by prefixes, and those stay.
@@ -295,5 +295,5 @@ module _ (t : LeaseTable) (now client : ℕ) (name : Name) where
       ap (λ (l : List (Option Lease)). o ∷ l) (offers-prefixes rs (add o xs) (add o ys) (add-prefixes o xs ys e))
       ∙ ap (λ (p : Option Lease). p ∷ offers t now client name (add p ys) rs) same
 
-  pub rest-offers : (xs : List Lease) (rs : List Request) → askOffers t now client name xs rs ≡ offers t now client name xs (restOf (again t client xs rs) rs)
-  rest-offers xs rs = offers-prefixes (restOf (again t client xs rs) rs) (askHeld t now client xs rs) xs (held-prefixes now (catMaybes (again t client xs rs)) xs)
+  pub rest-offers : (hs xs : List Lease) (rs : List Request) → askOffers t now client name hs xs rs ≡ offers t now client name xs (restOf (again t client hs rs) rs)
+  rest-offers hs xs rs = offers-prefixes (restOf (again t client hs rs) rs) (askHeld t now client hs xs rs) xs (held-prefixes now (catMaybes (again t client hs rs)) xs)

@@ -197,16 +197,16 @@ module _ (t : LeaseTable) (good : Pools (poolsOf t)) (now client : ℕ) (name : 
   kept-turn zs (none ∷ gs) [] a b = (tt, kept-turn zs gs [] a b)
   kept-turn zs (none ∷ gs) (o ∷ os) a b = (b .0, kept-turn zs gs os a (b .1))
 
-  -- All that is granted is held in the table that the call leaves.
-  pub kept : (rs : List Request) (xs : List Lease) → All (Kept now client (askLeases t now client name xs rs)) (askGives t now client name xs rs)
-  kept rs xs =
-      let gs : List (Option Lease) = again t client xs rs in
-      let os : List (Option Lease) = askOffers t now client name xs rs in
-      let hs : List Lease = askHeld t now client xs rs in
-      let there : (x : Lease) → Any (λ y. y ≡ x) (catMaybes gs) → (heldBy? client x ≡ true) × Any (λ y. y ≡ x) xs → Kept now client (addAll os hs) (some (holdAgain now x)) =
-      λ x given was. addAll-any (λ y. isHeld? now client (entryOf (holdAgain now x)) y ≡ true) os hs
-      (any-map (λ y (e : y ≡ holdAgain now x). ap (isHeld? now client (entryOf (holdAgain now x))) e ∙ held-again now client x (was .0)) hs (held-there now (catMaybes gs) x xs given (was .1))) in
-      kept-turn (addAll os hs) gs os (all-map₂ there (catMaybes gs) (all-member (catMaybes gs)) (again-all t client (λ x. Any (λ y. y ≡ x) xs) rs xs (all-member xs))) (kept-offers (restOf gs rs) hs)
+  -- All that is granted is held in the table that the call leaves, where the leases hs that may be given again are among those present.
+  pub kept : (rs : List Request) (hs xs : List Lease) → All (λ x. Any (λ y. y ≡ x) xs) hs → All (Kept now client (askLeases t now client name hs xs rs)) (askGives t now client name hs xs rs)
+  kept rs hs xs among =
+      let gs : List (Option Lease) = again t client hs rs in
+      let os : List (Option Lease) = askOffers t now client name hs xs rs in
+      let ks : List Lease = askHeld t now client hs xs rs in
+      let there : (x : Lease) → Any (λ y. y ≡ x) (catMaybes gs) → (heldBy? client x ≡ true) × Any (λ y. y ≡ x) xs → Kept now client (addAll os ks) (some (holdAgain now x)) =
+      λ x given was. addAll-any (λ y. isHeld? now client (entryOf (holdAgain now x)) y ≡ true) os ks
+      (any-map (λ y (e : y ≡ holdAgain now x). ap (isHeld? now client (entryOf (holdAgain now x))) e ∙ held-again now client x (was .0)) ks (held-there now (catMaybes gs) x xs given (was .1))) in
+      kept-turn (addAll os ks) gs os (all-map₂ there (catMaybes gs) (all-member (catMaybes gs)) (again-all t client (λ x. Any (λ y. y ≡ x) xs) rs hs among)) (kept-offers (restOf gs rs) ks)
 
 pub confirm : (now client k : ℕ) (u : LeaseTable) (ys : List Lease) → u .leases ≡ ys ++ replicate k noLease → (os : List (Option Lease)) → All (Kept now client ys) os
     → map (confirmed now client u) (map entry? os) ≡ map entry? os

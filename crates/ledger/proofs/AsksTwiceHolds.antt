@@ -17,13 +17,14 @@ use Rattle.option.specs.Values.{Entry}
 use Rattle.option.specs.Contents.{Request}
 use Rattle.option_reply.specs.Reply.{entryOf}
 use Rattle.table.specs.declared.{Lease.Lease, LeaseTable.LeaseTable}
-use Rattle.table.specs.Table.{prefixOf, present, sound}
-use Rattle.table.proofs.Ascending.{ascending-apart}
+use Rattle.table.specs.Table.{prefixOf, poolsOf, present, sound}
+use Rattle.table.proofs.Ascending.{Ascending, ascending-apart}
 use Rattle.table.proofs.TableLaws.{sound-fine}
-use Rattle.ledger.specs.Ledger.{State, Call, askName, addAll, heldBy?, heldFor?, firstThat, butFirst, again, restOf, inTurn, askHeld, askOffers, ask}
+use Rattle.ledger.specs.Ledger.{State, Call, askName, addAll, heldBy?, heldFor?, firstThat, butFirst, again, restOf, inTurn, heldAgain, narrowed, usableLeases, askHeld, askOffers, ask}
 use Rattle.ledger.specs.Demand3.{wellFormed, asksOf, heldBefore, leaseFor, granted}
 use Rattle.ledger.specs.AskingTwice.{GivenAgain, grantedToRest, AsksTwice}
-use Rattle.ledger.proofs.OfferLaws.{pools-good, addAll-perm}
+use Rattle.ledger.proofs.GroundLaws.{ground, narrowed-default, again-same, usable-fine}
+use Rattle.ledger.proofs.OfferLaws.{addAll-perm}
 use Rattle.ledger.proofs.AgainLaws.{first-some, but-first-all, again-all, Fills, rest-fills, turn-none}
 use Rattle.ledger.proofs.AskLaws.{entry?}
 use Rattle.ledger.proofs.CallLaws.{well, numberFor, givesOn, called, granted-is}
@@ -86,11 +87,12 @@ pub apart-networks : (p q : Prefix) → Apart p q → p .network ≡ q .network 
 apart-networks p q (inl h) e = omega (arith, size-positive (p .length))
 apart-networks p q (inr h) e = omega (arith, size-positive (q .length))
 
--- The leases of a sound table that are present have networks of their own.
+-- Leases that ascend have networks of their own, and so have those of a sound table that are present.
+ascending-differ : (xs : List Lease) → Ascending prefixOf 0 xs → Pairwise (λ x y. x .network ≡ y .network → ⊥) xs
+ascending-differ xs a = pairwise-map (λ x y (a : Apart (prefixOf x) (prefixOf y)). apart-networks (prefixOf x) (prefixOf y) a) xs (ascending-apart prefixOf 0 xs a)
+
 pub networks-differ : (t : LeaseTable) (now : ℕ) → sound t ≡ true → Pairwise (λ x y. x .network ≡ y .network → ⊥) (present now (t .leases))
-networks-differ t now so =
-    pairwise-map (λ x y (a : Apart (prefixOf x) (prefixOf y)). apart-networks (prefixOf x) (prefixOf y) a) (present now (t .leases))
-    (ascending-apart prefixOf 0 (present now (t .leases)) (sound-fine t so now .1))
+networks-differ t now so = ascending-differ (present now (t .leases)) (sound-fine t so now .1)
 
 -- THE CLAIMS
 
@@ -101,36 +103,54 @@ module _ (s : State) (now : ℕ) (c : Call) (e : wellFormed now s c ≡ true) wh
   abbrev xs : List Lease
   xs = present now (s .table .leases)
 
+  -- The table with the ground of the call, and the leases that it may be given again.
+  abbrev own : LeaseTable
+  own = narrowed (s .table) c
+
+  abbrev us : List Lease
+  us = usableLeases (s .table) c (present now (s .table .leases))
+
   abbrev gs : List (Option Lease)
-  gs = heldBefore now (s .table) c
+  gs = again (narrowed (s .table) c) (c .client) (usableLeases (s .table) c (present now (s .table .leases))) (asksOf c)
+
+  same : gs ≡ heldBefore now (s .table) c
+  same = again-same own t (narrowed-default t c) (c .client) (asksOf c) us
 
   abbrev held : List Lease
-  held = askHeld (s .table) now (c .client) (present now (s .table .leases)) (asksOf c)
+  held = askHeld (narrowed (s .table) c) now (c .client) (usableLeases (s .table) c (present now (s .table .leases))) (present now (s .table .leases)) (asksOf c)
 
   abbrev os : List (Option Lease)
-  os = askOffers (s .table) now (c .client) (askName c) (present now (s .table .leases)) (asksOf c)
+  os = askOffers (narrowed (s .table) c) now (c .client) (askName c) (usableLeases (s .table) c (present now (s .table .leases))) (present now (s .table .leases)) (asksOf c)
 
-  again-granted : GivenAgain gs (granted (λ u. u) ask now s c)
-  again-granted = subst (GivenAgain gs) (sym (granted-is now s c e)) (given-turn now gs os)
+  again-granted : GivenAgain (heldBefore now (s .table) c) (granted (λ u. u) ask now s c)
+  again-granted = subst (λ (hs : List (Option Lease)). GivenAgain hs (granted (λ u. u) ask now s c)) same (subst (GivenAgain gs) (sym (granted-is now s c e)) (given-turn now gs os))
 
-  each-once : Pairwise (λ x y. x .network ≡ y .network → ⊥) (catMaybes gs)
-  each-once = again-once (λ x y. x .network ≡ y .network → ⊥) (λ x y k z. k (sym z)) t (c .client) (asksOf c) xs (networks-differ t now (well now s c e .sound))
+  each-once : Pairwise (λ x y. x .network ≡ y .network → ⊥) (catMaybes (heldBefore now (s .table) c))
+  each-once =
+      again-once (λ x y. x .network ≡ y .network → ⊥) (λ x y k z. k (sym z)) t (c .client) (asksOf c) us
+      (ascending-differ us (usable-fine t c (poolsOf t) now 0 xs (sound-fine t (well now s c e .sound) now) .1))
 
   -- What the rest is granted becomes the leases newly made.
   made : map (leaseFor now (c .client) (askName c)) (grantedToRest gs (granted (λ u. u) ask now s c)) ≡ catMaybes os
   made =
       ap (λ (es : List (Option Entry)). map (leaseFor now (c .client) (askName c)) (grantedToRest gs es)) (granted-is now s c e)
-      ∙ ap (map (leaseFor now (c .client) (askName c))) (rest-turn now gs os (rest-fills t now (c .client) (askName c) xs held (asksOf c)))
-      ∙ told t (pools-good t (well now s c e .sound)) now (c .client) (askName c) (restOf gs (asksOf c)) held
+      ∙ ap (map (leaseFor now (c .client) (askName c))) (rest-turn now gs os (rest-fills own now (c .client) (askName c) us held (asksOf c)))
+      ∙ told own (ground t c (well now s c e .sound) .good) now (c .client) (askName c) (restOf gs (asksOf c)) held
 
-  left-leases : List·Permᴰ (present now (ask s now c .state .table .leases)) (held ++ map (leaseFor now (c .client) (askName c)) (grantedToRest gs (granted (λ u. u) ask now s c)))
-  left-leases =
+  left-gs : List·Permᴰ (present now (ask s now c .state .table .leases)) (held ++ map (leaseFor now (c .client) (askName c)) (grantedToRest gs (granted (λ u. u) ask now s c)))
+  left-gs =
       subst (λ (l : List Lease). List·Permᴰ l (held ++ map (leaseFor now (c .client) (askName c)) (grantedToRest gs (granted (λ u. u) ask now s c)))) (sym (called now s c e .left))
       (subst (λ (l : List Lease). List·Permᴰ (addAll os held) (held ++ l)) (sym made) (addAll-perm os held))
 
+  left-leases : List·Permᴰ (present now (ask s now c .state .table .leases))
+      (heldAgain now (catMaybes (heldBefore now (s .table) c)) xs ++ map (leaseFor now (c .client) (askName c)) (grantedToRest (heldBefore now (s .table) c) (granted (λ u. u) ask now s c)))
+  left-leases =
+      subst (λ (hs : List (Option Lease)). List·Permᴰ (present now (ask s now c .state .table .leases))
+      (heldAgain now (catMaybes hs) xs ++ map (leaseFor now (c .client) (askName c)) (grantedToRest hs (granted (λ u. u) ask now s c)))) same left-gs
+
   -- If a lease is given again something is granted, so neither 9 nor 10 applies.
-  number-zero : (catMaybes gs ≡ [] → ⊥) → ask s now c .answer .number ≡ 0
-  number-zero k = called now s c e .number ∙ zero (catMaybes (givesOn now s c)) (λ z. k (turn-none now gs os (rest-fills t now (c .client) (askName c) xs held (asksOf c)) z .0))
+  number-zero : (catMaybes (heldBefore now (s .table) c) ≡ [] → ⊥) → ask s now c .answer .number ≡ 0
+  number-zero k = called now s c e .number ∙ zero (catMaybes (givesOn now s c)) (λ z. k (ap catMaybes (sym same) ∙ turn-none now gs os (rest-fills own now (c .client) (askName c) us held (asksOf c)) z .0))
     where
       zero : (ys : List Lease) → (ys ≡ [] → ⊥) → numberFor xs ys ≡ 0
       zero [] k = absurd (k refl)

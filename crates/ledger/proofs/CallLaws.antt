@@ -2,8 +2,8 @@
 -- Assumes nothing.
 use Prim.Native.Nat.{ℕ, _-_, _≤_}
 use mathlib.Core.Path.{_≡_, refl, sym, ap, ap₂, subst, _∙_}
-use mathlib.Core.Bool.{Bool, true, false, not, cond}
-use mathlib.Core.List.{List, [], _∷_, map, nil≢cons}
+use mathlib.Core.Bool.{Bool, true, false, not, cond, _||_}
+use mathlib.Core.List.{List, [], _∷_, _++_, map, nil≢cons}
 use mathlib.Core.Option.{Option, none, some}
 use native.Mathlib.Omega.{arith}
 use lib.ListN.{length, drop, length-map}
@@ -11,6 +11,7 @@ use lib.Dec.{leb, ltb, eqb}
 use borrow.Author.Tests.{ltb-false, le-ltb, eqb-false, not-false}
 use Rattle.lists.specs.Lists.{All, catMaybes}
 use Rattle.lists.proofs.ListLaws.{all-map}
+use Rattle.prefix.specs.declared.Prefix.{Prefix}
 use Rattle.prefix.specs.Prefixes.{longest}
 use Rattle.free_space.specs.Serving.{Pools}
 use Rattle.option.specs.Values.{Entry}
@@ -23,12 +24,13 @@ use Rattle.table.proofs.TableLaws.{Good, Fine, sound-fine, sound-fewer, store-s
 use Rattle.option.specs.Contents.{Request, refuses?}
 use Rattle.option_reply.specs.Reply.{entryOf}
 use Rattle.figures.specs.Figures.{matches?}
-use Rattle.ledger.specs.Ledger.{State, left, Call, leastReply, full, Result, Row, firstOf, before, refuse, refusalPlace, forAsk, nameRows, askRows, askName, offers, addAll, heldBy?, again, restOf, holdAgain, heldAgain, askHeld, askOffers, askGives, askLeases, informationFor, ask}
+use Rattle.ledger.specs.Ledger.{State, left, Call, leastFor, badSelection?, nothing?, narrowed, usableLeases, returned, givesIn, leasesIn, full, Result, Row, firstOf, before, refuse, refusalPlace, forAsk, nameRows, askRows, askName, offers, addAll, heldBy?, again, restOf, holdAgain, heldAgain, askHeld, askOffers, askGives, askLeases, informationFor, ask}
 use Rattle.ledger.specs.Demand3.{none?, wellFormed, Accepts, asksOf, replyEntries, pairOff, confirmed, granted, inUse, Fate, isGranted, wantsSlot, wantsSpace, fate, HoldsNothing}
 use Rattle.ledger.proofs.RowLaws.{first-none, none-to, none-not, answerAsk, ask-served, ask-refused}
 use Rattle.ledger.proofs.LeftLaws.{left-matches}
 use Rattle.ledger.proofs.ReadLaws.{requests-short}
-use Rattle.ledger.proofs.OfferLaws.{pools-good, Inv, offers-inv, offers-good}
+use Rattle.ledger.proofs.GroundLaws.{Ground, ground, narrowed-pools, narrowed-default, pairs-same, usable-all, usable-members}
+use Rattle.ledger.proofs.OfferLaws.{Inv, offers-inv, offers-good}
 use Rattle.ledger.proofs.AgainLaws.{again-all, hold-good, held-none, held-fine, held-length, rest-all, rest-fills, turn-all, turn-none, nothing-gives, nothing-leases}
 use Rattle.ledger.proofs.ReplyLaws.{reads-none, reads-back}
 use Rattle.ledger.proofs.AskLaws.{entry?, pairs, Kept, kept, confirm, confirm-none, addAll-none}
@@ -38,29 +40,30 @@ abbrev pub rowsFor : ℕ → State → Call → List Row
 rowsFor now t c = before 9 (askRows t now c)
 
 pub record WellFormed (now : ℕ) (t : State) (c : Call) : Type 0 where
-  pub buffer : leastReply ≤ length (c .reply)
+  pub buffer : leastFor (c .selection) ≤ length (c .reply)
   pub sound : sound (t .table) ≡ true
   pub matched : matches? (t .table .leases) (t .rows) ≡ true
   pub named : c .client ≡ 0 → ⊥
   pub accepted : Accepts (t .table) now
   pub asks : forAsk (asksOf c) ≡ true
+  pub ground : nothing? (poolsOf (narrowed (t .table) c)) ≡ false
 
 pub well : (now : ℕ) (t : State) (c : Call) → wellFormed now t c ≡ true → WellFormed now t c
 unfolding wellFormed askRows
 well now t c e =
     let r = first-none (rowsFor now t c) (none-to (firstOf (rowsFor now t c)) e) in
     record {
-      buffer = ltb-false (length (c .reply)) leastReply (r .0);
+      buffer = ltb-false (length (c .reply)) (leastFor (c .selection)) (r .0);
       sound = not-false (sound (t .table)) (r .1 .0);
       matched = not-false (matches? (t .table .leases) (t .rows)) (r .1 .1 .0);
       named = eqb-false (c .client) 0 (r .1 .1 .1 .0);
       accepted = (ltb-false now (t .table .last) (r .1 .1 .1 .1 .0), ltb-false latest now (r .1 .1 .1 .1 .1 .0));
       asks = not-false (forAsk (asksOf c)) (r .1 .1 .1 .1 .1 .1 .1 .1 .1 .0);
+      ground = r .1 .1 .1 .1 .1 .1 .1 .1 .1 .1 .1 .0;
     }
 
 run-well : (now : ℕ) (t : State) (c : Call) → wellFormed now t c ≡ true
-    → let xs = present now (t .table .leases) in
-    ask t now c ≡ answerAsk t now (c .reply) xs (askLeases (t .table) now (c .client) (askName c) xs (asksOf c)) (catMaybes (askGives (t .table) now (c .client) (askName c) xs (asksOf c)))
+    → ask t now c ≡ answerAsk t now (returned (c .selection)) (c .reply) (present now (t .table .leases)) (leasesIn (t .table) now c) (catMaybes (givesIn (t .table) now c))
 unfolding wellFormed
 run-well now t c e = ask-served t now c (none-to (firstOf (rowsFor now t c)) e)
 
@@ -72,28 +75,28 @@ run-refused now t c e = let n = none-not (firstOf (rowsFor now t c)) e in (n .0,
 pub run-not : (now : ℕ) (t : State) (c : Call) → wellFormed now t c ≡ false → (ask t now c .state ≡ t) × (ask t now c .reply ≡ c .reply)
 run-not now t c e = let f = run-refused now t c e .2 in (ap (λ (r : Result State). r .state) f, ap (λ (r : Result State). r .reply) f)
 
--- On two sound tables that accept the time, with sheets that match alike, a call is well-formed alike.
+-- On two sound tables with the same pools that accept the time, with sheets that match alike, a call is well-formed alike.
 pub well-same : (now : ℕ) (t u : State) (c : Call) → sound (t .table) ≡ true → sound (u .table) ≡ true → Accepts (t .table) now → Accepts (u .table) now
-    → matches? (u .table .leases) (u .rows) ≡ matches? (t .table .leases) (t .rows) → wellFormed now u c ≡ wellFormed now t c
+    → matches? (u .table .leases) (u .rows) ≡ matches? (t .table .leases) (t .rows) → u .table .pools ≡ t .table .pools → wellFormed now u c ≡ wellFormed now t c
 unfolding wellFormed askRows
-well-same now t u c st su at au m =
-    ap₂ (λ (a b : Bool). formed a b (ltb now (u .table .last))) (su ∙ sym st) m
-    ∙ ap (formed (sound (t .table)) (matches? (t .table .leases) (t .rows))) (le-ltb now (u .table .last) (au .0) ∙ sym (le-ltb now (t .table .last) (at .0)))
+well-same now t u c st su at au m p =
+    ap₂ (λ (a b : Bool). formed a b (poolsOf (narrowed (u .table) c)) (ltb now (u .table .last))) (su ∙ sym st) m
+    ∙ ap₂ (formed (sound (t .table)) (matches? (t .table .leases) (t .rows))) (narrowed-pools (t .table) (u .table) c p) (le-ltb now (u .table .last) (au .0) ∙ sym (le-ltb now (t .table .last) (at .0)))
   where
-    formed : Bool → Bool → Bool → Bool
-    formed sound? matched? early =
+    formed : Bool → Bool → List Prefix → Bool → Bool
+    formed sound? matched? pools early =
         none? (firstOf (
-        (1, ltb (length (c .reply)) leastReply)
+        (1, ltb (length (c .reply)) (leastFor (c .selection)))
         ∷ (5, not sound?)
         ∷ (15, not matched?)
         ∷ (2, eqb (c .client) 0)
         ∷ (3, early)
         ∷ (4, ltb latest now)
-        ∷ (6, refuses? 6 (readOption (c .option)))
+        ∷ (6, refuses? 6 (readOption (c .option)) || badSelection? (c .selection))
         ∷ (7, refuses? 7 (readOption (c .option)))
         ∷ (16, refuses? 16 (readOption (c .option)))
         ∷ (8, not (forAsk (asksOf c)))
-        ∷ nameRows c))
+        ∷ (nameRows c ++ ((19, nothing? pools) ∷ []))))
 
 -- ONE CALL
 
@@ -123,33 +126,44 @@ pub record Served (t : State) (now client : ℕ) (rs : List Request) (xs : List 
   pub default : r .state .table .«default_length» ≡ t .table .«default_length»
 
 module _ (now : ℕ) (t : State) (c : Call) (w : WellFormed now t c) where
-  good : Pools (poolsOf (t .table))
-  good = pools-good (t .table) (w .sound)
+  -- The table with the ground that it may use.
+  abbrev own : LeaseTable
+  own = narrowed (t .table) c
+
+  onIt : Ground (poolsOf (t .table)) (narrowed (t .table) c)
+  onIt = ground (t .table) c (w .sound)
+
+  good : Pools (poolsOf (narrowed (t .table) c))
+  good = onIt .good
 
   xs : List Lease
   xs = present now (t .table .leases)
 
+  -- Those of them that may be given again.
+  us : List Lease
+  us = usableLeases (t .table) c xs
+
   -- What its requests get again, the leases with that held anew, and what the rest is offered.
   abbrev hs : List (Option Lease)
-  hs = again (t .table) (c .client) xs (asksOf c)
+  hs = again own (c .client) us (asksOf c)
 
   abbrev held : List Lease
-  held = askHeld (t .table) now (c .client) xs (asksOf c)
+  held = askHeld own now (c .client) us xs (asksOf c)
 
   abbrev os : List (Option Lease)
-  os = askOffers (t .table) now (c .client) (askName c) xs (asksOf c)
+  os = askOffers own now (c .client) (askName c) us xs (asksOf c)
 
   gives : List (Option Lease)
-  gives = askGives (t .table) now (c .client) (askName c) xs (asksOf c)
+  gives = askGives own now (c .client) (askName c) us xs (asksOf c)
 
   ys : List Lease
-  ys = askLeases (t .table) now (c .client) (askName c) xs (asksOf c)
+  ys = askLeases own now (c .client) (askName c) us xs (asksOf c)
 
   -- Where nothing is granted nothing is given again, so the leases are as they were.
   stay : catMaybes gives ≡ [] → ys ≡ xs
   unfolding gives ys
   stay e =
-      let z = turn-none now hs os (rest-fills (t .table) now (c .client) (askName c) xs held (asksOf c)) e in
+      let z = turn-none now hs os (rest-fills own now (c .client) (askName c) us held (asksOf c)) e in
       addAll-none os held (z .1) ∙ ap (λ (given : List Lease). heldAgain now given xs) (z .0) ∙ held-none now xs
 
   fine : Fine (poolsOf (t .table)) now 0 xs
@@ -160,30 +174,32 @@ module _ (now : ℕ) (t : State) (c : Call) (w : WellFormed now t c) where
   rest-short = rest-all (λ r. r .length ≤ longest) hs (asksOf c) (requests-short (c .option))
 
   -- The leases that it is to leave are good, ascend, and fit the table; what it grants is good.
-  leaves : Inv (t .table) now (c .client) (askName c) good ys
+  leaves : Inv own now (c .client) (askName c) good (poolsOf (t .table)) ys
   unfolding xs ys
   leaves =
-      offers-inv (t .table) now (c .client) (askName c) good (w .sound) (w .named) (restOf hs (asksOf c)) held rest-short
+      offers-inv own now (c .client) (askName c) good (poolsOf (t .table)) onIt (w .named) (restOf hs (asksOf c)) held rest-short
       (record { fine = held-fine now (catMaybes hs) (poolsOf (t .table)) xs fine; fit = omega (arith, held-length now (catMaybes hs) xs, sound-fewer (t .table) (w .sound) now) })
 
   grants-good : All (Good (poolsOf (t .table)) now) (catMaybes gives)
-  unfolding gives
+  unfolding gives us
   grants-good =
       let again-good : (x : Lease) → (heldBy? (c .client) x ≡ true) × Good (poolsOf (t .table)) now x → Good (poolsOf (t .table)) now (holdAgain now x) =
       λ x k. hold-good (poolsOf (t .table)) now x (k .1) in
       turn-all now (Good (poolsOf (t .table)) now) hs os
-      (all-map again-good (catMaybes hs) (again-all (t .table) (c .client) (Good (poolsOf (t .table)) now) (asksOf c) xs (fine .0)))
-      (offers-good (t .table) now (c .client) (askName c) good (w .sound) (w .named) (restOf hs (asksOf c)) held rest-short)
+      (all-map again-good (catMaybes hs) (again-all own (c .client) (Good (poolsOf (t .table)) now) (asksOf c) us (usable-all (t .table) c (Good (poolsOf (t .table)) now) xs (fine .0))))
+      (offers-good own now (c .client) (askName c) good (poolsOf (t .table)) onIt (w .named) (restOf hs (asksOf c)) held rest-short)
 
   paired : pairOff (t .table) (asksOf c) (map entryOf (catMaybes gives)) ≡ map entry? gives
   unfolding gives
-  paired = pairs (t .table) good now (c .client) (askName c) (asksOf c) xs held
+  paired =
+      pairs-same (t .table) own (sym (narrowed-default (t .table) c)) (asksOf c) (map entryOf (catMaybes gives))
+      ∙ pairs own good now (c .client) (askName c) (asksOf c) us held
 
   all-kept : All (Kept now (c .client) ys) gives
-  unfolding gives ys
-  all-kept = kept (t .table) good now (c .client) (askName c) (asksOf c) xs
+  unfolding gives ys us
+  all-kept = kept own good now (c .client) (askName c) (asksOf c) us xs (usable-members (t .table) c xs)
 
-  served : (gs : List Lease) → catMaybes gives ≡ gs → Served t now (c .client) (asksOf c) xs gives ys (answerAsk t now (c .reply) xs ys gs)
+  served : (gs : List Lease) → catMaybes gives ≡ gs → Served t now (c .client) (asksOf c) xs gives ys (answerAsk t now (returned (c .selection)) (c .reply) xs ys gs)
   unfolding store left xs
   served [] e = record {
     given =
@@ -205,13 +221,13 @@ module _ (now : ℕ) (t : State) (c : Call) (w : WellFormed now t c) where
   served (g ∷ gs) e =
       let a : All (Good (poolsOf (t .table)) now) (g ∷ gs) = subst (All (Good (poolsOf (t .table)) now)) e grants-good in
       let u : LeaseTable = store (t .table) now ys in
-      let rest : List ℕ = drop (length (optionBytes (map informationFor (g ∷ gs)))) (c .reply) in
+      let rest : List ℕ = drop (length (optionBytes (map informationFor (g ∷ gs)) ++ returned (c .selection))) (c .reply) in
       record {
         given =
-            ap (λ (es : List Entry). map (confirmed now (c .client) u) (pairOff (t .table) (asksOf c) es)) (reads-back (poolsOf (t .table)) now g gs rest a ∙ ap (map entryOf) (sym e))
+            ap (λ (es : List Entry). map (confirmed now (c .client) u) (pairOff (t .table) (asksOf c) es)) (reads-back (poolsOf (t .table)) now g gs (returned (c .selection)) rest a ∙ ap (map entryOf) (sym e))
             ∙ ap (map (confirmed now (c .client) u)) paired
             ∙ confirm now (c .client) (leaseSlots - length ys) u ys refl gives all-kept;
-        told = reads-back (poolsOf (t .table)) now g gs rest a ∙ ap (map entryOf) (sym e);
+        told = reads-back (poolsOf (t .table)) now g gs (returned (c .selection)) rest a ∙ ap (map entryOf) (sym e);
         number = ap (numberFor xs) (sym e);
         count = ap length (sym e);
         left-state = ap (stateFor t now ys) (sym e);
@@ -226,13 +242,13 @@ module _ (now : ℕ) (t : State) (c : Call) (w : WellFormed now t c) where
 
 -- What a well-formed call on a state gives, and the leases that it leaves.
 abbrev pub givesOn : ℕ → State → Call → List (Option Lease)
-givesOn now t c = askGives (t .table) now (c .client) (askName c) (present now (t .table .leases)) (asksOf c)
+givesOn now t c = givesIn (t .table) now c
 
 abbrev pub leasesOn : ℕ → State → Call → List Lease
-leasesOn now t c = askLeases (t .table) now (c .client) (askName c) (present now (t .table .leases)) (asksOf c)
+leasesOn now t c = leasesIn (t .table) now c
 
 pub called : (now : ℕ) (t : State) (c : Call) → wellFormed now t c ≡ true → Served t now (c .client) (asksOf c) (present now (t .table .leases)) (givesOn now t c) (leasesOn now t c) (ask t now c)
-unfolding xs gives ys
+unfolding xs us gives ys
 called now t c e =
     subst (Served t now (c .client) (asksOf c) (present now (t .table .leases)) (givesOn now t c) (leasesOn now t c)) (sym (run-well now t c e))
     (served now t c (well now t c e) (catMaybes (givesOn now t c)) refl)
@@ -243,15 +259,18 @@ granted-is now t c e = called now t c e .given
 
 -- A client that holds nothing gets what all its requests are offered.
 module _ (now : ℕ) (t : State) (c : Call) (e : wellFormed now t c ≡ true) (n : HoldsNothing now (t .table) (c .client)) where
-  pub called-first : let xs = present now (t .table .leases) in let os = offers (t .table) now (c .client) (askName c) xs (asksOf c) in
+  pub called-first : let xs = present now (t .table .leases) in let os = offers (narrowed (t .table) c) now (c .client) (askName c) xs (asksOf c) in
       Served t now (c .client) (asksOf c) xs os (addAll os xs) (ask t now c)
   called-first =
       let xs : List Lease = present now (t .table .leases) in
-      let os : List (Option Lease) = offers (t .table) now (c .client) (askName c) xs (asksOf c) in
-      subst (λ (gs : List (Option Lease)). Served t now (c .client) (asksOf c) xs gs (addAll os xs) (ask t now c)) (nothing-gives (t .table) (c .client) (askName c) now xs (asksOf c) n)
-      (subst (λ (ys : List Lease). Served t now (c .client) (asksOf c) xs (givesOn now t c) ys (ask t now c)) (nothing-leases (t .table) (c .client) (askName c) now xs (asksOf c) n) (called now t c e))
+      let ns : LeaseTable = narrowed (t .table) c in
+      let us : List Lease = usableLeases (t .table) c xs in
+      let a : All (λ x. heldBy? (c .client) x ≡ false) us = usable-all (t .table) c (λ x. heldBy? (c .client) x ≡ false) xs n in
+      let os : List (Option Lease) = offers ns now (c .client) (askName c) xs (asksOf c) in
+      subst (λ (gs : List (Option Lease)). Served t now (c .client) (asksOf c) xs gs (addAll os xs) (ask t now c)) (nothing-gives ns (c .client) (askName c) now us xs (asksOf c) a)
+      (subst (λ (ys : List Lease). Served t now (c .client) (asksOf c) xs (givesOn now t c) ys (ask t now c)) (nothing-leases ns (c .client) (askName c) now us xs (asksOf c) a) (called now t c e))
 
-  pub granted-first : granted (λ s. s) ask now t c ≡ map entry? (offers (t .table) now (c .client) (askName c) (present now (t .table .leases)) (asksOf c))
+  pub granted-first : granted (λ s. s) ask now t c ≡ map entry? (offers (narrowed (t .table) c) now (c .client) (askName c) (present now (t .table .leases)) (asksOf c))
   unfolding granted
   granted-first = called-first .given
 

@@ -1,7 +1,7 @@
 -- Laws of rows 6, 7 and 16: what the reader's answer says of them, and what holds where none applies.
 -- Assumes nothing.
-use mathlib.Core.Path.{_≡_, refl}
-use mathlib.Core.Bool.{Bool, true, false, cond, true≢false}
+use mathlib.Core.Path.{_≡_, refl, sym, ap, _∙_}
+use mathlib.Core.Bool.{Bool, true, false, cond, _||_, true≢false}
 use mathlib.Core.List.{List, [], _∷_}
 use mathlib.Core.Option.{none}
 use Rattle.option.specs.Values.{SuboptionValue, Outcome, refused, accepted}
@@ -10,7 +10,7 @@ use Rattle.option.specs.Answers.{checkedOf}
 use Rattle.option.specs.declared.Fault.the-variants.{Framing, Field}
 use Rattle.option.specs.Contents.{refuses?, placeIn}
 use Rattle.ledger.specs.declared.Answer.{Answer}
-use Rattle.ledger.specs.Ledger.{Call, Row, firstOf, orElse, placed?, refusal, acceptance, optionRows}
+use Rattle.ledger.specs.Ledger.{Call, Row, firstOf, orElse, placed?, refusal, acceptance, badSelection?, optionRows}
 use Rattle.ledger.specs.Answers.{checkedAnswer, answered}
 use Rattle.ledger.proofs.RowLaws.{first-none}
 
@@ -28,9 +28,19 @@ reader-rows true subs (badAt Framing place) = refl
 reader-rows true subs (badAt Field place) = refl
 reader-rows false subs e = refl
 
-pub option-rows : (c : Call) → checkedAnswer (checkedOf (readOption (c .option))) ≡ answered (firstOf (optionRows c)) (c .option)
+-- Of a call whose option 118, if it has one, is not bad.
+pub option-rows : (c : Call) → badSelection? (c .selection) ≡ false → checkedAnswer (checkedOf (readOption (c .option))) ≡ answered (firstOf (optionRows c)) (c .option)
 unfolding readOption
-option-rows c = reader-rows (option? (c .option)) (readSuboptions (c .option) 3 .0) (readSuboptions (c .option) 3 .1)
+option-rows c e =
+    reader-rows (option? (c .option)) (readSuboptions (c .option) 3 .0) (readSuboptions (c .option) 3 .1)
+    ∙ ap (λ (b : Bool). answered (firstOf (rowsWith b)) (c .option)) (sym (or-none (refuses? 6 (readOption (c .option))) (badSelection? (c .selection)) e))
+  where
+    rowsWith : Bool → List Row
+    rowsWith b = (6, b) ∷ (7, refuses? 7 (readOption (c .option))) ∷ (16, refuses? 16 (readOption (c .option))) ∷ []
+
+    or-none : (a b : Bool) → b ≡ false → (a || b) ≡ a
+    or-none true b e = refl
+    or-none false b e = e
 
 -- Where none applies the option reads as suboptions.
 readable : (ok : Bool) (subs : List SuboptionValue) (e : End) → refuses? 6 (cond ok (ended subs e) (refused 6 0)) ≡ false
@@ -44,4 +54,8 @@ pub option-passed : (c : Call) → firstOf (optionRows c) ≡ none → readOptio
 unfolding readOption
 option-passed c e =
     let rows = first-none (optionRows c) e in
-    readable (option? (c .option)) (readSuboptions (c .option) 3 .0) (readSuboptions (c .option) 3 .1) (rows .0) (rows .1 .0) (rows .1 .1 .0)
+    readable (option? (c .option)) (readSuboptions (c .option) 3 .0) (readSuboptions (c .option) 3 .1) (or-first (refuses? 6 (readOption (c .option))) (badSelection? (c .selection)) (rows .0)) (rows .1 .0) (rows .1 .1 .0)
+  where
+    or-first : (a b : Bool) → (a || b) ≡ false → a ≡ false
+    or-first true b e = e
+    or-first false b e = refl

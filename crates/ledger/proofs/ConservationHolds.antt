@@ -26,7 +26,7 @@ use Rattle.table_open.proofs.OpenLaws.{open-sound}
 use Rattle.figures.specs.declared.FigureRow.{FigureRow}
 use Rattle.option.specs.Contents.{Request, entriesIn}
 use Rattle.option_reply.specs.Reply.{entryOf}
-use Rattle.ledger.specs.Ledger.{State, state, left, Call, ledger, Result, before, refusalPlace, full, openTable, add, addAll, heldBy?, again, restOf, holdAgain, inTurn, askHeld, askOffers, askGives, askLeases, askRows, askName, ask, namedBy?, renew, renewed, takeRows, take, releaseRows, release, at?, withD, markRows, mark}
+use Rattle.ledger.specs.Ledger.{State, state, left, Call, ledger, Result, before, refusalPlace, full, openTable, add, addAll, heldBy?, again, restOf, holdAgain, inTurn, askHeld, askOffers, askGives, askLeases, askRows, askName, narrowed, usableLeases, usableEntries, ask, namedBy?, renew, renewed, takeRows, take, releaseRows, release, at?, withD, markRows, mark}
 use Rattle.ledger.specs.Demand3.{wellFormed, asksOf, replyEntries, inUse, same?}
 use Rattle.ledger.specs.Histories.{Event, asked, taken, wasListed, returned, marked, saved, next, afterwards, leasesOf}
 use Rattle.ledger.specs.Conservation.{addressesOf, addressesIn, newlyMade, grantedBy, returnedBy, endedAt, endedBy, summed, FromLoad, FromOpen}
@@ -34,7 +34,9 @@ use Rattle.lists.proofs.PartLaws.{Opposite, opposite-not}
 use Rattle.ledger.proofs.RowLaws.{first-none, first-number, Numbered, by-rows, numbered-take, numbered-release, numbered-mark}
 use Rattle.ledger.proofs.EmptySlots.{present-or-ended, present-later}
 use Rattle.ledger.proofs.ReplyLaws.{reads-none}
-use Rattle.ledger.proofs.OfferLaws.{prefixes, pools-good, insert-perm, offers-new}
+use Rattle.free_space.specs.Serving.{Pools}
+use Rattle.ledger.proofs.GroundLaws.{ground, usable-all}
+use Rattle.ledger.proofs.OfferLaws.{prefixes, insert-perm, offers-new}
 use Rattle.ledger.proofs.AgainLaws.{again-all, held, held-place, held-prefixes, Fills, rest-fills, turn-none}
 use Rattle.ledger.proofs.CallLaws.{rowsFor, numberFor, stateFor, well, run-refused, givesOn, leasesOn, called}
 use Rattle.ledger.proofs.FirstSentence.{all-in-use, not-there}
@@ -96,18 +98,19 @@ module _ (now : ℕ) (t : LeaseTable) where
   newly (none ∷ gs) (some x ∷ os) f a b =
       filter-yes _ (entryOf x) (map entryOf (catMaybes (inTurn now gs os))) (not-of (used? x) (b .0)) ∙ ap (λ (l : List Entry). entryOf x ∷ l) (newly gs os f a (b .1))
 
-  pub newly-made : (client : ℕ) (name : Name) (rs : List Request) → sound t ≡ true
-      → let xs = present now (t .leases) in newlyMade now t (map entryOf (catMaybes (askGives t now client name xs rs))) ≡ map entryOf (catMaybes (askOffers t now client name xs rs))
-  newly-made client name rs so =
+  -- On ground of its own, with leases of those present that may be given again.
+  pub newly-made : (own : LeaseTable) → Pools (poolsOf own) → (client : ℕ) (name : Name) (us : List Lease) → All (λ x. used? x ≡ true) us → (rs : List Request)
+      → let xs = present now (t .leases) in newlyMade now t (map entryOf (catMaybes (askGives own now client name us xs rs))) ≡ map entryOf (catMaybes (askOffers own now client name us xs rs))
+  newly-made own good client name us among rs =
       let xs : List Lease = present now (t .leases) in
-      let gs : List (Option Lease) = again t client xs rs in
-      let hs : List Lease = askHeld t now client xs rs in
-      let os : List (Option Lease) = askOffers t now client name xs rs in
+      let gs : List (Option Lease) = again own client us rs in
+      let hs : List Lease = askHeld own now client us xs rs in
+      let os : List (Option Lease) = askOffers own now client name us xs rs in
       let same : prefixes hs ≡ inUse now t = held-prefixes now (catMaybes gs) xs in
-      newly gs os (rest-fills t now client name xs hs rs)
-      (all-map (λ x (k : (heldBy? client x ≡ true) × (used? x ≡ true)). k .1) (catMaybes gs) (again-all t client (λ x. used? x ≡ true) rs xs (all-in-use xs)))
+      newly gs os (rest-fills own now client name us hs rs)
+      (all-map (λ x (k : (heldBy? client x ≡ true) × (used? x ≡ true)). k .1) (catMaybes gs) (again-all own client (λ x. used? x ≡ true) rs us among))
       (all-map (λ x (a : All (Apart (prefixOf x)) (inUse now t)). not-there (prefixOf x) (inUse now t) a) (catMaybes os)
-      (offers-new t now client name (pools-good t so) (restOf gs rs) (inUse now t) hs (λ P a. subst (All P) same a)))
+      (offers-new own now client name good (restOf gs rs) (inUse now t) hs (λ P a. subst (All P) same a)))
 
 pub stored : (t : LeaseTable) (now : ℕ) (xs : List Lease) → All (Good (poolsOf t) now) xs → leasesOf (store t now xs) ≡ xs
 unfolding store
@@ -143,12 +146,12 @@ module _ (t : LeaseTable) (now : ℕ) (s : sound t ≡ true) (since : t .last �
       store-balance 0 (addressesOf (filter q xs)) (filter p xs) (fine-filter (poolsOf t) now 0 p xs (sound-fine t s now) .0) (omega (arith, total-parts p q o xs))
 
   -- Leases given again, which count as they did, and leases newly made.
-  ask-total : (client : ℕ) (name : Name) (rs : List Request)
-      → let xs = present now (t .leases) in addressesOf (askLeases t now client name xs rs) ≡ addressesOf xs + addressesOf (catMaybes (askOffers t now client name xs rs))
-  ask-total client name rs =
+  ask-total : (own : LeaseTable) (client : ℕ) (name : Name) (us : List Lease) (rs : List Request)
+      → let xs = present now (t .leases) in addressesOf (askLeases own now client name us xs rs) ≡ addressesOf xs + addressesOf (catMaybes (askOffers own now client name us xs rs))
+  ask-total own client name us rs =
       let xs : List Lease = present now (t .leases) in
-      let given : List Lease = catMaybes (again t client xs rs) in
-      total-addAll (askOffers t now client name xs rs) (askHeld t now client xs rs) ∙ ap (λ (n : ℕ). n + addressesOf (catMaybes (askOffers t now client name xs rs))) (total-map (held now given) (held-place now given) xs)
+      let given : List Lease = catMaybes (again own client us rs) in
+      total-addAll (askOffers own now client name us xs rs) (askHeld own now client us xs rs) ∙ ap (λ (n : ℕ). n + addressesOf (catMaybes (askOffers own now client name us xs rs))) (total-map (held now given) (held-place now given) xs)
 
   asked-balance : (rows : List FigureRow) (made : ℕ) (gs ys : List Lease) → (gs ≡ [] → made ≡ 0) → All (Good (poolsOf t) now) ys → addressesOf ys ≡ addressesOf (present now (t .leases)) + made
       → Balance t now made 0 (numberFor (present now (t .leases)) gs) (stateFor (state t rows) now ys gs .table)
@@ -168,7 +171,7 @@ AskBalance t now r = Balance t now (addressesIn (newlyMade now t (replyEntries r
 
 pub numbered-before : (s : State) (now : ℕ) (c : Call) → Numbered (before 9 (askRows s now c))
 unfolding askRows
-numbered-before s now c = (refl, (refl, (refl, (refl, (refl, (refl, (refl, (refl, (refl, (refl, (refl, tt)))))))))))
+numbered-before s now c = (refl, (refl, (refl, (refl, (refl, (refl, (refl, (refl, (refl, (refl, (refl, (refl, tt))))))))))))
 
 ask-balance : (t : State) (now : ℕ) (c : Call) → AskBalance (t .table) now (ask t now c)
 unfolding wellFormed
@@ -179,16 +182,18 @@ ask-balance t now c = ⊎-elim good bad (bool-cases (wellFormed now t c))
         let k = called now t c e in
         let w = well now t c e in
         let xs : List Lease = present now (t .table .leases) in
-        let gs : List (Option Lease) = again (t .table) (c .client) xs (asksOf c) in
-        let os : List (Option Lease) = askOffers (t .table) now (c .client) (askName c) xs (asksOf c) in
+        let own : LeaseTable = narrowed (t .table) c in
+        let us : List Lease = usableLeases (t .table) c xs in
+        let gs : List (Option Lease) = again own (c .client) us (asksOf c) in
+        let os : List (Option Lease) = askOffers own now (c .client) (askName c) us xs (asksOf c) in
         let granted : List Lease = catMaybes (givesOn now t c) in
         let made : ℕ = addressesOf (catMaybes os) in
         let nothing : granted ≡ [] → made ≡ 0 =
-        λ z. ap addressesOf (turn-none now gs os (rest-fills (t .table) now (c .client) (askName c) xs (askHeld (t .table) now (c .client) xs (asksOf c)) (asksOf c)) z .1) in
+        λ z. ap addressesOf (turn-none now gs os (rest-fills own now (c .client) (askName c) us (askHeld own now (c .client) us xs (asksOf c)) (asksOf c)) z .1) in
         let b : Balance (t .table) now made 0 (numberFor xs granted) (stateFor t now (leasesOn now t c) granted .table) =
-        asked-balance (t .table) now (w .sound) (w .accepted .0) (t .rows) made granted (leasesOn now t c) nothing (k .good) (ask-total (t .table) now (w .sound) (w .accepted .0) (c .client) (askName c) (asksOf c)) in
+        asked-balance (t .table) now (w .sound) (w .accepted .0) (t .rows) made granted (leasesOn now t c) nothing (k .good) (ask-total (t .table) now (w .sound) (w .accepted .0) own (c .client) (askName c) us (asksOf c)) in
         let m : addressesIn (newlyMade now (t .table) (replyEntries (ask t now c))) ≡ made =
-        ap (λ (es : List Entry). addressesIn (newlyMade now (t .table) es)) (k .told) ∙ ap addressesIn (newly-made now (t .table) (c .client) (askName c) (asksOf c) (w .sound)) ∙ total-entries (catMaybes os) in
+        ap (λ (es : List Entry). addressesIn (newlyMade now (t .table) es)) (k .told) ∙ ap addressesIn (newly-made now (t .table) own (ground (t .table) c (w .sound) .good) (c .client) (askName c) us (usable-all (t .table) c (λ x. any? (same? (prefixOf x)) (inUse now (t .table)) ≡ true) xs (all-in-use xs)) (asksOf c)) ∙ total-entries (catMaybes os) in
         subst (λ (n : ℕ). Balance (t .table) now n 0 (ask t now c .answer .number) (ask t now c .state .table)) (sym m)
         (subst (λ (n : ℕ). Balance (t .table) now made 0 n (ask t now c .state .table)) (sym (k .number))
         (subst (λ (u : State). Balance (t .table) now made 0 (numberFor xs granted) (u .table)) (sym (k .left-state)) b))
@@ -216,7 +221,7 @@ take-balance s now c so =
     (λ n e. refused-balance (s .table) now 0 n e)
     (λ e.
     let r = first-none (takeRows s now c) e in
-    map-balance (s .table) now so (ltb-false now (s .table .last) (r .1 .1 .1 .1 .0)) (namedBy? (c .client) (entriesIn (c .option))) (renew now (s .table .term)) (renew-mild (s .table) now so))
+    map-balance (s .table) now so (ltb-false now (s .table .last) (r .1 .1 .1 .1 .0)) (namedBy? (c .client) (usableEntries (s .table) c)) (renew now (s .table .term)) (renew-mild (s .table) now so))
 
 release-balance : (s : State) (now : ℕ) (c : Call) → sound (s .table) ≡ true
     → Balance (s .table) now 0 (addressesOf (filter (namedBy? (c .client) (entriesIn (c .option))) (present now (s .table .leases)))) (release s now c .answer .number) (release s now c .state .table)

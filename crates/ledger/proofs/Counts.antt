@@ -41,9 +41,9 @@ upTo-all P (suc n) (x ∷ xs) a = (a .0, upTo-all P n xs (a .1))
 pub asks-few : (rs : List Request) → forAsk rs ≡ true → length rs ≤ 25
 asks-few rs e = leb-true (length rs) 25 (and-list-to (leb 1 (length rs) ∷ leb (length rs) 25 ∷ all? (λ r. not (r .i)) rs ∷ []) e .1 .0)
 
-pub granted-few : (t : LeaseTable) (now client : ℕ) (name : Name) (xs : List Lease) (rs : List Request) → forAsk rs ≡ true → length (catMaybes (askGives t now client name xs rs)) ≤ 25
-granted-few t now client name xs rs e =
-    omega (arith, catMaybes-few (askGives t now client name xs rs), turn-length now (again t client xs rs) (askOffers t now client name xs rs), again-length t client rs xs, asks-few rs e)
+pub granted-few : (t : LeaseTable) (now client : ℕ) (name : Name) (hs xs : List Lease) (rs : List Request) → forAsk rs ≡ true → length (catMaybes (askGives t now client name hs xs rs)) ≤ 25
+granted-few t now client name hs xs rs e =
+    omega (arith, catMaybes-few (askGives t now client name hs xs rs), turn-length now (again t client hs rs) (askOffers t now client name hs xs rs), again-length t client rs hs, asks-few rs e)
 
 -- "25 make Len 251": with Code and Len 253 bytes.
 pub ask-fits : (gs : List Lease) → length gs ≤ 25 → length (optionBytes (map informationFor gs)) ≤ 253

@@ -2,14 +2,13 @@
 -- Assumes nothing.
 use Prim.Native.Nat.{ℕ, _+_, _-_, _≤_}
 use mathlib.Core.Path.{_≡_, refl, sym, ap, ap₂, subst, _∙_}
-use mathlib.Core.Logic.{_⊎_, ⊎-elim, by-cases}
+use mathlib.Core.Logic.{_⊎_, inl, inr, ⊎-elim, by-cases}
 use native.Mathlib.Decide.{decLe}
-use mathlib.Core.Bool.{Bool, true, false, not, cond, _&&_, true≢false}
+use mathlib.Core.Bool.{Bool, true, false, not, _&&_, true≢false}
 use mathlib.Core.List.{List, [], _∷_, _++_, map, map-append, append-assoc, nil≢cons, head-eq-of-cons-eq, tail-eq-of-cons-eq, List·Permᴰ, Permᴰ·refl, Permᴰ·symm, Permᴰ·append-nil, Permᴰ·append-right}
 use mathlib.Core.Option.{Option, none, some, Option·some-ne-none}
 use native.Mathlib.Omega.{arith}
 use lib.ListN.{length, length-append, length-map}
-use lib.Dec.{eqb}
 use borrow.Author.Tests.{ne-eqb}
 use Rattle.lists.specs.Lists.{All, Pairwise, filter, concatMap, catMaybes}
 use Rattle.lists.proofs.Tests.{bool-cases, cond-true, cond-false}
@@ -26,15 +25,16 @@ use Rattle.option.specs.Values.{Entry}
 use Rattle.names.specs.declared.Name.{Name}
 use Rattle.table.specs.declared.Lease.{Lease}
 use Rattle.table.specs.declared.LeaseTable.{LeaseTable}
-use Rattle.table.specs.Table.{leaseSlots, latest, prefixOf, prefixesOf, poolsOf, present, sound}
+use Rattle.table.specs.Table.{leaseSlots, latest, prefixOf, poolsOf, present, sound}
 use Rattle.figures.specs.Figures.{matches?}
 use Rattle.option.specs.Contents.{Request}
 use Rattle.option_reply.specs.Reply.{entryOf}
-use Rattle.ledger.specs.Ledger.{State, Call, holdTime, askLength, askName, offer, add, offers, addAll, heldBy?, ask}
+use Rattle.ledger.specs.Ledger.{State, Call, holdTime, askLength, askName, offer, add, offers, addAll, heldBy?, narrowed, ask}
 use Rattle.ledger.specs.Demand3.{Received, received, afterAll, wellFormed, Accepts, asksOf, granted, entryPrefix, inUse, wellFormedAsks, lengthsAsked, prefixesAt, HoldsNothing, FirstAsks, CanBeChosen, leaseFor, made, AllGranted, Untouched, Demand3}
 use Rattle.lists.proofs.PartLaws.{catMaybes-some, split-some}
 use Rattle.ledger.proofs.EmptySlots.{empty-slots}
-use Rattle.ledger.proofs.OfferLaws.{prefixes, prefix?, pools-good, Offer, offer-is, offers-all, addAll-all, addAll-perm, offers-serve, offers-after, offers-length}
+use Rattle.ledger.proofs.GroundLaws.{ground, narrowed-pools, narrowed-default, lengths-same}
+use Rattle.ledger.proofs.OfferLaws.{prefixes, prefix?, Offer, offer-is, offers-all, addAll-all, addAll-perm, offers-serve, offers-after, offers-length}
 use Rattle.ledger.proofs.AskLaws.{entry?}
 use Rattle.ledger.proofs.CallLaws.{well, run-not, well-same, called, called-first, granted-first}
 use Rattle.ledger.proofs.FirstSentence.{first-sentence}
@@ -48,8 +48,8 @@ placed-lengths [] (l ∷ lens) e = absurd (omega (arith, e))
 placed-lengths (n ∷ ns) [] e = absurd (omega (arith, e))
 placed-lengths (n ∷ ns) (l ∷ lens) e = ap (λ (js : List ℕ). l ∷ js) (placed-lengths ns lens (omega (arith, e)))
 
-choice : (now : ℕ) (t : State) (cs : List Call) (p : CanBeChosen now t cs) → Packing (poolsOf (t .table)) (inUse now (t .table)) (lengthsAsked now t cs) (prefixesAt (p .networks) (lengthsAsked now t cs))
-choice now t cs p = record {
+choice : (now : ℕ) (t : State) (ground : List Prefix) (cs : List Call) (p : CanBeChosen now t ground cs) → Packing ground (inUse now (t .table)) (lengthsAsked now t cs) (prefixesAt (p .networks) (lengthsAsked now t cs))
+choice now t ground cs p = record {
   asked = placed-lengths (p .networks) (lengthsAsked now t cs) (p .enough);
   free = p .free;
   disjoint = p .apart;
@@ -132,7 +132,7 @@ pub record Reached (t : State) (now : ℕ) (u : State) : Type 0 where
 
 module _ (t : State) (now : ℕ) (st : sound (t .table) ≡ true) (ac : Accepts (t .table) now) where
   pub same : (u : State) (c : Call) → Reached t now u → wellFormed now u c ≡ wellFormed now t c
-  same u c s = well-same now t u c st (s .sound) ac (s .since, ac .1) (s .matched)
+  same u c s = well-same now t u c st (s .sound) ac (s .since, ac .1) (s .matched) (s .pools)
 
   pub next : (u : State) (c : Call) → Reached t now u → Reached t now (ask u now c .state)
   next u c s =
@@ -165,14 +165,15 @@ module _ (t : State) (now : ℕ) (st : sound (t .table) ≡ true) (ac : Accepts 
       → HoldsNothing now (u .table) (c .client) × FirstOn (ask u now c .state) cs
   first-well c cs u s b f =
       let xs : List Lease = present now (u .table .leases) in
-      let os : List (Option Lease) = offers (u .table) now (c .client) (askName c) xs (asksOf c) in
-      let good : Pools (poolsOf (u .table)) = pools-good (u .table) (s .sound) in
+      let own : LeaseTable = narrowed (u .table) c in
+      let os : List (Option Lease) = offers own now (c .client) (askName c) xs (asksOf c) in
+      let good : Pools (poolsOf own) = ground (u .table) c (s .sound) .good in
       let g : All (λ d. HoldsNothing now (u .table) (d .client)) (c ∷ filter (wellFormed now t) cs) × Pairwise (λ d e. d .client ≡ e .client → ⊥) (c ∷ filter (wellFormed now t) cs) =
       subst (λ (ds : List Call). All (λ d. HoldsNothing now (u .table) (d .client)) ds × Pairwise (λ d e. d .client ≡ e .client → ⊥) ds) (filter-yes (wellFormed now t) c cs b) f in
       let still : (d : Call) → (c .client ≡ d .client → ⊥) → HoldsNothing now (u .table) (d .client) → HoldsNothing now (ask u now c .state .table) (d .client) =
       λ d k n. subst (All (λ x. heldBy? (d .client) x ≡ false)) (sym (called-first now u c (same u c s ∙ b) (g .0 .0) .left))
       (addAll-all (λ x. heldBy? (d .client) x ≡ false) os xs
-      (offers-all (u .table) now (c .client) (askName c) good (λ r. Unit {0}) (λ x. heldBy? (d .client) x ≡ false) (λ ys r x _ o. not-theirs (c .client) (d .client) k x (o .owner)) (asksOf c) xs (all-every (λ r. tt) (asksOf c))) n) in
+      (offers-all own now (c .client) (askName c) good (λ r. Unit {0}) (λ x. heldBy? (d .client) x ≡ false) (λ ys r x _ o. not-theirs (c .client) (d .client) k x (o .owner)) (asksOf c) xs (all-every (λ r. tt) (asksOf c))) n) in
       (g .0 .0, (all-map₂ still (filter (wellFormed now t) cs) (g .1 .0) (g .0 .1), g .1 .1))
 
   -- the list, from any table that it goes through
@@ -211,27 +212,32 @@ module _ (t : State) (now : ℕ) (st : sound (t .table) ≡ true) (ac : Accepts 
             (ap₂ (λ (w : State) (l : List (Received State)). present now (w .table .leases) ++ concatMap (made (λ s. s) ask now) l) q (sym f)) (k .left);
       }
 
-  pub lens-same : (u : State) (rs : List Request) → Reached t now u → map (askLength (u .table)) rs ≡ map (askLength (t .table)) rs
-  lens-same u rs s = ap (λ (n : ℕ). map (λ (r : Request). cond (eqb (r .length) 0) n (r .length)) rs) (s .default)
+  -- A call's ground stays as it was on the first table, and so do the lengths that it asks for.
+  pub pools-same : (u : State) (c : Call) → Reached t now u → poolsOf (narrowed (u .table) c) ≡ poolsOf (narrowed (t .table) c)
+  pools-same u c s = narrowed-pools (t .table) (u .table) c (s .pools)
+
+  pub lens-same : (u : State) (c : Call) (rs : List Request) → Reached t now u → map (askLength (narrowed (u .table) c)) rs ≡ map (askLength (t .table)) rs
+  lens-same u c rs s = lengths-same (narrowed (u .table) c) (t .table) (narrowed-default (u .table) c ∙ s .default) rs
 
   goes-well : (c : Call) (cs : List Call) (u : State) (ys : List Lease) (g₁ g₂ : List Prefix) → Reached t now u → wellFormed now t c ≡ true → HoldsNothing now (u .table) (c .client)
-      → offers (u .table) now (c .client) (askName c) (present now (u .table .leases)) (asksOf c) ≡ map some ys → prefixes ys ≡ g₁
+      → offers (narrowed (u .table) c) now (c .client) (askName c) (present now (u .table .leases)) (asksOf c) ≡ map some ys → prefixes ys ≡ g₁
       → Goes cs (ask u now c .state) g₂ → Goes (c ∷ cs) u (g₁ ++ g₂)
   unfolding received afterAll
   goes-well c cs u ys g₁ g₂ s e n o b k =
       let xs : List Lease = present now (u .table .leases) in
       let w : wellFormed now u c ≡ true = same u c s ∙ e in
-      let good : Pools (poolsOf (u .table)) = pools-good (u .table) (s .sound) in
+      let own : LeaseTable = narrowed (u .table) c in
+      let good : Pools (poolsOf own) = ground (u .table) c (s .sound) .good in
       let v : Received State = record { call = c; got = u } in
       let vs : List (Received State) = received (λ s. s) ask now (ask u now c .state) cs in
       let f : filter kept? (v ∷ vs) ≡ v ∷ filter kept? vs = cond-true (wellFormed now t c) (v ∷ filter kept? vs) (filter kept? vs) e in
       let h : granted (λ s. s) ask now u c ≡ map some (map entryOf ys) = granted-first now u c w n ∙ ap (map entry?) o ∙ entries-some ys in
-      let so : catMaybes (offers (u .table) now (c .client) (askName c) xs (asksOf c)) ≡ ys = ap catMaybes o ∙ catMaybes-some ys in
+      let so : catMaybes (offers own now (c .client) (askName c) xs (asksOf c)) ≡ ys = ap catMaybes o ∙ catMaybes-some ys in
       let m : made (λ s. s) ask now v ≡ ys =
       ap (λ (l : List (Option Entry)). map (leaseFor now (c .client) (askName c)) (catMaybes l)) h
       ∙ ap (map (leaseFor now (c .client) (askName c))) (catMaybes-some (map entryOf ys))
       ∙ ap (λ (l : List Lease). map (leaseFor now (c .client) (askName c)) (map entryOf l)) (sym so)
-      ∙ told (u .table) good now (c .client) (askName c) (asksOf c) xs ∙ so in
+      ∙ told own good now (c .client) (askName c) (asksOf c) xs ∙ so in
       let p : List·Permᴰ (present now (ask u now c .state .table .leases)) (xs ++ ys) =
       subst (λ (l : List Lease). List·Permᴰ l (xs ++ ys)) (sym (called-first now u c w n .left ∙ ap (λ (l : List (Option Lease)). addAll l xs) o)) (all-added ys xs) in
       record {
@@ -240,7 +246,7 @@ module _ (t : State) (now : ℕ) (st : sound (t .table) ≡ true) (ac : Accepts 
         are = map-append entryPrefix (map entryOf ys) (k .given) ∙ ap₂ (λ (a b : List Prefix). a ++ b) (prefixes-of ys ∙ b) (k .are);
         lens =
             map-append (λ (z : Entry). z .length) (map entryOf ys) (k .given)
-            ∙ ap₂ (λ (a b : List ℕ). a ++ b) (lengths-of ys ∙ lengths-told (u .table) good now (c .client) (askName c) (asksOf c) xs ys o ∙ lens-same u (asksOf c) s) (k .lens)
+            ∙ ap₂ (λ (a b : List ℕ). a ++ b) (lengths-of ys ∙ lengths-told own good now (c .client) (askName c) (asksOf c) xs ys o ∙ lens-same u c (asksOf c) s) (k .lens)
             ∙ sym (map-append (askLength (t .table)) (asksOf c) (wellFormedAsks now t cs))
             ∙ ap (λ (z : List Call). map (askLength (t .table)) (concatMap asksOf z)) (sym (cond-true (wellFormed now t c) (c ∷ filter (wellFormed now t) cs) (filter (wellFormed now t) cs) e));
         left =
@@ -250,71 +256,95 @@ module _ (t : State) (now : ℕ) (st : sound (t .table) ≡ true) (ac : Accepts 
             (Permᴰ·append-right (concatMap (made (λ s. s) ask now) (filter kept? vs)) p));
       }
 
-  pub pools-same : (u : State) → Reached t now u → poolsOf (u .table) ≡ poolsOf (t .table)
-  pools-same u s = ap prefixesOf (s .pools)
+  -- The calls that are well-formed all have this ground.
+  abbrev pub Over : List Prefix → List Call → Type 0
+  Over ground cs = All (λ c. poolsOf (narrowed (t .table) c) ≡ ground) (filter (wellFormed now t) cs)
 
-  abbrev Claim : List Call → Type 0
-  Claim cs = (u : State) (ls gs : List Prefix) → Reached t now u → List·Permᴰ (inUse now (u .table)) ls → serve (poolsOf (t .table)) ls (lengthsAsked now t cs) ≡ map some gs
-      → length (present now (u .table .leases)) + length (wellFormedAsks now t cs) ≤ leaseSlots → FirstOn u cs → Goes cs u gs
+  pub over-not : (ground : List Prefix) (c : Call) (cs : List Call) → wellFormed now t c ≡ false → Over ground (c ∷ cs) → Over ground cs
+  over-not ground c cs b a = subst (All (λ c. poolsOf (narrowed (t .table) c) ≡ ground)) (filter-no (wellFormed now t) c cs b) a
 
-  step-not : (c : Call) (cs : List Call) → wellFormed now t c ≡ false → Claim cs → Claim (c ∷ cs)
-  step-not c cs b k u ls gs s p e l a =
+  pub over-well : (ground : List Prefix) (c : Call) (cs : List Call) → wellFormed now t c ≡ true → Over ground (c ∷ cs) → (poolsOf (narrowed (t .table) c) ≡ ground) × Over ground cs
+  over-well ground c cs b a = subst (All (λ c. poolsOf (narrowed (t .table) c) ≡ ground)) (filter-yes (wellFormed now t) c cs b) a
+
+  -- So it is good ground, where any call is well-formed.
+  pub over-good : (ground : List Prefix) (cs : List Call) → Over ground cs → (lengthsAsked now t cs ≡ []) ⊎ Pools ground
+  over-good pools cs a = go (filter (wellFormed now t) cs) refl a
+    where
+      go : (ds : List Call) → filter (wellFormed now t) cs ≡ ds → All (λ c. poolsOf (narrowed (t .table) c) ≡ pools) ds → (lengthsAsked now t cs ≡ []) ⊎ Pools pools
+      go [] e b = inl (ap (λ (ds : List Call). map (askLength (t .table)) (concatMap asksOf ds)) e)
+      go (c ∷ ds) e b = inr (subst Pools (b .0) (ground (t .table) c st .good))
+
+  abbrev Claim : List Prefix → List Call → Type 0
+  Claim ground cs = (u : State) (ls gs : List Prefix) → Reached t now u → List·Permᴰ (inUse now (u .table)) ls → serve ground ls (lengthsAsked now t cs) ≡ map some gs
+      → length (present now (u .table .leases)) + length (wellFormedAsks now t cs) ≤ leaseSlots → FirstOn u cs → Over ground cs → Goes cs u gs
+
+  step-not : (pools : List Prefix) (c : Call) (cs : List Call) → wellFormed now t c ≡ false → Claim pools cs → Claim pools (c ∷ cs)
+  step-not pools c cs b k u ls gs s p e l a over =
       let f : filter (wellFormed now t) (c ∷ cs) ≡ filter (wellFormed now t) cs =
       cond-false (wellFormed now t c) (c ∷ filter (wellFormed now t) cs) (filter (wellFormed now t) cs) b in
       let q : ask u now c .state ≡ u = run-not now u c (same u c s ∙ b) .0 in
       goes-not c cs u gs s b
       (k (ask u now c .state) ls gs (next u c s)
       (subst (λ (w : State). List·Permᴰ (inUse now (w .table)) ls) (sym q) p)
-      (subst (λ (z : List Call). serve (poolsOf (t .table)) ls (map (askLength (t .table)) (concatMap asksOf z)) ≡ map some gs) f e)
+      (subst (λ (z : List Call). serve pools ls (map (askLength (t .table)) (concatMap asksOf z)) ≡ map some gs) f e)
       (omega (arith, ap (λ (w : State). length (present now (w .table .leases))) q, ap (λ (z : List Call). length (concatMap asksOf z)) f))
-      (first-not c cs u s b a))
+      (first-not c cs u s b a) (over-not pools c cs b over))
 
-  step-well : (c : Call) (cs : List Call) → wellFormed now t c ≡ true → Claim cs → Claim (c ∷ cs)
-  step-well c cs b k u ls gs s p e l first =
+  step-well : (pools : List Prefix) (c : Call) (cs : List Call) → wellFormed now t c ≡ true → Claim pools cs → Claim pools (c ∷ cs)
+  step-well pools c cs b k u ls gs s p e l first over =
       let xs : List Lease = present now (u .table .leases) in
       let js : List ℕ = map (askLength (t .table)) (asksOf c) in
-      let good : Pools (poolsOf (u .table)) = pools-good (u .table) (s .sound) in
+      let own : LeaseTable = narrowed (u .table) c in
+      let good : Pools (poolsOf own) = ground (u .table) c (s .sound) .good in
       let w : wellFormed now u c ≡ true = same u c s ∙ b in
       let later = first-well c cs u s b first in
+      let here = over-well pools c cs b over in
+      let its : poolsOf own ≡ pools = pools-same u c s ∙ here .0 in
       let f : filter (wellFormed now t) (c ∷ cs) ≡ c ∷ filter (wellFormed now t) cs =
       cond-true (wellFormed now t c) (c ∷ filter (wellFormed now t) cs) (filter (wellFormed now t) cs) b in
       let room : length xs + (length (asksOf c) + length (wellFormedAsks now t cs)) ≤ leaseSlots =
       omega (arith, ap (λ (z : List Call). length (concatMap asksOf z)) f, length-append (asksOf c) (wellFormedAsks now t cs)) in
       let o : lengthsAsked now t (c ∷ cs) ≡ js ++ lengthsAsked now t cs =
       ap (λ (z : List Call). map (askLength (t .table)) (concatMap asksOf z)) f ∙ map-append (askLength (t .table)) (asksOf c) (wellFormedAsks now t cs) in
-      let r = split-some (serve (poolsOf (t .table)) ls js) (serve (poolsOf (t .table)) (after (poolsOf (t .table)) ls js) (lengthsAsked now t cs)) gs
-      (sym (serve-append (poolsOf (t .table)) ls js (lengthsAsked now t cs)) ∙ ap (serve (poolsOf (t .table)) ls) (sym o) ∙ e) in
-      let a = all-catMaybes (offers (u .table) now (c .client) (askName c) xs (asksOf c)) (r .0)
-      (offers-serve (u .table) now (c .client) (askName c) good (asksOf c) xs ls (omega arith) p ∙ ap₂ (λ (ps : List Prefix) (z : List ℕ). serve ps ls z) (pools-same u s) (lens-same u (asksOf c) s) ∙ r .2) in
-      let q : List·Permᴰ (inUse now (ask u now c .state .table)) (after (poolsOf (t .table)) ls js) =
-      subst (λ (z : List Lease). List·Permᴰ (prefixes z) (after (poolsOf (t .table)) ls js)) (sym (called-first now u c w (later .0) .left))
-      (subst (λ (z : List Prefix). List·Permᴰ (prefixes (addAll (offers (u .table) now (c .client) (askName c) xs (asksOf c)) xs)) z)
-      (ap₂ (λ (ps : List Prefix) (z : List ℕ). after ps ls z) (pools-same u s) (lens-same u (asksOf c) s))
-      (offers-after (u .table) now (c .client) (askName c) good (asksOf c) xs ls (omega arith) p)) in
+      let r = split-some (serve pools ls js) (serve pools (after pools ls js) (lengthsAsked now t cs)) gs
+      (sym (serve-append pools ls js (lengthsAsked now t cs)) ∙ ap (serve pools ls) (sym o) ∙ e) in
+      let a = all-catMaybes (offers own now (c .client) (askName c) xs (asksOf c)) (r .0)
+      (offers-serve own now (c .client) (askName c) good (asksOf c) xs ls (omega arith) p ∙ ap₂ (λ (ps : List Prefix) (z : List ℕ). serve ps ls z) its (lens-same u c (asksOf c) s) ∙ r .2) in
+      let q : List·Permᴰ (inUse now (ask u now c .state .table)) (after pools ls js) =
+      subst (λ (z : List Lease). List·Permᴰ (prefixes z) (after pools ls js)) (sym (called-first now u c w (later .0) .left))
+      (subst (λ (z : List Prefix). List·Permᴰ (prefixes (addAll (offers own now (c .client) (askName c) xs (asksOf c)) xs)) z)
+      (ap₂ (λ (ps : List Prefix) (z : List ℕ). after ps ls z) its (lens-same u c (asksOf c) s))
+      (offers-after own now (c .client) (askName c) good (asksOf c) xs ls (omega arith) p)) in
       let n : length (present now (ask u now c .state .table .leases)) ≡ length xs + length (asksOf c) =
       ap length (called-first now u c w (later .0) .left) ∙ ap (λ (z : List (Option Lease)). length (addAll z xs)) (a .1) ∙ perm-length (all-added (a .0) xs) ∙ length-append xs (a .0)
-      ∙ omega (arith, length-map (a .0) some, ap length (a .1), offers-length (u .table) now (c .client) (askName c) (asksOf c) xs) in
+      ∙ omega (arith, length-map (a .0) some, ap length (a .1), offers-length own now (c .client) (askName c) (asksOf c) xs) in
       subst (Goes (c ∷ cs) u) (sym (r .4))
       (goes-well c cs u (a .0) (r .0) (r .1) s b (later .0) (a .1) (a .2)
-      (k (ask u now c .state) (after (poolsOf (t .table)) ls js) (r .1) (next u c s) q (r .3) (omega arith) (later .1)))
+      (k (ask u now c .state) (after pools ls js) (r .1) (next u c s) q (r .3) (omega arith) (later .1) (here .1)))
 
-  goes : (cs : List Call) → Claim cs
-  goes [] = λ u ls gs s p e l a. goes-none u gs e
-  goes (c ∷ cs) =
-      ⊎-elim (λ (b : wellFormed now t c ≡ true). step-well c cs b (goes cs)) (λ (b : wellFormed now t c ≡ false). step-not c cs b (goes cs)) (bool-cases (wellFormed now t c))
+  goes : (pools : List Prefix) (cs : List Call) → Claim pools cs
+  goes pools [] = λ u ls gs s p e l a over. goes-none u gs e
+  goes pools (c ∷ cs) =
+      ⊎-elim (λ (b : wellFormed now t c ≡ true). step-well pools c cs b (goes pools cs)) (λ (b : wellFormed now t c ≡ false). step-not pools c cs b (goes pools cs)) (bool-cases (wellFormed now t c))
 
   pub start : Reached t now t
   start = record { sound = st; matched = refl; since = ac .0; pools = refl; default = refl }
 
-  pub all-granted : (cs : List Call) → FirstAsks now t cs → CanBeChosen now t cs → AllGranted (λ s. s) ask now t cs
-  all-granted cs a p =
-      let m = list-theorem (poolsOf (t .table)) (pools-good (t .table) st) (inUse now (t .table)) (lengthsAsked now t cs) (prefixesAt (p .networks) (lengthsAsked now t cs)) (choice now t cs p) in
-      let g = goes cs t (inUse now (t .table)) (m .0) start (Permᴰ·refl (inUse now (t .table))) (m .1) (omega (arith, p .slots, empty-slots (t .table) now st)) (a .nothing, a .once) in
+  -- What the list is served on its ground packs it.
+  packs : (pools : List Prefix) (cs : List Call) → CanBeChosen now t pools cs → (lengthsAsked now t cs ≡ []) ⊎ Pools pools
+      → (gs : List Prefix) × (serve pools (inUse now (t .table)) (lengthsAsked now t cs) ≡ map some gs) × Packing pools (inUse now (t .table)) (lengthsAsked now t cs) gs
+  packs pools cs p (inl e) = ([], ap (serve pools (inUse now (t .table))) e, record { asked = sym e; free = tt; disjoint = tt })
+  packs pools cs p (inr good) = list-theorem pools good (inUse now (t .table)) (lengthsAsked now t cs) (prefixesAt (p .networks) (lengthsAsked now t cs)) (choice now t pools cs p)
+
+  pub all-granted : (pools : List Prefix) (cs : List Call) → FirstAsks now t pools cs → CanBeChosen now t pools cs → AllGranted (λ s. s) ask now t pools cs
+  all-granted pools cs a p =
+      let m = packs pools cs p (over-good pools cs (a .over)) in
+      let g = goes pools cs t (inUse now (t .table)) (m .0) start (Permᴰ·refl (inUse now (t .table))) (m .1) (omega (arith, p .slots, empty-slots (t .table) now st)) (a .nothing, a .once) (a .over) in
       record {
         given = g .given;
         all = g .all;
         lengths = g .lens;
-        free = subst (All (Free (poolsOf (t .table)) (inUse now (t .table)))) (sym (g .are)) (m .2 .free);
+        free = subst (All (Free pools (inUse now (t .table)))) (sym (g .are)) (m .2 .free);
         apart = subst (Pairwise Apart) (sym (g .are)) (m .2 .disjoint);
         left = g .left;
       }
@@ -357,6 +387,6 @@ untouched-always t now cs =
 pub demand3 : Demand3 (λ s. s) ask
 demand3 = record {
   sentence = first-sentence;
-  lists = λ t now cs s a f p. all-granted t now s a cs f p;
+  lists = λ t now pools cs s a f p. all-granted t now s a pools cs f p;
   untouched = untouched-always;
 }

@@ -20,7 +20,6 @@ use Rattle.prefix.specs.Prefixes.{end}
 use Rattle.prefix.proofs.PrefixLaws.{size-positive}
 use Rattle.option.specs.Answers.{figuresOf}
 use Rattle.option.specs.Values.{Entry}
-use Rattle.option.specs.Contents.{entriesIn}
 use Rattle.table.specs.declared.{Lease.Lease, LeaseTable.LeaseTable}
 use Rattle.table.specs.Table.{leaseSlots, prefixOf, noLease, present, sound, store}
 use Rattle.table.proofs.Ascending.{Ascending, ascending-low}
@@ -31,7 +30,7 @@ use Rattle.figures.specs.Figures as figures
 use Rattle.figures.proofs.RowsMatch.{of-lease, fits-to, filled-matches}
 use Rattle.figures.proofs.RowsFollow.{kept-yes, kept-no, kept-matches, found-same, found-none, own-rows, row-new, row-own}
 use Rattle.figures.proofs.RowsFile.{figureAt, newest, filed-high-water, filed-in-use, filed-unusable, filed-of-lease}
-use Rattle.ledger.specs.Ledger.{State, filled, left, Call, refusalPlace, askRows, ask, names?, namedBy?, renew, renewed, takeRows, take, releaseRows, release, markRows, mark, ledger}
+use Rattle.ledger.specs.Ledger.{State, filled, left, Call, refusalPlace, askRows, ask, names?, namedBy?, usableEntries, renew, renewed, takeRows, take, releaseRows, release, markRows, mark, ledger}
 use Rattle.ledger.specs.FiguresKept.{Matched, Beside, RowOf, told, lastOf, Updated, Unchanged, FiguresAfter, FiguresKept, AllUntold, OpensUntold}
 use Rattle.ledger.proofs.RowLaws.{accepted-by, numbered-ask, numbered-take, numbered-release, numbered-mark}
 use Rattle.ledger.proofs.LeftLaws.{renewedTable, present-long, left-matches, renewed-matches}
@@ -209,7 +208,7 @@ any-replicate P (suc n) x (inr a) = any-replicate P n x a
 
 module _ (s : State) (now : ℕ) (c : Call) (so : sound (s .table) ≡ true) (m : Matched s) (named : c .client ≡ 0 → ⊥) where
   abbrev es : List Entry
-  es = entriesIn (c .option)
+  es = usableEntries (s .table) c
 
   abbrev renews : Lease → Lease
   renews x = cond (namedBy? (c .client) es x) (renew now (s .table .term) x) x
@@ -280,10 +279,10 @@ module _ (s : State) (now : ℕ) (c : Call) where
       accepted-by (FiguresAfter Unchanged now s) (askRows s now c) (refusalPlace (c .option)) s (c .reply) _ (numbered-ask s now c)
       (λ r. left-figures s now (not-false (sound (s .table)) (r .1 .0)) (not-false (figures.matches? (s .table .leases) (s .rows)) (r .1 .1 .0)) _)
 
-  take-figures : take s now c .answer .number ≡ 0 → FiguresAfter (Updated (c .client) (entriesIn (c .option))) now s (take s now c .state)
+  take-figures : take s now c .answer .number ≡ 0 → FiguresAfter (Updated (c .client) (usableEntries (s .table) c)) now s (take s now c .state)
   unfolding take takeRows
   take-figures =
-      accepted-by (FiguresAfter (Updated (c .client) (entriesIn (c .option))) now s) (takeRows s now c) (refusalPlace (c .option)) s (c .reply) _ (numbered-take s now c)
+      accepted-by (FiguresAfter (Updated (c .client) (usableEntries (s .table) c)) now s) (takeRows s now c) (refusalPlace (c .option)) s (c .reply) _ (numbered-take s now c)
       (λ r.
       renewed-figures s now c (not-false (sound (s .table)) (r .1 .0)) (not-false (figures.matches? (s .table .leases) (s .rows)) (r .1 .1 .0))
       (eqb-false (c .client) 0 (r .1 .1 .1 .0)))

@@ -30,10 +30,11 @@ use Rattle.table.specs.declared.Lease.{Lease}
 use Rattle.table.specs.declared.LeaseTable.{LeaseTable}
 use Rattle.table.specs.Table.{leaseSlots, prefixOf, poolsOf, present}
 use Rattle.option.specs.Contents.{Request}
-use Rattle.ledger.specs.Ledger.{State, Call, askLength, askName, offer, add, offers, heldFor?, firstThat, butFirst, again, restOf, holdAgain, inTurn, askHeld, askGives, ask}
+use Rattle.ledger.specs.Ledger.{State, Call, askLength, askName, offer, add, offers, heldFor?, firstThat, butFirst, again, restOf, holdAgain, inTurn, narrowed, usableLeases, askHeld, askGives, givesIn, ask}
 use Rattle.ledger.specs.Demand3.{wellFormed, asksOf, heldBefore, granted, entryPrefix, inUse, same?, meets, wantsSlot, wantsSpace, fate, NoneFree, OfTheRest, Rightly, RefusedRightly}
 use Rattle.ledger.specs.Choice.{Chosen, ChosenRightly}
-use Rattle.ledger.proofs.OfferLaws.{prefixes, pools-good, Offer, offer-is, add-perm}
+use Rattle.ledger.proofs.GroundLaws.{ground, narrowed-default, again-same, usable-all}
+use Rattle.ledger.proofs.OfferLaws.{prefixes, Offer, offer-is, add-perm}
 use Rattle.ledger.proofs.AgainLaws.{first-some, but-first-all, held-prefixes, gives}
 use Rattle.ledger.proofs.AskLaws.{entry?}
 use Rattle.ledger.proofs.CallLaws.{well, granted-is}
@@ -143,19 +144,35 @@ module _ (t : LeaseTable) (good : Pools (poolsOf t)) (now client : ℕ) (name : 
         let f : Lease → Bool = heldFor? t client r in
         rest-step r rs hs (butFirst f hs) ys used (firstThat f hs) refl a (but-first-all f (InUse used) hs a) p (λ zs more b q. of-the-rest rs (butFirst f hs) zs more b q)
 
-    pub of-ask : (xs : List Lease) (rs : List Request) → OfTheRest P (prefixes xs) rs (again t client xs rs) (map entry? (askGives t now client name xs rs))
+    pub of-ask : (hs xs : List Lease) (rs : List Request) → All (λ x. any? (same? (prefixOf x)) (prefixes xs) ≡ true) hs
+        → OfTheRest P (prefixes xs) rs (again t client hs rs) (map entry? (askGives t now client name hs xs rs))
     unfolding InUse
-    of-ask xs rs =
-        of-the-rest rs xs (askHeld t now client xs rs) (prefixes xs) (all-in-use xs)
-        (subst (λ (ps : List Prefix). List·Permᴰ ps (prefixes xs)) (sym (held-prefixes now (catMaybes (again t client xs rs)) xs)) (Permᴰ·refl (prefixes xs)))
+    of-ask hs xs rs a =
+        of-the-rest rs hs (askHeld t now client hs xs rs) (prefixes xs) a
+        (subst (λ (ps : List Prefix). List·Permᴰ ps (prefixes xs)) (sym (held-prefixes now (catMaybes (again t client hs rs)) xs)) (Permᴰ·refl (prefixes xs)))
+
+-- Of a call on its ground: what it is to get again is the same by the table and by its ground.
+module _ (t : State) (now : ℕ) (c : Call) (P : List Prefix → Request → Option Entry → Type 0) where
+  abbrev own : LeaseTable
+  own = narrowed (t .table) c
+
+  of-call : Pools (poolsOf own)
+      → ((xs : List Lease) (used : List Prefix) (r : Request) (o : Option Lease) → List·Permᴰ (prefixes xs) used → Offer own now (c .client) (askName c) xs r o → P used r (entry? o))
+      → OfTheRest P (inUse now (t .table)) (asksOf c) (heldBefore now (t .table) c) (map entry? (givesIn (t .table) now c))
+  of-call good each =
+      let xs : List Lease = present now (t .table .leases) in
+      let us : List Lease = usableLeases (t .table) c xs in
+      subst (λ (hs : List (Option Lease)). OfTheRest P (inUse now (t .table)) (asksOf c) hs (map entry? (givesIn (t .table) now c)))
+      (again-same own (t .table) (narrowed-default (t .table) c) (c .client) (asksOf c) us)
+      (of-ask own good now (c .client) (askName c) P each us xs (asksOf c) (usable-all (t .table) c (λ x. any? (same? (prefixOf x)) (prefixes xs) ≡ true) xs (all-in-use xs)))
 
 pub first-sentence : (t : State) (now : ℕ) (c : Call) → wellFormed now t c ≡ true
-    → RefusedRightly (t .table) (inUse now (t .table)) (asksOf c) (heldBefore now (t .table) c) (granted (λ s. s) ask now t c)
+    → RefusedRightly (narrowed (t .table) c) (inUse now (t .table)) (asksOf c) (heldBefore now (t .table) c) (granted (λ s. s) ask now t c)
 first-sentence t now c e =
-    let good : Pools (poolsOf (t .table)) = pools-good (t .table) (well now t c e .sound) in
-    subst (RefusedRightly (t .table) (inUse now (t .table)) (asksOf c) (heldBefore now (t .table) c)) (sym (granted-is now t c e))
-    (of-ask (t .table) good now (c .client) (askName c) (Rightly (t .table)) (λ xs used r o p f. (space (t .table) good now (c .client) (askName c) xs used r o p f, slot (t .table) good now (c .client) (askName c) xs used r o p f))
-    (present now (t .table .leases)) (asksOf c))
+    let own : LeaseTable = narrowed (t .table) c in
+    let good : Pools (poolsOf own) = ground (t .table) c (well now t c e .sound) .good in
+    subst (RefusedRightly own (inUse now (t .table)) (asksOf c) (heldBefore now (t .table) c)) (sym (granted-is now t c e))
+    (of-call t now c (Rightly own) good (λ xs used r o p f. (space own good now (c .client) (askName c) xs used r o p f, slot own good now (c .client) (askName c) xs used r o p f)))
 
 -- THE CHOICE of each of the rest that is granted is document 01's.
 chosen : (t : LeaseTable) (good : Pools (poolsOf t)) (now client : ℕ) (name : Name) (xs : List Lease) (used : List Prefix) (r : Request) (o : Option Lease) → List·Permᴰ (prefixes xs) used
@@ -164,8 +181,9 @@ chosen t good now client name xs used r none p f = tt
 chosen t good now client name xs used r (some x) p f = grant-takes (poolsOf t) good used (askLength t r) (prefixOf x) .0 (sym (grant-perm (poolsOf t) p (askLength t r)) ∙ f .granted)
 
 pub chosen-rightly : (t : State) (now : ℕ) (c : Call) → wellFormed now t c ≡ true
-    → ChosenRightly (t .table) (inUse now (t .table)) (asksOf c) (heldBefore now (t .table) c) (granted (λ s. s) ask now t c)
+    → ChosenRightly (narrowed (t .table) c) (inUse now (t .table)) (asksOf c) (heldBefore now (t .table) c) (granted (λ s. s) ask now t c)
 chosen-rightly t now c e =
-    let good : Pools (poolsOf (t .table)) = pools-good (t .table) (well now t c e .sound) in
-    subst (ChosenRightly (t .table) (inUse now (t .table)) (asksOf c) (heldBefore now (t .table) c)) (sym (granted-is now t c e))
-    (of-ask (t .table) good now (c .client) (askName c) (Chosen (t .table)) (chosen (t .table) good now (c .client) (askName c)) (present now (t .table .leases)) (asksOf c))
+    let own : LeaseTable = narrowed (t .table) c in
+    let good : Pools (poolsOf own) = ground (t .table) c (well now t c e .sound) .good in
+    subst (ChosenRightly own (inUse now (t .table)) (asksOf c) (heldBefore now (t .table) c)) (sym (granted-is now t c e))
+    (of-call t now c (Chosen own) good (chosen own good now (c .client) (askName c)))

@@ -16,8 +16,9 @@ use Rattle.option.specs.Contents.{entriesIn}
 use Rattle.table.specs.declared.{Lease.Lease, LeaseTable.LeaseTable}
 use Rattle.table.specs.Table.{present, sound}
 use Rattle.ledger.specs.declared.Answer.{Answer}
-use Rattle.ledger.specs.Ledger.{State, Call, askName, call, Result, Calls, heldAgain, ask, ledger, namedBy?}
-use Rattle.ledger.specs.Demand3.{Server, wellFormed, asksOf, heldBefore, pairOff, confirmed, replyEntries, inUse, leaseFor, RefusedRightly, Received, granted, received, afterAll, wellFormedCalls, made, AllGranted, Untouched, Demand3}
+use Rattle.prefix.specs.declared.Prefix.{Prefix}
+use Rattle.ledger.specs.Ledger.{State, Call, askName, call, Result, Calls, heldAgain, narrowed, ask, ledger, namedBy?}
+use Rattle.ledger.specs.Demand3.{Server, wellFormed, asksOf, heldBefore, pairOff, confirmed, option220, replyEntries, inUse, leaseFor, RefusedRightly, Received, granted, received, afterAll, wellFormedCalls, made, AllGranted, Untouched, Demand3}
 use Rattle.ledger.specs.AskingTwice.{GivenAgain, grantedToRest, AsksTwice}
 use Rattle.ledger.specs.Histories.{Event, asked, taken, wasListed, returned, marked, saved, next, afterwards, Reachable, begun, called, NeverShared, leasesOf}
 use Rattle.ledger.specs.Conservation.{addressesOf, addressesIn, newlyMade, ifAccepted, endedAt, grantedBy, returnedBy, endedBy, summed, Conserved, FromLoad}
@@ -45,7 +46,7 @@ module _ {S : Type 0} (stateOf : S → State) (server : Server S) (follows : (s 
   entries-same : (s : S) (now : ℕ) (c : Call) → replyEntries (server s now c) ≡ replyEntries (ask (stateOf s) now c)
   entries-same s now c =
       let f = follows s now c in
-      ap₂ (λ (a : Answer) (l : List ℕ). cond (eqb (a .number) 0) (entriesIn (upTo (a .bytes) l)) []) (f .answer) (f .reply)
+      ap₂ (λ (a : Answer) (l : List ℕ). cond (eqb (a .number) 0) (entriesIn (option220 (upTo (a .bytes) l))) []) (f .answer) (f .reply)
 
   granted-same : (now : ℕ) (s : S) (c : Call) → granted stateOf server now s c ≡ granted (λ t. t) ask now (stateOf s) c
   unfolding granted
@@ -79,8 +80,8 @@ module _ {S : Type 0} (stateOf : S → State) (server : Server S) (follows : (s 
       go true rest = ap₂ (λ (a b : List B). a ++ b) (e (record { call = c; got = s })) rest
       go false rest = rest
 
-  all-granted : (s : S) (now : ℕ) (cs : List Call) → AllGranted (λ t. t) ask now (stateOf s) cs → AllGranted stateOf server now s cs
-  all-granted s now cs g = record {
+  all-granted : (s : S) (now : ℕ) (ground : List Prefix) (cs : List Call) → AllGranted (λ t. t) ask now (stateOf s) ground cs → AllGranted stateOf server now s ground cs
+  all-granted s now ground cs g = record {
     given = g .given;
     all =
         gathered (stateOf s) now (λ v. granted stateOf server now (v .got) (v .call)) (λ v. granted (λ t. t) ask now (v .got) (v .call)) (λ v. granted-same now (v .got) (v .call)) cs s
@@ -126,8 +127,8 @@ module _ {S : Type 0} (stateOf : S → State) (server : Server S) (follows : (s 
   demand3-followed = record {
     sentence =
         λ s now c e. let t : LeaseTable = stateOf s .table in
-        subst (RefusedRightly t (inUse now t) (asksOf c) (heldBefore now t c)) (sym (granted-same now s c)) (demand3 .sentence (stateOf s) now c e);
-    lists = λ s now cs so a f p. all-granted s now cs (demand3 .lists (stateOf s) now cs so a f p);
+        subst (RefusedRightly (narrowed t c) (inUse now t) (asksOf c) (heldBefore now t c)) (sym (granted-same now s c)) (demand3 .sentence (stateOf s) now c e);
+    lists = λ s now ground cs so a f p. all-granted s now ground cs (demand3 .lists (stateOf s) now ground cs so a f p);
     untouched = untouched;
   }
 

@@ -7,18 +7,19 @@ use mathlib.Core.List.{List}
 use lib.ListN.{drop}
 use Rattle.lists.specs.Lists.{filter}
 use Rattle.option.specs.Values.{mostEntries}
-use Rattle.option.specs.Contents.{entriesIn}
 use Rattle.table.specs.Table.{present}
 use Rattle.ledger.specs.declared.Answer.{Answer}
-use Rattle.ledger.specs.Ledger.{State, askName, call, Result, result, Calls, found, listedIn, ledger}
+use Rattle.ledger.specs.Ledger.{State, askName, call, Result, result, Calls, found, usableEntries, returned, listedIn, ledger}
 use Rattle.ledger.specs.Histories.{afterwards, begun, called}
-use Rattle.ledger.specs.ReadBack.{readIn, confirmation, page, TakesReadBack, ListsReadBack}
+use Rattle.ledger.specs.ReadBack.{readIn, follows as followsIn, confirmation, page, TakesReadBack, SelectionReturned, ListsReadBack}
 use Rattle.ledger.specs.Refusals.{UnchangedIfRefused, RefusalsLeave}
 use Rattle.ledger.specs.NothingBehind.{Same, Cleared, EndedForgotten, Clears}
 use Rattle.ledger.specs.FiguresKept.{Matched, Updated, Unchanged, FiguresAfter, FiguresKept, AlwaysMatched}
 use Rattle.ledger.specs.NamesKept.{NamesStay, NamesMade, NamesKept}
+use Rattle.ledger.specs.OnGround.{Within, OnGround}
 use Rattle.ledger.specs.Resuming.{Resumes}
-use Rattle.ledger.proofs.ReadBack.{take-reads-back, list-reads-back}
+use Rattle.ledger.proofs.ReadBack.{take-reads-back, list-reads-back, selection-returned}
+use Rattle.ledger.proofs.OnGroundHolds.{on-ground}
 use Rattle.ledger.proofs.SoundKept.{refusals-leave}
 use Rattle.ledger.proofs.NothingBehind.{ended-forgotten, clears}
 use Rattle.ledger.proofs.MatchedKept.{next-matched}
@@ -67,8 +68,21 @@ module _ {S : Type 0} (calls : Calls S) (follows : FollowsAll calls) where
 
   pub takes-read-back-followed : TakesReadBack calls
   takes-read-back-followed s now c =
-      subst (λ (r : Result State). r .answer .number ≡ 0 → readIn r ≡ confirmation (found (c .client) (present now (stateOf s .table .leases)) (entriesIn (c .option))))
+      subst (λ (r : Result State). r .answer .number ≡ 0 → readIn r ≡ confirmation (found (c .client) (present now (stateOf s .table .leases)) (usableEntries (stateOf s .table) c)))
       (sym (seen-same stateOf s _ _ (follows .takes s now c))) (take-reads-back (stateOf s) now c)
+
+  pub selection-returned-followed : SelectionReturned calls
+  selection-returned-followed = record {
+    asks = λ s now c. subst (λ (r : Result State). r .answer .number ≡ 0 → followsIn r ≡ returned (c .selection)) (sym (seen-same stateOf s _ _ (follows .asks s now c))) (selection-returned .asks (stateOf s) now c);
+    takes = λ s now c. subst (λ (r : Result State). r .answer .number ≡ 0 → followsIn r ≡ returned (c .selection)) (sym (seen-same stateOf s _ _ (follows .takes s now c))) (selection-returned .takes (stateOf s) now c);
+  }
+
+  pub on-ground-followed : OnGround calls
+  on-ground-followed = record {
+    contains = λ s c. on-ground .contains (stateOf s) c;
+    asks = λ s now c. subst (Within (stateOf s .table) c) (sym (seen-same stateOf s _ _ (follows .asks s now c))) (on-ground .asks (stateOf s) now c);
+    takes = λ s now c. subst (Within (stateOf s .table) c) (sym (seen-same stateOf s _ _ (follows .takes s now c))) (on-ground .takes (stateOf s) now c);
+  }
 
   pub lists-read-back-followed : ListsReadBack calls
   lists-read-back-followed s now c =
@@ -116,7 +130,7 @@ module _ {S : Type 0} (calls : Calls S) (follows : FollowsAll calls) where
   pub figures-kept-followed : FiguresKept calls
   figures-kept-followed = record {
     asks = λ s now c. left-followed stateOf s _ _ (follows .asks s now c) (FiguresAfter Unchanged now (stateOf s)) (figures-kept .asks (stateOf s) now c);
-    takes = λ s now c. left-followed stateOf s _ _ (follows .takes s now c) (FiguresAfter (Updated (c .client) (entriesIn (c .option))) now (stateOf s)) (figures-kept .takes (stateOf s) now c);
+    takes = λ s now c. left-followed stateOf s _ _ (follows .takes s now c) (FiguresAfter (Updated (c .client) (usableEntries (stateOf s .table) c)) now (stateOf s)) (figures-kept .takes (stateOf s) now c);
     releases = λ s now c. left-followed stateOf s _ _ (follows .releases s now c) (FiguresAfter Unchanged now (stateOf s)) (figures-kept .releases (stateOf s) now c);
     marks = λ s now network len d. left-followed stateOf s _ _ (follows .marks s now network len d) (FiguresAfter Unchanged now (stateOf s)) (figures-kept .marks (stateOf s) now network len d);
   }

@@ -14,13 +14,14 @@ use Rattle.lists.proofs.SortingLaws.{insertBy-image}
 use Rattle.prefix.specs.declared.Prefix.{Prefix}
 use Rattle.prefix.specs.Prefixes.{Apart}
 use Rattle.free_space.specs.Serving.{Pools}
-use Rattle.option.specs.Contents.{Request}
+use Rattle.option.specs.Contents.{Request, requestsIn}
 use Rattle.names.specs.declared.Name.{Name}
 use Rattle.table.specs.declared.{Lease.Lease, LeaseTable.LeaseTable}
 use Rattle.table.specs.Table.{prefixOf, networkOf, poolsOf, present, sound}
-use Rattle.ledger.specs.Ledger.{offer, add, offers, addAll, heldBy?, heldFor?, firstThat, butFirst, again, restOf, holdAgain, heldAgain, inTurn}
+use Rattle.ledger.specs.Ledger.{offer, add, offers, addAll, heldBy?, heldFor?, firstThat, butFirst, again, restOf, holdAgain, heldAgain, inTurn, Call, askName, narrowed, usableLeases}
 use Rattle.ledger.specs.InOrder.{againOr, leftBy, oneByOne, leftOneByOne, ServedInOrder}
-use Rattle.ledger.proofs.OfferLaws.{prefixes, pools-good, add-fewer, Offer, offer-is}
+use Rattle.ledger.proofs.GroundLaws.{ground, usable-all}
+use Rattle.ledger.proofs.OfferLaws.{prefixes, add-fewer, Offer, offer-is}
 use Rattle.ledger.proofs.AgainLaws.{but-first-all, again-all, held, held-place, held-prefixes, held-none, gives, offer-prefixes, add-prefixes, offers-prefixes, rest-offers}
 use Rattle.ledger.proofs.AsksTwiceHolds.{apart-networks}
 
@@ -107,13 +108,19 @@ module _ (t : LeaseTable) (good : Pools (poolsOf t)) (now client : ℕ) (name : 
       let f : Lease → Bool = heldFor? t client r in
       left-step r rs (butFirst f hs) xs (firstThat f hs) (λ Q a. but-first-all f (λ h. Q (prefixOf h)) hs (c Q a)) (λ zs d. left-same rs (butFirst f hs) zs d)
 
-pub served-in-order : (t : LeaseTable) → sound t ≡ true → (now client : ℕ) (name : Name) (rs : List Request) → ServedInOrder t now client name rs
-served-in-order t so now client name rs =
+pub served-in-order : (t : LeaseTable) → sound t ≡ true → (now : ℕ) (c : Call) → ServedInOrder t now c
+served-in-order t so now c =
+    let own : LeaseTable = narrowed t c in
+    let good : Pools (poolsOf own) = ground t c so .good in
+    let client : ℕ = c .client in
+    let name : Name = askName c in
+    let rs : List Request = requestsIn (c .option) in
     let xs : List Lease = present now (t .leases) in
-    let zs : List Lease = catMaybes (again t client xs rs) in
+    let us : List Lease = usableLeases t c xs in
+    let zs : List Lease = catMaybes (again own client us rs) in
     record {
-      gives = gives-same t (pools-good t so) now client name rs xs xs (heldAgain now zs xs) (sym (held-prefixes now zs xs));
+      gives = gives-same own good now client name rs us xs (heldAgain now zs xs) (sym (held-prefixes now zs xs));
       leaves =
-          left-same t (pools-good t so) now client name rs xs xs (λ Q a. all-preimage prefixOf Q xs a)
-          ∙ ap (λ (os : List (Option Lease)). addAll os (heldAgain now zs xs)) (sym (rest-offers t now client name xs rs));
+          left-same own good now client name rs us xs (λ Q a. usable-all t c (λ h. Q (prefixOf h)) xs (all-preimage prefixOf Q xs a))
+          ∙ ap (λ (os : List (Option Lease)). addAll os (heldAgain now zs xs)) (sym (rest-offers own now client name us xs rs));
     }

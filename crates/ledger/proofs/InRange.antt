@@ -3,11 +3,11 @@
 -- Assumes nothing.
 use Prim.Native.Nat.{ℕ, zero, suc, _+_, _-_, _≤_}
 use mathlib.Core.Path.{_≡_, refl, sym, subst}
-use mathlib.Core.Bool.{Bool, true, false, not, cond}
+use mathlib.Core.Bool.{Bool, true, false, not, cond, _||_, true≢false}
 use mathlib.Core.List.{List, [], _∷_, _++_, map}
 use mathlib.Core.Option.{Option, none}
 use native.Mathlib.Omega.{arith}
-use lib.ListN.{length, drop, getD, replicate}
+use lib.ListN.{length, drop, getD, replicate, length-append}
 use lib.ListN.{take as upTo}
 use lib.Dec.{leb, ltb, eqb}
 use borrow.Author.Tests.{leb-true, ltb-false, eqb-false, not-false}
@@ -18,11 +18,13 @@ use Rattle.lists.proofs.ListLaws.{all-map, all-append, all-image, all-every, an
 use Rattle.lists.proofs.DropLaws.{all-drop}
 use Rattle.lists.proofs.FilterLaws.{filter-all, filter-fewer, all-replicate}
 use Rattle.lists.proofs.SortingLaws.{sortBy-all}
-use Rattle.prefix.specs.Prefixes.{longest}
+use Rattle.prefix.specs.declared.Prefix.{Prefix}
+use Rattle.prefix.specs.Prefixes.{longest, end}
 use Rattle.prefix.proofs.PrefixLaws.{size-positive}
 use Rattle.option.specs.Values.{longestOption, mostRequests, mostEntries, Entry, SuboptionValue, information}
 use Rattle.option.specs.Writing.{flags, fourBytes, entryHead, entryBytes, entriesBytes, informationHead, suboptionBytes, suboptionsBytes, optionHead, optionBytes}
-use Rattle.option.specs.Contents.{Request, requestsIn, entriesIn, firstNameIn}
+use Rattle.option.specs.Reading.{readOption}
+use Rattle.option.specs.Contents.{Request, refuses?, requestsIn, entriesIn, firstNameIn}
 use Rattle.option.proofs.WritingLaws.{option-length}
 use Rattle.option_reply.specs.Reply.{entryOf}
 use Rattle.option_reply.proofs.ReplyLaws.{entries-length}
@@ -32,7 +34,7 @@ use Rattle.names.proofs.NameLaws.{name-words}
 use Rattle.table.specs.declared.Pool.{Pool}
 use Rattle.table.specs.declared.Lease.{Lease}
 use Rattle.table.specs.declared.LeaseTable.{LeaseTable}
-use Rattle.table.specs.Table.{poolSlots, leaseSlots, latest, noPool, noLease, blank, poolsOf, present, sound, store}
+use Rattle.table.specs.Table.{poolSlots, leaseSlots, latest, addresses, prefixOf, noPool, noLease, blank, poolsOf, present, sound, store}
 use Rattle.table.proofs.TableLaws.{Good, sound-term, sound-fine, sound-fewer}
 use Rattle.figures.specs.declared.FigureRow.{FigureRow}
 use Rattle.figures.specs.Figures.{untold, untoldRow, keptRows, rowFor, filed, filedBy, followed, taken as takenRows}
@@ -40,14 +42,16 @@ use Rattle.figures.proofs.RowsFollow.{kept-all, row-all}
 use Rattle.figures.proofs.RowsFile.{figureAt, newest, filed-high-water, filed-in-use, filed-unusable, filed-by}
 use Rattle.option.specs.Answers.{figuresOf}
 use Rattle.table_open.specs.Open.{poolNetwork, given, sortPools, fresh}
-use Rattle.ledger.specs.Ledger.{State, state, filled, left, Call, Result, Row, firstOf, byRows, accept, refusalPlace, openRows, openTable, informationFor, offers, heldBy?, again, restOf, holdAgain, askHeld, askOffers, askGives, askLeases, forAsk, askRows, askName, ask, namedBy?, names?, found, renew, renewNamed, renewed, takeRows, take, listedIn, listRows, list, releaseRows, release, at?, withD, markRows, mark, Calls, ledger}
+use Rattle.ledger.specs.Ledger.{State, state, filled, badSelection?, returned as returnedOption, narrowed, usableLeases, usableEntries, left, Call, Result, Row, firstOf, byRows, accept, refusalPlace, openRows, openTable, informationFor, offers, heldBy?, again, restOf, holdAgain, askHeld, askOffers, askGives, askLeases, forAsk, askRows, askName, ask, namedBy?, names?, found, renew, renewNamed, renewed, takeRows, take, listedIn, listRows, list, releaseRows, release, at?, withD, markRows, mark, Calls, ledger}
 use Rattle.ledger.specs.Histories.{Event, asked, taken, wasListed, returned, marked, saved, next, afterwards}
 use Rattle.ledger.specs.Sizes.{Byte, Bytes}
 use Rattle.ledger.specs.InRange.{Word, Figure, highestNumber, PoolInRange, NameInRange, LeaseInRange, TableInRange, RowInRange, StateInRange, CallInRange, ResultInRange, InRange, EventInRange, StaysInRange, OpenInRange, OpensInRange}
 use Rattle.ledger.proofs.RowLaws.{first-none, by-numbers}
 use Rattle.ledger.proofs.ReadLaws.{requests-short, figures-short, name-bytes, entries-few, option-short, place-short}
 use Rattle.ledger.proofs.Counts.{upTo-all, granted-few, ask-fits, found-few, information-fits}
-use Rattle.ledger.proofs.OfferLaws.{pools-good, pools-within, Offered, offers-all, addAll-all, offers-good, length-bounds}
+use Rattle.option.specs.Selection.{selectionSize}
+use Rattle.ledger.proofs.GroundLaws.{Ground, ground, usable-all, usable-entries, usable-entries-fewer, returned-short}
+use Rattle.ledger.proofs.OfferLaws.{pools-within, Offered, offers-all, addAll-all, offers-good, length-bounds}
 use Rattle.ledger.proofs.AgainLaws.{again-all, held-all, rest-all, turn-all}
 
 -- A CALL THAT GOES BY ITS ROWS, on what is in range
@@ -61,7 +65,7 @@ module _ {S : Type 0} (Fits : S → Type 0) where
       (all?-to (λ (r : Row). leb (r .0) highestNumber) (λ r e. leb-true (r .0) highestNumber e) rows low)
       (λ n l. record { answer = record { number = l; place = near n; bytes = omega arith; count = omega arith }; left = f; reply = b }) served
 
-  pub accepted-in-range : (s : S) (written : List ℕ) (count : ℕ) (reply : List ℕ) → Fits s → Bytes written → length written ≤ longestOption → count ≤ leaseSlots → Bytes reply
+  pub accepted-in-range : (s : S) (written : List ℕ) (count : ℕ) (reply : List ℕ) → Fits s → Bytes written → length written ≤ longestOption + selectionSize → count ≤ leaseSlots → Bytes reply
       → ResultInRange Fits (accept s written count reply)
   accepted-in-range s written count reply f a short few b = record {
     answer = record { number = omega arith; place = omega arith; bytes = short; count = few };
@@ -192,15 +196,17 @@ filed-in-range e a r v = record {
 }
 
 renewed-in-range : (s : State) (now : ℕ) (c : Call) → StateInRange s → CallInRange c
-    → TableInRange (store (s .table) now (renewNamed now (s .table .term) (c .client) (entriesIn (c .option)) (present now (s .table .leases)))) → StateInRange (renewed s now c)
+    → TableInRange (store (s .table) now (renewNamed now (s .table .term) (c .client) (usableEntries (s .table) c) (present now (s .table .leases)))) → StateInRange (renewed s now c)
 unfolding renewed takenRows
 renewed-in-range s now c f w k =
-    let u : LeaseTable = store (s .table) now (renewNamed now (s .table .term) (c .client) (entriesIn (c .option)) (present now (s .table .leases))) in
+    let u : LeaseTable = store (s .table) now (renewNamed now (s .table .term) (c .client) (usableEntries (s .table) c) (present now (s .table .leases))) in
     record { table = k; rows = all-image _ RowInRange (u .leases) (all-map (λ x (v : LeaseInRange x). one x (eqb (x .client) (c .client)) (row-in-range now s x f v)) (u .leases) (k .leases)) }
   where
     one : (x : Lease) (b : Bool) → RowInRange (rowFor (keptRows now (s .table .leases) (s .rows)) x)
-        → RowInRange (cond b (filedBy (entriesIn (c .option)) (rowFor (keptRows now (s .table .leases) (s .rows)) x)) (rowFor (keptRows now (s .table .leases) (s .rows)) x))
-    one x true v = filed-by RowInRange (entriesIn (c .option)) (all-map filed-in-range (entriesIn (c .option)) (figures-short (c .option) (w .option))) _ v
+        → RowInRange (cond b (filedBy (usableEntries (s .table) c) (rowFor (keptRows now (s .table .leases) (s .rows)) x)) (rowFor (keptRows now (s .table .leases) (s .rows)) x))
+    one x true v =
+        filed-by RowInRange (usableEntries (s .table) c)
+        (all-map filed-in-range (usableEntries (s .table) c) (usable-entries (s .table) c (λ e. All Figure (e .figures)) (figures-short (c .option) (w .option)))) _ v
     one x false v = v
 
 -- The leases of a sound table lie in its pools.
@@ -220,21 +226,21 @@ ask-name-in-range s a =
     let w = name-words (name ++ replicate (longestName - length name) 0) (all-append Byte name (replicate (longestName - length name) 0) (name-bytes s a) (all-replicate Byte (longestName - length name) 0 (omega arith))) in
     record { first = w .0; second = w .1; third = w .2 }
 
--- What an ask adds.
-module _ (t : LeaseTable) (now client : ℕ) (name : Name) (s : sound t ≡ true) (l : now ≤ latest) (w : Word client) (n : NameInRange name) where
+-- What an ask adds, on ground among these pools.
+module _ (pools : List Prefix) (t : LeaseTable) (now client : ℕ) (name : Name) (within : All (λ p. end p ≤ addresses) pools) (g : Ground pools t) (l : now ≤ latest) (w : Word client) (n : NameInRange name) where
   offered-in-range : (xs : List Lease) (r : Request) (x : Lease) → r .length ≤ longest → Offered t now client name xs r x → LeaseInRange x
   offered-in-range xs r x k o =
-      let i = any-all (poolsOf t) (o .free .pooled) (pools-within t s) in
+      let i = any-all pools (g .part (prefixOf x) (o .free .pooled)) within in
       record {
         network = omega (arith, i .1, i .2, size-positive (x .length));
-        length = omega (arith, o .len, length-bounds t s r k);
+        length = omega (arith, o .len, length-bounds t (g .default) r k);
         client = omega (arith, o .owner);
         expires = omega (arith, o .until);
         name = subst NameInRange (sym (o .label)) n;
       }
 
   offers-in-range : (rs : List Request) (xs : List Lease) → All (λ r. r .length ≤ longest) rs → All LeaseInRange (catMaybes (offers t now client name xs rs))
-  offers-in-range = offers-all t now client name (pools-good t s) (λ r. r .length ≤ longest) LeaseInRange (λ xs r x k o. offered-in-range xs r x k o)
+  offers-in-range = offers-all t now client name (g .good) (λ r. r .length ≤ longest) LeaseInRange (λ xs r x k o. offered-in-range xs r x k o)
 
 -- A lease given again.
 held-in-range : (now : ℕ) → now ≤ latest → (x : Lease) → LeaseInRange x → LeaseInRange (holdAgain now x)
@@ -252,6 +258,28 @@ module _ (s : State) (now : ℕ) (c : Call) (f : StateInRange s) (k : CallInRang
   abbrev es : List Entry
   es = entriesIn (c .option)
 
+  -- What a take finds and an ask gives again on its ground.
+  abbrev ds : List Entry
+  ds = usableEntries (s .table) c
+
+  abbrev us : List Lease
+  us = usableLeases (s .table) c (present now (s .table .leases))
+
+  abbrev own : LeaseTable
+  own = narrowed (s .table) c
+
+  -- The two parts of row 6, and the option behind the entries.
+  row-six : (a b : Bool) → (a || b) ≡ false → (a ≡ false) × (b ≡ false)
+  row-six true b e = absurd (true≢false e)
+  row-six false b e = (refl, e)
+
+  abbrev back : List ℕ
+  back = returnedOption (c .selection)
+
+  with-back : (written : List ℕ) → Bytes written → length written ≤ longestOption → badSelection? (c .selection) ≡ false
+      → Bytes (written ++ back) × (length (written ++ back) ≤ longestOption + selectionSize)
+  with-back written b l e = (all-append Byte written back b (k .selection), omega (arith, length-append written back, returned-short (c .selection) e))
+
   served-in-range : (rows : List Row) (accepted : Result State) → all? (λ r. leb (r .0) highestNumber) rows ≡ true
       → (All (λ (r : Row). r .1 ≡ false) rows → ResultInRange StateInRange accepted) → ResultInRange StateInRange (byRows rows (refusalPlace (c .option)) s (c .reply) accepted)
   served-in-range rows accepted low served =
@@ -266,27 +294,28 @@ module _ (s : State) (now : ℕ) (c : Call) (f : StateInRange s) (k : CallInRang
       let named : c .client ≡ 0 → ⊥ = eqb-false (c .client) 0 (r .1 .1 .1 .0) in
       let l : now ≤ latest = ltb-false latest now (r .1 .1 .1 .1 .1 .0) in
       let rs : List Request = requestsIn (c .option) in
-      let given : List (Option Lease) = again t (c .client) xs rs in
-      let held : List Lease = askHeld t now (c .client) xs rs in
-      let os : List (Option Lease) = askOffers t now (c .client) (askName c) xs rs in
-      let gs : List Lease = catMaybes (askGives t now (c .client) (askName c) xs rs) in
-      let ys : List Lease = askLeases t now (c .client) (askName c) xs rs in
+      let given : List (Option Lease) = again own (c .client) us rs in
+      let held : List Lease = askHeld own now (c .client) us xs rs in
+      let os : List (Option Lease) = askOffers own now (c .client) (askName c) us xs rs in
+      let gs : List Lease = catMaybes (askGives own now (c .client) (askName c) us xs rs) in
+      let ys : List Lease = askLeases own now (c .client) (askName c) us xs rs in
       let short : All (λ r. r .length ≤ longest) (restOf given rs) = rest-all (λ r. r .length ≤ longest) given rs (requests-short (c .option)) in
-      let few : length gs ≤ mostRequests = granted-few t now (c .client) (askName c) xs rs (not-false (forAsk rs) (r .1 .1 .1 .1 .1 .1 .1 .1 .1 .0)) in
+      let few : length gs ≤ mostRequests = granted-few own now (c .client) (askName c) us xs rs (not-false (forAsk rs) (r .1 .1 .1 .1 .1 .1 .1 .1 .1 .0)) in
       let told : All Told gs =
       turn-all now Told given os
-      (all-map (λ x (b : (heldBy? (c .client) x ≡ true) × Told x). b .1) (catMaybes given) (again-all t (c .client) Told rs xs (present-told t now so)))
-      (good-told t now so (catMaybes os) (offers-good t now (c .client) (askName c) (pools-good t so) so named (restOf given rs) held short)) in
+      (all-map (λ x (b : (heldBy? (c .client) x ≡ true) × Told x). b .1) (catMaybes given) (again-all own (c .client) Told rs us (usable-all t c Told xs (present-told t now so))))
+      (good-told t now so (catMaybes os) (offers-good own now (c .client) (askName c) (ground t c so .good) (poolsOf t) (ground t c so) named (restOf given rs) held short)) in
       let there : All LeaseInRange ys =
-      addAll-all LeaseInRange os held (offers-in-range t now (c .client) (askName c) so l (k .client) (ask-name-in-range (c .option) (k .option)) (restOf given rs) held short)
+      addAll-all LeaseInRange os held (offers-in-range (poolsOf t) own now (c .client) (askName c) (pools-within t so) (ground t c so) l (k .client) (ask-name-in-range (c .option) (k .option)) (restOf given rs) held short)
       (held-all now (catMaybes given) LeaseInRange (held-in-range now l) xs (present-in-range t now (f .table))) in
-      accepted-in-range StateInRange (left s now ys) (optionBytes (map informationFor gs)) (length gs) (c .reply) (left-in-range s now ys f (store-in-range t now ys (f .table) l there))
-      (ask-bytes gs few told) (omega (arith, ask-fits gs few)) (omega arith) (k .reply))
+      let out = with-back (optionBytes (map informationFor gs)) (ask-bytes gs few told) (omega (arith, ask-fits gs few)) (row-six (refuses? 6 (readOption (c .option))) (badSelection? (c .selection)) (r .1 .1 .1 .1 .1 .1 .0) .1) in
+      accepted-in-range StateInRange (left s now ys) (optionBytes (map informationFor gs) ++ back) (length gs) (c .reply) (left-in-range s now ys f (store-in-range t now ys (f .table) l there))
+      (out .0) (out .1) (omega arith) (k .reply))
 
-  found-told : sound t ≡ true → All Told (found (c .client) xs es)
+  found-told : sound t ≡ true → All Told (found (c .client) xs ds)
   found-told so =
-      all-concatMap (λ e. filter (λ x. names? (c .client) x e) xs) Told es
-      (all-every {P = λ e. All Told (filter (λ x. names? (c .client) x e) xs)} (λ e. filter-all (λ x. names? (c .client) x e) Told xs (present-told t now so)) es)
+      all-concatMap (λ e. filter (λ x. names? (c .client) x e) xs) Told ds
+      (all-every {P = λ e. All Told (filter (λ x. names? (c .client) x e) xs)} (λ e. filter-all (λ x. names? (c .client) x e) Told xs (present-told t now so)) ds)
 
   take-in-range : ResultInRange StateInRange (take s now c)
   unfolding take takeRows
@@ -295,15 +324,17 @@ module _ (s : State) (now : ℕ) (c : Call) (f : StateInRange s) (k : CallInRang
       (λ r.
       let so : sound t ≡ true = not-false (sound t) (r .1 .0) in
       let l : now ≤ latest = ltb-false latest now (r .1 .1 .1 .1 .1 .0) in
-      let gs : List Lease = found (c .client) xs es in
+      let six = row-six (refuses? 6 (readOption (c .option))) (badSelection? (c .selection)) (r .1 .1 .1 .1 .1 .1 .0) in
+      let gs : List Lease = found (c .client) xs ds in
       let few : length gs ≤ mostEntries =
-      omega (arith, found-few t now (c .client) es so, entries-few (c .option) (option-short (c .option) (k .option) (r .1 .1 .1 .1 .1 .1 .0))) in
-      accepted-in-range StateInRange (renewed s now c) (optionBytes (information false false (map entryOf gs) ∷ [])) (length gs) (c .reply)
+      omega (arith, found-few t now (c .client) ds so, usable-entries-fewer t c, entries-few (c .option) (option-short (c .option) (k .option) (six .0))) in
+      let out = with-back (optionBytes (information false false (map entryOf gs) ∷ [])) (page-bytes false false gs few (found-told so)) (omega (arith, information-fits false false gs few)) (six .1) in
+      accepted-in-range StateInRange (renewed s now c) (optionBytes (information false false (map entryOf gs) ∷ []) ++ back) (length gs) (c .reply)
       (renewed-in-range s now c f k
-      (store-in-range t now (renewNamed now (t .term) (c .client) es xs) (f .table) l
-      (changed-in-range (renew now (t .term)) (namedBy? (c .client) es)
+      (store-in-range t now (renewNamed now (t .term) (c .client) ds xs) (f .table) l
+      (changed-in-range (renew now (t .term)) (namedBy? (c .client) ds)
       (λ x (v : LeaseInRange x). record { network = v .network; length = v .length; client = v .client; expires = omega (arith, sound-term t so .1); name = v .name }) xs (present-in-range t now (f .table)))))
-      (page-bytes false false gs few (found-told so)) (omega (arith, information-fits false false gs few)) (omega arith) (k .reply))
+      (out .0) (out .1) (omega arith) (k .reply))
 
   list-in-range : ResultInRange StateInRange (list s now c)
   unfolding list listRows

@@ -11,12 +11,11 @@ use Rattle.table.proofs.TableLaws.{sound-fine, fine-long}
 use Rattle.figures.specs.Figures.{matches?}
 use Rattle.figures.proofs.RowsFollow.{followed-matches}
 use Rattle.figures.proofs.RowsFile.{taken-matches}
-use Rattle.option.specs.Contents.{entriesIn}
-use Rattle.ledger.specs.Ledger.{State, left, Call, renewNamed, renewed}
+use Rattle.ledger.specs.Ledger.{State, left, Call, usableEntries, renewNamed, renewed}
 
 -- The table after an accepted take.
 abbrev pub renewedTable : State → ℕ → Call → LeaseTable
-renewedTable s now c = store (s .table) now (renewNamed now (s .table .term) (c .client) (entriesIn (c .option)) (present now (s .table .leases)))
+renewedTable s now c = store (s .table) now (renewNamed now (s .table .term) (c .client) (usableEntries (s .table) c) (present now (s .table .leases)))
 
 -- The leases of a sound table that are present are no empty slots.
 pub present-long : (t : LeaseTable) (now : ℕ) → sound t ≡ true → All (λ x. 1 ≤ x .length) (present now (t .leases))
@@ -29,4 +28,4 @@ module _ (s : State) (now : ℕ) (so : sound (s .table) ≡ true) (m : matches? 
 
   pub renewed-matches : (c : Call) → (c .client ≡ 0 → ⊥) → matches? (renewed s now c .table .leases) (renewed s now c .rows) ≡ true
   unfolding renewed
-  renewed-matches c named = taken-matches now (c .client) (entriesIn (c .option)) (s .table) (s .rows) (renewedTable s now c) named m (present-long (s .table) now so)
+  renewed-matches c named = taken-matches now (c .client) (usableEntries (s .table) c) (s .table) (s .rows) (renewedTable s now c) named m (present-long (s .table) now so)

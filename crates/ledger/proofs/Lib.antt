@@ -3,6 +3,7 @@ pub mod RowLaws
 pub mod LeftLaws
 pub mod CommonRows
 pub mod ReadLaws
+pub mod GroundLaws
 pub mod OfferLaws
 pub mod AgainLaws
 pub mod PassLaws
@@ -25,6 +26,7 @@ pub mod ListDependsHolds
 pub mod NamesKept
 pub mod Following
 pub mod Resuming
+pub mod OnGroundHolds
 pub mod NothingBehind
 pub mod Counts
 pub mod FollowingReplies

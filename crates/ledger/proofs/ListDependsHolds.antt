@@ -2,7 +2,7 @@
 -- Assumes nothing.
 use Prim.Native.Nat.{ℕ}
 use mathlib.Core.Path.{_≡_, refl, sym, ap, ap₂, _∙_}
-use mathlib.Core.Bool.{Bool, true, false, not, _&&_, true≢false}
+use mathlib.Core.Bool.{Bool, true, false, not, _&&_, _||_, true≢false}
 use mathlib.Core.List.{List, [], _∷_, map}
 use mathlib.Core.Option.{Option, none, some}
 use lib.ListN.{length, drop}
@@ -66,7 +66,7 @@ rowsBy now client option sound? room last gs =
     ∷ (2, eqb client 0)
     ∷ (3, ltb now last)
     ∷ (4, ltb latest now)
-    ∷ (6, refuses? 6 (readOption option))
+    ∷ (6, refuses? 6 (readOption option) || false)
     ∷ (7, refuses? 7 (readOption option))
     ∷ (16, refuses? 16 (readOption option))
     ∷ (8, not (forList (requestsIn option)))

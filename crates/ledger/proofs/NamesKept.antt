@@ -22,13 +22,14 @@ use Rattle.table.specs.declared.{Lease.Lease, LeaseTable.LeaseTable}
 use Rattle.table.specs.Table.{prefixOf, poolsOf, present, sound, store}
 use Rattle.table.proofs.Ascending.{Ascending}
 use Rattle.table.proofs.TableLaws.{Good, sound-fine, fine-map}
-use Rattle.ledger.specs.Ledger.{State, left, Call, refusalPlace, askName, holdAgain, again, restOf, askHeld, askOffers, askLeases, askRows, ask, namedBy?, renew, renewed, takeRows, take, releaseRows, release, at?, withD, markRows, mark, ledger}
+use Rattle.ledger.specs.Ledger.{State, left, Call, refusalPlace, askName, holdAgain, again, restOf, askHeld, askOffers, askLeases, narrowed, usableLeases, usableEntries, askRows, ask, namedBy?, renew, renewed, takeRows, take, releaseRows, release, at?, withD, markRows, mark, ledger}
 use Rattle.ledger.specs.Histories.{leasesOf}
 use Rattle.ledger.specs.Sizes.{Bytes}
 use Rattle.ledger.specs.NamesKept.{Stood, Keeps, NamesStay, NamesMade, NamesKept}
 use Rattle.ledger.proofs.RowLaws.{accepted-by, numbered-ask, numbered-take, numbered-release, numbered-mark}
 use Rattle.ledger.proofs.ReadLaws.{requests-short, name-bytes, name-ends}
-use Rattle.ledger.proofs.OfferLaws.{prefixes, pools-good, offers-all, offers-new, offers-good, addAll-all}
+use Rattle.ledger.proofs.GroundLaws.{Ground, ground}
+use Rattle.ledger.proofs.OfferLaws.{prefixes, offers-all, offers-new, offers-good, addAll-all}
 use Rattle.ledger.proofs.AgainLaws.{hold-good, held-prefixes, held-all, rest-all}
 use Rattle.ledger.proofs.AsksTwiceHolds.{apart-networks}
 use Rattle.ledger.proofs.SoundKept.{Mild, cond-mild, renew-mild, withD-mild}
@@ -82,21 +83,22 @@ module _ (t : LeaseTable) (now : ℕ) (so : sound t ≡ true) where
       (filter-all p (λ y. Stood here y × Keeps here y) here own-kept)
 
   -- AN ASK: leases given again, and leases newly made, which share no address with those present
-  module _ (client : ℕ) (name : Name) (some-client : client ≡ 0 → ⊥) (rs : List Request) (short : All (λ r. r .length ≤ longest) rs) where
+  module _ (client : ℕ) (name : Name) (some-client : client ≡ 0 → ⊥) (rs : List Request) (short : All (λ r. r .length ≤ longest) rs)
+      (own : LeaseTable) (ground : Ground (poolsOf t) own) (us : List Lease) where
     abbrev given : List (Option Lease)
-    given = again t client here rs
+    given = again own client us rs
 
     abbrev rest : List Request
     rest = restOf given rs
 
     abbrev held : List Lease
-    held = askHeld t now client here rs
+    held = askHeld own now client us here rs
 
     abbrev new : List (Option Lease)
-    new = askOffers t now client name here rs
+    new = askOffers own now client name us here rs
 
-    abbrev good : Pools (poolsOf t)
-    good = pools-good t so
+    abbrev good : Pools (poolsOf own)
+    good = ground .good
 
     abbrev Made : Lease → Type 0
     Made y = ((Stood here y → ⊥) → y .name ≡ name) × Keeps here y
@@ -105,8 +107,8 @@ module _ (t : LeaseTable) (now : ℕ) (so : sound t ≡ true) where
     new-made =
         let same : prefixes held ≡ prefixes here = held-prefixes now (catMaybes given) here in
         all-map₂ made (catMaybes new)
-        (offers-all t now client name good (λ r. Unit {0}) (λ x. x .name ≡ name) (λ ys r x _ o. o .label) rest held (all-every (λ r. tt) rest))
-        (offers-new t now client name good rest (prefixes here) held (λ P a. subst (All P) same a))
+        (offers-all own now client name good (λ r. Unit {0}) (λ x. x .name ≡ name) (λ ys r x _ o. o .label) rest held (all-every (λ r. tt) rest))
+        (offers-new own now client name good rest (prefixes here) held (λ P a. subst (All P) same a))
       where
         made : (x : Lease) → x .name ≡ name → All (Apart (prefixOf x)) (prefixes here) → Made x
         made x e a =
@@ -119,12 +121,12 @@ module _ (t : LeaseTable) (now : ℕ) (so : sound t ≡ true) where
         all-map (λ y (k : Stood here y × Keeps here y). ((λ no. absurd (no (k .0))), k .1)) held
         (changed-names here (λ x. any? (λ y. eqb (y .network) (x .network)) (catMaybes given)) (holdAgain now) (λ x. refl) (λ x. refl) here own-kept)
 
-    ask-names : All Made (leasesOf (store t now (askLeases t now client name here rs)))
+    ask-names : All Made (leasesOf (store t now (askLeases own now client name us here rs)))
     ask-names =
         subst (All Made)
-        (sym (stored t now (askLeases t now client name here rs)
+        (sym (stored t now (askLeases own now client name us here rs)
         (addAll-all (Good (poolsOf t) now) new held
-        (offers-good t now client name good so some-client rest held (rest-all (λ r. r .length ≤ longest) given rs short))
+        (offers-good own now client name good (poolsOf t) ground some-client rest held (rest-all (λ r. r .length ≤ longest) given rs short))
         (held-all now (catMaybes given) (Good (poolsOf t) now) (hold-good (poolsOf t) now) here (sound-fine t so now .0)))))
         (addAll-all Made new held new-made held-made)
 
@@ -135,7 +137,10 @@ module _ (s : State) (now : ℕ) (c : Call) where
   unfolding ask askRows left
   asks-names =
       accepted-by (NamesMade (askName c) now s) (askRows s now c) (refusalPlace (c .option)) s (c .reply) _ (numbered-ask s now c)
-      (λ r. ask-names (s .table) now (not-false (sound (s .table)) (r .1 .0)) (c .client) (askName c) (eqb-false (c .client) 0 (r .1 .1 .1 .0)) (requestsIn (c .option)) (requests-short (c .option)))
+      (λ r.
+      let so : sound (s .table) ≡ true = not-false (sound (s .table)) (r .1 .0) in
+      ask-names (s .table) now so (c .client) (askName c) (eqb-false (c .client) 0 (r .1 .1 .1 .0)) (requestsIn (c .option)) (requests-short (c .option)) (narrowed (s .table) c) (ground (s .table) c so)
+      (usableLeases (s .table) c (present now (s .table .leases))))
 
   takes-names : take s now c .answer .number ≡ 0 → NamesStay now s (take s now c .state)
   unfolding take takeRows renewed
@@ -143,7 +148,7 @@ module _ (s : State) (now : ℕ) (c : Call) where
       accepted-by (NamesStay now s) (takeRows s now c) (refusalPlace (c .option)) s (c .reply) _ (numbered-take s now c)
       (λ r.
       let so : sound (s .table) ≡ true = not-false (sound (s .table)) (r .1 .0) in
-      map-names (s .table) now so (namedBy? (c .client) (entriesIn (c .option))) (renew now (s .table .term)) (renew-mild (s .table) now so) (λ x. refl))
+      map-names (s .table) now so (namedBy? (c .client) (usableEntries (s .table) c)) (renew now (s .table .term)) (renew-mild (s .table) now so) (λ x. refl))
 
   releases-names : release s now c .answer .number ≡ 0 → NamesStay now s (release s now c .state)
   unfolding release releaseRows left

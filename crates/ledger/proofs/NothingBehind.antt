@@ -4,7 +4,7 @@
 -- Assumes nothing.
 use Prim.Native.Nat.{ℕ, _-_}
 use mathlib.Core.Path.{_≡_, refl, sym, ap, ap₂, subst, _∙_}
-use mathlib.Core.Bool.{Bool, true, false, not, cond, _&&_, Bool·beq, true≢false}
+use mathlib.Core.Bool.{Bool, true, false, not, cond, _&&_, true≢false}
 use mathlib.Core.List.{List, [], _∷_, _++_, map}
 use mathlib.Core.Option.{Option, none, some}
 use lib.ListN.{length, drop}
@@ -12,7 +12,7 @@ use lib.ListN.{take as upTo}
 use lib.Dec.{ltb, eqb}
 use borrow.Author.Tests.{eq-eqb, le-ltb}
 use Rattle.lists.specs.Lists.{and, catMaybes, filter, any?}
-use Rattle.option.specs.Values.{information}
+use Rattle.option.specs.Values.{Entry, information}
 use Rattle.option.specs.Reading.{readOption}
 use Rattle.option.specs.Writing.{optionBytes}
 use Rattle.prefix.specs.declared.Prefix.{Prefix}
@@ -20,15 +20,16 @@ use Rattle.free_space.specs.Grant.{grant}
 use Rattle.names.specs.declared.Name.{Name}
 use Rattle.table.specs.declared.Lease.{Lease}
 use Rattle.table.specs.declared.LeaseTable.{LeaseTable}
-use Rattle.table.specs.Table.{latest, prefixOf, poolsOf, prefixesOf, padded, present, sound, store}
+use Rattle.table.specs.Table.{latest, prefixOf, poolsOf, padded, present, sound, store}
 use Rattle.table.proofs.TableLaws.{sound-whole, store-last}
 use Rattle.figures.specs.declared.FigureRow.{FigureRow}
-use Rattle.figures.specs.Figures.{matches?, rowFor, filedBy, followed, taken}
+use Rattle.figures.specs.Figures.{matches?, rowFor, filedBy, keptRows, followed, taken}
 use Rattle.option.specs.Contents.{position, requestsIn, entriesIn, suboptions, Request}
 use Rattle.option_reply.specs.Reply.{mostEntries, entryOf}
-use Rattle.ledger.specs.Ledger.{State, state, left, Call, Result, result, acceptance, accept, Row, firstOf, orElse, byRows, refusalPlace, leastReply, tableRows, stateRows, optionRows, clientRows, nothing?, full, offered, offer, offers, add, addAll, heldBy?, heldFor?, firstThat, butFirst, again, restOf, heldAgain, inTurn, askHeld, askOffers, askGives, askLeases, informationFor, forAsk, nameRows, askRows, askName, ask, namedBy?, found, renewNamed, renewed, forTake, takeRows, take, forList, listed, listedIn, listRows, list, releaseRows, release, at?, withD, markRows, mark, ledger}
+use Rattle.ledger.specs.Ledger.{State, state, left, Call, Result, result, acceptance, accept, Row, firstOf, orElse, byRows, refusalPlace, leastReply, leastFor, narrowed, usableLeases, usableEntries, returned, givesIn, leasesIn, tableRows, stateRows, optionRows, clientRows, nothing?, full, offered, offer, offers, add, addAll, again, restOf, heldAgain, inTurn, askHeld, askOffers, askGives, askLeases, informationFor, forAsk, nameRows, askRows, askName, ask, namedBy?, found, renewNamed, renewed, forTake, takeRows, take, forList, listed, listedIn, listRows, list, releaseRows, release, at?, withD, markRows, mark, ledger}
 use Rattle.ledger.specs.Histories.{leasesOf}
 use Rattle.ledger.specs.NothingBehind.{Alike, Same, Cleared, EndedForgotten, Clears}
+use Rattle.ledger.proofs.GroundLaws.{narrowed-pools, narrowed-default, again-same, usable-same, entries-same}
 use Rattle.ledger.proofs.RowLaws.{Numbered, first-number, by-rows, numbered-ask, numbered-take, numbered-release, numbered-mark}
 use Rattle.ledger.proofs.SoundKept.{ask-sound, take-sound, release-sound, mark-sound}
 use Rattle.ledger.proofs.MatchedKept.{ask-matched, take-matched, release-matched, mark-matched}
@@ -46,6 +47,38 @@ accept-same reply e f g = record {
   left = λ z. e;
 }
 
+-- OFFERS on tables with the same pools and the same default length, and what is given again
+
+module _ (now : ℕ) (t v : LeaseTable) (pools : poolsOf t ≡ poolsOf v) (default : t .«default_length» ≡ v .«default_length») where
+  offer-same : (client : ℕ) (name : Name) (xs : List Lease) (r : Request) → offer t now client name xs r ≡ offer v now client name xs r
+  unfolding offer
+  offer-same client name xs r = ap₂ (λ (ps : List Prefix) (n : ℕ). cond (full xs) none (offeredFrom ps n)) pools (ap (λ (n : ℕ). cond (eqb (r .length) 0) n (r .length)) default)
+    where
+      offeredFrom : List Prefix → ℕ → Option Lease
+      offeredFrom ps n = offered now client name (r .h) (grant ps (map prefixOf xs) n)
+
+  offers-same : (client : ℕ) (name : Name) (xs : List Lease) (rs : List Request) → offers t now client name xs rs ≡ offers v now client name xs rs
+  unfolding offers
+  offers-same client name xs [] = refl
+  offers-same client name xs (r ∷ rs) =
+      ap (λ (o : Option Lease). o ∷ offers t now client name (add o xs) rs) (offer-same client name xs r)
+      ∙ ap (λ (l : List (Option Lease)). offer v now client name xs r ∷ l) (offers-same client name (add (offer v now client name xs r) xs) rs)
+
+  module _ (client : ℕ) (name : Name) (hs xs : List Lease) (rs : List Request) where
+    given-same : again t client hs rs ≡ again v client hs rs
+    given-same = again-same t v default client rs hs
+
+    ask-offers-same : askOffers t now client name hs xs rs ≡ askOffers v now client name hs xs rs
+    ask-offers-same =
+        ap (λ (gs : List (Option Lease)). offers t now client name (heldAgain now (catMaybes gs) xs) (restOf gs rs)) given-same
+        ∙ offers-same client name (askHeld v now client hs xs rs) (restOf (again v client hs rs) rs)
+
+    ask-gives-same : askGives t now client name hs xs rs ≡ askGives v now client name hs xs rs
+    ask-gives-same = ap₂ (inTurn now) given-same ask-offers-same
+
+    ask-leases-same : askLeases t now client name hs xs rs ≡ askLeases v now client name hs xs rs
+    ask-leases-same = ap₂ (λ (os gs : List (Option Lease)). addAll os (heldAgain now (catMaybes gs) xs)) ask-offers-same given-same
+
 module _ (now : ℕ) (s u : State) (a : Alike now s u) where
   -- Two calls with the same rows.
   same-rows : (rows rows′ : List Row) (place : ℕ → ℕ) (reply : List ℕ) (accepted accepted′ : Result State) → rows ≡ rows′ → Numbered rows → SameState accepted accepted′
@@ -57,9 +90,6 @@ module _ (now : ℕ) (s u : State) (a : Alike now s u) where
       go none f = b
       go (some n) f = record { answer = refl; reply = refl; left = λ z. absurd (not-zero n (first-number (λ m. eqb m 0 ≡ false) rows k n f) z) }
 
-  pools-same : poolsOf (s .table) ≡ poolsOf (u .table)
-  pools-same = ap prefixesOf (a .pools)
-
   store-same : (xs ys : List Lease) → xs ≡ ys → store (s .table) now xs ≡ store (u .table) now ys
   unfolding store
   store-same xs ys e = λ i. record { pools = a .pools i; leases = padded (e i); term = a .term i; «default_length» = a .default i; last = now }
@@ -68,48 +98,28 @@ module _ (now : ℕ) (s u : State) (a : Alike now s u) where
   unfolding left followed
   left-same xs ys e = ap₂ (λ (v : LeaseTable) (rs : List FigureRow). state v (map (rowFor rs) (v .leases))) (store-same xs ys e) (a .rows)
 
+  -- The ground of a call, and what lies on it.
+  own-pools : (c : Call) → poolsOf (narrowed (s .table) c) ≡ poolsOf (narrowed (u .table) c)
+  own-pools c = narrowed-pools (u .table) (s .table) c (a .pools)
+
+  own-default : (c : Call) → narrowed (s .table) c .«default_length» ≡ narrowed (u .table) c .«default_length»
+  own-default c = narrowed-default (s .table) c ∙ a .default ∙ sym (narrowed-default (u .table) c)
+
+  leases-on : (c : Call) → usableLeases (s .table) c (present now (s .table .leases)) ≡ usableLeases (u .table) c (present now (u .table .leases))
+  leases-on c = usable-same (s .table) (u .table) c (present now (s .table .leases)) (a .pools) ∙ ap (usableLeases (u .table) c) (a .leases)
+
+  entries-on : (c : Call) → usableEntries (s .table) c ≡ usableEntries (u .table) c
+  entries-on c = entries-same (s .table) (u .table) c (a .pools)
+
   renewed-same : (c : Call) → renewed s now c ≡ renewed u now c
   unfolding renewed taken
   renewed-same c =
-      ap₂ (λ (v : LeaseTable) (rs : List FigureRow). state v (map (λ x. cond (eqb (x .client) (c .client)) (filedBy (entriesIn (c .option)) (rowFor rs x)) (rowFor rs x)) (v .leases)))
-      (store-same _ _ (ap₂ (λ (n : ℕ) (xs : List Lease). renewNamed now n (c .client) (entriesIn (c .option)) xs) (a .term) (a .leases))) (a .rows)
-
-  offer-same : (client : ℕ) (name : Name) (xs : List Lease) (r : Request) → offer (s .table) now client name xs r ≡ offer (u .table) now client name xs r
-  unfolding offer
-  offer-same client name xs r =
-      ap₂ (λ (ps : List Prefix) (n : ℕ). cond (full xs) none (offeredFrom ps n)) pools-same (ap (λ (n : ℕ). cond (eqb (r .length) 0) n (r .length)) (a .default))
+      ap (λ (es : List Entry). left-with es (store (s .table) now (renewNamed now (s .table .term) (c .client) es (present now (s .table .leases)))) (keptRows now (s .table .leases) (s .rows))) (entries-on c)
+      ∙ ap₂ (left-with (usableEntries (u .table) c))
+      (store-same _ _ (ap₂ (λ (n : ℕ) (xs : List Lease). renewNamed now n (c .client) (usableEntries (u .table) c) xs) (a .term) (a .leases))) (a .rows)
     where
-      offeredFrom : List Prefix → ℕ → Option Lease
-      offeredFrom ps n = offered now client name (r .h) (grant ps (map prefixOf xs) n)
-
-  offers-same : (client : ℕ) (name : Name) (xs : List Lease) (rs : List Request) → offers (s .table) now client name xs rs ≡ offers (u .table) now client name xs rs
-  unfolding offers
-  offers-same client name xs [] = refl
-  offers-same client name xs (r ∷ rs) =
-      ap (λ (o : Option Lease). o ∷ offers (s .table) now client name (add o xs) rs) (offer-same client name xs r)
-      ∙ ap (λ (l : List (Option Lease)). offer (u .table) now client name xs r ∷ l) (offers-same client name (add (offer (u .table) now client name xs r) xs) rs)
-
-  again-same : (client : ℕ) (xs : List Lease) (rs : List Request) → again (s .table) client xs rs ≡ again (u .table) client xs rs
-  unfolding again
-  again-same client xs [] = refl
-  again-same client xs (r ∷ rs) =
-      ap (λ (n : ℕ). firstThat (for n) xs ∷ again (s .table) client (butFirst (for n) xs) rs) (a .default)
-      ∙ ap (λ (l : List (Option Lease)). firstThat (heldFor? (u .table) client r) xs ∷ l) (again-same client (butFirst (heldFor? (u .table) client r) xs) rs)
-    where
-      for : ℕ → Lease → Bool
-      for n x = and (heldBy? client x ∷ eqb (cond (eqb (r .length) 0) n (r .length)) (x .length) ∷ Bool·beq (r .h) (x .h) ∷ [])
-
-  module _ (client : ℕ) (name : Name) (xs : List Lease) (rs : List Request) where
-    ask-offers-same : askOffers (s .table) now client name xs rs ≡ askOffers (u .table) now client name xs rs
-    ask-offers-same =
-        ap (λ (gs : List (Option Lease)). offers (s .table) now client name (heldAgain now (catMaybes gs) xs) (restOf gs rs)) (again-same client xs rs)
-        ∙ offers-same client name (askHeld (u .table) now client xs rs) (restOf (again (u .table) client xs rs) rs)
-
-    ask-gives-same : askGives (s .table) now client name xs rs ≡ askGives (u .table) now client name xs rs
-    ask-gives-same = ap₂ (inTurn now) (again-same client xs rs) ask-offers-same
-
-    ask-leases-same : askLeases (s .table) now client name xs rs ≡ askLeases (u .table) now client name xs rs
-    ask-leases-same = ap₂ (λ (os gs : List (Option Lease)). addAll os (heldAgain now (catMaybes gs) xs)) ask-offers-same (again-same client xs rs)
+      left-with : List Entry → LeaseTable → List FigureRow → State
+      left-with es v rs = state v (map (λ x. cond (eqb (x .client) (c .client)) (filedBy es (rowFor rs x)) (rowFor rs x)) (v .leases))
 
   table-rows-same : tableRows s ≡ tableRows u
   table-rows-same = ap (λ (b : Bool). (5, not b) ∷ []) (a .sound₁ ∙ sym (a .sound₂))
@@ -125,26 +135,31 @@ module _ (now : ℕ) (s u : State) (a : Alike now s u) where
   rowsWith first c ofState early own = first ++ ((ofState ++ (clientRows c ++ ((3, early) ∷ (4, ltb latest now) ∷ optionRows c))) ++ own)
 
   module _ (c : Call) where
-    abbrev first : List Row
-    first = (1, ltb (length (c .reply)) leastReply) ∷ []
+    abbrev first : ℕ → List Row
+    first least = (1, ltb (length (c .reply)) least) ∷ []
 
     abbrev rs : List Request
     rs = requestsIn (c .option)
 
-    gives-same : askGives (s .table) now (c .client) (askName c) (present now (s .table .leases)) rs ≡ askGives (u .table) now (c .client) (askName c) (present now (u .table .leases)) rs
-    gives-same = ask-gives-same (c .client) (askName c) (present now (s .table .leases)) rs ∙ ap (λ (xs : List Lease). askGives (u .table) now (c .client) (askName c) xs rs) (a .leases)
+    gives-same : givesIn (s .table) now c ≡ givesIn (u .table) now c
+    gives-same =
+        ask-gives-same now (narrowed (s .table) c) (narrowed (u .table) c) (own-pools c) (own-default c) (c .client) (askName c) (usableLeases (s .table) c (present now (s .table .leases))) (present now (s .table .leases)) rs
+        ∙ ap₂ (λ (hs xs : List Lease). askGives (narrowed (u .table) c) now (c .client) (askName c) hs xs rs) (leases-on c) (a .leases)
 
-    leases-same : askLeases (s .table) now (c .client) (askName c) (present now (s .table .leases)) rs ≡ askLeases (u .table) now (c .client) (askName c) (present now (u .table .leases)) rs
-    leases-same = ask-leases-same (c .client) (askName c) (present now (s .table .leases)) rs ∙ ap (λ (xs : List Lease). askLeases (u .table) now (c .client) (askName c) xs rs) (a .leases)
+    leases-same : leasesIn (s .table) now c ≡ leasesIn (u .table) now c
+    leases-same =
+        ask-leases-same now (narrowed (s .table) c) (narrowed (u .table) c) (own-pools c) (own-default c) (c .client) (askName c) (usableLeases (s .table) c (present now (s .table .leases))) (present now (s .table .leases)) rs
+        ∙ ap₂ (λ (hs xs : List Lease). askLeases (narrowed (u .table) c) now (c .client) (askName c) hs xs rs) (leases-on c) (a .leases)
 
     ask-rows-same : askRows s now c ≡ askRows u now c
     unfolding askRows
     ask-rows-same =
-        ap₂ (λ (x : List Row) (e : Bool). rowsWith first c x e (own (askGives (s .table) now (c .client) (askName c) (present now (s .table .leases)) rs) (present now (s .table .leases)))) state-rows-same time-same
-        ∙ ap₂ (λ (gs : List (Option Lease)) (xs : List Lease). rowsWith first c (stateRows u) (ltb now (u .table .last)) (own gs xs)) gives-same (a .leases)
+        ap₂ (λ (x : List Row) (e : Bool). rowsWith (first (leastFor (c .selection))) c x e (own (poolsOf (narrowed (s .table) c)) (givesIn (s .table) now c) (present now (s .table .leases)))) state-rows-same time-same
+        ∙ ap (λ (ps : List Prefix). rowsWith (first (leastFor (c .selection))) c (stateRows u) (ltb now (u .table .last)) (own ps (givesIn (s .table) now c) (present now (s .table .leases)))) (own-pools c)
+        ∙ ap₂ (λ (gs : List (Option Lease)) (xs : List Lease). rowsWith (first (leastFor (c .selection))) c (stateRows u) (ltb now (u .table .last)) (own (poolsOf (narrowed (u .table) c)) gs xs)) gives-same (a .leases)
       where
-        own : List (Option Lease) → List Lease → List Row
-        own gs xs = (8, not (forAsk rs)) ∷ (nameRows c ++ ((9, nothing? (catMaybes gs) && full xs) ∷ (10, nothing? (catMaybes gs)) ∷ []))
+        own : List Prefix → List (Option Lease) → List Lease → List Row
+        own ps gs xs = (8, not (forAsk rs)) ∷ (nameRows c ++ ((19, nothing? ps) ∷ (9, nothing? (catMaybes gs) && full xs) ∷ (10, nothing? (catMaybes gs)) ∷ []))
 
     ask-same : SameState (ask s now c) (ask u now c)
     unfolding ask
@@ -152,17 +167,20 @@ module _ (now : ℕ) (s u : State) (a : Alike now s u) where
         same-rows (askRows s now c) (askRows u now c) (refusalPlace (c .option)) (c .reply) _ _ ask-rows-same (numbered-ask s now c)
         (accept-same (c .reply)
         (left-same _ _ leases-same)
-        (ap (λ (l : List (Option Lease)). optionBytes (map informationFor (catMaybes l))) gives-same)
+        (ap (λ (l : List (Option Lease)). optionBytes (map informationFor (catMaybes l)) ++ returned (c .selection)) gives-same)
         (ap (λ (l : List (Option Lease)). length (catMaybes l)) gives-same))
+
+    found-same : found (c .client) (present now (s .table .leases)) (usableEntries (s .table) c) ≡ found (c .client) (present now (u .table .leases)) (usableEntries (u .table) c)
+    found-same = ap₂ (found (c .client)) (a .leases) (entries-on c)
 
     take-rows-same : takeRows s now c ≡ takeRows u now c
     unfolding takeRows
     take-rows-same =
-        ap₂ (λ (x : List Row) (e : Bool). rowsWith first c x e (own (present now (s .table .leases)))) state-rows-same time-same
-        ∙ ap (λ (xs : List Lease). rowsWith first c (stateRows u) (ltb now (u .table .last)) (own xs)) (a .leases)
+        ap₂ (λ (x : List Row) (e : Bool). rowsWith (first (leastFor (c .selection))) c x e (own (poolsOf (narrowed (s .table) c)) (found (c .client) (present now (s .table .leases)) (usableEntries (s .table) c)))) state-rows-same time-same
+        ∙ ap₂ (λ (ps : List Prefix) (gs : List Lease). rowsWith (first (leastFor (c .selection))) c (stateRows u) (ltb now (u .table .last)) (own ps gs)) (own-pools c) found-same
       where
-        own : List Lease → List Row
-        own xs = (8, not (forTake (suboptions (readOption (c .option))))) ∷ (11, nothing? (found (c .client) xs (entriesIn (c .option)))) ∷ []
+        own : List Prefix → List Lease → List Row
+        own ps gs = (8, not (forTake (suboptions (readOption (c .option))))) ∷ (19, nothing? ps) ∷ (11, nothing? gs) ∷ []
 
     take-same : SameState (take s now c) (take u now c)
     unfolding take
@@ -170,14 +188,14 @@ module _ (now : ℕ) (s u : State) (a : Alike now s u) where
         same-rows (takeRows s now c) (takeRows u now c) (refusalPlace (c .option)) (c .reply) _ _ take-rows-same (numbered-take s now c)
         (accept-same (c .reply)
         (renewed-same c)
-        (ap (λ (xs : List Lease). optionBytes (information false false (map entryOf (found (c .client) xs (entriesIn (c .option)))) ∷ [])) (a .leases))
-        (ap (λ (xs : List Lease). length (found (c .client) xs (entriesIn (c .option)))) (a .leases)))
+        (ap (λ (gs : List Lease). optionBytes (information false false (map entryOf gs) ∷ []) ++ returned (c .selection)) found-same)
+        (ap length found-same))
 
     list-rows-same : listRows s now c ≡ listRows u now c
     unfolding listRows
     list-rows-same =
-        ap₂ (λ (x : List Row) (e : Bool). rowsWith first c x e (own (present now (s .table .leases)))) table-rows-same time-same
-        ∙ ap (λ (xs : List Lease). rowsWith first c (tableRows u) (ltb now (u .table .last)) (own xs)) (a .leases)
+        ap₂ (λ (x : List Row) (e : Bool). rowsWith (first leastReply) c x e (own (present now (s .table .leases)))) table-rows-same time-same
+        ∙ ap (λ (xs : List Lease). rowsWith (first leastReply) c (tableRows u) (ltb now (u .table .last)) (own xs)) (a .leases)
       where
         own : List Lease → List Row
         own xs = (8, not (forList (requestsIn (c .option)))) ∷ (11, nothing? (listed (c .client) (position none (suboptions (readOption (c .option)))) xs)) ∷ []

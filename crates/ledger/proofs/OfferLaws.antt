@@ -16,7 +16,7 @@ use Rattle.lists.proofs.ListLaws.{all-map, all-image, pairwise-image}
 use Rattle.lists.proofs.Permutations.{perm-all, perm-map, perm-length}
 use Rattle.lists.proofs.SortingLaws.{insertBy-perm, insertBy-all}
 use Rattle.prefix.specs.declared.Prefix.{Prefix}
-use Rattle.prefix.specs.Prefixes.{longest, end, Aligned, Inside, Apart}
+use Rattle.prefix.specs.Prefixes.{longest, end, Inside, Apart}
 use Rattle.free_space.specs.Space.{Free, Takes}
 use Rattle.free_space.specs.Grant.{grant}
 use Rattle.free_space.specs.Serving.{Pools, Before, Ordered, withGrant, serve, after}
@@ -28,10 +28,11 @@ use Rattle.table.specs.declared.Pool.{Pool}
 use Rattle.table.specs.declared.Lease.{Lease}
 use Rattle.table.specs.declared.LeaseTable.{LeaseTable}
 use Rattle.table.specs.Table.{leaseSlots, addresses, poolPrefix, prefixOf, networkOf, unused?, prefixesOf, poolsOf, sound, insert}
-use Rattle.table.proofs.Ascending.{Ascending, used, ascending-low, ascending-apart}
-use Rattle.table.proofs.TableLaws.{GoodPool, Good, Fine, sound-pools, sound-default, insert-fine}
+use Rattle.table.proofs.Ascending.{Ascending, used, ascending-low}
+use Rattle.table.proofs.TableLaws.{GoodPool, Good, Fine, sound-pools, insert-fine}
 use Rattle.option.specs.Contents.{Request}
 use Rattle.ledger.specs.Ledger.{askLength, full, holdTime, offered, offer, add, offers, addAll}
+use Rattle.ledger.proofs.GroundLaws.{good-pools, Ground}
 
 abbrev pub prefixes : List Lease → List Prefix
 prefixes xs = map prefixOf xs
@@ -54,21 +55,16 @@ pub pools-good : (t : LeaseTable) → sound t ≡ true → Pools (poolsOf t)
 unfolding prefixesOf
 pools-good t e =
     let g = sound-pools t e in
-    let ps : List Pool = used unused? (t .pools) in
-    record {
-      lengths = all-image poolPrefix (λ p. (1 ≤ p .length) × (p .length ≤ longest)) ps (all-map (λ p (k : GoodPool p). (omega (arith, k .short), k .long)) ps (g .good));
-      aligned = all-image poolPrefix Aligned ps (all-map (λ p (k : GoodPool p). k .aligned) ps (g .good));
-      disjoint = pairwise-image poolPrefix Apart ps (ascending-apart poolPrefix 0 ps (g .ascending));
-    }
+    good-pools (used unused? (t .pools)) (g .good) (g .ascending)
 
 pub pools-within : (t : LeaseTable) → sound t ≡ true → All (λ p. end p ≤ addresses) (poolsOf t)
 unfolding prefixesOf
 pools-within t e = let ps : List Pool = used unused? (t .pools) in all-image poolPrefix (λ p. end p ≤ addresses) ps (all-map (λ p (k : GoodPool p). k .within) ps (sound-pools t e .good))
 
-pub length-bounds : (t : LeaseTable) → sound t ≡ true → (r : Request) → r .length ≤ longest → (1 ≤ askLength t r) × (askLength t r ≤ longest)
+pub length-bounds : (t : LeaseTable) → (1 ≤ t .«default_length») × (t .«default_length» ≤ longest) → (r : Request) → r .length ≤ longest → (1 ≤ askLength t r) × (askLength t r ≤ longest)
 length-bounds t s r l =
     ⊎-elim
-    (λ (e : eqb (r .length) 0 ≡ true). rw (e) (sound-default t s))
+    (λ (e : eqb (r .length) 0 ≡ true). rw (e) s)
     (λ (e : eqb (r .length) 0 ≡ false). let z = eqb-false (r .length) 0 e in rw (e) (positive (r .length) z, l))
     (bool-cases (eqb (r .length) 0))
   where
@@ -152,38 +148,38 @@ module _ (t : LeaseTable) (now client : ℕ) (name : Name) where
 
     -- The leases stay good, ascending, and no more than there are slots.
 
-    pub record Inv (xs : List Lease) : Type 0 where
-      pub fine : Fine (poolsOf t) now 0 xs
+    pub record Inv (pools : List Prefix) (xs : List Lease) : Type 0 where
+      pub fine : Fine pools now 0 xs
       pub fit : length xs ≤ leaseSlots
 
-    module _ (s : sound t ≡ true) (named : client ≡ 0 → ⊥) where
-      pub offered-good : (xs : List Lease) (r : Request) (x : Lease) → r .length ≤ longest → Offered xs r x → Good (poolsOf t) now x
+    module _ (pools : List Prefix) (g : Ground pools t) (named : client ≡ 0 → ⊥) where
+      pub offered-good : (xs : List Lease) (r : Request) (x : Lease) → r .length ≤ longest → Offered xs r x → Good pools now x
       offered-good xs r x l o =
-          let b = length-bounds t s r l in
+          let b = length-bounds t (g .default) r l in
           record {
             short = omega (arith, o .len, b .0);
             long = omega (arith, o .len, b .1);
             aligned = o .free .aligned;
             client = λ e. named (sym (o .owner) ∙ e);
             later = omega (arith, o .until);
-            pooled = o .free .pooled;
+            pooled = g .part (prefixOf x) (o .free .pooled);
           }
 
-      add-inv : (xs : List Lease) (r : Request) → r .length ≤ longest → (o : Option Lease) → Offer xs r o → Inv xs → Inv (add o xs)
+      add-inv : (xs : List Lease) (r : Request) → r .length ≤ longest → (o : Option Lease) → Offer xs r o → Inv pools xs → Inv pools (add o xs)
       add-inv xs r l none f i = i
       add-inv xs r l (some x) f i = record {
-        fine = insert-fine (poolsOf t) now x xs (offered-good xs r x l f) (f .free .unused) (i .fine);
+        fine = insert-fine pools now x xs (offered-good xs r x l f) (f .free .unused) (i .fine);
         fit = omega (arith, perm-length (insert-perm x xs), f .room);
       }
 
-      pub offers-inv : (rs : List Request) (xs : List Lease) → All (λ r. r .length ≤ longest) rs → Inv xs → Inv (addAll (offers t now client name xs rs) xs)
+      pub offers-inv : (rs : List Request) (xs : List Lease) → All (λ r. r .length ≤ longest) rs → Inv pools xs → Inv pools (addAll (offers t now client name xs rs) xs)
       unfolding offers addAll
       offers-inv [] xs a i = i
       offers-inv (r ∷ rs) xs a i =
           offers-inv rs (add (offer t now client name xs r) xs) (a .1) (add-inv xs r (a .0) (offer t now client name xs r) (offer-is xs r) i)
 
-      pub offers-good : (rs : List Request) (xs : List Lease) → All (λ r. r .length ≤ longest) rs → All (Good (poolsOf t) now) (catMaybes (offers t now client name xs rs))
-      offers-good = offers-all (λ r. r .length ≤ longest) (Good (poolsOf t) now) offered-good
+      pub offers-good : (rs : List Request) (xs : List Lease) → All (λ r. r .length ≤ longest) rs → All (Good pools now) (catMaybes (offers t now client name xs rs))
+      offers-good = offers-all (λ r. r .length ≤ longest) (Good pools now) offered-good
 
     -- The offers are the grants of crate `free_space`.
 
@@ -283,10 +279,9 @@ ordered t s now ys f = record {
 }
 
 -- THE CHOICE: "An ask of length p takes, among whole free blocks of length at most p, the smallest, the lowest network among equals, and of that the
--- lowest part of length p." On any sound table, with any leases present.
-pub offer-takes : (t : LeaseTable) → sound t ≡ true → (now client : ℕ) (name : Name) (xs : List Lease) (r : Request) (x : Lease) → offer t now client name xs r ≡ some x
+-- lowest part of length p." On any good pools, with any leases present.
+pub offer-takes : (t : LeaseTable) → Pools (poolsOf t) → (now client : ℕ) (name : Name) (xs : List Lease) (r : Request) (x : Lease) → offer t now client name xs r ≡ some x
     → Takes (poolsOf t) (map prefixOf xs) (askLength t r) (prefixOf x)
-offer-takes t s now client name xs r x e =
-    let good : Pools (poolsOf t) = pools-good t s in
+offer-takes t good now client name xs r x e =
     let o : Offered t now client name xs r x = subst (Offer t now client name xs r) e (offer-is t now client name good xs r) in
     grant-takes (poolsOf t) good (map prefixOf xs) (askLength t r) (prefixOf x) .0 (o .granted)

@@ -2,14 +2,13 @@
 -- its page. Of ask's reply that is `reply-is-granted` in CallLaws.
 -- Assumes nothing.
 use Prim.Native.Nat.{ℕ, zero, suc, _≤_}
-use mathlib.Core.Path.{_≡_, refl, ap, _∙_}
+use mathlib.Core.Path.{_≡_, refl, sym, ap, subst, _∙_}
 use mathlib.Core.Bool.{Bool, true, false, not, true≢false}
-use mathlib.Core.List.{List, [], _∷_, map}
+use mathlib.Core.List.{List, [], _∷_, _++_, map, append-nil}
 use mathlib.Core.Option.{none}
 use native.Mathlib.Omega.{arith}
 use lib.ListN.{length, drop, length-map}
 use lib.ListN.{take as upTo}
-use lib.Seq.{take-append-seam}
 use lib.Dec.{ltb}
 use borrow.Author.Tests.{le-leb, not-false}
 use Rattle.lists.specs.Lists.{All, all?, filter}
@@ -21,16 +20,16 @@ use Rattle.option.specs.Values.{mostEntries, Entry, SuboptionValue, information
 use Rattle.option.specs.Reading.{readOption}
 use Rattle.option.specs.Writing.{optionBytes}
 use Rattle.option.specs.Writer.{entryWritable?, writable?}
-use Rattle.option.specs.Contents.{entriesIn}
 use Rattle.option.proofs.WrittenReadsBack.{bytes-read-back}
 use Rattle.table.specs.declared.Lease.{Lease}
 use Rattle.table.specs.Table.{poolsOf, present, sound}
 use Rattle.table.proofs.TableLaws.{Good, sound-fine}
 use Rattle.option_reply.specs.Reply.{entryOf}
-use Rattle.ledger.specs.Ledger.{State, Row, firstOf, byRows, accept, refusalPlace, nothing?, found, names?, takeRows, take, listedIn, listRows, list, ledger}
-use Rattle.ledger.specs.ReadBack.{readIn, TakesReadBack, ListsReadBack}
-use Rattle.ledger.proofs.RowLaws.{Numbered, first-none, accepted-none, numbered-take, numbered-list}
-use Rattle.ledger.proofs.ReplyLaws.{entry-writable}
+use Rattle.ledger.specs.Ledger.{State, Call, Row, firstOf, byRows, accept, refusalPlace, nothing?, found, names?, usableEntries, returned, askRows, ask, takeRows, take, listedIn, listRows, list, ledger}
+use Rattle.ledger.specs.ReadBack.{readIn, follows, TakesReadBack, SelectionReturned, ListsReadBack}
+use Rattle.ledger.specs.Demand3.{option220}
+use Rattle.ledger.proofs.RowLaws.{Numbered, first-none, accepted-none, numbered-ask, numbered-take, numbered-list}
+use Rattle.ledger.proofs.ReplyLaws.{entry-writable, reply-220, reply-follows}
 use Rattle.ledger.proofs.Counts.{upTo-all}
 
 -- Each passes, so all do.
@@ -59,16 +58,24 @@ some-upTo zero xs low some = absurd (omega arith)
 some-upTo (suc n) [] low some = some
 some-upTo (suc n) (x ∷ xs) low some = omega arith
 
--- The suboptions that an accepted call writes are those that the reader reads in its reply.
-written-reads-back : (rows : List Row) (place : ℕ → ℕ) (s t : State) (reply : List ℕ) (sub : SuboptionValue) (count : ℕ) → Numbered rows
+-- The suboptions that an accepted call writes, with the option `back` behind them, are those that the reader reads in its reply.
+written-reads-back : (rows : List Row) (place : ℕ → ℕ) (s t : State) (reply : List ℕ) (sub : SuboptionValue) (back bytes : List ℕ) → bytes ≡ optionBytes (sub ∷ []) ++ back → (count : ℕ) → Numbered rows
     → (firstOf rows ≡ none → writable? sub ≡ true)
-    → let r = byRows rows place s reply (accept t (optionBytes (sub ∷ [])) count reply) in
+    → let r = byRows rows place s reply (accept t bytes count reply) in
     r .answer .number ≡ 0 → readIn r ≡ accepted (sub ∷ [])
-written-reads-back rows place s t reply sub count numbered good z =
-    let free : firstOf rows ≡ none = accepted-none rows place s reply (accept t (optionBytes (sub ∷ [])) count reply) numbered z in
+written-reads-back rows place s t reply sub back bytes e count numbered good z =
+    let free : firstOf rows ≡ none = accepted-none rows place s reply (accept t bytes count reply) numbered z in
     rw free
-    (ap readOption (take-append-seam (optionBytes (sub ∷ [])) (drop (length (optionBytes (sub ∷ []))) reply))
-    ∙ bytes-read-back (sub ∷ []) (omega arith) (good free, tt))
+    (subst (λ (w : List ℕ). readOption (option220 (upTo (length w) (w ++ drop (length w) reply))) ≡ accepted (sub ∷ [])) (sym e)
+    (ap readOption (reply-220 (sub ∷ []) back (drop (length (optionBytes (sub ∷ []) ++ back)) reply)) ∙ bytes-read-back (sub ∷ []) (omega arith) (good free, tt)))
+
+-- And that option follows them.
+written-follows : (rows : List Row) (place : ℕ → ℕ) (s t : State) (reply : List ℕ) (subs : List SuboptionValue) (back : List ℕ) (count : ℕ) → Numbered rows
+    → let r = byRows rows place s reply (accept t (optionBytes subs ++ back) count reply) in
+    r .answer .number ≡ 0 → follows r ≡ back
+written-follows rows place s t reply subs back count numbered z =
+    let free : firstOf rows ≡ none = accepted-none rows place s reply (accept t (optionBytes subs ++ back) count reply) numbered z in
+    rw free (reply-follows subs back (drop (length (optionBytes subs ++ back)) reply))
 
 -- Where no row applies the table is sound, so every lease that is present is good.
 here-good : (s : State) (now : ℕ) → not (sound (s .table)) ≡ false → All (Good (poolsOf (s .table)) now) (present now (s .table .leases))
@@ -77,19 +84,34 @@ here-good s now e = sound-fine (s .table) (not-false (sound (s .table)) e) now .
 pub take-reads-back : TakesReadBack ledger
 unfolding take takeRows
 take-reads-back s now c =
-    let gs : List Lease = found (c .client) (present now (s .table .leases)) (entriesIn (c .option)) in
-    written-reads-back (takeRows s now c) (refusalPlace (c .option)) s _ (c .reply) (information false false (map entryOf gs)) (length gs) (numbered-take s now c)
+    let gs : List Lease = found (c .client) (present now (s .table .leases)) (usableEntries (s .table) c) in
+    written-reads-back (takeRows s now c) (refusalPlace (c .option)) s _ (c .reply) (information false false (map entryOf gs)) (returned (c .selection)) _ refl (length gs) (numbered-take s now c)
     (λ free.
     let rows = first-none (takeRows s now c) free in
-    information-writable (poolsOf (s .table)) now false false gs (some-in gs (rows .1 .1 .1 .1 .1 .1 .1 .1 .1 .1 .0))
-    (all-found (poolsOf (s .table)) now (c .client) (present now (s .table .leases)) (here-good s now (rows .1 .0)) (entriesIn (c .option))))
+    information-writable (poolsOf (s .table)) now false false gs (some-in gs (rows .1 .1 .1 .1 .1 .1 .1 .1 .1 .1 .1 .0))
+    (all-found (poolsOf (s .table)) now (c .client) (present now (s .table .leases)) (here-good s now (rows .1 .0)) (usableEntries (s .table) c)))
 
 pub list-reads-back : ListsReadBack ledger
 unfolding list listRows
 list-reads-back s now c =
     let gs : List Lease = listedIn (s .table) now (c .client) (c .option) in
-    written-reads-back (listRows s now c) (refusalPlace (c .option)) s s (c .reply) (information true (ltb mostEntries (length gs)) (map entryOf (upTo mostEntries gs))) (length (upTo mostEntries gs)) (numbered-list s now c)
+    written-reads-back (listRows s now c) (refusalPlace (c .option)) s s (c .reply) (information true (ltb mostEntries (length gs)) (map entryOf (upTo mostEntries gs))) [] (optionBytes (information true (ltb mostEntries (length gs)) (map entryOf (upTo mostEntries gs)) ∷ []))
+    (sym (append-nil (optionBytes (information true (ltb mostEntries (length gs)) (map entryOf (upTo mostEntries gs)) ∷ [])))) (length (upTo mostEntries gs)) (numbered-list s now c)
     (λ free.
     let rows = first-none (listRows s now c) free in
     information-writable (poolsOf (s .table)) now true (ltb mostEntries (length gs)) (upTo mostEntries gs) (some-upTo mostEntries gs (omega arith) (some-in gs (rows .1 .1 .1 .1 .1 .1 .1 .1 .1 .0)))
     (upTo-all (Good (poolsOf (s .table)) now) mostEntries gs (filter-all _ (Good (poolsOf (s .table)) now) (present now (s .table .leases)) (here-good s now (rows .1 .0)))))
+
+-- THE OPTION THAT CAME FOLLOWS, unaltered.
+
+module _ (s : State) (now : ℕ) (c : Call) where
+  ask-follows : ask s now c .answer .number ≡ 0 → follows (ask s now c) ≡ returned (c .selection)
+  unfolding ask
+  ask-follows = written-follows (askRows s now c) (refusalPlace (c .option)) s _ (c .reply) _ (returned (c .selection)) _ (numbered-ask s now c)
+
+  take-follows : take s now c .answer .number ≡ 0 → follows (take s now c) ≡ returned (c .selection)
+  unfolding take
+  take-follows = written-follows (takeRows s now c) (refusalPlace (c .option)) s _ (c .reply) _ (returned (c .selection)) _ (numbered-take s now c)
+
+pub selection-returned : SelectionReturned ledger
+selection-returned = record { asks = ask-follows; takes = take-follows }

@@ -12,11 +12,10 @@ use lib.Dec.{eqb}
 use borrow.Author.Tests.{eqb-false}
 use Rattle.lists.specs.Lists.{All, catMaybes}
 use Rattle.lists.proofs.Tests.{bool-cases, cond-true, cond-false}
-use Rattle.option.specs.Contents.{requestsIn}
 use Rattle.option.specs.Writing.{optionBytes}
 use Rattle.table.specs.declared.Lease.{Lease}
 use Rattle.table.specs.Table.{present}
-use Rattle.ledger.specs.Ledger.{State, left, Call, byRows, Result, refuse, accept, Row, firstOf, orElse, before, nothing?, refusalPlace, full, informationFor, askGives, askLeases, askRows, askName, ask, takeRows, listRows, releaseRows, markRows}
+use Rattle.ledger.specs.Ledger.{State, left, Call, byRows, Result, refuse, accept, Row, firstOf, orElse, before, nothing?, refusalPlace, full, informationFor, returned, givesIn, leasesIn, askRows, ask, takeRows, listRows, releaseRows, markRows}
 use Rattle.ledger.specs.Demand3.{none?}
 
 pub first-none : (rows : List Row) → firstOf rows ≡ none → All (λ (r : Row). r .1 ≡ false) rows
@@ -115,11 +114,11 @@ accepted-by {S} P rows place s reply accepted k f =
 
 pub numbered-ask : (s : State) (now : ℕ) (c : Call) → Numbered (askRows s now c)
 unfolding askRows
-numbered-ask s now c = (refl, (refl, (refl, (refl, (refl, (refl, (refl, (refl, (refl, (refl, (refl, (refl, (refl, tt)))))))))))))
+numbered-ask s now c = (refl, (refl, (refl, (refl, (refl, (refl, (refl, (refl, (refl, (refl, (refl, (refl, (refl, (refl, tt))))))))))))))
 
 pub numbered-take : (s : State) (now : ℕ) (c : Call) → Numbered (takeRows s now c)
 unfolding takeRows
-numbered-take s now c = (refl, (refl, (refl, (refl, (refl, (refl, (refl, (refl, (refl, (refl, (refl, tt)))))))))))
+numbered-take s now c = (refl, (refl, (refl, (refl, (refl, (refl, (refl, (refl, (refl, (refl, (refl, (refl, tt))))))))))))
 
 pub numbered-list : (s : State) (now : ℕ) (c : Call) → Numbered (listRows s now c)
 unfolding listRows
@@ -136,19 +135,23 @@ numbered-mark s now network len = (refl, (refl, (refl, (refl, (refl, tt)))))
 -- ASK: the rows before 9, and rows 9 and 10.
 
 -- What an ask answers whose rows before 9 do not apply, on the leases xs: `gs` are the leases granted, given again or new, and ys those that it leaves.
-abbrev pub answerAsk : State → ℕ → List ℕ → List Lease → List Lease → List Lease → Result State
-answerAsk s now reply xs ys [] = refuse (cond (full xs) 9 10) 0 s reply
-answerAsk s now reply xs ys (g ∷ gs) = accept (left s now ys) (optionBytes (map informationFor (g ∷ gs))) (length (g ∷ gs)) reply
+-- `back` is the option that follows in the reply.
+abbrev pub answerAsk : State → ℕ → List ℕ → List ℕ → List Lease → List Lease → List Lease → Result State
+answerAsk s now back reply xs ys [] = refuse (cond (full xs) 9 10) 0 s reply
+answerAsk s now back reply xs ys (g ∷ gs) = accept (left s now ys) (optionBytes (map informationFor (g ∷ gs)) ++ back) (length (g ∷ gs)) reply
 
 module _ (s : State) (now : ℕ) (c : Call) where
   xs : List Lease
   xs = present now (s .table .leases)
 
   ys : List Lease
-  ys = askLeases (s .table) now (c .client) (askName c) (present now (s .table .leases)) (requestsIn (c .option))
+  ys = leasesIn (s .table) now c
+
+  abbrev back : List ℕ
+  back = returned (c .selection)
 
   granted : List Lease
-  granted = catMaybes (askGives (s .table) now (c .client) (askName c) (present now (s .table .leases)) (requestsIn (c .option)))
+  granted = catMaybes (givesIn (s .table) now c)
 
   -- Rows 9 and 10.
   abbrev ownRows : List Lease → List Row
@@ -160,26 +163,24 @@ module _ (s : State) (now : ℕ) (c : Call) where
 
   own : (gs : List Lease)
       → orElse (firstOf (ownRows gs)) (λ number. refuse number (refusalPlace (c .option) number) s (c .reply))
-      (accept (left s now ys) (optionBytes (map informationFor gs)) (length gs) (c .reply))
-      ≡ answerAsk s now (c .reply) xs ys gs
+      (accept (left s now ys) (optionBytes (map informationFor gs) ++ back) (length gs) (c .reply))
+      ≡ answerAsk s now back (c .reply) xs ys gs
   own (g ∷ gs) = refl
   own [] = go (full xs)
     where
       go : (b : Bool)
           → orElse (cond b (some 9) (some 10)) (λ number. refuse number (refusalPlace (c .option) number) s (c .reply))
-          (accept (left s now ys) (optionBytes (map informationFor [])) (length (map informationFor [])) (c .reply))
+          (accept (left s now ys) (optionBytes (map informationFor []) ++ back) (length (map informationFor [])) (c .reply))
           ≡ refuse (cond b 9 10) 0 s (c .reply)
       go true = refl
       go false = refl
 
   -- An ask by the row that applies to it.
   abbrev goes : Option ℕ → Result State
-  goes o = orElse o (λ number. refuse number (refusalPlace (c .option) number) s (c .reply)) (accept (left s now ys) (optionBytes (map informationFor granted)) (length granted) (c .reply))
+  goes o = orElse o (λ number. refuse number (refusalPlace (c .option) number) s (c .reply)) (accept (left s now ys) (optionBytes (map informationFor granted) ++ back) (length granted) (c .reply))
 
   pub ask-served : firstOf (before 9 (askRows s now c)) ≡ none
-      → let here = present now (s .table .leases) in
-      let rs = requestsIn (c .option) in
-      ask s now c ≡ answerAsk s now (c .reply) here (askLeases (s .table) now (c .client) (askName c) here rs) (catMaybes (askGives (s .table) now (c .client) (askName c) here rs))
+      → ask s now c ≡ answerAsk s now (returned (c .selection)) (c .reply) (present now (s .table .leases)) (leasesIn (s .table) now c) (catMaybes (givesIn (s .table) now c))
   unfolding ask xs ys granted
   ask-served e = ap goes (ap firstOf rows-split ∙ first-after (before 9 (askRows s now c)) (ownRows granted) e) ∙ own granted
 

@@ -17,7 +17,7 @@ use Rattle.table.specs.declared.LeaseTable.{LeaseTable}
 use Rattle.table.specs.Table.{latest, prefixOf, poolsOf, present, sound, store}
 use Rattle.table.proofs.TableLaws.{Good, sound-term, sound-fine, fine-apart, map-sound, filter-sound}
 use Rattle.option.specs.Contents.{entriesIn}
-use Rattle.ledger.specs.Ledger.{State, left, Call, Result, Row, byRows, refusalPlace, askRows, ask, namedBy?, renew, renewed, takeRows, take, listRows, list, releaseRows, release, at?, withD, markRows, mark, ledger}
+use Rattle.ledger.specs.Ledger.{State, left, Call, Result, Row, byRows, refusalPlace, askRows, ask, namedBy?, usableEntries, renew, renewed, takeRows, take, listRows, list, releaseRows, release, at?, withD, markRows, mark, ledger}
 use Rattle.ledger.specs.Demand3.{wellFormed}
 use Rattle.ledger.specs.Refusals.{UnchangedIfRefused, RefusalsLeave}
 use Rattle.ledger.proofs.RowLaws.{first-none, served-or-not, accepted-none, numbered-ask, numbered-take, numbered-list, numbered-release, numbered-mark}
@@ -68,7 +68,7 @@ take-keeps s now c so =
     served-or-not (λ (r : Result State). sound (r .state .table) ≡ true) (takeRows s now c) _ _ (λ n. so)
     (λ e.
     let r = first-none (takeRows s now c) e in
-    map-keeps (s .table) now so (ltb-false latest now (r .1 .1 .1 .1 .1 .0)) (namedBy? (c .client) (entriesIn (c .option))) (renew now (s .table .term)) (renew-mild (s .table) now so))
+    map-keeps (s .table) now so (ltb-false latest now (r .1 .1 .1 .1 .1 .0)) (namedBy? (c .client) (usableEntries (s .table) c)) (renew now (s .table .term)) (renew-mild (s .table) now so))
 
 -- "List changes nothing": all is what it was, sound or not.
 pub list-keeps : (s : State) (now : ℕ) (c : Call) → list s now c .state ≡ s

@@ -1,6 +1,6 @@
 -- DEMAND 3, sentence by sentence, in the terms of document 01's paragraph "In demand 3 a call is well-formed if ..", and as document 02 reads it from M-101
 -- on, as a claim about any server of ask calls: a call is known by its answer, its reply and the table after it, and nothing here speaks of how an ask is served.
-use Rattle.lists.specs.Basics.{ℕ, _+_, _≤_, _<_, _≡_, _↔_, Bool, true, false, not, cond, Bool·beq, List, [], _∷_, _++_, map, List·Permᴰ, Option, none, some, length, take as upTo, leb, eqb}
+use Rattle.lists.specs.Basics.{ℕ, _+_, _≤_, _<_, _≡_, _↔_, Bool, true, false, not, cond, Bool·beq, List, [], _∷_, _++_, map, List·Permᴰ, Option, none, some, length, getD, take as upTo, leb, eqb}
 use Rattle.lists.specs.Lists.{All, Pairwise, and, any?, filter, concatMap, catMaybes}
 use Rattle.prefix.specs.declared.Prefix.{Prefix}
 use Rattle.prefix.specs.Prefixes.{prefix, Apart}
@@ -10,7 +10,7 @@ use Rattle.names.specs.declared.Name.{Name}
 use Rattle.table.specs.declared.{Lease.Lease, LeaseTable.LeaseTable}
 use Rattle.table.specs.Table.{leaseSlots, latest, prefixOf, poolsOf, present, sound}
 use Rattle.option.specs.Contents.{Request, requestsIn, entriesIn}
-use Rattle.ledger.specs.Ledger.{State, Call, Result, firstOf, before, emptySlots, askRows, askLength, askName, holdTime, heldBy?, again}
+use Rattle.ledger.specs.Ledger.{State, Call, Result, firstOf, before, emptySlots, askRows, askLength, askName, narrowed, usableLeases, holdTime, heldBy?, again}
 
 -- A CALL, AND WHEN IT IS WELL-FORMED
 
@@ -35,15 +35,19 @@ abbrev pub asksOf : Call → List Request
 asksOf c = requestsIn (c .option)
 
 -- "a request for which the station, before the message, already held (not leased) a present line of the same length and h gets that line again": the lease
--- that each of its asks is to get again. Those that get none are "the rest".
+-- that each of its asks is to get again. Those that get none are "the rest". "Re-given lines (M-101) must lie in that root as well."
 abbrev pub heldBefore : ℕ → LeaseTable → Call → List (Option Lease)
-heldBefore now t c = again t (c .client) (present now (t .leases)) (asksOf c)
+heldBefore now t c = again t (c .client) (usableLeases t c (present now (t .leases))) (asksOf c)
 
 -- GRANTED
 
--- The entries of a reply: of the bytes that an accepted answer says were written, read by the reader. A refusal has no reply.
+-- The entries of a reply: of the bytes that an accepted answer says were written, read by the reader. A refusal has no reply. Option 220 is what its Len
+-- says; option 118 may follow it.
+abbrev pub option220 : List ℕ → List ℕ
+option220 l = upTo (getD l 1 0 + 2) l
+
 abbrev pub replyEntries : {S : Type 0} → Result S → List Entry
-replyEntries r = cond (eqb (r .answer .number) 0) (entriesIn (upTo (r .answer .bytes) (r .reply))) []
+replyEntries r = cond (eqb (r .answer .number) 0) (entriesIn (option220 (upTo (r .answer .bytes) (r .reply)))) []
 
 -- "entries pair off in order, each with the next ask of its length and h"
 abbrev pub answers? : LeaseTable → Request → Entry → Bool
@@ -94,7 +98,8 @@ abbrev pub fate : List Prefix → Option Entry → Fate
 fate used (some e) = isGranted
 fate used none = cond (leb leaseSlots (length used)) wantsSlot wantsSpace
 
--- "no free aligned block of its length lies inside a root" (`Free`: aligned, inside a pool, sharing no address with what is in use)
+-- "no free aligned block of its length lies inside a root" (`Free`: aligned, inside a pool, sharing no address with what is in use). "Demand 3's first
+-- sentence speaks of the ground the ask may use": t is then the table with that ground.
 abbrev pub NoneFree : LeaseTable → List Prefix → ℕ → Type 0
 NoneFree t used len = (network : ℕ) → Free (poolsOf t) used (prefix network len) → ⊥
 
@@ -135,16 +140,18 @@ prefixesAt (n ∷ ns) (len ∷ lens) = prefix n len ∷ prefixesAt ns lens
 abbrev pub HoldsNothing : ℕ → LeaseTable → ℕ → Type 0
 HoldsNothing now t client = All (λ x. heldBy? client x ≡ false) (present now (t .leases))
 
-pub record FirstAsks (now : ℕ) (s : State) (cs : List Call) : Type 0 where
+pub record FirstAsks (now : ℕ) (s : State) (ground : List Prefix) (cs : List Call) : Type 0 where
   pub nothing : All (λ c. HoldsNothing now (s .table) (c .client)) (filter (wellFormed now s) cs)
+  -- "lists that all name the same root, over that root's ground, or all name none, over all of it"
+  pub over : All (λ c. poolsOf (narrowed (s .table) c) ≡ ground) (filter (wellFormed now s) cs)
   pub once : Pairwise (λ c d. c .client ≡ d .client → ⊥) (filter (wellFormed now s) cs)
 
 -- "If free aligned blocks can be chosen in the first book, one of its length for each well-formed ask of the list, no two sharing an address, and
 -- that book has an empty line for each"
-pub record CanBeChosen (now : ℕ) (s : State) (cs : List Call) : Type 0 where
+pub record CanBeChosen (now : ℕ) (s : State) (ground : List Prefix) (cs : List Call) : Type 0 where
   pub networks : List ℕ
   pub enough : length networks ≡ length (lengthsAsked now s cs)
-  pub free : All (Free (poolsOf (s .table)) (inUse now (s .table))) (prefixesAt networks (lengthsAsked now s cs))
+  pub free : All (Free ground (inUse now (s .table))) (prefixesAt networks (lengthsAsked now s cs))
   pub apart : Pairwise Apart (prefixesAt networks (lengthsAsked now s cs))
   pub slots : length (wellFormedAsks now s cs) ≤ emptySlots now (s .table)
 
@@ -182,7 +189,7 @@ module _ {S : Type 0} (stateOf : S → State) (server : Server S) where
   abbrev pub made : ℕ → Received S → List Lease
   made now v = map (leaseFor now (v .call .client) (askName (v .call))) (catMaybes (granted now (v .got) (v .call)))
 
-  pub record AllGranted (now : ℕ) (s : S) (cs : List Call) : Type 0 where
+  pub record AllGranted (now : ℕ) (s : S) (ground : List Prefix) (cs : List Call) : Type 0 where
     -- what was granted
     pub given : List Entry
     -- "then every well-formed ask is granted"
@@ -190,7 +197,7 @@ module _ {S : Type 0} (stateOf : S → State) (server : Server S) where
     -- each of the length asked for
     pub lengths : map (λ e. e .length) given ≡ lengthsAsked now (stateOf s) cs
     -- "In that case the blocks granted were free in the first book and share no address"
-    pub free : All (Free (poolsOf (tableOf s)) (inUse now (tableOf s))) (map entryPrefix given)
+    pub free : All (Free ground (inUse now (tableOf s))) (map entryPrefix given)
     pub apart : Pairwise Apart (map entryPrefix given)
     -- "after the list the lines present are those present at its start and those granted, one for each well-formed ask"
     pub left : List·Permᴰ (present now (tableOf (afterAll now s cs) .leases)) (present now (tableOf s .leases) ++ concatMap (made now) (wellFormedCalls now s cs))
@@ -205,9 +212,10 @@ module _ {S : Type 0} (stateOf : S → State) (server : Server S) where
     -- "While the book has an empty line, a well-formed ask is refused for want of ground exactly when no free aligned block of its length lies inside a
     -- root."
     pub sentence : (s : S) (now : ℕ) (c : Call) → wellFormed now (stateOf s) c ≡ true
-        → RefusedRightly (tableOf s) (inUse now (tableOf s)) (asksOf c) (heldBefore now (tableOf s) c) (granted now s c)
+        → RefusedRightly (narrowed (tableOf s) c) (inUse now (tableOf s)) (asksOf c) (heldBefore now (tableOf s) c) (granted now s c)
     -- "take every list of ask calls, in whatever order, refused ones included, from any sound book and all at one time that the desk accepts", and what
     -- `FirstAsks`, `CanBeChosen` and `AllGranted` quote.
-    pub lists : (s : S) (now : ℕ) (cs : List Call) → sound (tableOf s) ≡ true → Accepts (tableOf s) now → FirstAsks now (stateOf s) cs → CanBeChosen now (stateOf s) cs → AllGranted now s cs
+    pub lists : (s : S) (now : ℕ) (ground : List Prefix) (cs : List Call) → sound (tableOf s) ≡ true → Accepts (tableOf s) now → FirstAsks now (stateOf s) ground cs
+        → CanBeChosen now (stateOf s) ground cs → AllGranted now s ground cs
     -- "In every case a call not well-formed leaves the book as it was."
     pub untouched : (s : S) (now : ℕ) (cs : List Call) → Untouched now s cs

@@ -4,12 +4,11 @@
 use Rattle.lists.specs.Basics.{ℕ, _<_, _≡_, _⊎_, Bool, true, not, List, [], _∷_, map, getD, eqb}
 use Rattle.lists.specs.Lists.{All, filter}
 use Rattle.option.specs.Values.{Entry}
-use Rattle.option.specs.Contents.{entriesIn}
 use Rattle.table.specs.declared.Lease.{Lease}
 use Rattle.table.specs.Table.{prefixOf, present}
 use Rattle.figures.specs.declared.FigureRow.{FigureRow}
 use Rattle.figures.specs.Figures.{untold, untoldRow, matches?}
-use Rattle.ledger.specs.Ledger.{State, Call, Calls, names?, openTable}
+use Rattle.ledger.specs.Ledger.{State, Call, Calls, names?, usableEntries, openTable}
 use Rattle.ledger.specs.Histories.{Reachable}
 
 -- ROWS OF A STATE
@@ -66,7 +65,7 @@ module _ {S : Type 0} (calls : Calls S) where
   pub record FiguresKept : Type 0 where
     pub asks : (s : S) (now : ℕ) (c : Call) → calls .asks s now c .answer .number ≡ 0 → FiguresAfter Unchanged now (calls .stateOf s) (calls .stateOf (calls .asks s now c .state))
     pub takes : (s : S) (now : ℕ) (c : Call) → calls .takes s now c .answer .number ≡ 0
-        → FiguresAfter (Updated (c .client) (entriesIn (c .option))) now (calls .stateOf s) (calls .stateOf (calls .takes s now c .state))
+        → FiguresAfter (Updated (c .client) (usableEntries (calls .stateOf s .table) c)) now (calls .stateOf s) (calls .stateOf (calls .takes s now c .state))
     pub releases : (s : S) (now : ℕ) (c : Call) → calls .releases s now c .answer .number ≡ 0
         → FiguresAfter Unchanged now (calls .stateOf s) (calls .stateOf (calls .releases s now c .state))
     pub marks : (s : S) (now network len : ℕ) (d : Bool) → calls .marks s now network len d .answer .number ≡ 0

@@ -4,8 +4,8 @@ use Rattle.lists.specs.Basics.{ℕ, _≡_, List, [], _∷_, Option, none, some}
 use Rattle.names.specs.declared.Name.{Name}
 use Rattle.table.specs.declared.{Lease.Lease, LeaseTable.LeaseTable}
 use Rattle.table.specs.Table.{present}
-use Rattle.option.specs.Contents.{Request}
-use Rattle.ledger.specs.Ledger.{offer, add, heldFor?, firstThat, butFirst, holdAgain, heldAgain, askGives, askLeases}
+use Rattle.option.specs.Contents.{Request, requestsIn}
+use Rattle.ledger.specs.Ledger.{offer, add, heldFor?, firstThat, butFirst, holdAgain, heldAgain, Call, askName, narrowed, usableLeases, givesIn, leasesIn}
 
 -- What a request gets, its lease again or what it is offered, and the leases that it leaves.
 abbrev pub againOr : ℕ → Option Lease → Option Lease → Option Lease
@@ -30,7 +30,7 @@ leftOneByOne t now client name hs xs (r ∷ rs) =
     let g = firstThat (heldFor? t client r) hs in
     leftOneByOne t now client name (butFirst (heldFor? t client r) hs) (leftBy now g (offer t now client name xs r) xs) rs
 
--- Of a call on the leases that are present.
-pub record ServedInOrder (t : LeaseTable) (now client : ℕ) (name : Name) (rs : List Request) : Type 0 where
-  pub gives : oneByOne t now client name (present now (t .leases)) (present now (t .leases)) rs ≡ askGives t now client name (present now (t .leases)) rs
-  pub leaves : leftOneByOne t now client name (present now (t .leases)) (present now (t .leases)) rs ≡ askLeases t now client name (present now (t .leases)) rs
+-- Of a call on the leases that are present, with its ground and those of them that lie on it.
+pub record ServedInOrder (t : LeaseTable) (now : ℕ) (c : Call) : Type 0 where
+  pub gives : oneByOne (narrowed t c) now (c .client) (askName c) (usableLeases t c (present now (t .leases))) (present now (t .leases)) (requestsIn (c .option)) ≡ givesIn t now c
+  pub leaves : leftOneByOne (narrowed t c) now (c .client) (askName c) (usableLeases t c (present now (t .leases))) (present now (t .leases)) (requestsIn (c .option)) ≡ leasesIn t now c

@@ -1,16 +1,17 @@
 -- IN RANGE: of arguments within the sizes of the code's types, results within them. The ledger speaks of all numbers; the code has 32 bits for a network, a
 -- client and a time, 16 for a figure, 8 for a length and a byte, and 64 for eight octets of a name.
-use Prim.Native.Nat.{ℕ, _≤_, _<_}
+use Prim.Native.Nat.{ℕ, _+_, _≤_, _<_}
 use mathlib.Core.Bool.{Bool}
 use mathlib.Core.List.{List}
 use Rattle.lists.specs.Lists.{All}
 use Rattle.option.specs.Values.{longestOption}
+use Rattle.option.specs.Selection.{selectionSize}
 use Rattle.names.specs.declared.Name.{Name}
 use Rattle.table.specs.declared.{Pool.Pool, Lease.Lease, LeaseTable.LeaseTable}
 use Rattle.table.specs.Table.{leaseSlots}
 use Rattle.figures.specs.declared.FigureRow.{FigureRow}
 use Rattle.ledger.specs.declared.Answer.{Answer}
-use Rattle.ledger.specs.Ledger.{State, Call, Result, Calls, openTable}
+use Rattle.ledger.specs.Ledger.{State, Call, Result, Calls, returned as returnedOption, openTable}
 use Rattle.ledger.specs.Histories.{Event, asked, taken, wasListed, returned, marked, saved, afterwards}
 use Rattle.ledger.specs.Sizes.{Byte, Bytes}
 
@@ -68,6 +69,7 @@ pub record StateInRange (s : State) : Type 0 where
 pub record CallInRange (c : Call) : Type 0 where
   pub client : Word (c .client)
   pub option : Bytes (c .option)
+  pub selection : Bytes (returnedOption (c .selection))
   pub reply : Bytes (c .reply)
 
 -- WHAT IT GIVES
@@ -76,7 +78,7 @@ pub record CallInRange (c : Call) : Type 0 where
 pub record AnswerInRange (a : Answer) : Type 0 where
   pub number : a .number ≤ highestNumber
   pub place : a .place ≤ longestOption
-  pub bytes : a .bytes ≤ longestOption
+  pub bytes : a .bytes ≤ longestOption + selectionSize
   pub count : a .count ≤ leaseSlots
 
 -- `Fits`: what goes from call to call is in range.

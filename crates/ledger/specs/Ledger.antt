@@ -4,16 +4,18 @@
 use Rattle.lists.specs.Basics.{ℕ, _+_, Bool, true, false, not, cond, _&&_, _||_, Bool·beq, List, [], _∷_, _++_, map, Option, none, some, length, drop, take as upTo, leb, ltb, eqb}
 use Rattle.lists.specs.Lists.{and, all?, any?, filter, concatMap, catMaybes}
 use Rattle.prefix.specs.declared.Prefix.{Prefix}
+use Rattle.prefix.specs.Prefixes.{prefix, end, inside?}
 use Rattle.free_space.specs.Grant.{grant}
 use Rattle.option.specs.Values.{longestOption, mostRequests, mostEntries, Entry, SuboptionValue, information}
-use Rattle.option.specs.Reading.{readOption}
+use Rattle.option.specs.Reading.{four, readOption}
+use Rattle.option.specs.Selection.{selectionSize, selection?}
 use Rattle.option.specs.Contents.{Request, refuses?, placeIn, suboptions, requests, entries, requestsIn, entriesIn, firstNameIn, position}
 use Rattle.option.specs.Writing.{optionBytes}
 use Rattle.option_reply.specs.Reply.{entryOf}
 use Rattle.names.specs.declared.Name.{Name}
 use Rattle.names.specs.Names.{longestName, nameOf}
-use Rattle.table.specs.declared.{Lease.Lease, LeaseTable.LeaseTable}
-use Rattle.table.specs.Table.{leaseSlots, latest, blank, prefixOf, poolsOf, empty?, present, sound, store, insert}
+use Rattle.table.specs.declared.{Pool.Pool, Lease.Lease, LeaseTable.LeaseTable}
+use Rattle.table.specs.Table.{leaseSlots, latest, blank, poolPrefix, prefixOf, poolsOf, unused?, empty?, present, sound, store, insert}
 use Rattle.figures.specs.declared.FigureRow.{FigureRow}
 use Rattle.figures.specs.Figures.{untoldRow, matches?, followed, taken}
 use Rattle.table_open.specs.Open.{given, openOk, fresh}
@@ -42,10 +44,16 @@ left s now xs = let u = store (s .table) now xs in state u (followed now (s .tab
 pub record Call : Type 0 where
   pub client : ℕ
   pub option : List ℕ
+  -- Document 02, M-106: the option 118 that came with the message, "Where the caller says with the call that it is enabled"; none where it is not enabled
+  -- ("Not enabled, it is neither read nor returned") or did not come. Only an ask and a take carry it.
+  pub selection : Option (List ℕ)
   pub reply : List ℕ
 
+abbrev pub callWith : ℕ → List ℕ → Option (List ℕ) → List ℕ → Call
+callWith client option selection reply = record { client = client; option = option; selection = selection; reply = reply }
+
 abbrev pub call : ℕ → List ℕ → List ℕ → Call
-call client option reply = record { client = client; option = option; reply = reply }
+call client option reply = callWith client option none reply
 
 -- The answer, what is left, and the reply buffer after the call. A call that has no reply buffer is given and leaves an empty one. `S` is what goes from
 -- call to call: the state here, what the code is lent in crate `call_spec`.
@@ -109,9 +117,14 @@ byRows rows place s reply accepted = orElse (firstOf rows) (λ number. refuse nu
 
 -- THE ROWS THAT CALLS SHARE
 
--- Row 1, of a call whose reply buffer has to have so many bytes; and how many ask, take and list want.
+-- Row 1, of a call whose reply buffer has to have so many bytes; and how many ask, take and list want: "1 reads 263 for calls that carry an enabled
+-- option", also a bad one.
 abbrev pub leastReply : ℕ
 leastReply = longestOption
+
+abbrev pub leastFor : Option (List ℕ) → ℕ
+leastFor none = leastReply
+leastFor (some s) = leastReply + selectionSize
 
 abbrev pub replyRows : ℕ → Call → List Row
 replyRows least c = (1, ltb (length (c .reply)) least) ∷ []
@@ -130,8 +143,13 @@ abbrev pub timeRows : State → ℕ → List Row
 timeRows s now = (3, ltb now (s .table .last)) ∷ (4, ltb latest now) ∷ []
 
 -- "16, field outside the rules, in 7's row": the reader gives at most one of them.
+-- "A bad enabled option 118 gets 6": one row for both options.
+abbrev pub badSelection? : Option (List ℕ) → Bool
+badSelection? none = false
+badSelection? (some s) = not (selection? s)
+
 abbrev pub optionRows : Call → List Row
-optionRows c = (6, refuses? 6 (readOption (c .option))) ∷ (7, refuses? 7 (readOption (c .option))) ∷ (16, refuses? 16 (readOption (c .option))) ∷ []
+optionRows c = (6, refuses? 6 (readOption (c .option)) || badSelection? (c .selection)) ∷ (7, refuses? 7 (readOption (c .option))) ∷ (16, refuses? 16 (readOption (c .option))) ∷ []
 
 -- Those of a call with an option, after row 1 where it has that one and before its own; `given` are those of what it is given.
 abbrev pub commonRows : List Row → State → ℕ → Call → List Row
@@ -161,6 +179,40 @@ unfoldable pub openTable : List ℕ → List ℕ → ℕ → ℕ → ℕ → Res
 openTable networks lengths term defaultLength start =
     byRows (openRows networks lengths term defaultLength start) (λ number. 0) (state blank []) []
     (accept (filled (fresh (given networks lengths) term defaultLength start)) [] 0 [])
+
+-- THE GROUND OF A CALL (document 02, M-106): "every block of that ask comes from the root that contains its address".
+
+-- The pool that contains an address; an unused slot contains none.
+abbrev pub contains? : ℕ → Pool → Bool
+contains? address p = and (not (unused? p) ∷ leb (p .network) address ∷ ltb address (end (poolPrefix p)) ∷ [])
+
+-- The table with the pools that a call may use: that one, or all.
+abbrev pub narrowedTo : Option (List ℕ) → LeaseTable → LeaseTable
+narrowedTo none t = t
+narrowedTo (some s) t = record { pools = filter (contains? (four s 2)) (t .pools); leases = t .leases; term = t .term; «default_length» = t .«default_length»; last = t .last }
+
+unfoldable pub narrowed : LeaseTable → Call → LeaseTable
+narrowed t c = narrowedTo (c .selection) t
+
+-- What of these lies on that ground: "Re-given lines (M-101) must lie in that root as well"; "entries outside that root count as not found".
+abbrev pub onGround : {A : Type 0} → Option (List ℕ) → LeaseTable → (A → Prefix) → List A → List A
+onGround none t f xs = xs
+onGround (some s) t f xs = filter (λ x. any? (inside? (f x)) (poolsOf (narrowedTo (some s) t))) xs
+
+unfoldable pub usableLeases : LeaseTable → Call → List Lease → List Lease
+usableLeases t c xs = onGround (c .selection) t prefixOf xs
+
+unfoldable pub usableEntries : LeaseTable → Call → List Entry
+usableEntries t c = onGround (c .selection) t (λ e. prefix (e .network) (e .length)) (entriesIn (c .option))
+
+-- Row 19: "address in no root, after 8 and 17".
+abbrev pub groundRows : LeaseTable → Call → List Row
+groundRows t c = (19, nothing? (poolsOf (narrowed t c))) ∷ []
+
+-- "The option follows, unaltered, after option 220 in the reply".
+abbrev pub returned : Option (List ℕ) → List ℕ
+returned none = []
+returned (some s) = s
 
 -- ASK
 
@@ -255,23 +307,35 @@ inTurn now (none ∷ gs) (o ∷ os) = o ∷ inTurn now gs os
 
 -- AN ASK, on the leases xs that are present. What is given again is held anew before the rest is served: it keeps its network and its length, so it takes
 -- neither ground nor an empty slot. (`InOrder`: served one by one, each request on the leases that the one before left, the same comes of it.)
-abbrev pub askHeld : LeaseTable → ℕ → ℕ → List Lease → List Request → List Lease
-askHeld t now client xs rs = heldAgain now (catMaybes (again t client xs rs)) xs
+-- `hs` are the leases of xs that may be given again, those on the ground of the call; `t` is the table with that ground.
+abbrev pub askHeld : LeaseTable → ℕ → ℕ → List Lease → List Lease → List Request → List Lease
+askHeld t now client hs xs rs = heldAgain now (catMaybes (again t client hs rs)) xs
 
-abbrev pub askOffers : LeaseTable → ℕ → ℕ → Name → List Lease → List Request → List (Option Lease)
-askOffers t now client name xs rs = offers t now client name (askHeld t now client xs rs) (restOf (again t client xs rs) rs)
+abbrev pub askOffers : LeaseTable → ℕ → ℕ → Name → List Lease → List Lease → List Request → List (Option Lease)
+askOffers t now client name hs xs rs = offers t now client name (askHeld t now client hs xs rs) (restOf (again t client hs rs) rs)
 
-abbrev pub askGives : LeaseTable → ℕ → ℕ → Name → List Lease → List Request → List (Option Lease)
-askGives t now client name xs rs = inTurn now (again t client xs rs) (askOffers t now client name xs rs)
+abbrev pub askGives : LeaseTable → ℕ → ℕ → Name → List Lease → List Lease → List Request → List (Option Lease)
+askGives t now client name hs xs rs = inTurn now (again t client hs rs) (askOffers t now client name hs xs rs)
 
-abbrev pub askLeases : LeaseTable → ℕ → ℕ → Name → List Lease → List Request → List Lease
-askLeases t now client name xs rs = addAll (askOffers t now client name xs rs) (askHeld t now client xs rs)
+abbrev pub askLeases : LeaseTable → ℕ → ℕ → Name → List Lease → List Lease → List Request → List Lease
+askLeases t now client name hs xs rs = addAll (askOffers t now client name hs xs rs) (askHeld t now client hs xs rs)
+
+-- Of a call, on the table that it is given.
+abbrev pub givesIn : LeaseTable → ℕ → Call → List (Option Lease)
+givesIn t now c =
+    let xs = present now (t .leases) in
+    askGives (narrowed t c) now (c .client) (askName c) (usableLeases t c xs) xs (requestsIn (c .option))
+
+abbrev pub leasesIn : LeaseTable → ℕ → Call → List Lease
+leasesIn t now c =
+    let xs = present now (t .leases) in
+    askLeases (narrowed t c) now (c .client) (askName c) (usableLeases t c xs) xs (requestsIn (c .option))
 
 -- Rows 9 and 10: "If none is granted, the answer is the refusal of the first." "A re-given line needs no empty line, so 9 and 10 apply only to the rest."
 abbrev pub grantRows : State → ℕ → Call → List Row
 grantRows s now c =
     let xs = present now (s .table .leases) in
-    let granted = catMaybes (askGives (s .table) now (c .client) (askName c) xs (requestsIn (c .option))) in
+    let granted = catMaybes (givesIn (s .table) now c) in
     (9, nothing? granted && full xs)
     ∷ (10, nothing? granted)
     ∷ []
@@ -281,15 +345,15 @@ abbrev pub nameRows : Call → List Row
 nameRows c = (17, ltb longestName (length (firstNameIn (c .option)))) ∷ []
 
 unfoldable pub askRows : State → ℕ → Call → List Row
-askRows s now c = replyRows leastReply c ++ (commonRows (stateRows s) s now c ++ ((8, not (forAsk (requestsIn (c .option)))) ∷ (nameRows c ++ grantRows s now c)))
+askRows s now c =
+    replyRows (leastFor (c .selection)) c ++ (commonRows (stateRows s) s now c
+    ++ ((8, not (forAsk (requestsIn (c .option)))) ∷ (nameRows c ++ (groundRows (s .table) c ++ grantRows s now c))))
 
 unfoldable pub ask : State → ℕ → Call → Result State
 ask s now c =
-    let xs = present now (s .table .leases) in
-    let rs = requestsIn (c .option) in
-    let granted = catMaybes (askGives (s .table) now (c .client) (askName c) xs rs) in
+    let granted = catMaybes (givesIn (s .table) now c) in
     byRows (askRows s now c) (refusalPlace (c .option)) s (c .reply)
-    (accept (left s now (askLeases (s .table) now (c .client) (askName c) xs rs)) (optionBytes (map informationFor granted)) (length granted) (c .reply))
+    (accept (left s now (leasesIn (s .table) now c)) (optionBytes (map informationFor granted) ++ returned (c .selection)) (length granted) (c .reply))
 
 -- TAKE
 
@@ -318,22 +382,24 @@ renewNamed now term client es xs = map (λ x. cond (namedBy? client es x) (renew
 -- What an accepted take leaves: "a take with figures updates the rows of its lines".
 unfoldable pub renewed : State → ℕ → Call → State
 renewed s now c =
-    let u = store (s .table) now (renewNamed now (s .table .term) (c .client) (entriesIn (c .option)) (present now (s .table .leases))) in
-    state u (taken now (c .client) (entriesIn (c .option)) (s .table) (s .rows) u)
+    let es = usableEntries (s .table) c in
+    let u = store (s .table) now (renewNamed now (s .table .term) (c .client) es (present now (s .table .leases))) in
+    state u (taken now (c .client) es (s .table) (s .rows) u)
 
 unfoldable pub takeRows : State → ℕ → Call → List Row
 takeRows s now c =
-    replyRows leastReply c ++ (commonRows (stateRows s) s now c
+    replyRows (leastFor (c .selection)) c ++ (commonRows (stateRows s) s now c
     ++ ((8, not (forTake (suboptions (readOption (c .option)))))
-    ∷ (11, nothing? (found (c .client) (present now (s .table .leases)) (entriesIn (c .option)))) ∷ []))
+    ∷ (groundRows (s .table) c
+    ++ ((11, nothing? (found (c .client) (present now (s .table .leases)) (usableEntries (s .table) c))) ∷ []))))
 
 -- "The reply is one Information with those entries in order, flags and figures from the book: h, d, no figures, c and s 0."
 unfoldable pub take : State → ℕ → Call → Result State
 take s now c =
     let xs = present now (s .table .leases) in
-    let gs = found (c .client) xs (entriesIn (c .option)) in
+    let gs = found (c .client) xs (usableEntries (s .table) c) in
     byRows (takeRows s now c) (refusalPlace (c .option)) s (c .reply)
-    (accept (renewed s now c) (optionBytes (information false false (map entryOf gs) ∷ [])) (length gs) (c .reply))
+    (accept (renewed s now c) (optionBytes (information false false (map entryOf gs) ∷ []) ++ returned (c .selection)) (length gs) (c .reply))
 
 -- LIST
 

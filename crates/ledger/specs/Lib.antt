@@ -10,6 +10,7 @@ pub mod Conservation
 pub mod ListDepends
 pub mod NamesKept
 pub mod ReadBack
+pub mod OnGround
 pub mod NothingBehind
 pub mod Refusals
 pub mod FiguresKept

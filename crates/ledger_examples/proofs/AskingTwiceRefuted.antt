@@ -16,7 +16,7 @@ use Rattle.names.specs.Names.{unnamed?}
 use Rattle.table.specs.declared.Lease.{Lease}
 use Rattle.table.specs.Table.{unused?, empty?, prefixesOf, present, headOk, poolOk, leaseOk, ascends?, sound, store}
 use Rattle.figures.specs.Figures.{ofLease?, untold?, fits?, rowFor, followed}
-use Rattle.ledger.specs.Ledger.{State, Call, left, offer, offers, addAll, again, restOf, inTurn, askRows, ask}
+use Rattle.ledger.specs.Ledger.{State, Call, left, offer, offers, addAll, again, restOf, inTurn, askRows, ask, narrowed, usableLeases}
 use Rattle.ledger.specs.Demand3.{Server, wellFormed, heldBefore, granted}
 use Rattle.ledger.specs.AskingTwice.{GivenAgain, AsksTwice}
 use Rattle.ledger_examples.specs.Examples.{buffer, requesting}
@@ -53,7 +53,7 @@ unfoldable other : Entry
 other = record { network = 0x0a000140; length = 26; h = false; d = false; figures = [] }
 
 pub not-neverAgain : AsksTwice (λ s. s) neverAgain → ⊥
-unfolding its other neverAgain mine holding asksAgain held tableWith callBy buffer walk insertBy entryFields? fields? option? subInside? whenGood readRequest figuresAt entryAt entryFramed? readEntry readEntries readInformation readName readBody readSuboption readSuboptions readOption twoBytes fourBytes requestBytes entryHead entryBytes entriesBytes informationHead suboptionBytes suboptionsBytes optionHead optionBytes unused? unnamed? empty? prefixesOf present headOk poolOk leaseOk ascends? sound ofLease? untold? fits? store rowFor followed left offer offers addAll again restOf inTurn askRows ask granted wellFormed
+unfolding its other neverAgain mine holding asksAgain held tableWith callBy buffer walk insertBy entryFields? fields? option? subInside? whenGood readRequest figuresAt entryAt entryFramed? readEntry readEntries readInformation readName readBody readSuboption readSuboptions readOption twoBytes fourBytes requestBytes entryHead entryBytes entriesBytes informationHead suboptionBytes suboptionsBytes optionHead optionBytes unused? unnamed? empty? prefixesOf present headOk poolOk leaseOk ascends? sound ofLease? untold? fits? store rowFor followed left offer offers addAll again restOf inTurn askRows ask granted wellFormed narrowed usableLeases
 not-neverAgain a =
     let e : some other ≡ some its = first-given neverAgain a 1100 (some other) refl refl refl in
     let z : _≡_ {A = ℕ} 0x0a000140 0x0a000100 = ap (λ (x : Entry). x .network) (Option·some-injective other its e) in
@@ -61,10 +61,10 @@ not-neverAgain a =
 
 -- An end that was later and stays: the lease is not held until now + 120, so nothing is granted.
 pub not-keepsEnd : AsksTwice (λ s. s) keepsEnd → ⊥
-unfolding keepsEnd mine holding asksAgain held tableWith callBy buffer walk insertBy entryFields? fields? option? subInside? whenGood readRequest figuresAt entryAt entryFramed? readEntry readEntries readInformation readName readBody readSuboption readSuboptions readOption twoBytes fourBytes requestBytes entryHead entryBytes entriesBytes informationHead suboptionBytes suboptionsBytes optionHead optionBytes unused? unnamed? empty? prefixesOf present headOk poolOk leaseOk ascends? sound ofLease? untold? fits? store rowFor followed left offer offers addAll again restOf inTurn askRows ask granted wellFormed
+unfolding keepsEnd mine holding asksAgain held tableWith callBy buffer walk insertBy entryFields? fields? option? subInside? whenGood readRequest figuresAt entryAt entryFramed? readEntry readEntries readInformation readName readBody readSuboption readSuboptions readOption twoBytes fourBytes requestBytes entryHead entryBytes entriesBytes informationHead suboptionBytes suboptionsBytes optionHead optionBytes unused? unnamed? empty? prefixesOf present headOk poolOk leaseOk ascends? sound ofLease? untold? fits? store rowFor followed left offer offers addAll again restOf inTurn askRows ask granted wellFormed narrowed usableLeases
 not-keepsEnd a = let e : none ≡ some its = first-given keepsEnd a 5000 none refl refl refl in let z : _≡_ {A = ℕ} 0 1 = cc in absurd (omega arith)
 
 -- 9 where no slot is empty, though what is asked for is held.
 pub not-nineFirst : AsksTwice (λ s. s) nineFirst → ⊥
-unfolding nineFirst filledUp held tableWith lease leasesFrom callBy buffer walk entryFields? fields? option? subInside? whenGood readRequest readInformation readName readBody readSuboption readSuboptions readOption unused? unnamed? empty? prefixesOf present headOk poolOk leaseOk ascends? sound ofLease? untold? fits? askRows wellFormed again
+unfolding nineFirst filledUp held tableWith lease leasesFrom callBy buffer walk entryFields? fields? option? subInside? whenGood readRequest readInformation readName readBody readSuboption readSuboptions readOption unused? unnamed? empty? prefixesOf present headOk poolOk leaseOk ascends? sound ofLease? untold? fits? askRows wellFormed again narrowed usableLeases
 not-nineFirst a = let z : _≡_ {A = ℕ} 9 0 = a .accepted filledUp 1050 (callBy 7 (requesting 30)) refl (λ e. nil≢cons (sym e)) in absurd (omega arith)

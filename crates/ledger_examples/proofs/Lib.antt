@@ -3,7 +3,9 @@ pub mod ExamplesHold
 pub mod FigureExamplesHold
 pub mod AgainExamplesHold
 pub mod NameExamplesHold
+pub mod SelectionExamplesHold
 pub mod Premises
 pub mod WrongServersRefuted
+pub mod GroundListsHold
 pub mod AskingTwiceRefuted
 pub mod NamesRefuted

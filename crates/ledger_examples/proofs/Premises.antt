@@ -2,8 +2,8 @@
 -- neither "stations hold nothing at the start" nor "each station's asks come in one message" can be left out of the premise.
 -- Assumes nothing.
 use Prim.Native.Nat.{ℕ}
-use mathlib.Core.Path.{_≡_, refl, sym, ap, subst, _∙_}
-use mathlib.Core.Bool.{Bool, true, not, _&&_}
+use mathlib.Core.Path.{_≡_, refl, sym, ap, ap₂, subst, _∙_}
+use mathlib.Core.Bool.{Bool, true, false, not, _&&_, true≢false}
 use mathlib.Core.List.{List, [], _∷_, map}
 use mathlib.Core.Option.{Option, some}
 use lib.ListN.{length, length-map}
@@ -26,7 +26,7 @@ use Rattle.names.specs.Names.{unnamed?}
 use Rattle.table.specs.declared.LeaseTable.{LeaseTable}
 use Rattle.table.specs.Table.{latest, poolsOf, unused?, empty?, prefixesOf, present, headOk, poolOk, leaseOk, ascends?, sound, store}
 use Rattle.figures.specs.Figures.{ofLease?, untold?, fits?, rowFor, followed}
-use Rattle.ledger.specs.Ledger.{State, Call, left, emptySlots, offer, offers, addAll, heldBy?, again, restOf, inTurn, askRows, ask}
+use Rattle.ledger.specs.Ledger.{State, Call, left, emptySlots, offer, offers, addAll, heldBy?, again, restOf, inTurn, askRows, ask, narrowed, usableLeases}
 use Rattle.ledger.specs.Demand3.{Server, Accepts, wellFormed, entryPrefix, inUse, isGranted, wantsSlot, wantsSpace, wellFormedAsks, lengthsAsked, prefixesAt, HoldsNothing, CanBeChosen, granted, received, wellFormedCalls, AllGranted, Demand3}
 use Rattle.ledger_examples.specs.Examples.{buffer, requesting}
 use Rattle.ledger_examples.specs.SampleLists.{tableWith, lease, leasesFrom, held, callBy, three, Sample, malformedBetween, endedGround, prefixZero, lastSlots, filledExactly, leasedBefore, samples, heldAtStart, inTwoMessages, fates, narrow, crowded}
@@ -43,11 +43,11 @@ free-to pools leases p e =
     let b = and-to (any? (inside? p) pools) (all? (apart? p) leases) (a .1) in
     record { aligned = aligned-to p (a .0); pooled = any?-to (inside? p) (inside-to p) pools (b .0); unused = all?-to (apart? p) (apart-to p) leases (b .1) }
 
-abbrev apartAll? : List Prefix → Bool
+abbrev pub apartAll? : List Prefix → Bool
 apartAll? [] = true
 apartAll? (p ∷ ps) = all? (apart? p) ps && apartAll? ps
 
-apart-all : (ps : List Prefix) → apartAll? ps ≡ true → Pairwise Apart ps
+pub apart-all : (ps : List Prefix) → apartAll? ps ≡ true → Pairwise Apart ps
 apart-all [] e = tt
 apart-all (p ∷ ps) e = let a = and-to (all? (apart? p) ps) (apartAll? ps) e in (all?-to (apart? p) (apart-to p) ps (a .0), apart-all ps (a .1))
 
@@ -68,38 +68,73 @@ holdsNothing? now t c = all? (λ x. not (heldBy? (c .client) x)) (present now (t
 holds-nothing : (now : ℕ) (t : LeaseTable) (c : Call) → holdsNothing? now t c ≡ true → HoldsNothing now t (c .client)
 holds-nothing now t c e = all?-to (λ x. not (heldBy? (c .client) x)) (λ x k. not-true (heldBy? (c .client) x) k) (present now (t .leases)) e
 
--- The tests of a sample: sound, the time accepted, the networks can be chosen.
-abbrev tests : Sample → List Bool
-tests s =
+-- Two lists of prefixes are the same.
+abbrev alike? : List Prefix → List Prefix → Bool
+alike? [] [] = true
+alike? [] (q ∷ qs) = false
+alike? (p ∷ ps) [] = false
+alike? (p ∷ ps) (q ∷ qs) = and (eqb (p .network) (q .network) ∷ eqb (p .length) (q .length) ∷ alike? ps qs ∷ [])
+
+alike : (ps qs : List Prefix) → alike? ps qs ≡ true → ps ≡ qs
+alike [] [] e = refl
+alike [] (q ∷ qs) e = absurd (true≢false (sym e))
+alike (p ∷ ps) [] e = absurd (true≢false (sym e))
+alike (p ∷ ps) (q ∷ qs) e =
+    let r = and-list-to (eqb (p .network) (q .network) ∷ eqb (p .length) (q .length) ∷ alike? ps qs ∷ []) e in
+    ap₂ (λ (x : Prefix) (xs : List Prefix). x ∷ xs)
+    (ap₂ (λ (m n : ℕ). prefix m n) (eqb-true (p .network) (q .network) (r .0)) (eqb-true (p .length) (q .length) (r .1 .0))) (alike ps qs (r .1 .1 .0))
+
+-- The tests of a sample over some ground: sound, the time accepted, the networks can be chosen, every call has that ground.
+abbrev testsOver : List Prefix → Sample → List Bool
+testsOver ground s =
     sound (s .start .table)
     ∷ leb (s .start .table .last) (s .now)
     ∷ leb (s .now) latest
     ∷ eqb (length (s .networks)) (length (lengthsAsked (s .now) (s .start) (s .calls)))
-    ∷ all? (free? (poolsOf (s .start .table)) (inUse (s .now) (s .start .table))) (prefixesAt (s .networks) (lengthsAsked (s .now) (s .start) (s .calls)))
+    ∷ all? (free? ground (inUse (s .now) (s .start .table))) (prefixesAt (s .networks) (lengthsAsked (s .now) (s .start) (s .calls)))
     ∷ apartAll? (prefixesAt (s .networks) (lengthsAsked (s .now) (s .start) (s .calls)))
     ∷ leb (length (wellFormedAsks (s .now) (s .start) (s .calls))) (emptySlots (s .now) (s .start .table))
+    ∷ all? (λ c. alike? (poolsOf (narrowed (s .start .table) c)) ground) (filter (wellFormed (s .now) (s .start)) (s .calls))
     ∷ []
 
-pub chosen : (s : Sample) → and (tests s) ≡ true → (sound (s .start .table) ≡ true) × Accepts (s .start .table) (s .now) × CanBeChosen (s .now) (s .start) (s .calls)
-chosen s e =
-    let r = and-list-to (tests s) e in
+-- Over all of the ground: no call names a root.
+abbrev tests : Sample → List Bool
+tests s = testsOver (poolsOf (s .start .table)) s
+
+-- The calls of a list over the same ground, and over all of it.
+abbrev pub Over : List Prefix → ℕ → State → List Call → Type 0
+Over ground now s cs = All (λ c. poolsOf (narrowed (s .table) c) ≡ ground) (filter (wellFormed now s) cs)
+
+abbrev pub OverAll : ℕ → State → List Call → Type 0
+OverAll now s cs = Over (poolsOf (s .table)) now s cs
+
+pub chosen-over : (ground : List Prefix) (s : Sample) → and (testsOver ground s) ≡ true
+    → (sound (s .start .table) ≡ true) × Accepts (s .start .table) (s .now) × CanBeChosen (s .now) (s .start) ground (s .calls) × Over ground (s .now) (s .start) (s .calls)
+chosen-over ground s e =
+    let r = and-list-to (testsOver ground s) e in
     let ps : List Prefix = prefixesAt (s .networks) (lengthsAsked (s .now) (s .start) (s .calls)) in (
       r .0,
       (leb-true (s .start .table .last) (s .now) (r .1 .0), leb-true (s .now) latest (r .1 .1 .0)),
       record {
         networks = s .networks;
         enough = eqb-true (length (s .networks)) (length (lengthsAsked (s .now) (s .start) (s .calls))) (r .1 .1 .1 .0);
-        free = all?-to (free? (poolsOf (s .start .table)) (inUse (s .now) (s .start .table))) (free-to (poolsOf (s .start .table)) (inUse (s .now) (s .start .table))) ps (r .1 .1 .1 .1 .0);
+        free = all?-to (free? ground (inUse (s .now) (s .start .table))) (free-to ground (inUse (s .now) (s .start .table))) ps (r .1 .1 .1 .1 .0);
         apart = apart-all ps (r .1 .1 .1 .1 .1 .0);
         slots = leb-true (length (wellFormedAsks (s .now) (s .start) (s .calls))) (emptySlots (s .now) (s .start .table)) (r .1 .1 .1 .1 .1 .1 .0);
       },
+      all?-to (λ c. alike? (poolsOf (narrowed (s .start .table) c)) ground) (λ c k. alike (poolsOf (narrowed (s .start .table) c)) ground k)
+          (filter (wellFormed (s .now) (s .start)) (s .calls)) (r .1 .1 .1 .1 .1 .1 .1 .0),
     )
 
+pub chosen : (s : Sample) → and (tests s) ≡ true
+    → (sound (s .start .table) ≡ true) × Accepts (s .start .table) (s .now) × CanBeChosen (s .now) (s .start) (poolsOf (s .start .table)) (s .calls) × OverAll (s .now) (s .start) (s .calls)
+chosen s e = chosen-over (poolsOf (s .start .table)) s e
+
 -- Its clients hold nothing, and each asks once.
-abbrev holdNothing? : Sample → Bool
+abbrev pub holdNothing? : Sample → Bool
 holdNothing? s = all? (holdsNothing? (s .now) (s .start .table)) (filter (wellFormed (s .now) (s .start)) (s .calls))
 
-abbrev once? : Sample → Bool
+abbrev pub once? : Sample → Bool
 once? s = otherClients? (filter (wellFormed (s .now) (s .start)) (s .calls))
 
 pub hold-nothing : (s : Sample) → holdNothing? s ≡ true → All (λ c. HoldsNothing (s .now) (s .start .table) (c .client)) (filter (wellFormed (s .now) (s .start)) (s .calls))
@@ -108,29 +143,35 @@ hold-nothing s e = all?-to (holdsNothing? (s .now) (s .start .table)) (holds-not
 pub ask-once : (s : Sample) → once? s ≡ true → Pairwise (λ c d. c .client ≡ d .client → ⊥) (filter (wellFormed (s .now) (s .start)) (s .calls))
 ask-once s e = other-clients (filter (wellFormed (s .now) (s .start)) (s .calls)) e
 
+abbrev pub meetsOver? : List Prefix → Sample → Bool
+meetsOver? ground s = and (and (testsOver ground s) ∷ holdNothing? s ∷ once? s ∷ [])
+
 abbrev pub meets? : Sample → Bool
-meets? s = and (and (tests s) ∷ holdNothing? s ∷ once? s ∷ [])
+meets? s = meetsOver? (poolsOf (s .start .table)) s
 
 -- What a server that meets demand 3 grants where a sample passes.
-pub served : (server : Server State) → Demand3 (λ s. s) server → (s : Sample) → meets? s ≡ true → AllGranted (λ s. s) server (s .now) (s .start) (s .calls)
-served server d s e =
-    let r = and-list-to (and (tests s) ∷ holdNothing? s ∷ once? s ∷ []) e in
-    let c = chosen s (r .0) in
-    d .lists (s .start) (s .now) (s .calls) (c .0) (c .1) (record { nothing = hold-nothing s (r .1 .0); once = ask-once s (r .1 .1 .0) }) (c .2)
+pub served-over : (server : Server State) → Demand3 (λ s. s) server → (ground : List Prefix) (s : Sample) → meetsOver? ground s ≡ true → AllGranted (λ s. s) server (s .now) (s .start) ground (s .calls)
+served-over server d ground s e =
+    let r = and-list-to (and (testsOver ground s) ∷ holdNothing? s ∷ once? s ∷ []) e in
+    let c = chosen-over ground s (r .0) in
+    d .lists (s .start) (s .now) ground (s .calls) (c .0) (c .1) (record { nothing = hold-nothing s (r .1 .0); over = c .3; once = ask-once s (r .1 .1 .0) }) (c .2)
+
+pub served : (server : Server State) → Demand3 (λ s. s) server → (s : Sample) → meets? s ≡ true → AllGranted (λ s. s) server (s .now) (s .start) (poolsOf (s .start .table)) (s .calls)
+served server d s e = served-over server d (poolsOf (s .start .table)) s e
 
 -- THE SIX LISTS meet the premise, so every well-formed ask of each is granted.
 pub samples-meet : all? meets? samples ≡ true
-unfolding samples malformedBetween endedGround prefixZero lastSlots filledExactly leasedBefore tableWith lease leasesFrom held callBy buffer walk entryFields? fields? option? subInside? whenGood readRequest figuresAt entryAt entryFramed? readEntry readEntries readInformation readName readBody readSuboption readSuboptions readOption unused? unnamed? empty? prefixesOf present headOk poolOk leaseOk ascends? sound ofLease? untold? fits? emptySlots askRows wellFormed
+unfolding samples malformedBetween endedGround prefixZero lastSlots filledExactly leasedBefore tableWith lease leasesFrom held callBy buffer walk entryFields? fields? option? subInside? whenGood readRequest figuresAt entryAt entryFramed? readEntry readEntries readInformation readName readBody readSuboption readSuboptions readOption unused? unnamed? empty? prefixesOf present headOk poolOk leaseOk ascends? sound ofLease? untold? fits? emptySlots askRows wellFormed narrowed usableLeases
 samples-meet = refl
 
-pub samples-granted : All (λ s. AllGranted (λ s. s) ask (s .now) (s .start) (s .calls)) samples
+pub samples-granted : All (λ s. AllGranted (λ s. s) ask (s .now) (s .start) (poolsOf (s .start .table)) (s .calls)) samples
 samples-granted = all?-to meets? (served ask demand3) samples samples-meet
 
 -- How many asks are well-formed in each, and how many slots are empty before: in the fourth exactly as many, so that 256 leases are there in the end.
 pub samples-count :
     map (λ s. length (wellFormedAsks (s .now) (s .start) (s .calls)) ∷ emptySlots (s .now) (s .start .table) ∷ []) samples
     ≡ (2 ∷ 256 ∷ []) ∷ (1 ∷ 256 ∷ []) ∷ (2 ∷ 256 ∷ []) ∷ (2 ∷ 2 ∷ []) ∷ (3 ∷ 256 ∷ []) ∷ (1 ∷ 255 ∷ []) ∷ []
-unfolding samples malformedBetween endedGround prefixZero lastSlots filledExactly leasedBefore tableWith lease leasesFrom held callBy buffer walk entryFields? fields? option? subInside? whenGood readRequest figuresAt entryAt entryFramed? readEntry readEntries readInformation readName readBody readSuboption readSuboptions readOption unused? unnamed? empty? prefixesOf present headOk poolOk leaseOk ascends? sound ofLease? untold? fits? emptySlots askRows wellFormed
+unfolding samples malformedBetween endedGround prefixZero lastSlots filledExactly leasedBefore tableWith lease leasesFrom held callBy buffer walk entryFields? fields? option? subInside? whenGood readRequest figuresAt entryAt entryFramed? readEntry readEntries readInformation readName readBody readSuboption readSuboptions readOption unused? unnamed? empty? prefixesOf present headOk poolOk leaseOk ascends? sound ofLease? untold? fits? emptySlots askRows wellFormed narrowed usableLeases
 samples-count = refl
 
 -- WHAT A LIST IS GRANTED, of any server: if all of it is granted, nothing is missing, and what is there was free and shares no address.
@@ -138,7 +179,7 @@ samples-count = refl
 unfoldable pub whatOf : Server State → Sample → List (Option Entry)
 whatOf server p = concatMap (λ v. granted (λ s. s) server (p .now) (v .got) (v .call)) (wellFormedCalls (λ s. s) server (p .now) (p .start) (p .calls))
 
-module _ (server : Server State) (p : Sample) (a : AllGranted (λ s. s) server (p .now) (p .start) (p .calls)) where
+module _ (server : Server State) (p : Sample) (a : AllGranted (λ s. s) server (p .now) (p .start) (poolsOf (p .start .table)) (p .calls)) where
   given-is : catMaybes (whatOf server p) ≡ a .given
   unfolding whatOf
   given-is = ap catMaybes (a .all) ∙ catMaybes-some (a .given)
@@ -157,32 +198,32 @@ module _ (server : Server State) (p : Sample) (a : AllGranted (λ s. s) server (
 
 -- Where a client held a lease at the start it gets that one, which was not free.
 held-met : (and (tests heldAtStart) && once? heldAtStart) ≡ true
-unfolding heldAtStart tableWith lease leasesFrom held callBy buffer walk entryFields? fields? option? subInside? whenGood readRequest figuresAt entryAt entryFramed? readEntry readEntries readInformation readName readBody readSuboption readSuboptions readOption unused? unnamed? empty? prefixesOf present headOk poolOk leaseOk ascends? sound ofLease? untold? fits? emptySlots askRows wellFormed
+unfolding heldAtStart tableWith lease leasesFrom held callBy buffer walk entryFields? fields? option? subInside? whenGood readRequest figuresAt entryAt entryFramed? readEntry readEntries readInformation readName readBody readSuboption readSuboptions readOption unused? unnamed? empty? prefixesOf present headOk poolOk leaseOk ascends? sound ofLease? untold? fits? emptySlots askRows wellFormed narrowed usableLeases
 held-met = refl
 
 pub nothing-needed : ((s : State) (now : ℕ) (cs : List Call) → sound (s .table) ≡ true → Accepts (s .table) now → Pairwise (λ c d. c .client ≡ d .client → ⊥) (filter (wellFormed now s) cs)
-    → CanBeChosen now s cs → AllGranted (λ s. s) ask now s cs) → ⊥
-unfolding whatOf tableWith lease leasesFrom held callBy buffer walk insertBy entryFields? fields? option? subInside? whenGood readRequest figuresAt entryAt entryFramed? readEntry readEntries readInformation readName readBody readSuboption readSuboptions readOption twoBytes fourBytes requestBytes entryHead entryBytes entriesBytes informationHead suboptionBytes suboptionsBytes optionHead optionBytes unused? unnamed? empty? prefixesOf present headOk poolOk leaseOk ascends? sound ofLease? untold? fits? store rowFor followed left offer offers addAll again restOf inTurn askRows ask wellFormed granted received heldAtStart
+    → OverAll now s cs → CanBeChosen now s (poolsOf (s .table)) cs → AllGranted (λ s. s) ask now s (poolsOf (s .table)) cs) → ⊥
+unfolding whatOf tableWith lease leasesFrom held callBy buffer walk insertBy entryFields? fields? option? subInside? whenGood readRequest figuresAt entryAt entryFramed? readEntry readEntries readInformation readName readBody readSuboption readSuboptions readOption twoBytes fourBytes requestBytes entryHead entryBytes entriesBytes informationHead suboptionBytes suboptionsBytes optionHead optionBytes unused? unnamed? empty? prefixesOf present headOk poolOk leaseOk ascends? sound ofLease? untold? fits? store rowFor followed left offer offers addAll again restOf inTurn askRows ask wellFormed granted received heldAtStart narrowed usableLeases
 nothing-needed claim =
     let e = and-to (and (tests heldAtStart)) (once? heldAtStart) held-met in
     let c = chosen heldAtStart (e .0) in
     let p : Prefix = prefix 0x0a000100 26 in
-    let f : Free (poolsOf (heldAtStart .start .table)) (inUse 1050 (heldAtStart .start .table)) p = granted-free ask heldAtStart (claim (heldAtStart .start) 1050 (heldAtStart .calls) (c .0) (c .1) (ask-once heldAtStart (e .1)) (c .2)) .0 in
+    let f : Free (poolsOf (heldAtStart .start .table)) (inUse 1050 (heldAtStart .start .table)) p = granted-free ask heldAtStart (claim (heldAtStart .start) 1050 (heldAtStart .calls) (c .0) (c .1) (ask-once heldAtStart (e .1)) (c .3) (c .2)) .0 in
     apart-absurd p p (inside-refl p) (f .unused .0)
 
 -- Where a client asks in two messages the second gets what the first got.
 messages-met : (and (tests inTwoMessages) && holdNothing? inTwoMessages) ≡ true
-unfolding inTwoMessages tableWith lease leasesFrom held callBy buffer walk entryFields? fields? option? subInside? whenGood readRequest figuresAt entryAt entryFramed? readEntry readEntries readInformation readName readBody readSuboption readSuboptions readOption unused? unnamed? empty? prefixesOf present headOk poolOk leaseOk ascends? sound ofLease? untold? fits? emptySlots askRows wellFormed
+unfolding inTwoMessages tableWith lease leasesFrom held callBy buffer walk entryFields? fields? option? subInside? whenGood readRequest figuresAt entryAt entryFramed? readEntry readEntries readInformation readName readBody readSuboption readSuboptions readOption unused? unnamed? empty? prefixesOf present headOk poolOk leaseOk ascends? sound ofLease? untold? fits? emptySlots askRows wellFormed narrowed usableLeases
 messages-met = refl
 
 pub once-needed : ((s : State) (now : ℕ) (cs : List Call) → sound (s .table) ≡ true → Accepts (s .table) now → All (λ c. HoldsNothing now (s .table) (c .client)) (filter (wellFormed now s) cs)
-    → CanBeChosen now s cs → AllGranted (λ s. s) ask now s cs) → ⊥
-unfolding whatOf tableWith lease leasesFrom held callBy buffer walk insertBy entryFields? fields? option? subInside? whenGood readRequest figuresAt entryAt entryFramed? readEntry readEntries readInformation readName readBody readSuboption readSuboptions readOption twoBytes fourBytes requestBytes entryHead entryBytes entriesBytes informationHead suboptionBytes suboptionsBytes optionHead optionBytes unused? unnamed? empty? prefixesOf present headOk poolOk leaseOk ascends? sound ofLease? untold? fits? store rowFor followed left offer offers addAll again restOf inTurn askRows ask wellFormed granted received inTwoMessages
+    → OverAll now s cs → CanBeChosen now s (poolsOf (s .table)) cs → AllGranted (λ s. s) ask now s (poolsOf (s .table)) cs) → ⊥
+unfolding whatOf tableWith lease leasesFrom held callBy buffer walk insertBy entryFields? fields? option? subInside? whenGood readRequest figuresAt entryAt entryFramed? readEntry readEntries readInformation readName readBody readSuboption readSuboptions readOption twoBytes fourBytes requestBytes entryHead entryBytes entriesBytes informationHead suboptionBytes suboptionsBytes optionHead optionBytes unused? unnamed? empty? prefixesOf present headOk poolOk leaseOk ascends? sound ofLease? untold? fits? store rowFor followed left offer offers addAll again restOf inTurn askRows ask wellFormed granted received inTwoMessages narrowed usableLeases
 once-needed claim =
     let e = and-to (and (tests inTwoMessages)) (holdNothing? inTwoMessages) messages-met in
     let c = chosen inTwoMessages (e .0) in
     let p : Prefix = prefix 0x0a000100 26 in
-    let z : Apart p p = granted-apart ask inTwoMessages (claim (inTwoMessages .start) 1000 (inTwoMessages .calls) (c .0) (c .1) (hold-nothing inTwoMessages (e .1)) (c .2)) .0 .0 in
+    let z : Apart p p = granted-apart ask inTwoMessages (claim (inTwoMessages .start) 1000 (inTwoMessages .calls) (c .0) (c .1) (hold-nothing inTwoMessages (e .1)) (c .3) (c .2)) .0 .0 in
     apart-absurd p p (inside-refl p) z
 
 -- THE FIRST SENTENCE: refused for want of ground between two that are granted, and for want of lines where no slot is empty.
@@ -191,5 +232,5 @@ pub refused-for :
     ∷ fates (inUse 1000 (crowded 256 .table)) (granted (λ s. s) ask 1000 (crowded 256) (callBy 7 (requesting 30)))
     ∷ []
     ≡ (isGranted ∷ wantsSpace ∷ isGranted ∷ []) ∷ (wantsSlot ∷ []) ∷ []
-unfolding narrow crowded tableWith lease leasesFrom callBy buffer walk insertBy entryFields? fields? option? subInside? whenGood readRequest figuresAt entryAt entryFramed? readEntry readEntries readInformation readName readBody readSuboption readSuboptions readOption twoBytes fourBytes requestBytes entryHead entryBytes entriesBytes informationHead suboptionBytes suboptionsBytes optionHead optionBytes unused? unnamed? empty? prefixesOf present headOk poolOk leaseOk ascends? sound ofLease? untold? fits? store rowFor followed left offer offers addAll again restOf inTurn askRows ask wellFormed granted
+unfolding narrow crowded tableWith lease leasesFrom callBy buffer walk insertBy entryFields? fields? option? subInside? whenGood readRequest figuresAt entryAt entryFramed? readEntry readEntries readInformation readName readBody readSuboption readSuboptions readOption twoBytes fourBytes requestBytes entryHead entryBytes entriesBytes informationHead suboptionBytes suboptionsBytes optionHead optionBytes unused? unnamed? empty? prefixesOf present headOk poolOk leaseOk ascends? sound ofLease? untold? fits? store rowFor followed left offer offers addAll again restOf inTurn askRows ask wellFormed granted narrowed usableLeases
 refused-for = refl

@@ -23,7 +23,7 @@ use Rattle.table.specs.declared.{Lease.Lease, LeaseTable.LeaseTable}
 use Rattle.table.specs.Table.{leaseSlots, poolsOf, unused?, empty?, prefixesOf, present, headOk, poolOk, leaseOk, ascends?, sound, store}
 use Rattle.option.specs.Contents.{Request}
 use Rattle.figures.specs.Figures.{ofLease?, untold?, fits?, rowFor, followed}
-use Rattle.ledger.specs.Ledger.{State, Call, left, askLength, emptySlots, offer, offers, addAll, again, restOf, inTurn, askRows, ask}
+use Rattle.ledger.specs.Ledger.{State, Call, left, askLength, emptySlots, offer, offers, addAll, again, restOf, inTurn, askRows, ask, narrowed, usableLeases}
 use Rattle.ledger.specs.Demand3.{Server, wellFormed, asksOf, heldBefore, entryPrefix, inUse, meets, isGranted, wantsSpace, fate, NoneFree, RefusedRightly, granted, received, AllGranted, Demand3}
 use Rattle.ledger_examples.specs.Examples.{buffer}
 use Rattle.ledger_examples.specs.SampleLists.{tableWith, lease, leasesFrom, held, callBy, two, three, Sample, leasedBefore, crowded}
@@ -34,8 +34,8 @@ use Rattle.ledger_examples.proofs.Premises.{free-to, meets?, served, wh
 unfoldable pair : Sample
 pair = record { start = tableWith 0x0a000100 24 []; now = 1000; calls = callBy 7 (two 26 26) ∷ []; networks = 0x0a000100 ∷ 0x0a000140 ∷ [] }
 
-all-given : (server : Server State) → Demand3 (λ s. s) server → AllGranted (λ s. s) server 1000 (pair .start) (pair .calls)
-unfolding pair tableWith callBy buffer walk entryFields? fields? option? subInside? whenGood readRequest readInformation readName readBody readSuboption readSuboptions readOption unused? unnamed? empty? prefixesOf present headOk poolOk leaseOk ascends? sound ofLease? untold? fits? emptySlots askRows wellFormed
+all-given : (server : Server State) → Demand3 (λ s. s) server → AllGranted (λ s. s) server 1000 (pair .start) (poolsOf (pair .start .table)) (pair .calls)
+unfolding pair tableWith callBy buffer walk entryFields? fields? option? subInside? whenGood readRequest readInformation readName readBody readSuboption readSuboptions readOption unused? unnamed? empty? prefixesOf present headOk poolOk leaseOk ascends? sound ofLease? untold? fits? emptySlots askRows wellFormed narrowed usableLeases
 all-given server d = served server d pair refl
 
 -- What a server that meets demand 3 grants there: both requests, and no address twice.
@@ -48,23 +48,23 @@ unfolding pair
 apart server d = granted-apart server pair (all-given server d)
 
 pub not-refusesAll : Demand3 (λ s. s) refusesAll → ⊥
-unfolding whatOf pair refusesAll tableWith callBy buffer walk entryFields? fields? option? subInside? whenGood readRequest readInformation readName readBody readSuboption readSuboptions readOption unused? unnamed? empty? prefixesOf present headOk poolOk leaseOk ascends? sound ofLease? untold? fits? askRows wellFormed granted received
+unfolding whatOf pair refusesAll tableWith callBy buffer walk entryFields? fields? option? subInside? whenGood readRequest readInformation readName readBody readSuboption readSuboptions readOption unused? unnamed? empty? prefixesOf present headOk poolOk leaseOk ascends? sound ofLease? untold? fits? askRows wellFormed granted received narrowed usableLeases
 not-refusesAll d = let z : _≡_ {A = ℕ} 0 2 = complete refusesAll d in absurd (omega arith)
 
 pub not-leavesTable : Demand3 (λ s. s) leavesTable → ⊥
-unfolding whatOf pair leavesTable tableWith callBy buffer walk insertBy entryFields? fields? option? subInside? whenGood readRequest figuresAt entryAt entryFramed? readEntry readEntries readInformation readName readBody readSuboption readSuboptions readOption twoBytes fourBytes requestBytes entryHead entryBytes entriesBytes informationHead suboptionBytes suboptionsBytes optionHead optionBytes unused? unnamed? empty? prefixesOf present headOk poolOk leaseOk ascends? sound ofLease? untold? fits? store rowFor followed left offer offers addAll again restOf inTurn askRows ask wellFormed granted received
+unfolding whatOf pair leavesTable tableWith callBy buffer walk insertBy entryFields? fields? option? subInside? whenGood readRequest figuresAt entryAt entryFramed? readEntry readEntries readInformation readName readBody readSuboption readSuboptions readOption twoBytes fourBytes requestBytes entryHead entryBytes entriesBytes informationHead suboptionBytes suboptionsBytes optionHead optionBytes unused? unnamed? empty? prefixesOf present headOk poolOk leaseOk ascends? sound ofLease? untold? fits? store rowFor followed left offer offers addAll again restOf inTurn askRows ask wellFormed granted received narrowed usableLeases
 not-leavesTable d = let z : _≡_ {A = ℕ} 0 2 = complete leavesTable d in absurd (omega arith)
 
 pub not-firstOnly : Demand3 (λ s. s) firstOnly → ⊥
-unfolding whatOf pair firstOnly tableWith callBy buffer walk insertBy entryFields? fields? option? subInside? whenGood readRequest figuresAt entryAt entryFramed? readEntry readEntries readInformation readName readBody readSuboption readSuboptions readOption twoBytes fourBytes requestBytes entryHead entryBytes entriesBytes informationHead suboptionBytes suboptionsBytes optionHead optionBytes unused? unnamed? empty? prefixesOf present headOk poolOk leaseOk ascends? sound ofLease? untold? fits? store rowFor followed left offer offers addAll again restOf inTurn askRows ask wellFormed granted received
+unfolding whatOf pair firstOnly tableWith callBy buffer walk insertBy entryFields? fields? option? subInside? whenGood readRequest figuresAt entryAt entryFramed? readEntry readEntries readInformation readName readBody readSuboption readSuboptions readOption twoBytes fourBytes requestBytes entryHead entryBytes entriesBytes informationHead suboptionBytes suboptionsBytes optionHead optionBytes unused? unnamed? empty? prefixesOf present headOk poolOk leaseOk ascends? sound ofLease? untold? fits? store rowFor followed left offer offers addAll again restOf inTurn askRows ask wellFormed granted received narrowed usableLeases
 not-firstOnly d = let z : _≡_ {A = ℕ} 1 2 = complete firstOnly d in absurd (omega arith)
 
 pub not-answersTen : Demand3 (λ s. s) answersTen → ⊥
-unfolding whatOf pair answersTen tableWith callBy buffer walk insertBy entryFields? fields? option? subInside? whenGood readRequest figuresAt entryAt entryFramed? readEntry readEntries readInformation readName readBody readSuboption readSuboptions readOption twoBytes fourBytes requestBytes entryHead entryBytes entriesBytes informationHead suboptionBytes suboptionsBytes optionHead optionBytes unused? unnamed? empty? prefixesOf present headOk poolOk leaseOk ascends? sound ofLease? untold? fits? store rowFor followed left offer offers addAll again restOf inTurn askRows ask wellFormed granted received
+unfolding whatOf pair answersTen tableWith callBy buffer walk insertBy entryFields? fields? option? subInside? whenGood readRequest figuresAt entryAt entryFramed? readEntry readEntries readInformation readName readBody readSuboption readSuboptions readOption twoBytes fourBytes requestBytes entryHead entryBytes entriesBytes informationHead suboptionBytes suboptionsBytes optionHead optionBytes unused? unnamed? empty? prefixesOf present headOk poolOk leaseOk ascends? sound ofLease? untold? fits? store rowFor followed left offer offers addAll again restOf inTurn askRows ask wellFormed granted received narrowed usableLeases
 not-answersTen d = let z : _≡_ {A = ℕ} 0 2 = complete answersTen d in absurd (omega arith)
 
 pub not-samePrefix : Demand3 (λ s. s) samePrefix → ⊥
-unfolding whatOf pair samePrefix tableWith callBy buffer walk insertBy entryFields? fields? option? subInside? whenGood readRequest figuresAt entryAt entryFramed? readEntry readEntries readInformation readName readBody readSuboption readSuboptions readOption twoBytes fourBytes requestBytes entryHead entryBytes entriesBytes informationHead suboptionBytes suboptionsBytes optionHead optionBytes unused? unnamed? empty? prefixesOf present headOk poolOk leaseOk ascends? sound ofLease? untold? fits? store rowFor followed left offer offers addAll again restOf inTurn askRows ask wellFormed granted received
+unfolding whatOf pair samePrefix tableWith callBy buffer walk insertBy entryFields? fields? option? subInside? whenGood readRequest figuresAt entryAt entryFramed? readEntry readEntries readInformation readName readBody readSuboption readSuboptions readOption twoBytes fourBytes requestBytes entryHead entryBytes entriesBytes informationHead suboptionBytes suboptionsBytes optionHead optionBytes unused? unnamed? empty? prefixesOf present headOk poolOk leaseOk ascends? sound ofLease? untold? fits? store rowFor followed left offer offers addAll again restOf inTurn askRows ask wellFormed granted received narrowed usableLeases
 not-samePrefix d =
     let p : Prefix = prefix 0x0a000100 26 in
     let z : Apart p p = apart samePrefix d .0 .0 in
@@ -73,7 +73,7 @@ not-samePrefix d =
 -- The entry written twice: with 254 leases the third of three requests would be refused for want of ground, and there is ground. (Were the entries
 -- counted and not the leases newly made, it would seem to want a slot.)
 three-well : wellFormed 1000 (crowded 254) (callBy 7 (three 30 30 30)) ≡ true
-unfolding crowded tableWith lease leasesFrom callBy buffer walk entryFields? fields? option? subInside? whenGood readRequest readInformation readName readBody readSuboption readSuboptions readOption unused? unnamed? empty? prefixesOf present headOk poolOk leaseOk ascends? sound ofLease? untold? fits? askRows wellFormed
+unfolding crowded tableWith lease leasesFrom callBy buffer walk entryFields? fields? option? subInside? whenGood readRequest readInformation readName readBody readSuboption readSuboptions readOption unused? unnamed? empty? prefixesOf present headOk poolOk leaseOk ascends? sound ofLease? untold? fits? askRows wellFormed narrowed usableLeases
 three-well = refl
 
 -- What it grants: the first prefix for the first and for the second request.
@@ -81,7 +81,7 @@ twice : Entry
 twice = record { network = 0x0a0003f8; length = 30; h = false; d = false; figures = [] }
 
 twice-granted : granted (λ s. s) writesTwice 1000 (crowded 254) (callBy 7 (three 30 30 30)) ≡ some twice ∷ some twice ∷ none ∷ []
-unfolding twice writesTwice crowded tableWith lease leasesFrom callBy buffer walk insertBy entryFields? fields? option? subInside? whenGood readRequest figuresAt entryAt entryFramed? readEntry readEntries readInformation readName readBody readSuboption readSuboptions readOption twoBytes fourBytes requestBytes entryHead entryBytes entriesBytes informationHead suboptionBytes suboptionsBytes optionHead optionBytes unused? unnamed? empty? prefixesOf present headOk poolOk leaseOk ascends? sound ofLease? untold? fits? store rowFor followed left offer offers addAll again restOf inTurn askRows ask granted
+unfolding twice writesTwice crowded tableWith lease leasesFrom callBy buffer walk insertBy entryFields? fields? option? subInside? whenGood readRequest figuresAt entryAt entryFramed? readEntry readEntries readInformation readName readBody readSuboption readSuboptions readOption twoBytes fourBytes requestBytes entryHead entryBytes entriesBytes informationHead suboptionBytes suboptionsBytes optionHead optionBytes unused? unnamed? empty? prefixesOf present headOk poolOk leaseOk ascends? sound ofLease? untold? fits? store rowFor followed left offer offers addAll again restOf inTurn askRows ask granted narrowed usableLeases
 twice-granted = refl
 
 -- The prefixes in use that the third request meets: one more than at the start.
@@ -110,8 +110,13 @@ three-asks = refl
 
 -- Client 7 holds nothing, so all three are the rest.
 none-again : heldBefore 1000 (crowded 254 .table) (callBy 7 (three 30 30 30)) ≡ none ∷ none ∷ none ∷ []
-unfolding crowded tableWith lease leasesFrom callBy walk fields? option? subInside? whenGood readRequest readInformation readName readBody readSuboption readSuboptions readOption present again
+unfolding crowded tableWith lease leasesFrom callBy walk fields? option? subInside? whenGood readRequest readInformation readName readBody readSuboption readSuboptions readOption present again usableLeases
 none-again = refl
+
+-- It names no root.
+three-ground : narrowed (crowded 254 .table) (callBy 7 (three 30 30 30)) ≡ crowded 254 .table
+unfolding narrowed callBy
+three-ground = refl
 
 -- The first sentence of the third of three asks.
 third : (t : LeaseTable) (used : List Prefix) (rs : List Request) (g h k : Option Entry) (a b c : ℕ) → map (askLength t) rs ≡ a ∷ b ∷ c ∷ []
@@ -130,7 +135,8 @@ not-writesTwice d =
     let c : Call = callBy 7 (three 30 30 30) in
     let f : RefusedRightly t (inUse 1000 t) (asksOf c) (none ∷ none ∷ none ∷ []) (some twice ∷ some twice ∷ none ∷ []) =
     subst (λ (gs : List (Option Entry)). RefusedRightly t (inUse 1000 t) (asksOf c) (none ∷ none ∷ none ∷ []) gs) twice-granted
-    (subst (λ (hs : List (Option Lease)). RefusedRightly t (inUse 1000 t) (asksOf c) hs (granted (λ s. s) writesTwice 1000 (crowded 254) c)) none-again (d .sentence (crowded 254) 1000 c three-well)) in
+    (subst (λ (hs : List (Option Lease)). RefusedRightly t (inUse 1000 t) (asksOf c) hs (granted (λ s. s) writesTwice 1000 (crowded 254) c)) none-again
+    (subst (λ (own : LeaseTable). RefusedRightly own (inUse 1000 t) (asksOf c) (heldBefore 1000 t c) (granted (λ s. s) writesTwice 1000 (crowded 254) c)) three-ground (d .sentence (crowded 254) 1000 c three-well))) in
     let g : length met < leaseSlots → (fate met none ≡ wantsSpace) ↔ NoneFree t met 30 =
     subst (λ (used : List Prefix). length used < leaseSlots → (fate used none ≡ wantsSpace) ↔ NoneFree t used 30) twice-met
     (third t (inUse 1000 t) (asksOf c) (some twice) (some twice) none 30 30 30 three-asks f) in
@@ -140,11 +146,11 @@ not-writesTwice d =
 
 -- A leased lease that is given again was not free in the first table: the client held nothing, so its request is one of the rest.
 leased-met : meets? leasedBefore ≡ true
-unfolding leasedBefore tableWith lease held callBy buffer walk entryFields? fields? option? subInside? whenGood readRequest figuresAt entryAt entryFramed? readEntry readEntries readInformation readName readBody readSuboption readSuboptions readOption unused? unnamed? empty? prefixesOf present headOk poolOk leaseOk ascends? sound ofLease? untold? fits? emptySlots askRows wellFormed
+unfolding leasedBefore tableWith lease held callBy buffer walk entryFields? fields? option? subInside? whenGood readRequest figuresAt entryAt entryFramed? readEntry readEntries readInformation readName readBody readSuboption readSuboptions readOption unused? unnamed? empty? prefixesOf present headOk poolOk leaseOk ascends? sound ofLease? untold? fits? emptySlots askRows wellFormed narrowed usableLeases
 leased-met = refl
 
 pub not-regivesLeased : Demand3 (λ s. s) regivesLeased → ⊥
-unfolding whatOf leasedBefore regivesLeased held tableWith lease leasesFrom callBy buffer walk insertBy entryFields? fields? option? subInside? whenGood readRequest figuresAt entryAt entryFramed? readEntry readEntries readInformation readName readBody readSuboption readSuboptions readOption twoBytes fourBytes requestBytes entryHead entryBytes entriesBytes informationHead suboptionBytes suboptionsBytes optionHead optionBytes unused? unnamed? empty? prefixesOf present headOk poolOk leaseOk ascends? sound ofLease? untold? fits? store rowFor followed left offer offers addAll again restOf inTurn askRows ask wellFormed granted received
+unfolding whatOf leasedBefore regivesLeased held tableWith lease leasesFrom callBy buffer walk insertBy entryFields? fields? option? subInside? whenGood readRequest figuresAt entryAt entryFramed? readEntry readEntries readInformation readName readBody readSuboption readSuboptions readOption twoBytes fourBytes requestBytes entryHead entryBytes entriesBytes informationHead suboptionBytes suboptionsBytes optionHead optionBytes unused? unnamed? empty? prefixesOf present headOk poolOk leaseOk ascends? sound ofLease? untold? fits? store rowFor followed left offer offers addAll again restOf inTurn askRows ask wellFormed granted received narrowed usableLeases
 not-regivesLeased d =
     let p : Prefix = prefix 0x0a000100 26 in
     let f : Free (poolsOf (leasedBefore .start .table)) (inUse 1120 (leasedBefore .start .table)) p = granted-free regivesLeased leasedBefore (served regivesLeased d leasedBefore leased-met) .0 in
@@ -158,19 +164,23 @@ unfoldable asksTwo : Call
 asksTwo = callBy 7 (two 24 24)
 
 two-well : wellFormed 1050 whole asksTwo ≡ true
-unfolding whole asksTwo held tableWith callBy buffer walk entryFields? fields? option? subInside? whenGood readRequest readInformation readName readBody readSuboption readSuboptions readOption unused? unnamed? empty? prefixesOf present headOk poolOk leaseOk ascends? sound ofLease? untold? fits? askRows wellFormed
+unfolding whole asksTwo held tableWith callBy buffer walk entryFields? fields? option? subInside? whenGood readRequest readInformation readName readBody readSuboption readSuboptions readOption unused? unnamed? empty? prefixesOf present headOk poolOk leaseOk ascends? sound ofLease? untold? fits? askRows wellFormed narrowed usableLeases
 two-well = refl
 
 unfoldable its : Entry
 its = record { network = 0x0a000100; length = 24; h = false; d = false; figures = [] }
 
 both-granted : granted (λ s. s) regivesTwice 1050 whole asksTwo ≡ some its ∷ some its ∷ []
-unfolding its regivesTwice whole asksTwo held tableWith lease leasesFrom callBy buffer walk insertBy entryFields? fields? option? subInside? whenGood readRequest figuresAt entryAt entryFramed? readEntry readEntries readInformation readName readBody readSuboption readSuboptions readOption twoBytes fourBytes requestBytes entryHead entryBytes entriesBytes informationHead suboptionBytes suboptionsBytes optionHead optionBytes unused? unnamed? empty? prefixesOf present headOk poolOk leaseOk ascends? sound ofLease? untold? fits? store rowFor followed left offer offers addAll again restOf inTurn askRows ask granted
+unfolding its regivesTwice whole asksTwo held tableWith lease leasesFrom callBy buffer walk insertBy entryFields? fields? option? subInside? whenGood readRequest figuresAt entryAt entryFramed? readEntry readEntries readInformation readName readBody readSuboption readSuboptions readOption twoBytes fourBytes requestBytes entryHead entryBytes entriesBytes informationHead suboptionBytes suboptionsBytes optionHead optionBytes unused? unnamed? empty? prefixesOf present headOk poolOk leaseOk ascends? sound ofLease? untold? fits? store rowFor followed left offer offers addAll again restOf inTurn askRows ask granted narrowed usableLeases
 both-granted = refl
 
 one-again : heldBefore 1050 (whole .table) asksTwo ≡ some (held 7 0x0a000100 24 false false 1100) ∷ none ∷ []
-unfolding whole asksTwo held tableWith callBy walk fields? option? subInside? whenGood readRequest readInformation readName readBody readSuboption readSuboptions readOption present again
+unfolding whole asksTwo held tableWith callBy walk fields? option? subInside? whenGood readRequest readInformation readName readBody readSuboption readSuboptions readOption present again usableLeases
 one-again = refl
+
+two-ground : narrowed (whole .table) asksTwo ≡ whole .table
+unfolding narrowed asksTwo callBy
+two-ground = refl
 
 two-asks : map (askLength (whole .table)) (asksOf asksTwo) ≡ 24 ∷ 24 ∷ []
 unfolding whole asksTwo tableWith callBy walk fields? option? subInside? whenGood readRequest readInformation readName readBody readSuboption readSuboptions readOption
@@ -200,7 +210,8 @@ not-regivesTwice d =
     let x : Lease = held 7 0x0a000100 24 false false 1100 in
     let f : RefusedRightly t (inUse 1050 t) (asksOf asksTwo) (some x ∷ none ∷ []) (some its ∷ some its ∷ []) =
     subst (λ (gs : List (Option Entry)). RefusedRightly t (inUse 1050 t) (asksOf asksTwo) (some x ∷ none ∷ []) gs) both-granted
-    (subst (λ (hs : List (Option Lease)). RefusedRightly t (inUse 1050 t) (asksOf asksTwo) hs (granted (λ s. s) regivesTwice 1050 whole asksTwo)) one-again (d .sentence whole 1050 asksTwo two-well)) in
+    (subst (λ (hs : List (Option Lease)). RefusedRightly t (inUse 1050 t) (asksOf asksTwo) hs (granted (λ s. s) regivesTwice 1050 whole asksTwo)) one-again
+    (subst (λ (own : LeaseTable). RefusedRightly own (inUse 1050 t) (asksOf asksTwo) (heldBefore 1050 t asksTwo) (granted (λ s. s) regivesTwice 1050 whole asksTwo)) two-ground (d .sentence whole 1050 asksTwo two-well))) in
     let g : length (prefix 0x0a000100 24 ∷ []) < leaseSlots → (isGranted ≡ wantsSpace) ↔ NoneFree t (prefix 0x0a000100 24 ∷ []) 24 =
     subst (λ (used : List Prefix). length used < leaseSlots → (isGranted ≡ wantsSpace) ↔ NoneFree t used 24) its-met (second t (inUse 1050 t) (asksOf asksTwo) x (some its) (some its) 24 24 two-asks f) in
     let w : isGranted ≡ wantsSpace = g (omega arith) .1 nothing-free in

@@ -4,4 +4,6 @@ pub mod FurtherExamples
 pub mod FigureExamples
 pub mod AgainExamples
 pub mod NameExamples
+pub mod SelectionExamples
+pub mod GroundLists
 pub mod WrongServers

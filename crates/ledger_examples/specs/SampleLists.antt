@@ -9,7 +9,7 @@ use Rattle.option.specs.Values.{Entry}
 use Rattle.names.specs.Names.{noName}
 use Rattle.table.specs.declared.Lease.{Lease}
 use Rattle.table.specs.Table.{noPool, padded}
-use Rattle.ledger.specs.Ledger.{State, filled, Call}
+use Rattle.ledger.specs.Ledger.{State, filled, Call, call}
 use Rattle.ledger.specs.Demand3.{Fate, fate, meets}
 use Rattle.ledger_examples.specs.Examples.{buffer, requesting}
 
@@ -37,7 +37,7 @@ held client network len h d expires = record { network = network; length = len; 
 
 -- A call by a client with these bytes, with room for a reply.
 unfoldable pub callBy : ℕ → List ℕ → Call
-callBy client option = record { client = client; option = option; reply = buffer }
+callBy client option = call client option buffer
 
 -- Two requests, and three, in one option.
 abbrev pub two : ℕ → ℕ → List ℕ
@@ -61,7 +61,7 @@ malformedBetween = record {
   calls =
       callBy 0 (requesting 24)
       ∷ callBy 7 (requesting 26)
-      ∷ record { client = 7; option = requesting 24; reply = replicate 256 0 }
+      ∷ call 7 (requesting 24) (replicate 256 0)
       ∷ callBy 7 []
       ∷ callBy 7 (requesting 31)
       ∷ callBy 7 (0xdc ∷ 3 ∷ 0 ∷ 9 ∷ 0 ∷ [])

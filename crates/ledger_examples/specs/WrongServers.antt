@@ -1,5 +1,5 @@
 -- Servers of ask calls that are wrong: document 01's "Try these against it", and others. Demand 3 is refuted of each, or what M-101 says of a client that asks
--- twice, or what M-105 says of names. (Of an invented count demand 3 says nothing: the equation of the code with the ledger rules it out.)
+-- twice, or what M-105 says of names, or of M-106's ground. (Of an invented count demand 3 says nothing: the equation of the code with the ledger rules it out.)
 use Prim.Native.Nat.{ℕ, _+_}
 use mathlib.Core.Bool.{false, cond}
 use mathlib.Core.List.{List, [], _∷_, _++_, map}
@@ -16,7 +16,7 @@ use Rattle.names.specs.Names.{nameOf}
 use Rattle.table.specs.declared.Lease.{Lease}
 use Rattle.table.specs.Table.{present}
 use Rattle.option.specs.Contents.{suboptions, requestsIn}
-use Rattle.ledger.specs.Ledger.{State, left, Call, Result, result, refuse, accept, full, askName, holdTime, offer, offers, addAll, heldFor?, firstThat, again, restOf, holdAgain, heldAgain, inTurn, informationFor, ask, take, list, release, mark, Calls}
+use Rattle.ledger.specs.Ledger.{State, left, Call, call, Result, result, refuse, accept, full, askName, holdTime, offer, offers, addAll, heldFor?, firstThat, again, restOf, holdAgain, heldAgain, inTurn, informationFor, ask, take, list, release, mark, Calls}
 use Rattle.ledger.specs.Demand3.{Server}
 
 -- "a desk that refuses everything"
@@ -99,6 +99,12 @@ keepsEnd s now c =
     let xs = present now (s .table .leases) in
     let gs = again (s .table) (c .client) xs (requestsIn (c .option)) in
     givingAgain s now c gs (map (λ x. cond (any? (λ y. eqb (y .network) (x .network)) (catMaybes gs)) (laterEnd now x) x) xs)
+
+-- GROUND
+
+-- One that gives ground of another root: it obeys no option 118.
+unfoldable pub anyGround : Server State
+anyGround s now c = ask s now (call (c .client) (c .option) (c .reply))
 
 -- NAMES
 

@@ -3,6 +3,10 @@ use Rattle.lists.specs.Basics.{ℕ, _+_, List, _∷_, Bool, cond, _&&_, length,
 use Rattle.option.specs.Reading.{four}
 use Rattle.option.specs.Writing.{fourBytes, Writing, refusedWith, written}
 
+-- How many bytes it has.
+abbrev pub selectionSize : ℕ
+selectionSize = 6
+
 -- A refusal with its number, or the address.
 pub data Selected : Type 0 where
   refused : ℕ → Selected

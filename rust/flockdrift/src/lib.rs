@@ -17,7 +17,7 @@ mod raw;
 
 pub use raw::{
     COUNTS_LENGTHS, COUNTS_ROWS, FIGURES_CAPACITY, FIRST_FORM_CAPACITY, IMAGE_CAPACITY,
-    NAME_CAPACITY, REPLY_CAPACITY, SELECTION_CAPACITY, TEXT_CAPACITY,
+    NAME_CAPACITY, REPLY_CAPACITY, SELECTED_REPLY_CAPACITY, SELECTION_CAPACITY, TEXT_CAPACITY,
 };
 
 use raw::Answer;
@@ -58,6 +58,7 @@ impl Refusal {
             16 => "a field outside the rules in the suboption",
             17 => "the name is too long",
             18 => "names would be lost in the first form",
+            19 => "no pool contains the address of option 118",
             _ => "no number of this library",
         }
     }
@@ -89,10 +90,10 @@ fn accepted(a: Answer) -> Result<Answer, Refusal> {
 
 // WHAT CALLS ANSWER
 
-/// The option that answers a client, and how many entries it has.
+/// What answers a client: an option 220, how many entries it has, and the option 118 that the call carried.
 #[derive(Clone, Debug)]
 pub struct Reply {
-    buffer: [u8; REPLY_CAPACITY],
+    buffer: [u8; SELECTED_REPLY_CAPACITY],
     bytes: usize,
     count: u32,
 }
@@ -100,7 +101,7 @@ pub struct Reply {
 impl Reply {
     /// What a call writes.
     fn of(call: impl FnOnce(&mut [u8]) -> Answer) -> Result<Reply, Refusal> {
-        let mut buffer = [0; REPLY_CAPACITY];
+        let mut buffer = [0; SELECTED_REPLY_CAPACITY];
         let a = accepted(call(&mut buffer))?;
         Ok(Reply {
             buffer,
@@ -109,9 +110,25 @@ impl Reply {
         })
     }
 
-    /// The bytes of the option.
-    pub fn option(&self) -> &[u8] {
+    /// All bytes, as they go into the message: option 220, and after it option 118 where the call carried one.
+    pub fn bytes(&self) -> &[u8] {
         &self.buffer[..self.bytes]
+    }
+
+    /// The bytes of option 220 alone.
+    pub fn option(&self) -> &[u8] {
+        self.split().0
+    }
+
+    /// The option 118 that the call carried, as it was.
+    pub fn selection(&self) -> Option<&[u8]> {
+        Some(self.split().1).filter(|option| !option.is_empty())
+    }
+
+    /// Option 220, whose second byte counts those after it, and what follows it.
+    fn split(&self) -> (&[u8], &[u8]) {
+        self.bytes()
+            .split_at(self.bytes.min(usize::from(self.buffer[1]) + 2))
     }
 
     /// How many entries it has.
@@ -250,6 +267,14 @@ impl Figures {
 
 // THE BOOK
 
+/// An option 118 as the library takes it: whether there is one, its bytes and how many; null where there is none.
+fn parts(selection: Option<&[u8]>) -> (u32, *const u8, usize) {
+    match selection {
+        Some(option) => (1, option.as_ptr(), option.len()),
+        None => (0, std::ptr::null(), 0),
+    }
+}
+
 /// A lease table, held as its image, and beside it the figures sheet and the counts, which are not saved. A copy of it
 /// is a book to which a server can go back.
 #[derive(Clone)]
@@ -260,8 +285,8 @@ pub struct Book {
     counts: [u16; COUNTS_ROWS * COUNTS_LENGTHS],
 }
 
-// SAFETY of every call below: each pointer with a size is that of a live slice, with its length; those without are
-// that of the image's length and that of all counts; and the library keeps none of them.
+// SAFETY of every call below: each pointer with a size is that of a live slice, with its length, or null with 0; those
+// without are that of the image's length and that of all counts; and the library keeps none of them.
 impl Book {
     /// No book yet: every call is refused with 5.
     pub const fn none() -> Book {
@@ -345,7 +370,17 @@ impl Book {
     /// Offers prefixes for the option's requests, and holds them for 120 seconds. What the client holds already it is
     /// offered again, where length and h are those of a request, and keeps its name; only the other requests get free
     /// prefixes, which get the option's first name. One above 24 octets is refused with 17.
-    pub fn ask(&mut self, client: u32, now: u32, option: &[u8]) -> Result<Reply, Refusal> {
+    ///
+    /// `selection` is the option 118 of the message, whatever its bytes are, where the server has enabled it and the
+    /// message carried one: then all that is offered lies in the pool that contains its address, 19 where none does.
+    pub fn ask(
+        &mut self,
+        client: u32,
+        now: u32,
+        option: &[u8],
+        selection: Option<&[u8]>,
+    ) -> Result<Reply, Refusal> {
+        let (selected, selection, selection_bytes) = parts(selection);
         Reply::of(|reply| unsafe {
             raw::flockdrift_ask(
                 self.image.as_mut_ptr(),
@@ -358,14 +393,25 @@ impl Book {
                 now,
                 option.as_ptr(),
                 option.len(),
+                selected,
+                selection,
+                selection_bytes,
                 reply.as_mut_ptr(),
                 reply.len(),
             )
         })
     }
 
-    /// Confirms or renews the client's leases that the option's entries name, and files the entries' figures.
-    pub fn take(&mut self, client: u32, now: u32, option: &[u8]) -> Result<Reply, Refusal> {
+    /// Confirms or renews the client's leases that the option's entries name, and files the entries' figures. With an
+    /// option 118, as in [`Book::ask`], what lies in another pool is not found.
+    pub fn take(
+        &mut self,
+        client: u32,
+        now: u32,
+        option: &[u8],
+        selection: Option<&[u8]>,
+    ) -> Result<Reply, Refusal> {
+        let (selected, selection, selection_bytes) = parts(selection);
         Reply::of(|reply| unsafe {
             raw::flockdrift_take(
                 self.image.as_mut_ptr(),
@@ -378,6 +424,9 @@ impl Book {
                 now,
                 option.as_ptr(),
                 option.len(),
+                selected,
+                selection,
+                selection_bytes,
                 reply.as_mut_ptr(),
                 reply.len(),
             )

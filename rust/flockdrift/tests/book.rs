@@ -32,7 +32,7 @@ fn no_book_is_refused() {
     assert_eq!(number(book.whole(26)), 5);
     assert_eq!(number(book.whole(99)), 5);
     assert_eq!(number(book.sheet()), 5);
-    assert_eq!(number(book.ask(7, 1000, ASK_26_H)), 5);
+    assert_eq!(number(book.ask(7, 1000, ASK_26_H, None)), 5);
     assert_eq!(book.pools().count() + book.leases().count(), 0);
     assert_eq!(book.figures(0), None);
     assert_eq!(number(Book::load(&[])), 5);
@@ -43,7 +43,7 @@ fn no_book_is_refused() {
 fn a_lease_from_ask_to_release() {
     let mut book = opened();
     book.check().unwrap();
-    let reply = book.ask(7, 1000, ASK_26_H).unwrap();
+    let reply = book.ask(7, 1000, ASK_26_H, None).unwrap();
     assert_eq!((reply.option().len(), reply.count()), (13, 1));
     let held = Lease {
         network: 0x0a000800,
@@ -56,7 +56,7 @@ fn a_lease_from_ask_to_release() {
         name: Name::default(),
     };
     assert_eq!(book.lease(0), Ok(held));
-    book.take(7, 1010, NAME_26).unwrap();
+    book.take(7, 1010, NAME_26, None).unwrap();
     book.mark(0x0a000800, 26, true, 1020).unwrap();
     let leased = Lease {
         state: State::Leased,
@@ -77,9 +77,9 @@ fn a_lease_from_ask_to_release() {
 #[test]
 fn a_client_that_asks_again_is_offered_the_same() {
     let mut book = opened();
-    let first = book.ask(7, 1000, ASK_26_H).unwrap();
+    let first = book.ask(7, 1000, ASK_26_H, None).unwrap();
     book.mark(0x0a000800, 26, true, 1010).unwrap();
-    let again = book.ask(7, 1060, ASK_26_H).unwrap();
+    let again = book.ask(7, 1060, ASK_26_H, None).unwrap();
     // The same but for d, which is the entry's flag 1.
     assert_eq!(first.option()[..11], again.option()[..11]);
     assert_eq!((first.option()[11], again.option()[11]), (2, 3));
@@ -90,8 +90,8 @@ fn a_client_that_asks_again_is_offered_the_same() {
     );
     assert_eq!(book.leases().count(), 1);
     // Taken, it is no offer any more.
-    book.take(7, 1070, NAME_26).unwrap();
-    book.ask(7, 1070, ASK_26_H).unwrap();
+    book.take(7, 1070, NAME_26, None).unwrap();
+    book.ask(7, 1070, ASK_26_H, None).unwrap();
     assert_eq!(book.leases().count(), 2);
 }
 
@@ -117,9 +117,9 @@ fn the_head_and_the_pools_ascend() {
 fn a_refusal_and_going_back_leave_the_book() {
     let mut book = opened();
     let before = book.clone();
-    assert_eq!(number(book.ask(0, 1000, ASK_26_H)), 2);
+    assert_eq!(number(book.ask(0, 1000, ASK_26_H, None)), 2);
     assert_eq!(book, before);
-    book.ask(7, 1000, ASK_26_H).unwrap();
+    book.ask(7, 1000, ASK_26_H, None).unwrap();
     assert_ne!(book, before);
     for form in [Form::First, Form::Second] {
         let saved = book.save(form).unwrap();
@@ -137,14 +137,14 @@ fn how_much_is_left() {
         [24, 25, 26].map(|length| book.whole(length)),
         [Ok(1), Ok(0), Ok(1)]
     );
-    book.ask(7, 1000, ASK_26_H).unwrap();
+    book.ask(7, 1000, ASK_26_H, None).unwrap();
     assert_eq!([24, 26].map(|length| book.whole(length)), [Ok(1), Ok(0)]);
     for outside in [0, 7, 31, 256 + 24, u32::MAX] {
         assert_eq!(book.whole(outside), Ok(0));
     }
     // It has ended at 1120, and is counted when a call removes it.
     assert_eq!(book.whole(26), Ok(0));
-    book.ask(8, 1120, &[0xdc, 5, 0, 1, 2, 0, 27]).unwrap();
+    book.ask(8, 1120, &[0xdc, 5, 0, 1, 2, 0, 27], None).unwrap();
     assert_eq!(
         [24, 26, 27].map(|length| book.whole(length)),
         [Ok(1), Ok(0), Ok(1)]
@@ -156,7 +156,7 @@ fn how_much_is_left() {
 #[test]
 fn figures_are_told_and_not_saved() {
     let mut book = opened();
-    book.ask(7, 1000, ASK_26_H).unwrap();
+    book.ask(7, 1000, ASK_26_H, None).unwrap();
     let untold = Figures {
         network: 0x0a000800,
         length: 26,
@@ -166,7 +166,7 @@ fn figures_are_told_and_not_saved() {
     };
     assert_eq!(book.figures(0), Some(untold));
     let before = book.clone();
-    book.take(7, 1010, TELL_26).unwrap();
+    book.take(7, 1010, TELL_26, None).unwrap();
     let told = Figures {
         high_water: Some(266),
         unusable: Some(2),
@@ -187,7 +187,7 @@ fn figures_are_told_and_not_saved() {
 #[test]
 fn names_and_the_two_forms() {
     let mut book = opened();
-    book.ask(7, 1000, ASK_WEST).unwrap();
+    book.ask(7, 1000, ASK_WEST, None).unwrap();
     let lease = book.lease(0).unwrap();
     assert_eq!(lease.name.octets(), b"west hall");
     assert_eq!((lease.name.len(), &lease.name[..4]), (9, &b"west"[..]));
@@ -195,8 +195,8 @@ fn names_and_the_two_forms() {
     let row = "used 10.0.8.0/26 station 7 until 1120 name west hall\n";
     assert!(book.sheet().unwrap().contains(row));
     // Given again and taken, it keeps its name.
-    book.ask(7, 1010, ASK_26_H).unwrap();
-    book.take(7, 1020, NAME_26).unwrap();
+    book.ask(7, 1010, ASK_26_H, None).unwrap();
+    book.take(7, 1020, NAME_26, None).unwrap();
     assert_eq!(book.lease(0).unwrap().name, lease.name);
     // The first form has no place for it.
     assert_eq!(number(book.save(Form::First)), 18);
@@ -205,7 +205,7 @@ fn names_and_the_two_forms() {
     assert_eq!(Book::load(&second), Ok(book.clone()));
     // Without it a book goes there and back.
     book.release(7, 1030, NAME_26).unwrap();
-    book.ask(8, 1030, ASK_26_H).unwrap();
+    book.ask(8, 1030, ASK_26_H, None).unwrap();
     assert!(book.lease(0).unwrap().name.is_empty());
     let first = book.save(Form::First).unwrap();
     assert_eq!((first.len(), first[2]), (13 + 18 + 19, 1));
@@ -217,16 +217,58 @@ fn names_and_the_two_forms() {
     let mut long = vec![0xdc, 32, 0, 3, 25];
     long.extend([0xff; 25]);
     long.extend([1, 2, 0, 27]);
-    assert_eq!(number(book.ask(9, 1040, &long)), 17);
+    assert_eq!(number(book.ask(9, 1040, &long, None)), 17);
     long.remove(5);
     (long[1], long[4]) = (31, 24);
-    book.ask(9, 1040, &long).unwrap();
+    book.ask(9, 1040, &long, None).unwrap();
     let longest = book.leases().find(|lease| lease.client == 9).unwrap();
     assert_eq!(longest.name.octets(), [0xff; NAME_CAPACITY]);
     assert!(book
         .sheet()
         .unwrap()
         .contains(&format!(" name {}\n", "?".repeat(24))));
+}
+
+#[test]
+fn a_pool_named_by_option_118() {
+    let mut book = opened();
+    let (small, large) = (write_selection(0x0a00083f), write_selection(0x0a000100));
+    // The best fit is the small pool; named, it is the large one, and its first part.
+    let reply = book.ask(7, 1000, ASK_26_H, Some(&large)).unwrap();
+    assert_eq!(reply.option()[6..11], [10, 0, 1, 0, 26]);
+    assert_eq!((reply.option().len(), reply.count()), (13, 1));
+    assert_eq!(reply.selection(), Some(&large[..]));
+    assert_eq!(reply.bytes(), [reply.option(), &large[..]].concat());
+    // What is held in another pool is not given again.
+    let reply = book.ask(7, 1000, ASK_26_H, Some(&small)).unwrap();
+    assert_eq!(reply.option()[6..11], [10, 0, 8, 0, 26]);
+    assert_eq!(book.leases().count(), 2);
+    assert_eq!(number(book.ask(8, 1000, ASK_26_H, Some(&small))), 10);
+    // A take finds what lies in the named pool.
+    assert_eq!(number(book.take(7, 1010, NAME_26, Some(&large))), 11);
+    let reply = book.take(7, 1010, NAME_26, Some(&small)).unwrap();
+    assert_eq!((reply.count(), reply.bytes().len()), (1, 19));
+    // One past the ends of both pools, an unused one's address, bad options, and none.
+    let before = book.clone();
+    for address in [0x0a0000ff, 0x0a000200, 0x0a0007ff, 0x0a000840, 0] {
+        let outside = write_selection(address);
+        assert_eq!(number(book.ask(8, 1010, ASK_26_H, Some(&outside))), 19);
+        assert_eq!(number(book.take(7, 1010, NAME_26, Some(&outside))), 19);
+    }
+    for bad in [
+        &[][..],
+        &[118],
+        &small[..5],
+        &[118, 3, 10, 0, 8],
+        &[119, 4, 10, 0, 8, 0],
+    ] {
+        assert_eq!(number(book.ask(8, 1010, ASK_26_H, Some(bad))), 6);
+        assert_eq!(number(book.take(7, 1010, NAME_26, Some(bad))), 6);
+    }
+    assert_eq!(book, before);
+    let reply = book.take(7, 1010, NAME_26, None).unwrap();
+    assert_eq!((reply.selection(), reply.bytes()), (None, reply.option()));
+    assert_eq!(book.list(7, 1010, LIST).unwrap().selection(), None);
 }
 
 #[test]
@@ -245,7 +287,7 @@ fn options_without_a_book() {
     assert_eq!(check_option(&network), bad(7, 3));
     let alone = [0xdc, 11, 0, 2, 8, 0, 10, 0, 8, 1, 26, 0, 0];
     assert_eq!(check_option(&alone), bad(16, 3));
-    let refused = opened().take(7, 1000, &alone).map(|_| ());
+    let refused = opened().take(7, 1000, &alone, None).map(|_| ());
     assert_eq!(refused, bad(16, 3));
     assert_eq!(write_selection(0x0a000100), [118, 4, 10, 0, 1, 0]);
     assert_eq!(read_selection(&write_selection(u32::MAX)), Ok(u32::MAX));
@@ -272,6 +314,10 @@ fn refusals_in_words() {
     assert_eq!(
         words(18, 0),
         "refused 18: names would be lost in the first form"
+    );
+    assert_eq!(
+        words(19, 0),
+        "refused 19: no pool contains the address of option 118"
     );
     assert_eq!(
         words(15, 0),

@@ -32,7 +32,7 @@ pub struct Given {
 /// accepted ask. New ground shares no address with a present line, so an entry that equals
 /// one is that line again.
 pub fn given(before: &Table, words: &[&[u8]], answer: &str) -> Option<Given> {
-    let [b"ask", client, now, option] = words else {
+    let [b"ask", client, now, option, ..] = words else {
         return None;
     };
     let (option, reply) = (from_hex(option)?, reply_of(answer)?);

@@ -1,11 +1,12 @@
 //! Writes scripts of random calls. It looks at the reference's table, so that many
 //! calls name real leases and are accepted.
 
+use reference::calls::{REPLY, SELECTED_REPLY};
 use reference::numbers::Numbers;
 use reference::prefix::{prefix, Prefix};
 use reference::table::LATEST;
 
-use crate::bytes::{hex, option, reply_of, request, LONGEST_OPTION};
+use crate::bytes::{hex, option, reply_of, request};
 use crate::damage::{damage_image, damage_line};
 use crate::script::Script;
 use options::REQUEST_I;
@@ -17,6 +18,7 @@ mod faults;
 mod figures;
 mod names;
 mod options;
+mod selection;
 mod tables;
 mod writing;
 
@@ -219,6 +221,10 @@ impl Author {
 
     /// One call of any kind, with a reply buffer that is now and then too short.
     pub fn any_call(&mut self, profile: &Profile) {
+        if self.numbers.once_in(60) {
+            let on = self.numbers.once_in(2);
+            self.select(on);
+        }
         self.any_buffer(profile);
         if !self.sheet_matches() && self.numbers.once_in(3) {
             self.good_sheet();
@@ -252,27 +258,35 @@ impl Author {
     }
 
     fn any_buffer(&mut self, profile: &Profile) {
-        let short = self.script.buffer() < LONGEST_OPTION;
+        let least = if self.script.selection() {
+            SELECTED_REPLY
+        } else {
+            REPLY
+        };
+        let short = self.script.buffer() < least;
         if self.fault(profile) {
             let any = self.numbers.below(1_025);
-            let length = self.one_of(&[0, 1, 256, 256, 257, 258, 512, 1_024, 1_025, any]);
+            let lengths = [
+                0, 1, 256, 256, 257, 258, 262, 262, 263, 512, 1_024, 1_025, any,
+            ];
+            let length = self.one_of(&lengths);
             self.say(format!("buffer {length}"));
         } else if short && self.numbers.once_in(2) {
-            self.say("buffer 257".to_string());
+            self.say(format!("buffer {least}"));
         }
     }
 
     pub fn ask(&mut self, profile: &Profile) {
         let (client, now) = (self.client(profile), self.time(profile));
-        let option = self.ask_option(profile);
-        self.call(format!("ask {client} {now} {}", hex(&option)));
+        let (option, carried) = (self.ask_option(profile), self.carried());
+        self.call(format!("ask {client} {now} {}{carried}", hex(&option)));
     }
 
     pub fn take(&mut self, profile: &Profile) {
         let (client, named) = self.named(profile);
         let now = self.time(profile);
-        let option = self.entries_option(&named, profile);
-        self.call(format!("take {client} {now} {}", hex(&option)));
+        let (option, carried) = (self.entries_option(&named, profile), self.carried());
+        self.call(format!("take {client} {now} {}{carried}", hex(&option)));
     }
 
     pub fn release(&mut self, profile: &Profile) {

@@ -116,10 +116,13 @@ pub fn from_hex(word: &[u8]) -> Option<Vec<u8>> {
     reference::words::hex(word).filter(|bytes| !bytes.is_empty())
 }
 
-/// The reply of an accepted ask, take or list, which its answer ends with.
+/// The option 220 in the reply of an accepted ask, take or list, which its answer ends with;
+/// option 118 may follow it.
 pub fn reply_of(answer: &str) -> Option<Vec<u8>> {
     let rest = answer.strip_prefix("ok bytes=")?.trim_end();
-    from_hex(rest.rsplit(' ').next()?.as_bytes())
+    let mut reply = from_hex(rest.rsplit(' ').next()?.as_bytes())?;
+    reply.truncate(usize::from(*reply.get(1)?) + 2);
+    Some(reply)
 }
 
 /// The octets of the first name of an option; none if there is none or it is a bad option.

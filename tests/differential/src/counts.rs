@@ -13,13 +13,14 @@ use crate::left::Left;
 use crate::names::Names;
 use crate::rounds::Rounds;
 use crate::script::{Script, Step};
+use crate::selection::Selection;
 
 /// Each command with the numbers that it can be refused with, in the papers' row order.
 /// The buffer that `save` is given holds a full book of the form, so it has no 14.
-const COMMANDS: [(&str, &[u8]); 15] = [
+const COMMANDS: [(&str, &[u8]); 16] = [
     ("open", &[12]),
-    ("ask", &[1, 5, 15, 2, 3, 4, 6, 7, 16, 8, 17, 9, 10]),
-    ("take", &[1, 5, 15, 2, 3, 4, 6, 7, 16, 8, 11]),
+    ("ask", &[1, 5, 15, 2, 3, 4, 6, 7, 16, 8, 17, 19, 9, 10]),
+    ("take", &[1, 5, 15, 2, 3, 4, 6, 7, 16, 8, 19, 11]),
     ("list", &[1, 5, 2, 3, 4, 6, 7, 16, 8, 11]),
     ("return", &[5, 15, 2, 3, 4, 6, 7, 16, 8, 11]),
     ("mark", &[5, 15, 3, 4, 11]),
@@ -32,10 +33,11 @@ const COMMANDS: [(&str, &[u8]); 15] = [
     ("figures", &[]),
     ("counts", &[5]),
     ("buffer", &[]),
+    ("selection", &[]),
 ];
 
-/// `save`, `figures`, `counts` and `buffer` stand between the calls and are not counted as
-/// calls.
+/// `save`, `figures`, `counts`, `buffer` and `selection` stand between the calls and are not
+/// counted as calls.
 const CALLS: usize = 11;
 /// The figures sheet does not match.
 const NO_MATCH: u8 = 15;
@@ -63,6 +65,8 @@ pub struct Counts {
     faults: Faults,
     /// Names, and loads of both forms.
     names: Names,
+    /// Option 118, enabled and not.
+    selection: Selection,
 }
 
 impl Counts {
@@ -87,6 +91,7 @@ impl Counts {
             self.left.add(met);
         }
         self.names.add(&step.names);
+        self.selection.add(&step.selection);
         if let Some(fault) = fault(&step.words(), &step.answer) {
             self.faults.add(&fault);
         }
@@ -127,6 +132,7 @@ impl Counts {
         missing.extend(self.left.missing());
         missing.extend(self.faults.missing());
         missing.extend(self.names.missing());
+        missing.extend(self.selection.missing());
         if self.filed == 0 {
             missing.push("take with figures".to_string());
         }
@@ -162,7 +168,7 @@ fn gives_sheet(step: &Step) -> bool {
 
 /// An accepted take, and one of the entries that it found tells a figure.
 fn files_figures(step: &Step) -> bool {
-    let [b"take", _, _, option] = step.words()[..] else {
+    let [b"take", _, _, option, ..] = step.words()[..] else {
         return false;
     };
     let (Some(option), Some(reply)) = (from_hex(option), reply_of(&step.answer)) else {
@@ -197,7 +203,7 @@ impl Display for Counts {
         }
         write!(
             out,
-            "error lines {}, {}, {} sheets given, {} calls refused with 15, {} takes filed figures, {}, {}, {}, {}",
+            "error lines {}, {}, {} sheets given, {} calls refused with 15, {} takes filed figures, {}, {}, {}, {}, {}",
             self.errors,
             self.rounds,
             self.sheets,
@@ -206,7 +212,8 @@ impl Display for Counts {
             self.again,
             self.left,
             self.faults,
-            self.names
+            self.names,
+            self.selection
         )
     }
 }

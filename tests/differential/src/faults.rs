@@ -55,7 +55,8 @@ pub fn fault(words: &[&[u8]], answer: &str) -> Option<Fault> {
     let refusal = answer.strip_prefix("refused ")?.trim_end();
     let (number, place) = refusal.split_once(" place=")?;
     let (number, place) = (number.parse().ok()?, place.parse().ok()?);
-    let bytes = from_hex(rest.last()?)?;
+    // The option is the third word of a call, and the only one of `read`.
+    let bytes = from_hex(rest.get(2).or(rest.first())?)?;
     let mut orders = Vec::new();
     if number == 7 && field_before(&bytes, place) {
         orders.push(ORDERS[0]);

@@ -15,6 +15,7 @@ mod plant;
 mod program;
 mod rounds;
 mod script;
+mod selection;
 mod shapes;
 mod shrink;
 

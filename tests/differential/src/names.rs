@@ -33,7 +33,7 @@ pub struct Names {
 pub fn names(before: &Table, after: &Table, words: &[&[u8]], answer: &str) -> Names {
     let mut names = Names::default();
     match *words {
-        [b"ask", _, now, option] => {
+        [b"ask", _, now, option, ..] => {
             let Some(option) = from_hex(option) else {
                 return names;
             };

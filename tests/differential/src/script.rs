@@ -7,6 +7,7 @@ use reference::table::Table;
 use crate::again::{given, Given};
 use crate::left::{met, Met};
 use crate::names::{names, Names};
+use crate::selection::{selection, Lent, Selection};
 
 pub struct Step {
     /// With its newline, which only the last line of a script may lack.
@@ -19,6 +20,8 @@ pub struct Step {
     pub met: Option<Met>,
     /// What it has to do with names and with the two forms.
     pub names: Names,
+    /// What it has to do with option 118.
+    pub selection: Selection,
 }
 
 impl Step {
@@ -64,11 +67,16 @@ impl Script {
     /// Adds a line as it is and returns its answer.
     pub fn add(&mut self, line: Vec<u8>) -> &str {
         let before = self.console.table.clone();
+        let lent = Lent {
+            enabled: self.console.selection,
+            buffer: self.console.buffer.len(),
+        };
         let answer = self.console.line(&line);
         let (after, words) = (&self.console.table, words_of(&line));
         let given = given(&before, &words, &answer);
         let met = met(&before, after, &words, &answer);
         let names = names(&before, after, &words, &answer);
+        let selection = selection(&before, lent, &words, &answer);
         if before.leases != after.leases {
             self.counts = before.counts;
         }
@@ -78,6 +86,7 @@ impl Script {
             given,
             met,
             names,
+            selection,
         });
         &self.steps[self.steps.len() - 1].answer
     }
@@ -102,6 +111,11 @@ impl Script {
     /// The counts before the last call that changed lines.
     pub fn counts_before(&self) -> Counts {
         self.counts
+    }
+
+    /// Whether option 118 is enabled.
+    pub fn selection(&self) -> bool {
+        self.console.selection
     }
 
     /// The length of the reply buffer as it now is.

@@ -14,7 +14,7 @@ use crate::script::Script;
 type Shape = (&'static str, fn(&mut Author));
 
 /// Taken in turn, so that every run has all of them.
-const SHAPES: [Shape; 23] = [
+const SHAPES: [Shape; 24] = [
     ("one pool", |author| walk(author, &ONE_POOL)),
     ("small pools", |author| walk(author, &SMALL_POOLS)),
     ("many pools", |author| walk(author, &MANY_POOLS)),
@@ -29,6 +29,7 @@ const SHAPES: [Shape; 23] = [
     ("asks again", asks_again),
     ("counts", counts),
     ("names", names),
+    ("selection", selection),
     ("faults", |author| walk(author, &FAULTS)),
     ("short", short),
     ("openings", openings),
@@ -357,6 +358,40 @@ fn names(author: &mut Author) {
     author.say("sheet".to_string());
 }
 
+/// Option 118 enabled: several pools, held and leased in all of them by few stations, full
+/// tables too.
+fn selection(author: &mut Author) {
+    let profile = Profile {
+        pools: author.one_of(&[2, 3, 8]),
+        pool_lengths: (23, 28),
+        lengths: (26, 30),
+        requests: 6,
+        clients: 2,
+        ends: 12,
+        faults: author.one_of(&[10, 60]),
+        leases: author.one_of(&[10, 40]),
+        ..ONE_POOL
+    };
+    author.select(true);
+    if author.numbers.once_in(3) {
+        let table = author.full_table_and_a_pool(&profile);
+        let bytes = author.image_of(&table);
+        author.call(format!("load {}", hex(&bytes)));
+    } else {
+        author.start(&profile);
+    }
+    for _ in 0..author.numbers.between(20, 80) {
+        match author.numbers.below(12) {
+            0..=2 => author.ask(&profile),
+            3 | 4 => author.ask_again(&profile),
+            5..=7 => author.take(&profile),
+            8 => author.ask_with_name(&profile),
+            _ => author.any_call(&profile),
+        }
+    }
+    author.say("sheet".to_string());
+}
+
 /// A few calls and no more, often without a table.
 fn short(author: &mut Author) {
     let profile = Profile {
@@ -523,9 +558,11 @@ fn late_place(author: &mut Author) -> Vec<u8> {
 /// Damaged lines, and lines of words in no order; a table stands behind them.
 fn lines(author: &mut Author) {
     const COMMANDS: &str =
-        "open ask take list return mark save load sheet figures whole counts read write buffer";
+        "open ask take list return mark save load sheet figures whole counts read write buffer \
+         selection";
     const WORDS: &str = "0 1 2 7 1000 3600 28 257 10.0.0.0/8 10.0.0.0/28 dc05000102001c \
-                         dc0b000208000a0000001c0000 - # 4294967296 unknown name address";
+                         dc0b000208000a0000001c0000 76040a000000 on off - # 4294967296 unknown name \
+                         address";
     let commands: Vec<&str> = COMMANDS.split_whitespace().collect();
     let any: Vec<&str> = WORDS.split_whitespace().chain(commands.clone()).collect();
     let mut source = Author::new(author.numbers.draw());
@@ -606,7 +643,15 @@ mod tests {
                 let line = String::from_utf8_lossy(&steps[0].line);
                 let command = line.split_whitespace().next().unwrap_or("");
                 let same = [
-                    "save", "sheet", "figures", "whole", "counts", "read", "write", "buffer",
+                    "save",
+                    "sheet",
+                    "figures",
+                    "whole",
+                    "counts",
+                    "read",
+                    "write",
+                    "buffer",
+                    "selection",
                 ];
                 let same = same.contains(&command);
                 let answered = !steps[0].answer.is_empty();

@@ -4,16 +4,20 @@
 //! (M-101 in document 02). "Every call that changes lines keeps" the counts "equal to what a
 //! fresh walk would find" (M-102 in document 02): so each that is accepted works them out.
 //! A lease's name (M-105 in document 02) is part of it, so it stays with the lease and goes
-//! with it.
+//! with it. Ask and take may come with option 118 (M-106 in document 02): `selection` is the
+//! option where "the caller says with the call that it is enabled" and the message carried it,
+//! and otherwise nothing.
 
 use crate::figures::{fill, matches, present_rows, put_rows, rows_after, rows_of, Row};
-use crate::option::{read220, write220, Entry, Information, Request, Suboption};
+use crate::option::{read118, read220, write220, Entry, Information, Request, Suboption};
 use crate::prefix::Prefix;
 use crate::refusal::{refusal, Refusal};
 use crate::table::{head_in_rules, pools_in_rules, Lease, Name, State, Table, LATEST, LEASES};
 
 /// Row 1: "reply buffer below 257 bytes (ask, take, list)".
 pub const REPLY: usize = 257;
+/// M-106: "1 reads 263 for calls that carry an enabled option", 257 and the six of option 118.
+pub const SELECTED_REPLY: usize = 263;
 /// "a line held until now + 120".
 pub const OFFER_TIME: u32 = 120;
 /// "the option has 1 to 25 requests".
@@ -52,12 +56,51 @@ pub fn open(
     Ok(table.counted())
 }
 
-/// Row 1.
-fn check_buffer(buffer: &[u8]) -> Result<(), Refusal> {
-    if buffer.len() < REPLY {
+/// Row 1. What the option says does not matter here, a bad one counts as carried too.
+fn check_buffer(buffer: &[u8], selection: Option<&[u8]>) -> Result<(), Refusal> {
+    let least = match selection {
+        Some(_) => SELECTED_REPLY,
+        None => REPLY,
+    };
+    if buffer.len() < least {
         return Err(refusal(1));
     }
     Ok(())
+}
+
+/// Row 6 of option 118: "A bad enabled option 118 gets 6". Its address, where it is carried.
+fn read_selection(selection: Option<&[u8]>) -> Result<Option<u32>, Refusal> {
+    match selection {
+        Some(option) => Ok(Some(read118(option)?)),
+        None => Ok(None),
+    }
+}
+
+/// The pools that a call may use: "the root that contains its address", or all of them where
+/// no address is named. Row 19: "address in no root". An unused place is no root.
+fn ground(table: &Table, address: Option<u32>) -> Result<Vec<Prefix>, Refusal> {
+    let Some(address) = address else {
+        return Ok(table.used_pools().to_vec());
+    };
+    for pool in table.used_pools() {
+        if pool.has_address(address) {
+            return Ok(vec![*pool]);
+        }
+    }
+    Err(refusal(19))
+}
+
+/// Whether a lease or an entry lies in the ground that a call may use.
+fn lies_in(ground: &[Prefix], prefix: Prefix) -> bool {
+    ground.iter().any(|pool| pool.contains(prefix))
+}
+
+/// "The option follows, unaltered, after option 220 in the reply": the bytes written, with
+/// its own. The buffer has room for both, by row 1.
+fn append_selection(buffer: &mut [u8], bytes: usize, selection: Option<&[u8]>) -> usize {
+    let option = selection.unwrap_or_default();
+    buffer[bytes..bytes + option.len()].copy_from_slice(option);
+    bytes + option.len()
 }
 
 /// Row 5: the book, its counts included.
@@ -174,11 +217,14 @@ pub fn ask(
     client: u32,
     now: u32,
     option: &[u8],
+    selection: Option<&[u8]>,
     buffer: &mut [u8],
 ) -> Result<Answer, Refusal> {
-    check_buffer(buffer)?;
+    check_buffer(buffer, selection)?;
     let rows = check_figures(table, figures)?;
     check_call(table, client, now)?;
+    // Row 6 is one row for both options, so this one's comes before the other's 7.
+    let address = read_selection(selection)?;
     let list = read220(option)?;
     let requests = requests(&list);
     // "the option has 1 to 25 requests, none with i".
@@ -187,16 +233,18 @@ pub fn ask(
     }
     // "17 ... after 8", whatever would be granted.
     let name = name_for_new(&list)?;
+    // "19, address in no root, after 8 and 17".
+    let ground = ground(table, address)?;
     // "They are served in order, each on the book that the one before left."
     let mut next = struck_at(table, now);
-    let mut held = held_by(&next, client);
+    let mut held = held_by(&next, client, &ground);
     let mut reply = Vec::new();
     let mut first_refusal = None;
     for request in requests {
         let served = match give_again(&mut next, &mut held, now, request) {
             Some(lease) => Ok(lease),
             // M-101: "Only the rest take new ground."
-            None => serve(&mut next, client, now, request, name),
+            None => serve(&mut next, client, now, request, name, &ground),
         };
         match served {
             Ok(lease) => reply.push(Suboption::Information(Information {
@@ -213,6 +261,7 @@ pub fn ask(
         return Err(refusal);
     }
     let bytes = write220(&reply, buffer)?;
+    let bytes = append_selection(buffer, bytes, selection);
     let kept = present_rows(&rows, table, now);
     put_rows(&rows_after(&next, &kept), figures);
     *table = next.counted();
@@ -233,14 +282,16 @@ fn length_of(request: Request, table: &Table) -> u8 {
 }
 
 /// M-101: what "the station, before the message, already held (not leased)", of a table
-/// whose ended leases are struck; ascending.
-fn held_by(table: &Table, client: u32) -> Vec<Lease> {
+/// whose ended leases are struck; ascending. M-106: "Re-given lines (M-101) must lie in that
+/// root as well."
+fn held_by(table: &Table, client: u32, ground: &[Prefix]) -> Vec<Lease> {
     let mut held = Vec::new();
     for lease in table.used_leases() {
         if lease.client == client && lease.state == State::Offered {
             held.push(*lease);
         }
     }
+    held.retain(|lease| lies_in(ground, lease.prefix));
     held
 }
 
@@ -267,13 +318,15 @@ fn give_again(
 }
 
 /// One request of the rest: a new lease in the table, or 9 or 10. The name is "the same for
-/// all lines newly made by that message".
+/// all lines newly made by that message". M-106: "every block of that ask comes from the root
+/// that contains its address"; empty lines are those of the whole table.
 fn serve(
     table: &mut Table,
     client: u32,
     now: u32,
     request: Request,
     name: Name,
+    ground: &[Prefix],
 ) -> Result<Lease, Refusal> {
     // Row 9: "ask: no empty line".
     let mut leases = table.used_leases().to_vec();
@@ -281,7 +334,7 @@ fn serve(
         return Err(refusal(9));
     }
     // Row 10: "ask: no free block of the length".
-    let Some(chosen) = table.choose(now, length_of(request, table)) else {
+    let Some(chosen) = table.choose(ground, now, length_of(request, table)) else {
         return Err(refusal(10));
     };
     // "in line and entry h is the request's and d 0".
@@ -299,15 +352,9 @@ fn serve(
     Ok(lease)
 }
 
-/// The rows that take and return share after 15, 2 to 8: the entries of the option, "no
-/// requests, at least one entry".
-fn entries_only(
-    table: &Table,
-    client: u32,
-    now: u32,
-    option: &[u8],
-) -> Result<Vec<Entry>, Refusal> {
-    check_call(table, client, now)?;
+/// The rows that take and return share after those of the client and the time, 6 to 8: the
+/// entries of the option, "no requests, at least one entry".
+fn entries_only(option: &[u8]) -> Result<Vec<Entry>, Refusal> {
     let list = read220(option)?;
     let entries = all_entries(&list);
     if !requests(&list).is_empty() || entries.is_empty() {
@@ -319,24 +366,32 @@ fn entries_only(
 /// Take (confirm or renew): "Each entry that equals a present line of this station in
 /// network and length makes it leased until now + term. The reply is one Information
 /// with those entries in order". "a take with figures updates the rows of its lines, in
-/// entry order"; the reply has none of them.
+/// entry order"; the reply has none of them. M-106: "entries outside that root count as not
+/// found".
 pub fn take(
     table: &mut Table,
     figures: &mut [u8],
     client: u32,
     now: u32,
     option: &[u8],
+    selection: Option<&[u8]>,
     buffer: &mut [u8],
 ) -> Result<Answer, Refusal> {
-    check_buffer(buffer)?;
+    check_buffer(buffer, selection)?;
     let rows = check_figures(table, figures)?;
-    let named = entries_only(table, client, now, option)?;
+    check_call(table, client, now)?;
+    let address = read_selection(selection)?;
+    let named = entries_only(option)?;
+    let ground = ground(table, address)?;
     let mut next = struck_at(table, now);
     let mut rows = rows_after(&next, &present_rows(&rows, table, now));
     let term = next.term;
     let mut entries = Vec::new();
     for entry in named {
         let prefix = prefix_of(&entry);
+        if !lies_in(&ground, prefix) {
+            continue;
+        }
         for (lease, row) in next.leases.iter_mut().zip(&mut rows) {
             if lease.state != State::None && lease.client == client && lease.prefix == prefix {
                 lease.state = State::Leased;
@@ -357,6 +412,7 @@ pub fn take(
         entries,
     });
     let bytes = write220(&[reply], buffer)?;
+    let bytes = append_selection(buffer, bytes, selection);
     put_rows(&rows, figures);
     *table = next.counted();
     Ok(Answer { bytes, count })
@@ -372,7 +428,7 @@ pub fn list(
     option: &[u8],
     buffer: &mut [u8],
 ) -> Result<Answer, Refusal> {
-    check_buffer(buffer)?;
+    check_buffer(buffer, None)?;
     check_sound(table)?;
     check_call(table, client, now)?;
     let pieces = read220(option)?;
@@ -424,7 +480,8 @@ pub fn release(
     option: &[u8],
 ) -> Result<Answer, Refusal> {
     let rows = check_figures(table, figures)?;
-    let named = entries_only(table, client, now, option)?;
+    check_call(table, client, now)?;
+    let named = entries_only(option)?;
     let prefixes: Vec<Prefix> = named.iter().map(prefix_of).collect();
     let mut next = struck_at(table, now);
     let present = next.used_leases().to_vec();

@@ -35,11 +35,13 @@ pub fn run(mut script: impl BufRead, mut out: impl Write) -> io::Result<()> {
     }
 }
 
-/// One open table with its figures sheet, a reply buffer, and the count of lines so far.
+/// One open table with its figures sheet, a reply buffer, whether option 118 is enabled, and
+/// the count of lines so far.
 pub struct Console {
     pub table: Table,
     pub figures: Vec<u8>,
     pub buffer: Vec<u8>,
+    pub selection: bool,
     pub lines: u64,
 }
 
@@ -57,6 +59,8 @@ impl Console {
             table: Table::zero(),
             figures: untold_sheet(&Table::zero()),
             buffer: vec![0; calls::REPLY],
+            // "(at first: off)".
+            selection: false,
             lines: 0,
         }
     }
@@ -93,22 +97,36 @@ impl Console {
             (b"open", [term, default, start, prefixes @ ..]) => {
                 self.open(number(term)?, byte(default)?, number(start)?, prefixes)
             }
-            (b"ask" | b"take" | b"list", [client, now, option]) => {
+            // "HEX, where given, is the option 118 that came with the message".
+            (b"ask" | b"take", [client, now, option, selection @ ..]) if selection.len() <= 1 => {
                 let (client, now, option) = (number(client)?, number(now)?, hex(option)?);
-                let (table, figures) = (&mut self.table, &mut self.figures[..]);
-                let buffer = &mut self.buffer[..];
-                let answer = match command {
-                    b"ask" => calls::ask(table, figures, client, now, &option, buffer),
-                    b"take" => calls::take(table, figures, client, now, &option, buffer),
-                    _ => calls::list(table, client, now, &option, buffer),
+                // "HEX must be well-formed hexadecimal also where it is not enabled."
+                let carried = match selection {
+                    [bytes] => Some(hex(bytes)?),
+                    _ => None,
                 };
-                Some(match answer {
-                    Ok(Answer { bytes, count }) => {
-                        let reply = hex_text(&self.buffer[..bytes]);
-                        format!("ok bytes={bytes} count={count} {reply}\n")
-                    }
-                    Err(refusal) => refused(refusal),
-                })
+                let selection = carried.as_deref().filter(|_| self.selection);
+                let (table, figures) = (&mut self.table, &mut self.figures[..]);
+                let call = match command {
+                    b"ask" => calls::ask,
+                    _ => calls::take,
+                };
+                let buffer = &mut self.buffer[..];
+                let answer = call(table, figures, client, now, &option, selection, buffer);
+                Some(self.replied(answer))
+            }
+            (b"list", [client, now, option]) => {
+                let (client, now, option) = (number(client)?, number(now)?, hex(option)?);
+                let answer = calls::list(&self.table, client, now, &option, &mut self.buffer);
+                Some(self.replied(answer))
+            }
+            (b"selection", [b"on"]) => {
+                self.selection = true;
+                Some("ok\n".to_string())
+            }
+            (b"selection", [b"off"]) => {
+                self.selection = false;
+                Some("ok\n".to_string())
             }
             (b"return", [client, now, option]) => {
                 let (client, now, option) = (number(client)?, number(now)?, hex(option)?);
@@ -175,6 +193,17 @@ impl Console {
                 Some("ok\n".to_string())
             }
             _ => None,
+        }
+    }
+
+    /// The answer of a call that has the reply buffer.
+    fn replied(&self, answer: Result<Answer, Refusal>) -> String {
+        match answer {
+            Ok(Answer { bytes, count }) => {
+                let reply = hex_text(&self.buffer[..bytes]);
+                format!("ok bytes={bytes} count={count} {reply}\n")
+            }
+            Err(refusal) => refused(refusal),
         }
     }
 

@@ -42,6 +42,11 @@ impl Prefix {
         self.network <= inner.network && inner.end() <= self.end()
     }
 
+    /// The address is one of these.
+    pub fn has_address(self, address: u32) -> bool {
+        self.network <= address && u64::from(address) < self.end()
+    }
+
     /// Some address is in both.
     pub fn shares_address_with(self, other: Prefix) -> bool {
         u64::from(self.network) < other.end() && u64::from(other.network) < self.end()

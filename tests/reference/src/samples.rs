@@ -1,7 +1,7 @@
 //! What the tests and the scripts are made of: plain pieces, leases and tables.
 
 use crate::image::{save, Form};
-use crate::option::{write220, Entry, Information, Request, Suboption};
+use crate::option::{write118, write220, Entry, Information, Request, Suboption};
 use crate::prefix::{prefix, Prefix};
 use crate::table::{Lease, Name, State, Table, LATEST};
 
@@ -49,6 +49,14 @@ pub fn option(list: &[Suboption]) -> Vec<u8> {
 
 pub fn entries(prefixes: &[Prefix]) -> Vec<u8> {
     option(&[information(false, false, prefixes)])
+}
+
+/// The option 118 of an address.
+pub fn selecting(address: u32) -> Vec<u8> {
+    let mut buffer = vec![0; 6];
+    let bytes = write118(address, &mut buffer).unwrap_or(0);
+    buffer.truncate(bytes);
+    buffer
 }
 
 /// An information of entries with these figures.

@@ -170,13 +170,18 @@ impl Table {
     /// "A free block is whole if it is a root or the block twice its size around it
     /// isn't free." All of them at time now, in ascending order.
     pub fn whole_free_prefixes(&self, now: u32) -> Vec<Prefix> {
+        self.whole_free_in(self.used_pools(), now)
+    }
+
+    /// Those of some of the pools (M-106 in document 02: "the ground the ask may use").
+    pub fn whole_free_in(&self, ground: &[Prefix], now: u32) -> Vec<Prefix> {
         let leases: Vec<Prefix> = self
             .present_leases(now)
             .iter()
             .map(|lease| lease.prefix)
             .collect();
         let mut found = Vec::new();
-        for &pool in self.used_pools() {
+        for &pool in ground {
             find_whole(pool, &leases, &mut found);
         }
         found
@@ -184,10 +189,10 @@ impl Table {
 
     /// "An ask of length p takes, among whole free blocks of length at most p, the
     /// smallest, the lowest network among equals, and of that the lowest part of
-    /// length p."
-    pub fn choose(&self, now: u32, length: u8) -> Option<Prefix> {
+    /// length p." Of the pools that the ask may use.
+    pub fn choose(&self, ground: &[Prefix], now: u32, length: u8) -> Option<Prefix> {
         let mut best: Option<Prefix> = None;
-        for candidate in self.whole_free_prefixes(now) {
+        for candidate in self.whole_free_in(ground, now) {
             if candidate.length > length {
                 continue;
             }

@@ -21,7 +21,7 @@ use Rattle.image_records.specs.Records.{Records}
 use Rattle.ledger.specs.Ledger.{informationFor}
 use Rattle.ask_again.specs.Places.{Within, InBuffer, givenIn}
 use Rattle.ask_serve.specs.Granting.{offersIn}
-use Rattle.ask_commit.specs.InnerReply.{Shown, givenOr, eachOf}
+use Rattle.ask_commit.specs.InnerReply.{Shown, givenOr, eachOf, Replied}
 use Rattle.ask_commit.proofs.ReplyPuts.{shown-none, shown-next, shown-all, shown-same}
 use Rattle.ask_commit.proofs.put_offers.Statement.{statement}
 use Rattle.ask_commit.proofs.put_offers.Tie as tie
@@ -81,16 +81,21 @@ same-length : tie.Need-same-length Inv-loop μ-loop
 same-length c = c .before .before .put-option-head .kept .0 ∙ c .before .before .before .before .before .loop .inv .3
 
 returns : tie.Need-returns Inv-loop μ-loop
-returns c client expires name us stand within =
+returns c =
     let head = c .before .before in
     let at-loop = head .before .before .before in
     let l = at-loop .loop in
     let s = start-of at-loop in
-    let a = s .args in
-    let gives : List ℕ → List ℕ → List (Option Lease) = λ ps fs. eachOf (givenIn us ps) (offersIn 0 0 (name-of at-loop) (a .networks .now) (a .lengths .now) fs) in
-    shown-all (a .reply .now) (l .reply) (l .at) (catMaybes (gives (take (l .j) (a .places .now)) (take (l .j) (a .flags .now)))) (l .inv .4 us stand within) (head .put-option-head .last .0) (head .put-option-head .ensures)
-    ∙ ap₂ (λ (ps fs : List ℕ). put (a .reply .now) 0 (optionBytes (map informationFor (catMaybes (gives ps fs))))) (take-all (l .j) (a .places .now) (omega (arith, s .pre .2))) (take-all (l .j) (a .flags .now) (omega arith))
-    ∙ ap (λ (ss : List SuboptionValue). put (a .reply .now) 0 (optionBytes ss)) (shown-same 0 0 client expires (name-of at-loop) name (givenIn us (a .places .now)) (a .networks .now) (a .lengths .now) (a .flags .now))
+    let a = s .args in (
+      omega (arith, l .inv .0, l .inv .2),
+      λ client expires name us stand within.
+          let gives : List ℕ → List ℕ → List (Option Lease) = λ ps fs. eachOf (givenIn us ps) (offersIn 0 0 (name-of at-loop) (a .networks .now) (a .lengths .now) fs) in
+          let so-far = shown-all (a .reply .now) (l .reply) (l .at) (catMaybes (gives (take (l .j) (a .places .now)) (take (l .j) (a .flags .now)))) (l .inv .4 us stand within) (head .put-option-head .last .0) (head .put-option-head .ensures) in
+          subst (Replied (a .reply .now) (head .put-option-head .last .0) (l .at))
+          (ap₂ (λ (ps fs : List ℕ). map informationFor (catMaybes (gives ps fs))) (take-all (l .j) (a .places .now) (omega (arith, s .pre .2))) (take-all (l .j) (a .flags .now) (omega arith))
+          ∙ shown-same 0 0 client expires (name-of at-loop) name (givenIn us (a .places .now)) (a .networks .now) (a .lengths .now) (a .flags .now))
+          so-far,
+    )
 
 pub put-offers-spec : {M : Type 1} → statement M
 put-offers-spec =

@@ -11,6 +11,7 @@ use Rattle.names.specs.declared.Name.{Name}
 use Rattle.table.specs.declared.Lease.{Lease}
 use Rattle.table.specs.declared.LeaseTable.{LeaseTable}
 use Rattle.option.specs.Contents.{Request}
+use Rattle.ledger.specs.Ledger.{Call}
 use Rattle.ask_serve.specs.declared.Progress.{Progress}
 use Rattle.ask_serve.specs.declared.Start.{Start}
 use Rattle.ask_serve.specs.Granting.{leasesIn, Serving}
@@ -28,9 +29,9 @@ Inv-loop ask-lengths places starts₀ lasts₀ networks₀ lengths₀ default-le
     (j ≤ length ask-lengths) × (at .granted ≤ j) × (at .gaps + at .left ≤ at₀ .gaps + at₀ .left)
     × (length starts ≡ length starts₀) × (length lasts ≡ length lasts₀) × (length networks ≡ length networks₀) × (length lengths ≡ length lengths₀)
     × (at .granted + at .left ≤ at₀ .left) × (at .granted ≡ leasesIn lengths j)
-    × ((t : LeaseTable) (time client : ℕ) (name : Name) (xs us : List Lease) (rs : List Request)
-    → Serving t time client xs rs starts₀ lasts₀ (start-of default-length at₀) ask-lengths
-    → After t time client name xs us places rs j (columns starts lasts networks lengths) at)
+    × ((t : LeaseTable) (call : Call) (time client : ℕ) (name : Name) (xs us : List Lease) (rs : List Request)
+    → Serving t call time client xs rs starts₀ lasts₀ (start-of default-length at₀) ask-lengths
+    → After t call time client name xs us places rs j (columns starts lasts networks lengths) at)
 
 abbrev μ-loop : tie.MeasureT-loop
 μ-loop ask-lengths places starts₀ lasts₀ networks₀ lengths₀ default-length at₀ requests j₀ starts lasts networks lengths at j = length ask-lengths - j
@@ -58,7 +59,7 @@ loop-holds c =
       refl,
       omega arith,
       refl,
-      λ t time client name xs us rs ready. serve-start t time client name xs us (a .places .now) rs _ _ _ _ ready (s .pre .0) (a .networks .now) (a .lengths .now),
+      λ t call time client name xs us rs ready. serve-start t call time client name xs us (a .places .now) rs _ _ _ _ ready (s .pre .0) (a .networks .now) (a .lengths .now),
     )
 
 loop-again : tie.Need-loop-again Inv-loop μ-loop
@@ -83,8 +84,8 @@ loop-again c =
       w .serve-one .kept .1 .1 .1 .0 ∙ l .inv .6,
       omega (arith, served .slots, l .inv .7),
       served .counted (subst (λ (x : ℕ). 1 ≤ x) (sym (asking .ask-length .ensures)) (asked-long (a .start .«default_length») (getD asked (l .j) 0) (s .pre .3))) (l .inv .8),
-      λ t time client name xs us rs ready.
-          serve-turn t time client name xs us (a .places .now) rs (a .starts .now) (a .lasts .now) (a .start) asked ready (s .pre .0) (l .j) old new (l .at) (w .serve-one .result) lt (l .inv .9 t time client name xs us rs ready)
+      λ t call time client name xs us rs ready.
+          serve-turn t call time client name xs us (a .places .now) rs (a .starts .now) (a .lasts .now) (a .start) asked ready (s .pre .0) (l .j) old new (l .at) (w .serve-one .result) lt (l .inv .9 t call time client name xs us rs ready)
           (subst (λ (x : ℕ). Served (getD (a .places .now) (l .j) 0) x (l .j) old (l .at) new (w .serve-one .result)) (asking .ask-length .ensures) served),
     )
 
@@ -111,9 +112,9 @@ returns c =
         omega (arith, l .inv .7),
         (
           l .inv .8 ∙ ap (leasesIn (l .lengths)) all,
-          λ t time client name xs us rs ready.
-              serve-end t time client name xs us (a .places .now) rs (a .starts .now) (a .lasts .now) (a .start) (a .ask-lengths .now) ready (s .pre .0) (l .j)
-              (columns (l .starts) (l .lasts) (l .networks) (l .lengths)) (l .at) (c .loop-test .left) (l .inv .9 t time client name xs us rs ready),
+          λ t call time client name xs us rs ready.
+              serve-end t call time client name xs us (a .places .now) rs (a .starts .now) (a .lasts .now) (a .start) (a .ask-lengths .now) ready (s .pre .0) (l .j)
+              (columns (l .starts) (l .lasts) (l .networks) (l .lengths)) (l .at) (c .loop-test .left) (l .inv .9 t call time client name xs us rs ready),
         ),
       ),
     )

@@ -1,15 +1,16 @@
 -- `list` meets its contract, row by row.
 -- Assumes nothing.
-use mathlib.Core.Path.{ap, _∙_}
+use mathlib.Core.Path.{refl, ap, _∙_}
 use mathlib.Core.Bool.{false}
 use mathlib.Core.List.{[]}
 use native.Mathlib.Omega.{arith}
 use lib.ListN.{length}
+use lib.Dec.{ltb}
 use borrow.Author.Tests.{not-true, not-false}
 use borrow.Author.Needs.{needs}
 use Rattle.image.proofs.FieldLaws.{bytes-all}
 use Rattle.ledger.specs.declared.Answer.{Answer}
-use Rattle.ledger.specs.Ledger.{Call, call, result, refusal}
+use Rattle.ledger.specs.Ledger.{Call, call, result, refusal, leastReply}
 use Rattle.call_spec.specs.ImageCalls.{Lent}
 use Rattle.call_spec.specs.Books.{Book, bookOf, lentIn}
 use Rattle.call_rows.proofs.RowLaws.{place-small, ReadCall}
@@ -38,12 +39,12 @@ lent-of c = lentIn (book-of (start-of c))
 abbrev call-of : tie.Else1 → Call
 call-of c = let a = start-of c .args in call (a .client) (a .option .now) (a .reply .now)
 
-abbrev read-call : (c : tie.After-option-refusal) → let else = else-of (read-of c) in ReadCall false (length (call-of else .reply)) (lent-of else) (start-of else .args .time) (call-of else)
+abbrev read-call : (c : tie.After-option-refusal) → let else = else-of (read-of c) in ReadCall false (ltb (length (call-of else .reply)) leastReply) (lent-of else) (start-of else .args .time) (call-of else)
 read-call c =
     let read = read-of c in
     let else = else-of read in
     let adm = else .before .before in
-    record { admission = adm .admit .result; admits = adm .admit .ensures; admitted = else .if1 .left; contents = read .read .result; columns = _; reads = read .read .ensures; answer = c .option-refusal .result; answer-is = c .option-refusal .ensures }
+    record { admission = adm .admit .result; admits = adm .admit .ensures; admitted = else .if1 .left; selected = refl; contents = read .read .result; columns = _; reads = read .read .ensures; answer = c .option-refusal .result; answer-is = c .option-refusal .ensures }
 
 returns : tie.Need-returns
 returns c =

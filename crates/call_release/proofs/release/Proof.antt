@@ -1,9 +1,10 @@
 -- `release` meets its contract, row by row.
 -- Assumes nothing.
-use mathlib.Core.Path.{_≡_, sym}
+use mathlib.Core.Path.{_≡_, refl, sym}
+use mathlib.Core.Bool.{false}
 use mathlib.Core.List.{[]}
 use lib.Seq.{length-take-le}
-use Rattle.ledger.specs.Ledger.{Call, call, result, leastReply}
+use Rattle.ledger.specs.Ledger.{Call, call, result}
 use Rattle.call_spec.specs.ImageCalls.{Lent, lent, releaseImage}
 use Rattle.call_spec.specs.Books.{Book, bookOf, lentIn}
 use Rattle.call_entries.proofs.CallLaws.{EntriesCall, entries-sized, on-lent}
@@ -32,13 +33,13 @@ book-of c = let a = start-of c .args in bookOf (a .image .now) (a .image-bytes .
 abbrev call-of : tie.After-admit → Call
 call-of c = let a = start-of c .args in call (a .client) (a .option .now) []
 
-abbrev entries-call : (c : tie.After-read-entries) → let adm = admit-of c in EntriesCall leastReply (lentIn (book-of adm)) (start-of adm .args .time) (call-of adm)
+abbrev entries-call : (c : tie.After-read-entries) → let adm = admit-of c in EntriesCall false (lentIn (book-of adm)) (start-of adm .args .time) (call-of adm)
 entries-call c =
     let adm = admit-of c in
-    record { admission = adm .admit .result; admits = adm .admit .ensures; admitted = c .before .before .before .if1 .left; read = c .read-entries .result; networks = _; lengths = _; reads = c .read-entries .ensures }
+    record { admission = adm .admit .result; admits = adm .admit .ensures; admitted = c .before .before .before .if1 .left; selected = refl; read = c .read-entries .result; networks = _; lengths = _; reads = c .read-entries .ensures }
 
-abbrev lent-call : (c : tie.After-read-entries) → let adm = admit-of c in EntriesCall leastReply (book-of adm .lent) (start-of adm .args .time) (call-of adm)
-lent-call c = let adm = admit-of c in on-lent leastReply (book-of adm) (start-of adm .args .time) (call-of adm) (entries-call c)
+abbrev lent-call : (c : tie.After-read-entries) → let adm = admit-of c in EntriesCall false (book-of adm .lent) (start-of adm .args .time) (call-of adm)
+lent-call c = let adm = admit-of c in on-lent false (book-of adm) (start-of adm .args .time) (call-of adm) (entries-call c)
 
 returns : tie.Need-returns
 returns c =
@@ -62,7 +63,7 @@ strike-found-requires c κs =
     let good = c .before .before .before .before .before .before in
     let read = read-of good in
     let adm = admit-of read in
-    entries-sized leastReply (book-of adm .lent) (start-of adm .args .time) (call-of adm) [] (lent-call read) (good .if2 .left)
+    entries-sized false (book-of adm .lent) (start-of adm .args .time) (call-of adm) [] (lent-call read) (good .if2 .left)
 
 -- What is lent after it, and that it is what the call leaves.
 abbrev left-of : tie.After-strike-found → Lent

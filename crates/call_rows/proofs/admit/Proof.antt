@@ -15,7 +15,7 @@ returns : tie.Need-returns
 returns c =
     let then = c .before .before in
     let a = then .before .before .before .args in
-    admit-short (a .has-sheet) (a .room) (lentIn (bookOf (a .image .now) (a .image-bytes) (a .figures .now) (a .counts .now))) (a .time) (a .client) _ (then .if1 .taken) refl
+    admit-short (a .has-sheet) (a .short) (lentIn (bookOf (a .image .now) (a .image-bytes) (a .figures .now) (a .counts .now))) (a .time) (a .client) _ (then .if1 .taken) refl
 
 -- What is lent is bytes, and this is what the check says of the book.
 seen : (c : tie.After-summary-in) → let a = c .before .before .before .before .args in
@@ -41,7 +41,7 @@ returns-2 c =
     let summed = passed .before in
     let a = summed .before .before .before .before .args in
     let k = seen summed in
-    admit-book (a .has-sheet) (a .room) (bookOf (a .image .now) (a .image-bytes) (a .figures .now) (a .counts .now)) (a .time) (a .client) _ (summed .before .if1 .left) (k .0) (k .1) (k .2)
+    admit-book (a .has-sheet) (a .short) (bookOf (a .image .now) (a .image-bytes) (a .figures .now) (a .counts .now)) (a .time) (a .client) _ (summed .before .if1 .left) (k .0) (k .1) (k .2)
     (passed .sheet-passes .result) (passed .sheet-passes .ensures) (c .first-row .ensures)
 
 pub admit-spec : {M : Type 1} → statement M

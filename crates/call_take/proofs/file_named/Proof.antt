@@ -10,14 +10,14 @@ use Rattle.call_take.proofs.file_named.Statement.{statement}
 use Rattle.call_take.proofs.file_named.Tie as tie
 
 abbrev Inv-loop : tie.InvT-loop
-Inv-loop figures₀ option places n entries₀ k₀ figures entries k =
-    (k ≤ length places) × (length figures ≡ length figures₀) × FiledTo option places figures₀ n figures entries k
+Inv-loop figures₀ option places first n entries₀ k₀ figures entries k =
+    (k ≤ length places) × (length figures ≡ length figures₀) × FiledTo option places figures₀ first n figures entries k
 
 abbrev μ-loop : tie.MeasureT-loop
-μ-loop figures₀ option places n entries₀ k₀ figures entries k = length places - k
+μ-loop figures₀ option places first n entries₀ k₀ figures entries k = length places - k
 
 loop-holds : tie.Need-loop-holds Inv-loop μ-loop
-loop-holds c = (omega arith, refl, filed-none _ _ _ _ _ (c .first-entries .ensures))
+loop-holds c = (omega arith, refl, filed-none _ _ _ _ _ _ (c .first-entries .ensures))
 
 loop-again : tie.Need-loop-again Inv-loop μ-loop
 loop-again c =
@@ -28,14 +28,14 @@ loop-again c =
     let loop = in-loop .before .loop in (
       omega arith,
       filed .file-at .kept .0 ∙ loop .inv .1,
-      filed-more _ _ _ _ _ _ _ (loop .inv .2) (in-loop .loop-test .taken) _ _ (read .read-figures .ensures) _ (at .wide .ensures) _ (filed .file-at .ensures),
+      filed-more _ _ _ _ _ _ _ _ (loop .inv .2) (in-loop .loop-test .taken) _ _ (read .read-figures .ensures) _ (at .wide .ensures) _ (filed .file-at .ensures),
     )
 
 same-length : tie.Need-same-length Inv-loop μ-loop
 same-length c = c .before .loop .inv .1
 
 returns : tie.Need-returns Inv-loop μ-loop
-returns c = let loop = c .before .loop in filed-all _ _ _ _ _ _ _ (loop .inv .2) (c .loop-test .left)
+returns c = let loop = c .before .loop in filed-all _ _ _ _ _ _ _ _ (loop .inv .2) (c .loop-test .left)
 
 pub file-named-spec : {M : Type 1} → statement M
 file-named-spec =

@@ -5,7 +5,7 @@ use native.Mathlib.Omega.{arith}
 use lib.ListN.{length}
 use Rattle.console_words.proofs.WordLaws.{length-between}
 use Rattle.console_script.specs.Commands.{Within, «open»}
-use Rattle.console.proofs.RunLaws.{ran-as, open-as, read-ran, write-ran, ok-ran, nothing-ran, bad-ran}
+use Rattle.console.proofs.RunLaws.{ran-as, open-as, read-ran, write-ran, ok-ran, selection-ran, nothing-ran, bad-ran}
 use borrow.Author.Needs.{needs}
 use Rattle.console.proofs.run.Statement.{statement}
 use Rattle.console.proofs.run.Tie as tie
@@ -18,6 +18,15 @@ part-call-start c = omega (arith, (subst (Within (length (c .before .before .bef
 
 part-call-end : tie.Need-part-call-end
 part-call-end c = omega (arith, (subst (Within (length (c .before .before .before .before .before .before .before .before .args .line .now))) (c .before .before .command .given .1) (c .before .before .before .before .before .before .before .before .pre .0 .2)))
+
+sub-call-2 : tie.Need-sub-call-2
+sub-call-2 c = (subst (Within (length (c .before .before .before .before .before .before .before .before .before .args .line .now))) (c .before .before .before .command .given .1) (c .before .before .before .before .before .before .before .before .before .pre .0 .2)) .2
+
+part-call-start-2 : tie.Need-part-call-start-2
+part-call-start-2 c = omega (arith, (subst (Within (length (c .before .before .before .before .before .before .before .before .before .args .line .now))) (c .before .before .before .command .given .1) (c .before .before .before .before .before .before .before .before .before .pre .0 .2)))
+
+part-call-end-2 : tie.Need-part-call-end-2
+part-call-end-2 c = omega (arith, (subst (Within (length (c .before .before .before .before .before .before .before .before .before .args .line .now))) (c .before .before .before .command .given .1) (c .before .before .before .before .before .before .before .before .before .pre .0 .2)))
 
 sub-open : tie.Need-sub-open
 sub-open c = (subst (Within (length (c .before .before .before .before .before .before .before .args .line .now))) (c .before .command3 .given .1) (c .before .before .before .before .before .before .before .pre .0 .2))
@@ -74,7 +83,7 @@ set-counts-requires : tie.Need-set-counts-requires
 set-counts-requires c κs = let within = (subst (Within (length (c .before .before .before .before .before .before .before .before .before .before .before .args .line .now))) (c .before .before .before .before .before .command9 .given .1) (c .before .before .before .before .before .before .before .before .before .before .before .pre .0 .2)) in (c .before .before .before .before .before .before .before .before .before .before .before .pre .0 .0, length-between (c .before .before .before .before .before .before .before .before .before .before .before .args .line .now) _ _ (within .0) (within .1) ∙ within .2)
 
 returns : tie.Need-returns
-returns c = (search needs, ran-as _ _ _ (c .before .before .before .before .before .before .before .before .before .before .before .before .before .before .before .command .given .1) (c .before .before .before .before .before .before .call .ensures .1))
+returns c = (search needs, ran-as _ _ _ (c .before .before .before .before .before .before .before .before .before .before .before .before .before .before .before .before .command .given .1) (c .before .before .before .before .before .before .call .ensures .1))
 
 returns-2 : tie.Need-returns-2
 returns-2 c = (search needs, ran-as _ _ _ (c .before .before .before .before .before .before .before .before .before .before .before .before .before .command2 .given .1) (c .before .before .before .before .before .before .mark .ensures .1))
@@ -116,27 +125,31 @@ returns-14 : tie.Need-returns-14
 returns-14 c = (search needs, ran-as _ _ _ (c .before .before .before .before .enum-told4 .given .1) (ok-ran _ _ _ _ _ _ (search needs) (c .before .before .ok .ensures)))
 
 returns-15 : tie.Need-returns-15
-returns-15 c = (search needs, ran-as _ _ _ (c .enum-told5 .given .1) (nothing-ran _ _ _))
+returns-15 c = (search needs, ran-as _ _ _ (c .before .before .before .before .enum-told5 .given .1) (selection-ran _ _ _ _ _ _ (search needs) (c .before .before .ok2 .ensures)))
 
 returns-16 : tie.Need-returns-16
-returns-16 c = (search needs, ran-as _ _ _ (c .before .before .before .before .enum-told6 .given .1) (bad-ran _ _ _ _ _ (search needs) (c .before .before .error .ensures .1)))
+returns-16 c = (search needs, ran-as _ _ _ (c .enum-told6 .given .1) (nothing-ran _ _ _))
+
+returns-17 : tie.Need-returns-17
+returns-17 c = (search needs, ran-as _ _ _ (c .before .before .before .before .enum-told7 .given .1) (bad-ran _ _ _ _ _ (search needs) (c .before .before .error .ensures .1)))
 
 pub run-spec : {M : Type 1} → statement M
 run-spec =
     tie.close
-    (tie.spec (λ c. search needs) sub-call part-call-start part-call-end (λ c κs. search needs) (λ c. search needs)
-    (λ c κs. search needs) (λ c. search needs) sub-open part-open-start (λ c. search needs) (λ c κs. search needs) (λ c. search needs)
-    sub-load part-load-start part-load-end (λ c κs. search needs) (λ c. search needs) (λ c κs. search needs) (λ c. search needs)
-    (λ c κs. search needs) (λ c. search needs) sub-read part-read-start part-read-end (λ c κs. search needs) (λ c. search needs)
-    sub-write part-write-start (λ c. search needs) (λ c κs. search needs) (λ c. search needs) (λ c κs. search needs)
-    (λ c. search needs) sub-set-figures part-set-figures-start part-set-figures-end set-figures-requires (λ c. search needs)
-    (λ c κs. search needs) (λ c. search needs) sub-set-counts part-set-counts-start part-set-counts-end set-counts-requires
-    (λ c. search needs) (λ c κs. search needs) (λ c. search needs) (λ c κs. search needs) (λ c. search needs) (λ c. search needs)
-    (λ c κs. search needs) (λ c. search needs) (λ c. search needs) (λ c. search needs) (λ c. search needs) returns (λ c. search needs)
-    (λ c. search needs) (λ c. search needs) returns-2 (λ c. search needs) (λ c. search needs) (λ c. search needs) (λ c. search needs)
-    returns-3 (λ c. search needs) (λ c. search needs) (λ c. search needs) (λ c. search needs) returns-4 (λ c. search needs)
-    (λ c. search needs) returns-5 (λ c. search needs) (λ c. search needs) returns-6 (λ c. search needs) (λ c. search needs) returns-7
-    (λ c. search needs) (λ c. search needs) returns-8 (λ c. search needs) (λ c. search needs) returns-9 (λ c. search needs)
-    (λ c. search needs) (λ c. search needs) returns-10 (λ c. search needs) (λ c. search needs) returns-11 (λ c. search needs)
-    (λ c. search needs) returns-12 (λ c. search needs) (λ c. search needs) returns-13 (λ c. search needs) returns-14 returns-15
-    (λ c. search needs) returns-16)
+    (tie.spec (λ c. search needs) sub-call part-call-start part-call-end sub-call-2 part-call-start-2 part-call-end-2
+    (λ c κs. search needs) (λ c. search needs) (λ c κs. search needs) (λ c. search needs) sub-open part-open-start (λ c. search needs)
+    (λ c κs. search needs) (λ c. search needs) sub-load part-load-start part-load-end (λ c κs. search needs) (λ c. search needs)
+    (λ c κs. search needs) (λ c. search needs) (λ c κs. search needs) (λ c. search needs) sub-read part-read-start part-read-end
+    (λ c κs. search needs) (λ c. search needs) sub-write part-write-start (λ c. search needs) (λ c κs. search needs)
+    (λ c. search needs) (λ c κs. search needs) (λ c. search needs) sub-set-figures part-set-figures-start part-set-figures-end
+    set-figures-requires (λ c. search needs) (λ c κs. search needs) (λ c. search needs) sub-set-counts part-set-counts-start
+    part-set-counts-end set-counts-requires (λ c. search needs) (λ c κs. search needs) (λ c. search needs) (λ c κs. search needs)
+    (λ c. search needs) (λ c κs. search needs) (λ c. search needs) (λ c. search needs) (λ c κs. search needs) (λ c. search needs)
+    (λ c. search needs) (λ c. search needs) (λ c. search needs) returns (λ c. search needs) (λ c. search needs) (λ c. search needs)
+    returns-2 (λ c. search needs) (λ c. search needs) (λ c. search needs) (λ c. search needs) returns-3 (λ c. search needs)
+    (λ c. search needs) (λ c. search needs) (λ c. search needs) returns-4 (λ c. search needs) (λ c. search needs) returns-5
+    (λ c. search needs) (λ c. search needs) returns-6 (λ c. search needs) (λ c. search needs) returns-7 (λ c. search needs)
+    (λ c. search needs) returns-8 (λ c. search needs) (λ c. search needs) returns-9 (λ c. search needs) (λ c. search needs)
+    (λ c. search needs) returns-10 (λ c. search needs) (λ c. search needs) returns-11 (λ c. search needs) (λ c. search needs)
+    returns-12 (λ c. search needs) (λ c. search needs) returns-13 (λ c. search needs) returns-14 (λ c. search needs) returns-15
+    returns-16 (λ c. search needs) returns-17)

@@ -32,7 +32,7 @@ returns-2 c =
     let said = c .before .before .refusal2 in (
       omega (arith, said .ensures .0, c .before .before .before .before .before .before .before .before .before .before .before .before .before .before .before .before .before .pre),
       λ figures.
-          sheet-refuses (given (bookOf (a .image .now) (a .image-bytes) figures (a .counts .now)) (a .s .«reply_length») (a .s .lines) (drop at old)) (sound-here (a .image .now) (a .image-bytes) figures (a .counts .now) (c .before .before .before .before .before .before .before .before .before .before .before .before .before .before .check .result) (c .before .before .before .before .before .before .before .before .before .before .before .before .before .before .check .ensures) (c .before .before .before .before .before .before .before .before .before .before .before .before .if1 .left)) (shown .result) (shown .last .1 .0) _ _
+          sheet-refuses (given (bookOf (a .image .now) (a .image-bytes) figures (a .counts .now)) (a .s .«reply_length») (a .s .selected) (a .s .lines) (drop at old)) (sound-here (a .image .now) (a .image-bytes) figures (a .counts .now) (c .before .before .before .before .before .before .before .before .before .before .before .before .before .before .check .result) (c .before .before .before .before .before .before .before .before .before .before .before .before .before .before .check .ensures) (c .before .before .before .before .before .before .before .before .before .before .before .before .if1 .left)) (shown .result) (shown .last .1 .0) _ _
           (first-bytes (a .image-bytes) (n .result) (a .image .now) (n .ensures .2) (n .ensures .3)) (rest-of old at) (shown .ensures) old at (omega (arith, c .before .before .before .before .before .before .before .before .before .before .before .before .before .before .before .before .before .pre)) (postOf at (length old - at) old) _ _ (c .before .before .before .before .if2 .taken)
           (omega (arith, said .ensures .0, c .before .before .before .before .before .before .before .before .before .before .before .before .before .before .before .before .before .pre, same-len-mid at (length old - at) old (shown .last .1 .0) (shown .kept .1 .0))) (said .ensures .1),
     )
@@ -51,7 +51,7 @@ returns-3 c =
     let e : length (shown .last .1 .0) ≡ length old - at = shown .kept .1 .0 ∙ ap length (rest-of old at) ∙ length-drop at old in (
       omega (arith, some .ensures .1, c .before .before .before .before .before .before .before .before .before .before .before .before .before .before .before .pre),
       λ figures.
-          sheet-shows (given (bookOf (a .image .now) (a .image-bytes) figures (a .counts .now)) (a .s .«reply_length») (a .s .lines) (drop at old)) (sound-here (a .image .now) (a .image-bytes) figures (a .counts .now) (c .before .before .before .before .before .before .before .before .before .before .before .before .check .result) (c .before .before .before .before .before .before .before .before .before .before .before .before .check .ensures) (c .before .before .before .before .before .before .before .before .before .before .if1 .left)) (shown .result) (shown .last .1 .0) _ _
+          sheet-shows (given (bookOf (a .image .now) (a .image-bytes) figures (a .counts .now)) (a .s .«reply_length») (a .s .selected) (a .s .lines) (drop at old)) (sound-here (a .image .now) (a .image-bytes) figures (a .counts .now) (c .before .before .before .before .before .before .before .before .before .before .before .before .check .result) (c .before .before .before .before .before .before .before .before .before .before .before .before .check .ensures) (c .before .before .before .before .before .before .before .before .before .before .if1 .left)) (shown .result) (shown .last .1 .0) _ _
           (first-bytes (a .image-bytes) (n .result) (a .image .now) (n .ensures .2) (n .ensures .3)) (rest-of old at) (shown .ensures) old at (omega (arith, c .before .before .before .before .before .before .before .before .before .before .before .before .before .before .before .pre)) (postOf at (length old - at) old) (some .result) (c .before .before .if2 .left)
           (omega (arith, some .ensures .1, e)) (λ h. some .ensures .2 (omega (arith, e)) ∙ sym e) (λ h. some .ensures .3 (omega (arith, e))),
     )

@@ -1,12 +1,13 @@
 -- `call_line` meets its contract.
 -- Assumes nothing.
-use mathlib.Core.Path.{refl, ap, _∙_}
+use mathlib.Core.Path.{refl, sym, ap, _∙_}
 use lib.ListN.{drop}
 use borrow.Author.Tests.{not-true, not-false}
 use Rattle.console_words.specs.Words.{afterWord}
 use Rattle.console_words.specs.Numbers.{numberOf}
-use Rattle.console_words.specs.Octets.{lastOctets}
-use Rattle.console_script.proofs.LineLaws.{spells, further, octets-good, octets-bad, call-no-client, call-no-time, call-no-option, call-of}
+use Rattle.console_script.specs.Parsing.{messageOf}
+use Rattle.console_script.proofs.LineLaws.{spells, further, call-no-client, call-no-time, call-no-message, call-of}
+use Rattle.console_script.proofs.MessageLaws.{message-none, message-some}
 use borrow.Author.Needs.{needs}
 use Rattle.console_script.proofs.call_line.Statement.{statement}
 use Rattle.console_script.proofs.call_line.Tie as tie
@@ -18,10 +19,10 @@ returns-2 : tie.Need-returns-2
 returns-2 c = let s = c .before .before .before .before .before .before .before .before .before .before .args .s .now in let xs = drop (c .before .before .before .before .before .before .before .before .before .before .args .from) s in let a = c .before .before .before .before .before .before .before .next-number in let b = c .before .before .next-number2 in (tt, call-no-time _ xs _ (spells numberOf s _ _ xs _ (a .ensures) refl (c .before .before .before .before .before .station .given .1)) (spells numberOf s _ _ _ _ (b .ensures) (a .ensures .rest) (c .enum-told2 .given .1)))
 
 returns-3 : tie.Need-returns-3
-returns-3 c = let s = c .before .before .before .before .before .before .before .before .before .before .before .before .before .before .before .before .before .args .s .now in let xs = drop (c .before .before .before .before .before .before .before .before .before .before .before .before .before .before .before .before .before .args .from) s in let a = c .before .before .before .before .before .before .before .before .before .before .before .before .before .before .next-number in let b = c .before .before .before .before .before .before .before .before .before .next-number2 in let o = c .before .before .before .before .last-octets in (tt, call-no-option _ xs _ (spells numberOf s _ _ xs _ (a .ensures) refl (c .before .before .before .before .before .before .before .before .before .before .before .before .station .given .1)) _ (spells numberOf s _ _ _ _ (b .ensures) (a .ensures .rest) (c .before .before .before .before .before .before .before .now .given .1)) (octets-bad (o .result .good) (o .last .0) (o .result .start) (o .result .end) _ (o .ensures .1 ∙ ap lastOctets (further s (a .result .end) (b .result .end) (afterWord xs) (b .ensures .rest) (a .ensures .rest))) (not-true _ (c .if1 .taken))))
+returns-3 c = let s = c .before .before .before .before .before .before .before .before .before .before .before .before .before .before .before .before .before .args .s .now in let xs = drop (c .before .before .before .before .before .before .before .before .before .before .before .before .before .before .before .before .before .args .from) s in let a = c .before .before .before .before .before .before .before .before .before .before .before .before .before .before .next-number in let b = c .before .before .before .before .before .before .before .before .before .next-number2 in let o = c .before .before .before .before .message-words in (tt, call-no-message _ xs _ (spells numberOf s _ _ xs _ (a .ensures) refl (c .before .before .before .before .before .before .before .before .before .before .before .before .station .given .1)) _ (spells numberOf s _ _ _ _ (b .ensures) (a .ensures .rest) (c .before .before .before .before .before .before .before .now .given .1)) (ap (messageOf _) (sym (further s (a .result .end) (b .result .end) (afterWord xs) (b .ensures .rest) (a .ensures .rest))) ∙ sym (o .ensures .1) ∙ message-none (o .last .1 .0) (o .result) (not-true _ (c .if1 .taken))))
 
 returns-4 : tie.Need-returns-4
-returns-4 c = let s = c .before .before .before .before .before .before .before .before .before .before .before .before .before .before .before .before .before .args .s .now in let xs = drop (c .before .before .before .before .before .before .before .before .before .before .before .before .before .before .before .before .before .args .from) s in let a = c .before .before .before .before .before .before .before .before .before .before .before .before .before .before .next-number in let b = c .before .before .before .before .before .before .before .before .before .next-number2 in let o = c .before .before .before .before .last-octets in (o .ensures .0, call-of _ xs _ (spells numberOf s _ _ xs _ (a .ensures) refl (c .before .before .before .before .before .before .before .before .before .before .before .before .station .given .1)) _ (spells numberOf s _ _ _ _ (b .ensures) (a .ensures .rest) (c .before .before .before .before .before .before .before .now .given .1)) _ (octets-good (o .result .good) (o .last .0) (o .result .start) (o .result .end) _ (o .ensures .1 ∙ ap lastOctets (further s (a .result .end) (b .result .end) (afterWord xs) (b .ensures .rest) (a .ensures .rest))) (not-false _ (c .if1 .left))))
+returns-4 c = let s = c .before .before .before .before .before .before .before .before .before .before .before .before .before .before .before .before .before .args .s .now in let xs = drop (c .before .before .before .before .before .before .before .before .before .before .before .before .before .before .before .before .before .args .from) s in let a = c .before .before .before .before .before .before .before .before .before .before .before .before .before .before .next-number in let b = c .before .before .before .before .before .before .before .before .before .next-number2 in let o = c .before .before .before .before .message-words in (o .ensures .0, call-of _ xs _ (spells numberOf s _ _ xs _ (a .ensures) refl (c .before .before .before .before .before .before .before .before .before .before .before .before .station .given .1)) _ (spells numberOf s _ _ _ _ (b .ensures) (a .ensures .rest) (c .before .before .before .before .before .before .before .now .given .1)) _ _ (ap (messageOf _) (sym (further s (a .result .end) (b .result .end) (afterWord xs) (b .ensures .rest) (a .ensures .rest))) ∙ sym (o .ensures .1) ∙ message-some (o .last .1 .0) (o .result) (not-false _ (c .if1 .left))))
 
 pub call-line-spec : {M : Type 1} → statement M
 call-line-spec =

@@ -32,9 +32,13 @@ returns-6 c = simp (sym (c .before .before .before .before .before .before .befo
 
 returns-7 : tie.Need-returns-7
 unfolding otherName
-returns-7 c = simp (sym (c .before .before .before .before .before .before .before .before .before .before .before .before .before .before .before .before .is .ensures) ∙ c .before .before .before .before .before .before .before .before .before .before .before .before .before .before .before .if1 .left, sym (c .before .before .before .before .before .before .before .before .before .before .before .before .before .is2 .ensures) ∙ c .before .before .before .before .before .before .before .before .before .before .before .before .if2 .left, sym (c .before .before .before .before .before .before .before .before .before .before .is3 .ensures) ∙ c .before .before .before .before .before .before .before .before .before .if3 .left, sym (c .before .before .before .before .before .before .before .is4 .ensures) ∙ c .before .before .before .before .before .before .if4 .left, sym (c .before .before .before .before .is5 .ensures) ∙ c .before .before .before .if5 .left, sym (c .before .is6 .ensures) ∙ c .if6 .left)
+returns-7 c = simp (sym (c .before .before .before .before .before .before .before .before .before .before .before .before .before .before .before .before .before .before .before .is .ensures) ∙ c .before .before .before .before .before .before .before .before .before .before .before .before .before .before .before .before .before .before .if1 .left, sym (c .before .before .before .before .before .before .before .before .before .before .before .before .before .before .before .before .is2 .ensures) ∙ c .before .before .before .before .before .before .before .before .before .before .before .before .before .before .before .if2 .left, sym (c .before .before .before .before .before .before .before .before .before .before .before .before .before .is3 .ensures) ∙ c .before .before .before .before .before .before .before .before .before .before .before .before .if3 .left, sym (c .before .before .before .before .before .before .before .before .before .before .is4 .ensures) ∙ c .before .before .before .before .before .before .before .before .before .if4 .left, sym (c .before .before .before .before .before .before .before .is5 .ensures) ∙ c .before .before .before .before .before .before .if5 .left, sym (c .before .before .before .before .is6 .ensures) ∙ c .before .before .before .if6 .left, sym (c .before .is7 .ensures) ∙ c .if7 .taken)
+
+returns-8 : tie.Need-returns-8
+unfolding otherName
+returns-8 c = simp (sym (c .before .before .before .before .before .before .before .before .before .before .before .before .before .before .before .before .before .before .before .is .ensures) ∙ c .before .before .before .before .before .before .before .before .before .before .before .before .before .before .before .before .before .before .if1 .left, sym (c .before .before .before .before .before .before .before .before .before .before .before .before .before .before .before .before .is2 .ensures) ∙ c .before .before .before .before .before .before .before .before .before .before .before .before .before .before .before .if2 .left, sym (c .before .before .before .before .before .before .before .before .before .before .before .before .before .is3 .ensures) ∙ c .before .before .before .before .before .before .before .before .before .before .before .before .if3 .left, sym (c .before .before .before .before .before .before .before .before .before .before .is4 .ensures) ∙ c .before .before .before .before .before .before .before .before .before .if4 .left, sym (c .before .before .before .before .before .before .before .is5 .ensures) ∙ c .before .before .before .before .before .before .if5 .left, sym (c .before .before .before .before .is6 .ensures) ∙ c .before .before .before .if6 .left, sym (c .before .is7 .ensures) ∙ c .if7 .left)
 
 pub other-name-spec : {M : Type 1} → statement M
 other-name-spec =
     tie.close
-    (tie.spec (λ c. search needs) (λ c κs. search needs) returns (λ c. search needs) (λ c κs. search needs) returns-2 (λ c. search needs) (λ c κs. search needs) returns-3 (λ c. search needs) (λ c κs. search needs) returns-4 (λ c. search needs) (λ c κs. search needs) returns-5 (λ c. search needs) (λ c κs. search needs) returns-6 returns-7)
+    (tie.spec (λ c. search needs) (λ c κs. search needs) returns (λ c. search needs) (λ c κs. search needs) returns-2 (λ c. search needs) (λ c κs. search needs) returns-3 (λ c. search needs) (λ c κs. search needs) returns-4 (λ c. search needs) (λ c κs. search needs) returns-5 (λ c. search needs) (λ c κs. search needs) returns-6 (λ c. search needs) (λ c κs. search needs) returns-7 returns-8)

@@ -45,9 +45,12 @@ returns-12 : tie.Need-returns-12
 returns-12 c = (c .buffer-line .ensures .0, c .buffer-line .ensures .1 ∙ ap (λ (n : Name). parseWords n (drop (c .before .before .before .before .before .args .from) (c .before .before .before .before .before .args .s .now))) (sym (c .before .before .enum-told11 .given .1)))
 
 returns-13 : tie.Need-returns-13
-returns-13 c = (tt, ap (λ (n : Name). parseWords n (drop (c .before .before .before .args .from) (c .before .before .before .args .s .now))) (sym (c .enum-told12 .given .1)))
+returns-13 c = (c .selection-line .ensures .0, c .selection-line .ensures .1 ∙ ap (λ (n : Name). parseWords n (drop (c .before .before .before .before .before .args .from) (c .before .before .before .before .before .args .s .now))) (sym (c .before .before .enum-told12 .given .1)))
+
+returns-14 : tie.Need-returns-14
+returns-14 c = (tt, ap (λ (n : Name). parseWords n (drop (c .before .before .before .args .from) (c .before .before .before .args .s .now))) (sym (c .enum-told13 .given .1)))
 
 pub read-words-spec : {M : Type 1} → statement M
 read-words-spec =
     tie.close
-    (tie.spec (λ c. search needs) (λ c κs. search needs) (λ c. search needs) (λ c κs. search needs) (λ c. search needs) (λ c κs. search needs) (λ c. search needs) (λ c κs. search needs) (λ c. search needs) (λ c κs. search needs) (λ c. search needs) (λ c κs. search needs) (λ c. search needs) (λ c κs. search needs) (λ c. search needs) (λ c. search needs) (λ c κs. search needs) (λ c. search needs) (λ c κs. search needs) (λ c. search needs) (λ c κs. search needs) (λ c. search needs) (λ c κs. search needs) (λ c. search needs) (λ c. search needs) returns (λ c. search needs) returns-2 (λ c. search needs) returns-3 (λ c. search needs) returns-4 (λ c. search needs) returns-5 (λ c. search needs) returns-6 (λ c. search needs) returns-7 returns-8 (λ c. search needs) returns-9 (λ c. search needs) returns-10 (λ c. search needs) returns-11 (λ c. search needs) returns-12 returns-13)
+    (tie.spec (λ c. search needs) (λ c κs. search needs) (λ c. search needs) (λ c κs. search needs) (λ c. search needs) (λ c κs. search needs) (λ c. search needs) (λ c κs. search needs) (λ c. search needs) (λ c κs. search needs) (λ c. search needs) (λ c κs. search needs) (λ c. search needs) (λ c κs. search needs) (λ c. search needs) (λ c. search needs) (λ c κs. search needs) (λ c. search needs) (λ c κs. search needs) (λ c. search needs) (λ c κs. search needs) (λ c. search needs) (λ c κs. search needs) (λ c. search needs) (λ c κs. search needs) (λ c. search needs) (λ c. search needs) returns (λ c. search needs) returns-2 (λ c. search needs) returns-3 (λ c. search needs) returns-4 (λ c. search needs) returns-5 (λ c. search needs) returns-6 (λ c. search needs) returns-7 returns-8 (λ c. search needs) returns-9 (λ c. search needs) returns-10 (λ c. search needs) returns-11 (λ c. search needs) returns-12 (λ c. search needs) returns-13 returns-14)

@@ -62,8 +62,9 @@ impl Author {
             return self.ask(profile);
         };
         let now = self.time(profile);
-        let option = self.again_option(&held, profile);
-        self.call(format!("ask {} {now} {}", first.client, hex(&option)));
+        let (option, carried) = (self.again_option(&held, profile), self.carried());
+        let client = first.client;
+        self.call(format!("ask {client} {now} {}{carried}", hex(&option)));
     }
 
     /// Marks one of the lines that are held, or takes the mark away.

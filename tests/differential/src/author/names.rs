@@ -114,7 +114,8 @@ impl Author {
             pieces = vec![crate::bytes::request(0, self.one_of(&[1, 7, 8]))];
         }
         self.put_names(&mut pieces);
-        let now = self.time(profile);
-        self.call(format!("ask {client} {now} {}", hex(&option(0, &pieces))));
+        let (now, carried) = (self.time(profile), self.carried());
+        let option = hex(&option(0, &pieces));
+        self.call(format!("ask {client} {now} {option}{carried}"));
     }
 }

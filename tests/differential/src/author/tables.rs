@@ -161,6 +161,9 @@ impl Author {
 
     /// Opens or loads a table, so that the calls after it have one.
     pub fn start(&mut self, profile: &Profile) {
+        if self.numbers.once_in(3) {
+            self.select(true);
+        }
         if self.numbers.below(profile.leases + 20) < 20 {
             let pools = self.good_pools(profile);
             let start = self.start_time();

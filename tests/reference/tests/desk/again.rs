@@ -490,7 +490,7 @@ fn rows_1_to_8_come_before() {
     // 15: a sheet that does not match.
     let mut table = start.clone();
     let mut sheet = untold_sheet(&Table::zero());
-    let answer = calls::ask(&mut table, &mut sheet, 7, 1001, &good, &mut [0; 257]);
+    let answer = calls::ask(&mut table, &mut sheet, 7, 1001, &good, None, &mut [0; 257]);
     assert_eq!(answer, Err(no(15, 0)));
     assert_eq!(table, start);
 }
@@ -509,7 +509,7 @@ fn figures_and_place_of_a_re_given_line_stay() {
     put_rows(&[told(A, 10), told(B, 20), told(C, 30)], &mut sheet);
     let mut call = |table: &mut Table, client: u32, now: u32, lengths: &[u8]| {
         let bytes = asking(lengths);
-        let answer = calls::ask(table, &mut sheet, client, now, &bytes, &mut [0; 257]);
+        let answer = calls::ask(table, &mut sheet, client, now, &bytes, None, &mut [0; 257]);
         let rows = rows_of(&sheet).unwrap();
         assert!(answer.is_ok() && matches(&rows, table));
         rows.into_iter().take(4).collect::<Vec<Row>>()

@@ -132,7 +132,7 @@ pub fn ask_into(
     buffer: &mut [u8],
 ) -> Answered {
     with_sheet(t, |t, sheet| {
-        calls::ask(t, sheet, client, now, option, buffer)
+        calls::ask(t, sheet, client, now, option, None, buffer)
     })
 }
 
@@ -144,7 +144,7 @@ pub fn take_into(
     buffer: &mut [u8],
 ) -> Answered {
     with_sheet(t, |t, sheet| {
-        calls::take(t, sheet, client, now, option, buffer)
+        calls::take(t, sheet, client, now, option, None, buffer)
     })
 }
 

@@ -147,6 +147,27 @@ fn words_lines_and_errors() {
         (b"list 7 4294967296 -", "error line 1\n"),
         (b"list 7 0 DcFf", "refused 5\n"),
         (b"list 7 0 gg", "error line 1\n"),
+        (b"selection on", "ok\n"),
+        (b"  selection   off \r\n", "ok\n"),
+        (b"selection", "error line 1\n"),
+        (b"selection 1", "error line 1\n"),
+        (b"selection On", "error line 1\n"),
+        (b"selection on on", "error line 1\n"),
+        (b"selection on off", "error line 1\n"),
+        (b"selections on", "error line 1\n"),
+        (b"ask 7 0 - -", "refused 5\n"),
+        (b"ask 7 0 - 76040a000100", "refused 5\n"),
+        (b"ask 7 0 - 7", "error line 1\n"),
+        (b"ask 7 0 - 10.0.1.0", "error line 1\n"),
+        (b"ask 7 0 - - -", "error line 1\n"),
+        (b"ask 7 0", "error line 1\n"),
+        (b"take 7 0 - 76", "refused 5\n"),
+        (b"take 7 0 - 0x76", "error line 1\n"),
+        (b"take 7 0 - 76 04", "error line 1\n"),
+        (b"list 7 0 - -", "error line 1\n"),
+        (b"list 7 0 - 76040a000100", "error line 1\n"),
+        (b"return 7 0 - 76040a000100", "error line 1\n"),
+        (b"mark 0 10.0.0.0/8 1 76040a000100", "error line 1\n"),
     ] {
         assert_eq!(answers(line), answer, "{:?}", String::from_utf8_lossy(line));
     }
@@ -320,6 +341,54 @@ fn counts_become_what_is_given() {
             "ok\nok\nok\nok count=1\nok\n{refused}error line 16\nerror line 17\nrefused 5\nok\n\
              counts 10.0.1.0/24 24=1\nok\nok\nok\nok count=1\nok\nok\nok count=1\n"
         )
+    );
+}
+
+#[test]
+fn selection_is_the_consoles_own() {
+    let script = "selection on\n\
+                  open 3600 28 1000 10.0.1.0/24 10.0.2.0/24\n\
+                  ask 7 1000 dc05000102001a 76040a0002ff\n\
+                  buffer 263\n\
+                  ask 7 1000 dc05000102001a 76040a0002ff\n\
+                  ask 7 1000 dc05000102001a -\n\
+                  ask 7 1000 dc05000102001a 76040a000300\n\
+                  ask 7 1000 dc05000102001a\n\
+                  selection bad\n\
+                  take 7 1000 dc0b000208000a0002001a0000 76040A000100\n\
+                  take 7 1000 dc0b000208000a0002001a0000 76040A000200\n\
+                  selection off\n\
+                  ask 7 1000 dc05000102001a 7\n\
+                  ask 8 1000 dc05000102001a -\n\
+                  take 7 1000 dc0b000208000a0002001a0000 76040a000100\n\
+                  open 0 0 0\n\
+                  selection on\n\
+                  load -\n\
+                  ask 9 1000 dc05000102001a 76040a000200\n\
+                  open 3600 28 1000 10.0.1.0/24 10.0.2.0/24\n\
+                  ask 9 1000 dc05000102001a 76040a000200\n";
+    assert_eq!(
+        answers(script.as_bytes()),
+        "ok\nok\n\
+         refused 1\n\
+         ok\n\
+         ok bytes=19 count=1 dc0b000208000a0002001a000076040a0002ff\n\
+         refused 6\n\
+         refused 19\n\
+         ok bytes=13 count=1 dc0b000208000a0002001a0000\n\
+         error line 9\n\
+         refused 11\n\
+         ok bytes=19 count=1 dc0b000208000a0002001a000076040a000200\n\
+         ok\n\
+         error line 13\n\
+         ok bytes=13 count=1 dc0b000208000a0002401a0000\n\
+         ok bytes=13 count=1 dc0b000208000a0002001a0000\n\
+         refused 12\n\
+         ok\n\
+         refused 5\n\
+         ok bytes=19 count=1 dc0b000208000a0002801a000076040a000200\n\
+         ok\n\
+         ok bytes=19 count=1 dc0b000208000a0002001a000076040a000200\n"
     );
 }
 

@@ -463,7 +463,7 @@ fn the_row_of_5_is_before_15_and_after_1() {
     let option = asking(&[30]);
     let short = &mut [0; 256][..];
     let mut number = |sheet: &mut [u8], client, now, option: &[u8], buffer: &mut [u8]| {
-        let answer = calls::ask(&mut table, sheet, client, now, option, buffer);
+        let answer = calls::ask(&mut table, sheet, client, now, option, None, buffer);
         answer.unwrap_err().number
     };
     assert_eq!(number(bad_sheet, 0, 999, &[], short), 1);

@@ -62,12 +62,14 @@ impl Desk {
 
     fn ask(&mut self, client: u32, now: u32, lengths: &[u8]) -> Result<usize, u8> {
         let bytes = asking(lengths);
-        self.call(|table, sheet| calls::ask(table, sheet, client, now, &bytes, &mut [0; 257]))
+        self.call(|table, sheet| calls::ask(table, sheet, client, now, &bytes, None, &mut [0; 257]))
     }
 
     fn take(&mut self, client: u32, now: u32, told: &[(&str, &[u16])]) -> Result<usize, u8> {
         let bytes = option_telling(told);
-        self.call(|table, sheet| calls::take(table, sheet, client, now, &bytes, &mut [0; 257]))
+        self.call(|table, sheet| {
+            calls::take(table, sheet, client, now, &bytes, None, &mut [0; 257])
+        })
     }
 
     fn release(&mut self, client: u32, now: u32, told: &[(&str, &[u16])]) -> Result<usize, u8> {
@@ -165,7 +167,7 @@ fn untold_and_missing_figures_keep_what_was_told() {
 fn figures_past_the_third_are_stepped_over() {
     let mut desk = Desk::three();
     let bytes = hex("DC 13 00 02 10 00 0A 00 01 00 1A 00 08 00 0A FF FF 00 02 00 63");
-    let answer = desk.call(|t, sheet| calls::take(t, sheet, 7, 1001, &bytes, &mut [0; 257]));
+    let answer = desk.call(|t, sheet| calls::take(t, sheet, 7, 1001, &bytes, None, &mut [0; 257]));
     assert_eq!(answer, Ok(1));
     assert_eq!(desk.figures(A), [10, 2, 2]);
 }
@@ -189,7 +191,7 @@ fn a_later_entry_wins_figure_by_figure() {
     bytes[5] = 3;
     bytes.extend(&other[3..]);
     bytes[1] = (bytes.len() - 2) as u8;
-    let answer = desk.call(|t, sheet| calls::take(t, sheet, 7, 1001, &bytes, &mut [0; 257]));
+    let answer = desk.call(|t, sheet| calls::take(t, sheet, 7, 1001, &bytes, None, &mut [0; 257]));
     assert_eq!(answer, Ok(4));
     assert_eq!(desk.figures(A), [100, 102, 30]);
     assert_eq!(desk.figures(B), [201, 202, 6]);
@@ -229,7 +231,7 @@ fn a_new_line_starts_untold() {
     bytes.extend(&option_telling(&[(A, &[1, 2, 3])])[3..]);
     bytes[1] = (bytes.len() - 2) as u8;
     assert_eq!(desk.release(7, 1000, &[(A, &[])]), Ok(1));
-    let answer = desk.call(|t, sheet| calls::ask(t, sheet, 7, 1000, &bytes, &mut [0; 257]));
+    let answer = desk.call(|t, sheet| calls::ask(t, sheet, 7, 1000, &bytes, None, &mut [0; 257]));
     assert_eq!(answer, Ok(1));
     assert_eq!(desk.figures("10.0.1.0/27"), NEVER);
 }
@@ -392,7 +394,7 @@ fn the_reply_of_a_take_has_no_figures() {
     let mut buffer = [0x5a; 257];
     let (mut table, mut sheet) = (desk.table.clone(), desk.sheet.clone());
     let bytes = option_telling(&[(A, &[1, 2, 3])]);
-    let answer = calls::take(&mut table, &mut sheet, 7, 1001, &bytes, &mut buffer).unwrap();
+    let answer = calls::take(&mut table, &mut sheet, 7, 1001, &bytes, None, &mut buffer).unwrap();
     assert_eq!((answer.bytes, answer.count), (13, 1));
     assert_eq!(
         buffer[..13],
@@ -546,8 +548,16 @@ fn figures_over_random_histories() {
             let call = |table: &mut Table, sheet: &mut [u8]| {
                 let buffer = &mut [0; 257];
                 match kind {
-                    0 => calls::ask(table, sheet, 1 + now % 3, now, &asking(&lengths), buffer),
-                    1 => calls::take(table, sheet, client, now, &bytes, buffer),
+                    0 => calls::ask(
+                        table,
+                        sheet,
+                        1 + now % 3,
+                        now,
+                        &asking(&lengths),
+                        None,
+                        buffer,
+                    ),
+                    1 => calls::take(table, sheet, client, now, &bytes, None, buffer),
                     2 => calls::release(table, sheet, client, now, &bytes),
                     _ => calls::mark(table, sheet, now, told[0].0, d),
                 }
@@ -652,7 +662,8 @@ fn the_renewal_of_rfc_6656() {
         panic!()
     };
     assert_eq!(information.entries[0].figures, [10, 7, 2]);
-    let answer = desk.call(|t, sheet| calls::take(t, sheet, 7, 2000, &renewal, &mut [0; 257]));
+    let answer =
+        desk.call(|t, sheet| calls::take(t, sheet, 7, 2000, &renewal, None, &mut [0; 257]));
     assert_eq!(answer, Ok(1));
     assert_eq!(desk.figures("10.0.2.0/24"), [10, 7, 2]);
 }

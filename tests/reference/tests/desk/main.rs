@@ -15,4 +15,5 @@ mod options;
 mod packing;
 mod refusals;
 mod rfc6656;
+mod selection;
 mod writing;

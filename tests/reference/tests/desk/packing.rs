@@ -282,7 +282,7 @@ fn whole_free_blocks_are_those_of_the_definition() {
                 .collect();
             fitting.sort_by_key(|block| (block.size(), block.network));
             let chosen = fitting.first().map(|block| prefix(block.network, length));
-            assert_eq!(table.choose(NOW, length), chosen);
+            assert_eq!(table.choose(table.used_pools(), NOW, length), chosen);
         }
     }
 }

@@ -191,7 +191,14 @@ fn ask_rows_in_every_combination() {
         };
         let before = case.spoil(table_with(&["10.0.0.0/22"], 1000, &leases));
         let bytes = bad_option(case.option, &good, &hex("01 02 02 00"));
-        try_case(case, &before, &bytes, calls::ask);
+        try_case(
+            case,
+            &before,
+            &bytes,
+            |t, sheet, client, now, bytes, buffer| {
+                calls::ask(t, sheet, client, now, bytes, None, buffer)
+            },
+        );
     }
 }
 
@@ -201,7 +208,14 @@ fn take_rows_in_every_combination() {
         let at = case.named("10.0.0.128/25");
         let before = case.one_lease(State::Offered);
         let bytes = bad_option(case.option, &entries(&[at]), &hex("01 02 00 18"));
-        try_case(case, &before, &bytes, calls::take);
+        try_case(
+            case,
+            &before,
+            &bytes,
+            |t, sheet, client, now, bytes, buffer| {
+                calls::take(t, sheet, client, now, bytes, None, buffer)
+            },
+        );
     }
 }
 

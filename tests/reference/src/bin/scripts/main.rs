@@ -7,6 +7,7 @@ mod counts;
 mod faults;
 mod figures;
 mod names;
+mod selection;
 mod writing;
 
 use std::fs;
@@ -87,6 +88,16 @@ fn main() -> io::Result<()> {
         ("names-full-256-leases", names::full()),
         ("random-calls-names", names::random_calls()),
         ("console-names", names::console()),
+        ("selection-ends-of-roots", selection::ends()),
+        ("selection-malformed", selection::malformed()),
+        ("selection-buffers", selection::buffers()),
+        ("selection-ground", selection::ground()),
+        ("selection-full-256-leases", selection::full()),
+        ("selection-held-elsewhere", selection::held_elsewhere()),
+        ("selection-takes", selection::takes()),
+        ("selection-numbers", selection::numbers()),
+        ("random-calls-selection", selection::random_calls()),
+        ("console-selection", selection::console()),
         ("sheet-names", names::sheet_names()),
         ("sheet-names-every-octet", names::sheet_every_octet()),
         ("sheet-names-full-256-leases", names::sheet_full()),
