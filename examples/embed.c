@@ -185,7 +185,7 @@ static int put_in_place(struct server *s, int first)
 static int write_book(struct server *s, int first)
 {
     struct flockdrift_answer a =
-        flockdrift_book_save(&s->book, FLOCKDRIFT_SECOND_FORM, s->saved, sizeof s->saved);
+        flockdrift_book_save(&s->book, FLOCKDRIFT_SECOND_FORM, 0, s->saved, sizeof s->saved);
 
     if (a.number != 0)
         return complain_refused(s, a);

@@ -24,8 +24,8 @@
  *   null, nor are counts or a book. What a call writes overlaps no other argument.
  * - Nothing is kept between two calls: no pointer, no allocation, no global. Any number of threads may call at once,
  *   each with buffers of its own; two calls on one book need a lock around them, unless both only read it (list, save,
- *   sheet, check, whole, head, pool, lease, figures). A call takes up to 18 KiB of stack (measured on x86-64; a proof
- *   says nothing of the stack).
+ *   sheet, check, whole, head, pool, lease, figures). A sheet takes up to 51 KiB of stack, an
+ *   ask up to 10, every other call less than 2 (measured on x86-64; a proof says nothing of the stack).
  *
  * Networks are IPv4 addresses as numbers, 10.0.1.0 being 0x0a000100, and lengths are prefix lengths. Times are seconds
  * of the server's clock, which does not run backwards. A client is a number that the server gives it, not 0. Options
@@ -46,7 +46,7 @@
  * with libflockdrift.a, which `rt staticlib flockdrift` makes in target/staticlib.
  *
  * THE IMAGE is records, one after another with nothing between or after them: one head, then 1 to 8 pools, then up to
- * 256 leases, pools and leases each ascending by network. All numbers are little-endian. It has two forms, and one
+ * 1,024 leases, pools and leases each ascending by network. All numbers are little-endian. It has two forms, and one
  * table has one image in each.
  *
  * A record is its length (2 bytes, which count what follows them), its kind (2 bytes) and its fields. The second form:
@@ -67,13 +67,16 @@
  * book's image is never of the first. The first is for files: flockdrift_load and flockdrift_sheet read both, a lease of
  * the first getting an empty name, and flockdrift_save writes either, the first exactly if no lease has a name.
  *
+ * A desk of a version before 0.16 loads no more than 256 leases, in either form. What is saved for one is the same image;
+ * flockdrift_save, told so, refuses a table of more leases with 20.
+ *
  * A lease's name is that of the ask that made it, for an operator to read; it is in no reply. It stays with the lease,
  * and goes with it.
  *
  * flockdrift_head, flockdrift_pool and flockdrift_lease answer the fields as numbers, so that a server need not read
  * them itself.
  *
- * THE FIGURES SHEET is 256 rows of 11 bytes, one for each place of a lease: first those of the leases, in their order,
+ * THE FIGURES SHEET is 1,024 rows of 11 bytes, one for each place of a lease: first those of the leases, in their order,
  * then those of the places that have none. All numbers are little-endian:
  *
  *     network 4, prefix length 1, high water 2, in use 2, unusable 2
@@ -108,24 +111,28 @@ extern "C" {
 #endif
 
 /* Of this header and of the library that belongs to it. */
-#define FLOCKDRIFT_VERSION "0.15.0"
+#define FLOCKDRIFT_VERSION "0.16.0"
 
 /*
- * The image of a full table: 8 pools and 256 leases. No image is longer, and a book's buffer must not be smaller. After
+ * The image of a full table: 8 pools and 1,024 leases. No image is longer, and a book's buffer must not be smaller. After
  * open and load the rest of a buffer of this size is zeros, and every other call that accepts zeroes what the new image
  * leaves of the old one: of a removed lease, or of an older table, nothing stays behind. No call writes past this size.
  */
-#define FLOCKDRIFT_IMAGE_CAPACITY 11349
+#define FLOCKDRIFT_IMAGE_CAPACITY 45141
 
 /* The same in the first form: a buffer of this size holds what flockdrift_save writes in that form. */
-#define FLOCKDRIFT_FIRST_FORM_CAPACITY 4949
+#define FLOCKDRIFT_FIRST_FORM_CAPACITY 19541
+
+/* A table has at most so many leases, and one that is saved for an older desk so many. */
+#define FLOCKDRIFT_LEASES 1024
+#define FLOCKDRIFT_OLDER_LEASES 256
 
 /* A name has at most so many octets. */
 #define FLOCKDRIFT_NAME_CAPACITY 24
 
-/* A figures sheet has exactly this size: so many bytes in a row, and 256 rows. */
+/* A figures sheet has exactly this size: so many bytes in a row, and 1,024 rows. */
 #define FLOCKDRIFT_FIGURES_ROW 11
-#define FLOCKDRIFT_FIGURES_CAPACITY 2816
+#define FLOCKDRIFT_FIGURES_CAPACITY 11264
 
 /* The counts: a row for each of so many pools, of so many lengths, the first of which is 8. */
 #define FLOCKDRIFT_COUNTS_ROWS 8
@@ -142,11 +149,11 @@ extern "C" {
 #define FLOCKDRIFT_SELECTION_CAPACITY 6
 
 /*
- * A text buffer of this size holds every sheet; most are far shorter. It is a first line of 26 bytes, 256 leases of at
- * most 90 (a name of 24 octets makes 30 of them) and 5,640 free prefixes of at most 24: each pool has one, and each lease
+ * A text buffer of this size holds every sheet; most are far shorter. It is a first line of 28 bytes, 1,024 leases of at
+ * most 90 (a name of 24 octets makes 30 of them) and 22,536 free prefixes of at most 24: each pool has one, and each lease
  * at most 22 more, one for each length from 9 to 30.
  */
-#define FLOCKDRIFT_TEXT_CAPACITY 158426
+#define FLOCKDRIFT_TEXT_CAPACITY 633052
 
 /*
  * The answer of every call. After a refusal all but `number` and `place` are 0, and nothing that was lent has changed:
@@ -163,7 +170,7 @@ struct flockdrift_answer {
 
 /*
  * Why a call is refused. If several apply, the answer is the first in this order: 1, 5, 15, 2, 3, 4, 6, 7 and 16, 8, 17,
- * 19, 9, 10, 11, 12, 18, 14. 6 is one row for both options: a bad option 118 comes before a bad suboption of option 220.
+ * 19, 9, 10, 11, 12, 20, 18, 14. 6 is one row for both options: a bad option 118 comes before a bad suboption of option 220.
  * 7 and 16 stand in one row: the first bad suboption decides which, and of one that is bad in both ways the framing, all
  * of which is looked at before any field.
  */
@@ -184,7 +191,7 @@ enum {
                                          past the end or one that the suboption cannot have, an entry cut short, a
                                          figure length odd or past the end; `place` says which suboption */
     FLOCKDRIFT_WRONG_SUBOPTIONS = 8,  /* requests or entries are not those that this call takes */
-    FLOCKDRIFT_TABLE_FULL = 9,        /* ask: 256 leases are present, and nothing is offered again */
+    FLOCKDRIFT_TABLE_FULL = 9,        /* ask: 1,024 leases are present, and nothing is offered again */
     FLOCKDRIFT_NO_SPACE = 10,         /* ask: no free prefix of the length, with an option 118 none in its pool, and
                                          nothing is offered again */
     FLOCKDRIFT_NOT_FOUND = 11,        /* take, list, release, mark: no such lease, in a take with an option 118 none in
@@ -201,7 +208,9 @@ enum {
     FLOCKDRIFT_NAME_TOO_LONG = 17,    /* ask: the option's first name has more than FLOCKDRIFT_NAME_CAPACITY octets,
                                          whatever would be offered */
     FLOCKDRIFT_NAMES_LOST = 18,       /* save in the first form: a lease has a name */
-    FLOCKDRIFT_NOT_IN_A_POOL = 19     /* ask, take: no pool contains the address of option 118 */
+    FLOCKDRIFT_NOT_IN_A_POOL = 19,    /* ask, take: no pool contains the address of option 118 */
+    FLOCKDRIFT_TOO_MANY_LEASES = 20   /* save for an older desk, in either form: the table has more than
+                                         FLOCKDRIFT_OLDER_LEASES, those that have ended too */
 };
 
 /* A number in words, for a log; never null. */
@@ -227,6 +236,7 @@ static inline const char *flockdrift_text(uint32_t number)
     case FLOCKDRIFT_NAME_TOO_LONG: return "the name is too long";
     case FLOCKDRIFT_NAMES_LOST: return "names would be lost in the first form";
     case FLOCKDRIFT_NOT_IN_A_POOL: return "no pool contains the address of option 118";
+    case FLOCKDRIFT_TOO_MANY_LEASES: return "too many leases for an older desk";
     default: return "no number of this library";
     }
 }
@@ -319,11 +329,13 @@ enum { FLOCKDRIFT_FIRST_FORM = 1, FLOCKDRIFT_SECOND_FORM = 2 };
 
 /*
  * Checks the image and writes the table into a buffer, in the first form where `form` is 1 and in the second where it is
- * ANY other number; from there it can be written to a file while other calls go on. Changes nothing else. Numbers: 5, 18
- * (the first form only), 14.
+ * ANY other number; from there it can be written to a file while other calls go on. Where `older` is not 0 it is saved
+ * for an older desk, one that loads no more than FLOCKDRIFT_OLDER_LEASES: the bytes are the same, and a table with more
+ * leases is refused. A lease that has ended counts until a call removes it. Changes nothing else. Numbers: 5, 20 (for an
+ * older desk only), 18 (the first form only), 14.
  */
 struct flockdrift_answer flockdrift_save(const uint8_t *image, size_t capacity, size_t image_bytes,
-                                         const uint16_t *counts, uint32_t form, uint8_t *buffer,
+                                         const uint16_t *counts, uint32_t form, uint32_t older, uint8_t *buffer,
                                          size_t buffer_capacity);
 
 /*
@@ -358,7 +370,7 @@ struct flockdrift_head_answer {
     uint32_t default_length; /* of a request that suggests none */
     uint32_t last_time;      /* of the last accepted call that changed the table */
     uint32_t pools;          /* how many there are, 1 to 8 */
-    uint32_t leases;         /* how many there are, up to 256 */
+    uint32_t leases;         /* how many there are, up to FLOCKDRIFT_LEASES */
 };
 
 /* The head of the table, and how many pools and leases it has. Numbers: 5. */
@@ -484,9 +496,9 @@ static inline struct flockdrift_answer flockdrift_book_load(struct flockdrift_bo
 }
 
 static inline struct flockdrift_answer flockdrift_book_save(const struct flockdrift_book *book, uint32_t form,
-                                                            uint8_t *buffer, size_t buffer_capacity)
+                                                            uint32_t older, uint8_t *buffer, size_t buffer_capacity)
 {
-    return flockdrift_save(book->image, sizeof book->image, book->bytes, book->counts[0], form, buffer,
+    return flockdrift_save(book->image, sizeof book->image, book->bytes, book->counts[0], form, older, buffer,
                            buffer_capacity);
 }
 

@@ -2,16 +2,20 @@
 //! its caller, is in the header. The crate rust/flockdrift is a safe wrapper.
 
 /// The image of a full table, in the second form.
-pub const IMAGE_CAPACITY: usize = 11349;
+pub const IMAGE_CAPACITY: usize = 45141;
 /// The image of a full table in the first form.
-pub const FIRST_FORM_CAPACITY: usize = 4949;
+pub const FIRST_FORM_CAPACITY: usize = 19541;
+/// A table has at most so many leases.
+pub const LEASES: usize = 1024;
+/// One that is saved for an older desk has at most so many.
+pub const OLDER_LEASES: usize = 256;
 /// The forms that `flockdrift_save` writes: every number but that of the first is the second.
 pub const FIRST_FORM: u32 = 1;
 pub const SECOND_FORM: u32 = 2;
 /// A name has at most so many octets.
 pub const NAME_CAPACITY: usize = 24;
 /// A figures sheet has exactly this size.
-pub const FIGURES_CAPACITY: usize = 2816;
+pub const FIGURES_CAPACITY: usize = 11264;
 /// The counts have a row for each of so many pools.
 pub const COUNTS_ROWS: usize = 8;
 /// A row of the counts has so many lengths, from 8 on.
@@ -23,7 +27,7 @@ pub const SELECTED_REPLY_CAPACITY: usize = 263;
 /// An option 118 has this size.
 pub const SELECTION_CAPACITY: usize = 6;
 /// A text buffer of this size holds every sheet.
-pub const TEXT_CAPACITY: usize = 158426;
+pub const TEXT_CAPACITY: usize = 633052;
 
 /// The answer of every call: number and place of a refusal, or the counts of an accepted call.
 #[repr(C)]
@@ -183,6 +187,7 @@ unsafe extern "C" {
         image_bytes: usize,
         counts: *const u16,
         form: u32,
+        older: u32,
         buffer: *mut u8,
         buffer_capacity: usize,
     ) -> Answer;

@@ -1,9 +1,9 @@
 //! The interface that the proved library, the peer and the reference share: what include/flockdrift.h says, with slices.
 
 pub use crate::flockdrift::{
-    Answer, FIGURES_CAPACITY as FIGURES, FIRST_FORM, FIRST_FORM_CAPACITY as FIRST_FULL, IMAGE_CAPACITY as FULL,
-    NAME_CAPACITY as NAME, REPLY_CAPACITY as REPLY, SECOND_FORM, SELECTED_REPLY_CAPACITY as SELECTED_REPLY,
-    SELECTION_CAPACITY as SELECTION, TEXT_CAPACITY as SHEET,
+    Answer, FIGURES_CAPACITY as FIGURES, FIRST_FORM, FIRST_FORM_CAPACITY as FIRST_FULL, IMAGE_CAPACITY as FULL, LEASES,
+    NAME_CAPACITY as NAME, OLDER_LEASES, REPLY_CAPACITY as REPLY, SECOND_FORM,
+    SELECTED_REPLY_CAPACITY as SELECTED_REPLY, SELECTION_CAPACITY as SELECTION, TEXT_CAPACITY as SHEET,
 };
 
 impl Answer {
@@ -46,8 +46,8 @@ pub type Call = fn(Lent, u32, u32, &[u8]) -> Answer;
 pub type Mark = fn(Lent, u32, u32, u32, u32) -> Answer;
 /// What is lent, saved.
 pub type Load = fn(Lent, &[u8]) -> Answer;
-/// Image, image bytes, counts, form, buffer.
-pub type Save = fn(&[u8], usize, &Counts, u32, &mut [u8]) -> Answer;
+/// Image, image bytes, counts, form, whether it is for an older desk, buffer.
+pub type Save = fn(&[u8], usize, &Counts, u32, u32, &mut [u8]) -> Answer;
 /// Image, image bytes, counts, length.
 pub type Whole = fn(&[u8], usize, &Counts, u32) -> Answer;
 /// Saved bytes, which have no counts, text.

@@ -1,13 +1,13 @@
 //! Images, figures sheets and counts made by hand, sound or not.
 
-use crate::desk::{Counts, LENGTHS, NAME, SHORTEST};
+use crate::desk::{Counts, LEASES, LENGTHS, NAME, SHORTEST};
 
 /// A lease's record in the first form, and in the second.
 pub const FIRST_LEASE: usize = 19;
 pub const LEASE: usize = FIRST_LEASE + 1 + NAME;
 /// A row of a figures sheet.
 pub const ROW: usize = 11;
-pub const ROWS: usize = 256;
+pub const ROWS: usize = LEASES;
 /// The row of a place without a lease.
 pub const EMPTY_ROW: [u8; ROW] = [0, 0, 0, 0, 0, 0xff, 0xff, 0xff, 0xff, 0xff, 0xff];
 

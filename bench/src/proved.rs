@@ -145,9 +145,11 @@ fn load(lent: Lent, saved: &[u8]) -> Answer {
     }
 }
 
-fn save(image: &[u8], bytes: usize, counts: &Counts, form: u32, buffer: &mut [u8]) -> Answer {
+fn save(image: &[u8], bytes: usize, counts: &Counts, form: u32, older: u32, buffer: &mut [u8]) -> Answer {
     let counts = counts.as_flattened().as_ptr();
-    unsafe { flockdrift_save(image.as_ptr(), image.len(), bytes, counts, form, buffer.as_mut_ptr(), buffer.len()) }
+    unsafe {
+        flockdrift_save(image.as_ptr(), image.len(), bytes, counts, form, older, buffer.as_mut_ptr(), buffer.len())
+    }
 }
 
 fn whole(image: &[u8], bytes: usize, counts: &Counts, length: u32) -> Answer {

@@ -2,7 +2,7 @@
 
 use ::reference::calls;
 use ::reference::counts;
-use ::reference::image::{self, Form};
+use ::reference::image::{self, Desk as For, Form};
 use ::reference::prefix::Prefix;
 use ::reference::refusal::{Refusal, refusal};
 use ::reference::sheet::sheet as rows_of;
@@ -43,8 +43,8 @@ fn table_in(image: &[u8], bytes: usize, counts: &Counts) -> Table {
 
 /// Saves the table over an image of `old` bytes, and zeroes what is left of that.
 fn store(table: &Table, image: &mut [u8], old: usize) -> usize {
-    let bytes =
-        image::save(table, Form::Second, image).expect("an accepted call leaves a sound table, and a full one fits");
+    let bytes = image::save(table, Form::Second, For::Own, image)
+        .expect("an accepted call leaves a sound table, and a full one fits");
     if bytes < old {
         image[bytes..old].fill(0);
     }
@@ -121,9 +121,10 @@ fn whole(image: &[u8], bytes: usize, counts: &Counts, length: u32) -> Answer {
     }
 }
 
-fn save(image: &[u8], bytes: usize, counts: &Counts, form: u32, buffer: &mut [u8]) -> Answer {
+fn save(image: &[u8], bytes: usize, counts: &Counts, form: u32, older: u32, buffer: &mut [u8]) -> Answer {
     let form = if form == FIRST_FORM { Form::First } else { Form::Second };
-    match image::save(&table_in(image, bytes, counts), form, buffer) {
+    let desk = if older == 0 { For::Own } else { For::Older };
+    match image::save(&table_in(image, bytes, counts), form, desk, buffer) {
         Ok(written) => Answer::accepted(written, 0),
         Err(refusal) => refused(refusal),
     }

@@ -125,7 +125,7 @@ pub struct Row {
     pub command: &'static str,
     /// As the table shows it: leases before the call.
     pub leases: usize,
-    /// 0, 64 or 256: rows of the same call and shape are compared by this.
+    /// 0, 64, 256 or 1,024: rows of the same call and shape are compared by this.
     pub scale: usize,
     pub shape: Shape,
     /// The number that every case answers with.
@@ -173,11 +173,19 @@ fn load_first(desk: &Desk, case: &Case, buffers: &mut Buffers) -> Answer {
 }
 
 fn save(desk: &Desk, _: &Case, buffers: &mut Buffers) -> Answer {
-    (desk.save)(&buffers.image, buffers.bytes, &buffers.counts, SECOND_FORM, &mut buffers.saved)
+    (desk.save)(&buffers.image, buffers.bytes, &buffers.counts, SECOND_FORM, 0, &mut buffers.saved)
 }
 
 fn save_first(desk: &Desk, _: &Case, buffers: &mut Buffers) -> Answer {
-    (desk.save)(&buffers.image, buffers.bytes, &buffers.counts, FIRST_FORM, &mut buffers.saved)
+    (desk.save)(&buffers.image, buffers.bytes, &buffers.counts, FIRST_FORM, 0, &mut buffers.saved)
+}
+
+fn save_older(desk: &Desk, _: &Case, buffers: &mut Buffers) -> Answer {
+    (desk.save)(&buffers.image, buffers.bytes, &buffers.counts, SECOND_FORM, 1, &mut buffers.saved)
+}
+
+fn save_first_older(desk: &Desk, _: &Case, buffers: &mut Buffers) -> Answer {
+    (desk.save)(&buffers.image, buffers.bytes, &buffers.counts, FIRST_FORM, 1, &mut buffers.saved)
 }
 
 fn whole(desk: &Desk, case: &Case, buffers: &mut Buffers) -> Answer {
@@ -216,15 +224,18 @@ fn table(pools: Vec<(u32, u8)>, leases: Vec<Lease>) -> Table {
     Table { term: 3600, default_length: 28, last: LAST, pools, leases }
 }
 
-fn fragmented_pools() -> Vec<(u32, u8)> {
-    let mut pools: Vec<(u32, u8)> = (0..7).map(|k| (0x0a00_0000 + 2048 * k, 21)).collect();
+/// Seven pools for so many leases, and a large one after them.
+fn fragmented_pools(leases: usize) -> Vec<(u32, u8)> {
+    let length = if leases > 256 { 19 } else { 21 };
+    let mut pools: Vec<(u32, u8)> = (0..7).map(|k| (0x0a00_0000 + (k << (32 - length)), length)).collect();
     pools.push((0x0a01_0000, 16));
     pools
 }
 
-/// As many leases in each pool as in the others; nothing if one of them got too full.
+/// As many leases in each pool as in the others; nothing if one of them got too full, or if one before the last has room for a
+/// length of 20.
 fn fragmented(random: &mut Random, leases: usize) -> Option<Table> {
-    let pools = fragmented_pools();
+    let pools = fragmented_pools(leases);
     let mut found = Vec::new();
     for (k, &(network, length)) in pools.iter().enumerate() {
         let to = network + (1 << (32 - length));
@@ -239,6 +250,9 @@ fn fragmented(random: &mut Random, leases: usize) -> Option<Table> {
             found.push(lease(random, at, length));
             at += size;
         }
+        if length == 19 && to - at >= 1 << 12 {
+            return None;
+        }
     }
     Some(table(pools, found))
 }
@@ -248,10 +262,10 @@ fn packed(random: &mut Random, leases: usize) -> Table {
     table(vec![(0x0a00_0000, 8)], leases)
 }
 
-/// A pool with nothing free: 64 leases, or 255 of which one is twice as large.
+/// A pool with nothing free: 64 leases, or 255 or 1,023 of which one is twice as large.
 fn full(random: &mut Random, leases: usize) -> Table {
     let large = leases % 2;
-    let pool = if large == 0 { 24 } else { 22 };
+    let pool = 30 - (leases + large).ilog2() as u8;
     let mut found: Vec<Lease> = (0..(leases - large) as u32).map(|k| lease(random, 0x0a00_0000 + 4 * k, 30)).collect();
     if large == 1 {
         let at = 0x0a00_0000 + 4 * (leases - large) as u32;
@@ -262,7 +276,7 @@ fn full(random: &mut Random, leases: usize) -> Table {
 
 fn table_of(random: &mut Random, shape: Shape, leases: usize) -> Table {
     match shape {
-        Shape::Empty => table(fragmented_pools(), Vec::new()),
+        Shape::Empty => table(fragmented_pools(0), Vec::new()),
         Shape::Packed => packed(random, leases),
         Shape::Full => full(random, leases),
         Shape::Fragmented => loop {
@@ -508,7 +522,10 @@ pub fn rows(desks: &[&Desk]) -> Vec<Row> {
         }
     };
     let zero = [(Empty, 0, 0)];
-    let some = [(Packed, 64, 64), (Packed, 256, 256), (Fragmented, 64, 64), (Fragmented, 256, 256)];
+    // On 64 leases, and on about four and sixteen times as many: so many less, where the call adds some.
+    let up_to = |shape, less| [(shape, 64, 64), (shape, 256, 256 - less), (shape, 1024, 1024 - less)];
+    let both = |less| [up_to(Packed, less), up_to(Fragmented, less)].concat();
+    let some = &both(0)[..];
     let refused = |plan, number| Plan { number, ..plan };
 
     // Refused with 2, right after row 5: the image was checked and counted, and nothing else was done; where 5 is given the
@@ -529,35 +546,37 @@ pub fn rows(desks: &[&Desk]) -> Vec<Row> {
         &plan("save, first form", "save", save_first, listing),
     ] {
         add(plan, &zero);
-        add(plan, &some);
+        add(plan, some);
+    }
+    // For an older desk: up to 256 leases, and more.
+    for (call, run) in [("save, older", save_older as Run), ("save, first, older", save_first_older)] {
+        let older = plan(call, "save", run, listing);
+        add(&older, &[(Packed, 64, 64), (Packed, 256, 256), (Fragmented, 64, 64), (Fragmented, 256, 256)]);
+        add(&refused(older, 20), &[(Packed, 1024, 1024), (Fragmented, 1024, 1024)]);
     }
 
-    // One more and 25 more, up to a table of 256, for a client that has nothing.
+    // One more and 25 more, up to a full table, for a client that has nothing.
     let plan_ask = |call, option| Plan { client: STRANGER, ..plan(call, "ask", ask, option) };
     let one = plan_ask("ask 1", ask_20);
     add(&one, &zero);
-    add(&one, &[(Packed, 64, 64), (Packed, 256, 255), (Fragmented, 64, 64), (Fragmented, 256, 255)]);
+    add(&one, &both(1));
     let many = plan_ask("ask 25", ask_25);
     add(&many, &zero);
-    add(&many, &[(Packed, 64, 64), (Packed, 256, 231), (Fragmented, 64, 64), (Fragmented, 256, 231)]);
-    add(&Plan { expired: 25, ..plan_ask("ask 25, 25 expired", ask_25) }, &some);
-    add(&refused(plan_ask("ask 1", ask_28), 9), &[(Packed, 256, 256), (Fragmented, 256, 256)]);
-    add(
-        &refused(plan_ask("ask 1", ask_9), 10),
-        &[(Full, 64, 64), (Full, 256, 255), (Fragmented, 64, 64), (Fragmented, 256, 255)],
-    );
-    add(&refused(plan_ask("ask 25", ask_9_25), 10), &[(Fragmented, 64, 64), (Fragmented, 256, 255)]);
+    add(&many, &both(25));
+    add(&Plan { expired: 25, ..plan_ask("ask 25, 25 expired", ask_25) }, some);
+    add(&refused(plan_ask("ask 1", ask_28), 9), &[(Packed, 1024, 1024), (Fragmented, 1024, 1024)]);
+    add(&refused(plan_ask("ask 1", ask_9), 10), &[up_to(Full, 1), up_to(Fragmented, 1)].concat());
+    add(&refused(plan_ask("ask 25", ask_9_25), 10), &up_to(Fragmented, 1));
 
     // A client that has offers: all of 25 again, 12 of them again beside 13 new ones, none again because of h; up to a
-    // table of 256.
+    // full table.
     for (call, count, h, new) in [
         ("ask 25, all again", 25, false, 0),
         ("ask 25, half again", 12, false, 13),
         ("ask 25, none again", 25, true, 25),
     ] {
         let plan = Plan { offers: Some((count, h)), grows: Some(new), ..plan(call, "ask", ask, ask_offers) };
-        let most = 256 - new;
-        add(&plan, &[(Packed, 64, 64), (Packed, 256, most), (Fragmented, 64, 64), (Fragmented, 256, most)]);
+        add(&plan, &both(new));
     }
 
     for (call, command, run, option) in [
@@ -571,17 +590,17 @@ pub fn rows(desks: &[&Desk]) -> Vec<Row> {
         ("mark", "mark", mark, listing),
     ] {
         add(&refused(plan(call, command, run, option), 11), &zero);
-        add(&plan(call, command, run, option), &some);
+        add(&plan(call, command, run, option), some);
     }
-    add(&Plan { expired: 32, ..plan("mark, 32 expired", "mark", mark, listing) }, &some);
-    add(&Plan { number: 11, found: false, ..plan("mark", "mark", mark, listing) }, &some);
+    add(&Plan { expired: 32, ..plan("mark, 32 expired", "mark", mark, listing) }, some);
+    add(&Plan { number: 11, found: false, ..plan("mark", "mark", mark, listing) }, some);
 
     let text = plan("sheet", "sheet", sheet, listing);
     add(&text, &zero);
-    add(&text, &some);
+    add(&text, some);
 
     // Every lease with a name, and asks with one.
-    let packed = [(Packed, 64, 64), (Packed, 256, 256)];
+    let packed = up_to(Packed, 0);
     let named = |plan| Plan { names: true, ..plan };
     add(&named(Plan { client: 0, number: 2, ..plan("list, names", "list", list, listing) }), &packed);
     for (call, command, run, option) in [
@@ -595,19 +614,18 @@ pub fn rows(desks: &[&Desk]) -> Vec<Row> {
         add(&named(plan(call, command, run, option)), &packed);
     }
     add(&named(refused(plan("save, first form", "save", save_first, listing), 18)), &packed);
-    add(&named(plan_ask("ask 1, names", ask_20_as)), &[(Packed, 64, 64), (Packed, 256, 255)]);
-    add(&named(plan_ask("ask 25, names", ask_25_as)), &[(Packed, 64, 64), (Packed, 256, 231)]);
-    add(&named(refused(plan_ask("ask 25, names", ask_25_too_long), 17)), &[(Packed, 64, 64), (Packed, 256, 231)]);
+    add(&named(plan_ask("ask 1, names", ask_20_as)), &up_to(Packed, 1));
+    add(&named(plan_ask("ask 25, names", ask_25_as)), &up_to(Packed, 25));
+    add(&named(refused(plan_ask("ask 25, names", ask_25_too_long), 17)), &up_to(Packed, 25));
 
     // A root named among eight: its gaps alone, and of 25 entries those that lie in it.
     let in_one = |plan, selection| Plan { selection, ..plan };
-    let [few, one_less, room_for_25] = [(Fragmented, 64, 64), (Fragmented, 256, 255), (Fragmented, 256, 231)];
-    add(&in_one(plan_ask("ask 1, named root", ask_26), one_root), &[few, one_less]);
+    add(&in_one(plan_ask("ask 1, named root", ask_26), one_root), &up_to(Fragmented, 1));
     let many = Plan { grows: Some(25), ..plan_ask("ask 25, named root", ask_25_small) };
-    add(&in_one(many, one_root), &[few, room_for_25]);
-    add(&in_one(refused(plan_ask("ask 1, named root", ask_9), 10), one_root), &[few, one_less]);
+    add(&in_one(many, one_root), &up_to(Fragmented, 25));
+    add(&in_one(refused(plan_ask("ask 1, named root", ask_9), 10), one_root), &up_to(Fragmented, 1));
     let takes = plan("take 25, named root", "take", take, entries_25);
-    add(&in_one(takes, its_root), &[few, (Fragmented, 256, 256)]);
+    add(&in_one(takes, its_root), &up_to(Fragmented, 0));
 
     for row in &mut rows {
         check(row, desks);

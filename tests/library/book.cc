@@ -37,11 +37,11 @@ int main()
     good = good && flockdrift_book_head(&book).leases == 1 && flockdrift_book_pool(&book, 0).network == network;
     const flockdrift_lease_answer lease = flockdrift_book_lease(&book, 0);
     good = good && lease.state == FLOCKDRIFT_LEASED && lease.name_bytes == 2 && std::memcmp(lease.name, "ab", 3) == 0;
-    good = good && flockdrift_book_save(&book, FLOCKDRIFT_FIRST_FORM, saved, sizeof saved).number == FLOCKDRIFT_NAMES_LOST;
-    good = good && flockdrift_book_save(&before, FLOCKDRIFT_FIRST_FORM, saved, sizeof saved).bytes == 22;
+    good = good && flockdrift_book_save(&book, FLOCKDRIFT_FIRST_FORM, 0, saved, sizeof saved).number == FLOCKDRIFT_NAMES_LOST;
+    good = good && flockdrift_book_save(&before, FLOCKDRIFT_FIRST_FORM, 1, saved, sizeof saved).bytes == 22;
     good = good && FLOCKDRIFT_FIRST_FORM_CAPACITY < sizeof saved;
     good = good && flockdrift_book_whole(&before, 24).count == 1 && flockdrift_book_whole(&book, 26).count == 1;
-    const uint32_t bytes = flockdrift_book_save(&book, FLOCKDRIFT_SECOND_FORM, saved, sizeof saved).bytes;
+    const uint32_t bytes = flockdrift_book_save(&book, FLOCKDRIFT_SECOND_FORM, 0, saved, sizeof saved).bytes;
     good = good && flockdrift_book_sheet(&book, text, sizeof text).number == 0;
     good = good && flockdrift_book_release(&book, 7, 1040, name, sizeof name).count == 1;
     good = good && flockdrift_book_load(&book, saved, bytes).number == 0;

@@ -32,7 +32,7 @@ enum {
     REPLY = FLOCKDRIFT_REPLY_CAPACITY,
     SELECTED = FLOCKDRIFT_SELECTED_REPLY_CAPACITY,
     THREADS = 4,
-    STACK = 32 * 1024 /* what the header says of a call's stack, and the rest for the thread itself */
+    STACK = 128 * 1024 /* what the header says of a call's stack, and the rest for the thread itself */
 };
 
 /* What the buffers hold where no call has written. */
@@ -270,12 +270,18 @@ static struct flockdrift_answer load(struct lent *s, size_t capacity, size_t sav
 
 static struct flockdrift_answer save(struct lent *s, size_t buffer_capacity)
 {
-    return flockdrift_save(s->image, BUFFER, s->bytes, s->counts, SECOND, s->saved, buffer_capacity);
+    return flockdrift_save(s->image, BUFFER, s->bytes, s->counts, SECOND, 0, s->saved, buffer_capacity);
 }
 
 static struct flockdrift_answer save_first(struct lent *s, size_t buffer_capacity)
 {
-    return flockdrift_save(s->image, BUFFER, s->bytes, s->counts, FLOCKDRIFT_FIRST_FORM, s->saved, buffer_capacity);
+    return flockdrift_save(s->image, BUFFER, s->bytes, s->counts, FLOCKDRIFT_FIRST_FORM, 0, s->saved, buffer_capacity);
+}
+
+/* For an older desk. */
+static struct flockdrift_answer save_older(struct lent *s, uint32_t form, size_t buffer_capacity)
+{
+    return flockdrift_save(s->image, BUFFER, s->bytes, s->counts, form, 1, s->saved, buffer_capacity);
 }
 
 static struct flockdrift_answer check(const struct lent *s)
@@ -346,9 +352,9 @@ static void layout(void)
     SAME("the offset of expires", offsetof(struct flockdrift_lease_answer, expires), 28);
     SAME("the offset of name_bytes", offsetof(struct flockdrift_lease_answer, name_bytes), 32);
     SAME("the offset of name", offsetof(struct flockdrift_lease_answer, name), 36);
-    SAME("a full image", FULL, 13 + 8 * 9 + 256 * RECORD);
-    SAME("a full image of the first form", FIRST_FULL, 13 + 8 * 9 + 256 * 19);
-    SAME("the figures sheet's size", FIGURES, 256 * ROW);
+    SAME("a full image", FULL, 13 + 8 * 9 + FLOCKDRIFT_LEASES * RECORD);
+    SAME("a full image of the first form", FIRST_FULL, 13 + 8 * 9 + FLOCKDRIFT_LEASES * 19);
+    SAME("the figures sheet's size", FIGURES, FLOCKDRIFT_LEASES * ROW);
     SAME("the counts' size", sizeof(((struct flockdrift_book *)NULL)->counts), 368);
     SAME("the selection's size", sizeof(struct flockdrift_selection_answer), 8);
     SAME("the offset of address", offsetof(struct flockdrift_selection_answer, address), 4);
@@ -377,10 +383,10 @@ static void nulls(struct lent *s)
     REFUSED(s, flockdrift_take(s->image, BUFFER, b, NULL, 0, s->counts, 0, 0, NULL, 0, NO_118, s->reply, REPLY), 15, 0);
     REFUSED(s, flockdrift_release(s->image, BUFFER, b, NULL, 0, s->counts, 0, 0, NULL, 0), 15, 0);
     REFUSED(s, flockdrift_mark(s->image, BUFFER, b, NULL, 0, s->counts, 0, 0, 0, 0), 15, 0);
-    REFUSED(s, flockdrift_save(NULL, 0, 0, s->counts, SECOND, NULL, 0), 5, 0);
+    REFUSED(s, flockdrift_save(NULL, 0, 0, s->counts, SECOND, 0, NULL, 0), 5, 0);
     REFUSED(s, save(s, 0), 14, 0);
-    REFUSED(s, flockdrift_save(s->image, BUFFER, ONE, s->counts, SECOND, NULL, 0), 14, 0);
-    REFUSED(s, flockdrift_save(s->image, BUFFER, ONE, s->counts, FLOCKDRIFT_FIRST_FORM, NULL, 0), 14, 0);
+    REFUSED(s, flockdrift_save(s->image, BUFFER, ONE, s->counts, SECOND, 0, NULL, 0), 14, 0);
+    REFUSED(s, flockdrift_save(s->image, BUFFER, ONE, s->counts, FLOCKDRIFT_FIRST_FORM, 1, NULL, 0), 14, 0);
     REFUSED(s, flockdrift_sheet(NULL, 0, NULL, 0), 5, 0);
     REFUSED(s, flockdrift_sheet(s->image, ONE, NULL, 0), 14, 0);
     REFUSED(s, flockdrift_check(NULL, 0, 0, s->counts), 5, 0);
@@ -410,7 +416,7 @@ static void sizes(struct lent *s)
     REFUSED(s, flockdrift_release(s->image, FULL - 1, b, f, FIGURES, s->counts, 7, 1000, name_26, sizeof name_26), 5,
             0);
     REFUSED(s, flockdrift_mark(s->image, FULL - 1, b, f, FIGURES, s->counts, network[0], 26, 1, 1000), 5, 0);
-    REFUSED(s, flockdrift_save(s->image, FULL - 1, ONE, s->counts, SECOND, s->saved, BUFFER), 5, 0);
+    REFUSED(s, flockdrift_save(s->image, FULL - 1, ONE, s->counts, SECOND, 0, s->saved, BUFFER), 5, 0);
     REFUSED(s, flockdrift_check(s->image, FULL - 1, ONE, s->counts), 5, 0);
     HEAD(head(s, FULL - 1), 5, 0, 0, 0, 0, 0);
     POOL(pool(s, FULL - 1, 0), 5, 0, 0);
@@ -441,7 +447,7 @@ static void sizes(struct lent *s)
     ACCEPTED(s, flockdrift_take(s->image, FULL, b, f, FIGURES, s->counts, 7, 1000, name_26, sizeof name_26, NO_118,
              s->reply, REPLY), 13, 1, THREE);
     READ(s, flockdrift_list(s->image, FULL, THREE, s->counts, 7, 1000, list_all, sizeof list_all, s->reply, REPLY), 13, 1);
-    READ(s, flockdrift_save(s->image, FULL, THREE, s->counts, SECOND, s->saved, THREE), THREE, 0);
+    READ(s, flockdrift_save(s->image, FULL, THREE, s->counts, SECOND, 0, s->saved, THREE), THREE, 0);
     ACCEPTED(s, flockdrift_release(s->image, FULL, b, f, FIGURES, s->counts, 7, 1000, name_26, sizeof name_26), 0, 1,
              TWO);
     ACCEPTED(s, load(s, FULL, THREE), 0, 0, THREE);
@@ -912,7 +918,7 @@ static void forms(struct lent *s)
     begin(s);
     memcpy(image, s->image, sizeof image);
     for (i = 0; i < sizeof seconds / sizeof seconds[0]; i++) {
-        READ(s, flockdrift_save(s->image, BUFFER, ONE, s->counts, seconds[i], s->saved, ONE), ONE, 0);
+        READ(s, flockdrift_save(s->image, BUFFER, ONE, s->counts, seconds[i], seconds[i] >> 1, s->saved, ONE), ONE, 0);
         SAME("what is saved", memcmp(s->saved, image, ONE) != 0, 0);
     }
     memset(s->saved, SAVED_FILL, sizeof s->saved);
@@ -1195,10 +1201,11 @@ static void book(struct lent *s)
     LEASE(flockdrift_book_lease(&held, 0), 0, 0x0a000800, 26, 7, FLOCKDRIFT_LEASED, 0, 1, 4610);
     FIGURES_OF(flockdrift_book_figures(&held, 0), 0x0a000800, 26, 266, FLOCKDRIFT_UNTOLD, 2);
     FIGURES_OF(flockdrift_book_figures(&held, 1), 0, 0, 65535, 65535, 65535);
-    FIGURES_OF(flockdrift_book_figures(&held, 255), 0, 0, 65535, 65535, 65535);
-    FIGURES_OF(flockdrift_book_figures(&held, 256), 0, 0, 65535, 65535, 65535);
+    FIGURES_OF(flockdrift_book_figures(&held, 1023), 0, 0, 65535, 65535, 65535);
+    FIGURES_OF(flockdrift_book_figures(&held, 1024), 0, 0, 65535, 65535, 65535);
     FIGURES_OF(flockdrift_book_figures(&held, SIZE_MAX), 0, 0, 65535, 65535, 65535);
-    SAME("save", flockdrift_book_save(&held, SECOND, s->saved, sizeof s->saved).bytes, ONE);
+    SAME("save", flockdrift_book_save(&held, SECOND, 1, s->saved, sizeof s->saved).bytes, ONE);
+    SAME("save", flockdrift_book_save(&held, SECOND, 0, s->saved, sizeof s->saved).bytes, ONE);
     SAME("sheet", flockdrift_book_sheet(&held, s->text, sizeof s->text).number, 0);
     SAME("release", flockdrift_book_release(&held, 7, 1040, name_26, sizeof name_26).count, 1);
     SAME("load", flockdrift_book_load(&held, s->saved, ONE).number, 0);
@@ -1215,16 +1222,63 @@ static void book(struct lent *s)
     SAME("a length past the buffer", flockdrift_book_sheet(&held, s->text, sizeof s->text).number, 5);
     SAME("a length past the buffer", flockdrift_book_check(&held).number, 5);
 
-    for (i = 0; i <= 19; i++)
+    for (i = 0; i <= 20; i++)
         SAME("no words", flockdrift_text(i)[0] == '\0', 0);
     SAME("words", strcmp(flockdrift_text(FLOCKDRIFT_BAD_FIELD), "a field outside the rules in the suboption") != 0, 0);
     SAME("words", strcmp(flockdrift_text(FLOCKDRIFT_NAME_TOO_LONG), "the name is too long") != 0, 0);
     SAME("words", strcmp(flockdrift_text(18), "names would be lost in the first form") != 0, 0);
     SAME("words", strcmp(flockdrift_text(19), "no pool contains the address of option 118") != 0, 0);
+    SAME("words", strcmp(flockdrift_text(20), "too many leases for an older desk") != 0, 0);
     SAME("words", strcmp(flockdrift_text(5), "not the image of a sound table, or not its counts") != 0, 0);
 }
 
-/* A full table: 256 leases, an image of 11,349 bytes in a buffer that has no byte more. */
+/*
+ * What an older desk gets of a table of 8 pools and so many leases without names: all of it up to 256, and otherwise 20,
+ * before 14; 5 before it.
+ */
+static void older(struct lent *s, uint32_t leases)
+{
+    const uint32_t bytes[2] = {85 + 19 * leases, 85 + RECORD * leases};
+    uint32_t form;
+
+    for (form = 1; form <= 2; form++) {
+        if (leases > FLOCKDRIFT_OLDER_LEASES) {
+            REFUSED(s, save_older(s, form, BUFFER), 20, 0);
+            REFUSED(s, save_older(s, form, 0), 20, 0);
+        } else {
+            READ(s, save_older(s, form, bytes[form - 1]), bytes[form - 1], 0);
+            REFUSED(s, save_older(s, form, bytes[form - 1] - 1), 14, 0);
+        }
+        s->counts[0]++;
+        keep(s);
+        REFUSED(s, save_older(s, form, 0), 5, 0);
+        s->counts[0]--;
+        keep(s);
+    }
+    memset(s->saved, SAVED_FILL, sizeof s->saved);
+    keep(s);
+}
+
+/* A lease more, with a name: 20 before 18, and 18 for a desk that reads as many. It goes again. */
+static void older_with_a_name(struct lent *s, uint32_t leases)
+{
+    const uint32_t at = leases << 6;
+    const uint8_t own[] = {0xdc, 11, 0, 2, 8, 0, (uint8_t)(at >> 24), (uint8_t)(at >> 16),
+                           (uint8_t)(at >> 8), (uint8_t)at, 26, 0, 0};
+
+    ACCEPTED(s, ask(s, 5000, 0, ask_west, sizeof ask_west), 13, 1, 85 + RECORD * (leases + 1));
+    if (leases >= FLOCKDRIFT_OLDER_LEASES) {
+        REFUSED(s, save_older(s, FLOCKDRIFT_FIRST_FORM, 0), 20, 0);
+        REFUSED(s, save_older(s, SECOND, 0), 20, 0);
+    } else {
+        REFUSED(s, save_older(s, FLOCKDRIFT_FIRST_FORM, 0), 18, 0);
+        REFUSED(s, save_older(s, SECOND, 0), 14, 0);
+    }
+    REFUSED(s, save_first(s, 0), 18, 0);
+    ACCEPTED(s, release(s, 5000, 0, own, sizeof own), 0, 1, 85 + RECORD * leases);
+}
+
+/* A full table: 1,024 leases, an image of 45,141 bytes in a buffer that has no byte more. */
 static void full(struct lent *s)
 {
     static const uint32_t pools[8] = {0, 1u << 30, 2u << 30, 3u << 30, 5u << 28, 6u << 28, 7u << 28, 9u << 28};
@@ -1236,21 +1290,25 @@ static void full(struct lent *s)
 
     fill(s);
     ACCEPTED(s, flockdrift_open(s->image, FULL, b, f, FIGURES, s->counts, pools, 8, eights, 8, 60, 30, 0), 0, 0, 85);
-    for (i = 1; i <= 256; i++) {
+    for (i = 1; i <= FLOCKDRIFT_LEASES; i++) {
         a = flockdrift_ask(s->image, FULL, b, f, FIGURES, s->counts, i, 0, ask_26, sizeof ask_26, NO_118, s->reply, REPLY);
         ACCEPTED(s, a, 13, 1, 85 + RECORD * i);
+        if (i == 1 || (i >= 255 && i <= 257) || i == FLOCKDRIFT_LEASES)
+            older(s, i);
+        if (i >= 255 && i <= 257)
+            older_with_a_name(s, i);
     }
     SAME("the length of a full image", s->bytes, FULL);
-    HEAD(head(s, FULL), 0, 60, 30, 0, 8, 256);
+    HEAD(head(s, FULL), 0, 60, 30, 0, 8, 1024);
     POOL(pool(s, FULL, 7), 0, 3u << 30, 8);
-    LEASE(lease(s, FULL, 255), 0, 255u << 6, 26, 256, FLOCKDRIFT_HELD, 0, 0, 120);
-    LEASE(lease(s, FULL, 256), 11, 0, 0, 0, 0, 0, 0, 0);
+    LEASE(lease(s, FULL, 1023), 0, 1023u << 6, 26, 1024, FLOCKDRIFT_HELD, 0, 0, 120);
+    LEASE(lease(s, FULL, 1024), 11, 0, 0, 0, 0, 0, 0, 0);
     /* neither a lease more nor a prefix of this length; what is offered again needs none */
     REFUSED(s, flockdrift_ask(s->image, FULL, b, f, FIGURES, s->counts, 7, 0, ask_8, sizeof ask_8, NO_118, s->reply,
             REPLY), 9, 0);
-    REFUSED(s, flockdrift_ask(s->image, FULL, b, f, FIGURES, s->counts, 257, 0, ask_26, sizeof ask_26, NO_118, s->reply,
+    REFUSED(s, flockdrift_ask(s->image, FULL, b, f, FIGURES, s->counts, 1025, 0, ask_26, sizeof ask_26, NO_118, s->reply,
             REPLY), 9, 0);
-    a = flockdrift_ask(s->image, FULL, b, f, FIGURES, s->counts, 256, 0, ask_26, sizeof ask_26, NO_118, s->reply, REPLY);
+    a = flockdrift_ask(s->image, FULL, b, f, FIGURES, s->counts, 1024, 0, ask_26, sizeof ask_26, NO_118, s->reply, REPLY);
     ACCEPTED(s, a, 13, 1, FULL);
 
     REFUSED(s, save(s, FULL - 1), 14, 0);

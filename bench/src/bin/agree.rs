@@ -10,7 +10,8 @@ use std::collections::BTreeMap;
 use std::process::exit;
 
 use bench::desk::{
-    Answer, Counts, Desk, FIGURES, FIRST_FULL, FULL, LENGTHS, Lent, NAME, REPLY, SELECTED_REPLY, SELECTION, SHEET,
+    Answer, Counts, Desk, FIGURES, FIRST_FULL, FULL, LENGTHS, Lent, NAME, OLDER_LEASES, REPLY, SELECTED_REPLY,
+    SELECTION, SHEET,
 };
 use bench::images::{EMPTY_ROW, FIRST_LEASE, LEASE, Lease, NO_NAME, Name, ROW, ROWS, Table, name};
 use bench::options::{self, information, option, request};
@@ -35,7 +36,7 @@ enum Call {
     Release { client: u32, now: u32, option: Vec<u8> },
     Mark { network: u32, length: u32, deprecated: u32, now: u32 },
     Load { saved: Vec<u8> },
-    Save { form: u32 },
+    Save { form: u32, older: u32 },
     Whole { length: u32 },
     Sheet,
 }
@@ -61,7 +62,7 @@ impl Call {
         let size = *bytes;
         match self {
             Call::List { client, now, option } => return (desk.list)(image, size, counts, *client, *now, option, out),
-            Call::Save { form } => return (desk.save)(image, size, counts, *form, out),
+            Call::Save { form, older } => return (desk.save)(image, size, counts, *form, *older, out),
             Call::Whole { length } => return (desk.whole)(image, size, counts, *length),
             // The sheet has no capacity of the image: what is lent is the image.
             Call::Sheet => return (desk.sheet)(image.get(..size).unwrap_or(image), out),
@@ -278,9 +279,12 @@ fn plausible(call: &Call, given: &Buffers, answer: &Answer, left: &Buffers) -> R
     if left.out[answer.bytes as usize..] != given.out[answer.bytes as usize..] {
         return Err("bytes after those written have changed".into());
     }
-    if let Call::Save { form } = call {
+    if let Call::Save { form, older } = call {
         // Load and save undo each other in each form.
         let table = Table::of_image(&given.image[..given.bytes]);
+        if *older != 0 && table.leases.len() > OLDER_LEASES {
+            return Err("it is saved for an older desk, which has no room for it".into());
+        }
         if left.out[..answer.bytes as usize] != table.image_in(*form == 1) || (*form == 1 && table.has_names()) {
             return Err("what is saved is not the table in that form".into());
         }
@@ -347,9 +351,9 @@ fn length_from(random: &mut Random, shortest: u8) -> u8 {
 }
 
 /// 1 to 8 pools, ascending and apart: small ones that fill up, large ones, the first and the last addresses.
-fn random_pools(random: &mut Random) -> Vec<(u32, u8)> {
+fn random_pools(random: &mut Random, wide: bool) -> Vec<(u32, u8)> {
     let count = if random.once_in(2) { 1 } else { 1 + random.below(8) };
-    let shortest = random.pick(&[8, 8, 16, 18, 20, 22, 24, 26]);
+    let shortest = if wide { random.pick(&[8, 12, 16, 17]) } else { random.pick(&[8, 8, 16, 18, 20, 22, 24, 26]) };
     let mut pools: Vec<(u32, u8)> = Vec::new();
     let mut free_from: u64 = random.pick(&[0, 0x0a00_0000, 0x0a00_0000, 0xc0a8_0000, 0xfe00_0000]);
     for _ in 0..count {
@@ -409,7 +413,7 @@ fn random_client(random: &mut Random) -> u32 {
     if random.once_in(40) { random.pick(&[0, u32::MAX]) } else { 1 + random.below(4) as u32 }
 }
 
-/// A sound table: none, few, many or 256 leases, with and without holes between them.
+/// A sound table: none, few, many, about 256 or about 1,024 leases, with and without holes between them.
 fn random_table(random: &mut Random) -> Table {
     let last = match random.below(8) {
         0 => 0,
@@ -420,10 +424,12 @@ fn random_table(random: &mut Random) -> Table {
         term: random.pick(&[60, 61, 3600, 2_592_000]),
         default_length: 1 + random.below(30) as u8,
         last,
-        pools: random_pools(random),
+        pools: Vec::new(),
         leases: Vec::new(),
     };
-    let most = random.pick(&[0, 3, 20, 64, 200, 240, 255, 256, 256]);
+    let few = random.pick(&[0, 3, 20, 64, 200, 240, 255, 256, 257, 258]);
+    let most = if random.once_in(3) { random.pick(&[300, 800, 1_000, 1_023, 1_024, 1_024, 1_024]) } else { few };
+    table.pools = random_pools(random, most > 258);
     let holes = random.pick(&[0, 0, 1, 3, 8]);
     let one_client = random.once_in(3);
     let stays = random.once_in(2);
@@ -432,7 +438,7 @@ fn random_table(random: &mut Random) -> Table {
     for (index, (network, length)) in pools.iter().enumerate() {
         // Leases of this many sizes, such that the last pools have some too.
         let share = most * (index + 1) / pools.len();
-        let long = random.once_in(2);
+        let long = random.once_in(2) || most > 258;
         let to = u64::from(*network) + (1 << (32 - length));
         let mut at = u64::from(*network);
         while table.leases.len() < share {
@@ -893,9 +899,9 @@ fn damage_image(random: &mut Random, image: &mut Vec<u8>) {
             *image = table.image_in(first);
         }
         _ => {
-            // Leases after the last one: sound but for their number, where that is above 256.
+            // Leases after the last one: sound but for their number, where that is above 1,024.
             let mut table = table;
-            while table.leases.len() < 257 {
+            while table.leases.len() <= ROWS {
                 let (pool, size) = table.pools[table.pools.len() - 1];
                 let to = u64::from(pool) + (1 << (32 - size));
                 let last = table.leases.last().map_or(0, |lease| u64::from(lease.network) + (1 << (32 - lease.length)));
@@ -919,7 +925,7 @@ fn damage_image(random: &mut Random, image: &mut Vec<u8>) {
 }
 
 fn random_open(random: &mut Random) -> Call {
-    let mut pools = random_pools(random);
+    let mut pools = random_pools(random, false);
     for _ in 0..random.below(4) {
         let (one, other) = (random.below(pools.len() as u64), random.below(pools.len() as u64));
         pools.swap(one as usize, other as usize);
@@ -1006,9 +1012,12 @@ fn random_call(random: &mut Random, table: &Table) -> Call {
             let length = u32::from(length) + if random.once_in(20) { 256 } else { 0 };
             Call::Mark { network, length, deprecated: random.pick(&[0, 1, 1, 2, 256, u32::MAX]), now }
         }
-        88..=89 => Call::Sheet,
-        90..=91 => Call::Whole { length: random_length(random) },
-        92..=93 => Call::Save { form: random.pick(&[1, 1, 1, 1, 2, 2, 0, 3, 257, u32::MAX]) },
+        88 => Call::Sheet,
+        89..=90 => Call::Whole { length: random_length(random) },
+        91..=93 => Call::Save {
+            form: random.pick(&[1, 1, 1, 1, 2, 2, 0, 3, 257, u32::MAX]),
+            older: random.pick(&[0, 0, 0, 1, 1, 1, 2, 256, u32::MAX]),
+        },
         94..=96 => random_load(random, table),
         _ => random_open(random),
     }
@@ -1042,9 +1051,9 @@ fn random_load(random: &mut Random, table: &Table) -> Call {
 /// One change to a figures sheet; some leave it one that matches.
 fn damage_figures(random: &mut Random, table: &Table, figures: &mut Vec<u8>) {
     let leases = table.leases.len();
-    let row = random.below(256) as usize;
+    let row = random.below(ROWS as u64) as usize;
     // Rows of leases and the first that is none are few in most tables.
-    let near = random.below(leases.min(255) as u64 + 1) as usize;
+    let near = random.below(leases.min(ROWS - 1) as u64 + 1) as usize;
     let row = ROW * if random.once_in(3) { row } else { near };
     let byte = row + random.below(ROW as u64) as usize;
     match random.below(12) {
@@ -1120,9 +1129,13 @@ fn by_counts(call: &Call, given: &Buffers, answer: &Answer) -> bool {
 }
 
 fn random_given(random: &mut Random, image: &[u8], figures: &[u8]) -> (Call, Buffers) {
-    let table = Table::of_image(image);
+    let mut table = Table::of_image(image);
     let call = random_call(random, &table);
-    let mut image = image.to_vec();
+    // Saved at the number of leases that an older desk has room for, or beside it.
+    if matches!(call, Call::Save { .. }) && random.once_in(2) {
+        table.leases.truncate(OLDER_LEASES - 1 + random.below(3) as usize);
+    }
+    let mut image = table.image();
     let mut figures = figures.to_vec();
     if random.once_in(10) {
         damage_figures(random, &table, &mut figures);
@@ -1160,7 +1173,7 @@ fn random_given(random: &mut Random, image: &[u8], figures: &[u8]) -> (Call, Buf
     let end = image.len().min(buffer.len());
     buffer[..end].copy_from_slice(&image[..end]);
     let room = match &call {
-        Call::Save { form } => {
+        Call::Save { form, .. } => {
             let size = if *form == 1 { table.first_image().len() } else { end };
             random.pick(&[size, size, size + 1, FULL, size.saturating_sub(1), 0])
         }
@@ -1215,10 +1228,10 @@ fn main() {
     let mut random = Random(seed);
     let mut answers: BTreeMap<(&str, u32), u64> = BTreeMap::new();
     let (mut most, mut full, mut filing, mut again, mut again_full) = (0, 0, 0, 0, 0);
-    let (mut differing, mut counted) = (0u64, 0u64);
+    let (mut differing, mut counted, mut at_limit) = (0u64, 0u64, [0u64; 2]);
     let (mut in_one, mut in_two, mut last_place) = (0u64, 0u64, 0u64);
     let (mut named, mut kept, mut first_loads, mut first_saves) = (0u64, 0u64, 0u64, 0u64);
-    let (mut in_place, mut lost_and_short) = (0u64, 0u64);
+    let (mut in_place, mut lost_and_short, mut too_many) = (0u64, 0u64, [0u64; 6]);
     let (mut bad_selections, mut below_263, mut in_a_root, mut left_out) = (0u64, 0u64, 0u64, 0u64);
     let (mut image, mut figures) = (Vec::new(), Vec::new());
     for index in 0..calls {
@@ -1245,9 +1258,18 @@ fn main() {
                     in_two += u64::from(both_in_two(option, number, place));
                     last_place += u64::from(place == 256);
                 }
-                if let Call::Save { form: 1 } = call {
+                if let Call::Save { form: 1, .. } = call {
                     first_saves += u64::from(answer.number == 0);
                     lost_and_short += u64::from(answer.number == 18 && given.out.is_empty());
+                }
+                if let (Call::Save { form, older: 1.. }, 0 | 20) = (&call, answer.number) {
+                    let table = Table::of_image(&given.image[..given.bytes]);
+                    too_many[0] += u64::from(answer.number == 20 && *form == 1);
+                    too_many[1] += u64::from(answer.number == 20 && *form == 1 && table.has_names());
+                    too_many[2] += u64::from(answer.number == 20 && given.out.is_empty());
+                    too_many[3] += u64::from(answer.number == 20 && table.leases.len() == OLDER_LEASES + 1);
+                    too_many[4] += u64::from(answer.number == 0);
+                    too_many[5] += u64::from(answer.number == 0 && table.leases.len() == OLDER_LEASES);
                 }
                 if !matches!(call, Call::Open { .. } | Call::Load { .. } | Call::Sheet) {
                     in_place += u64::from(answer.number == 5 && given.image.get(2) == Some(&1));
@@ -1267,6 +1289,9 @@ fn main() {
                 }
                 if answer.number == 0 {
                     full += u64::from(left.bytes == FULL);
+                    let leases = Table::of_image(&left.image[..left.bytes]).leases.len();
+                    at_limit[0] += u64::from(leases > OLDER_LEASES);
+                    at_limit[1] += u64::from(leases == ROWS);
                     if let Call::Load { saved } = &call {
                         first_loads += u64::from(saved[2] == 1);
                     }
@@ -1317,7 +1342,7 @@ fn main() {
     };
     println!("\nmost entries in an answer: {most}; full images: {full}");
     println!("figures sheets refused with 15: {}; takes that filed a figure: {filing}", refused(15));
-    println!("asks that gave an offer again: {again}, on a table of 256: {again_full}");
+    println!("asks that gave an offer again: {again}, on a table of 1,024: {again_full}");
     println!("calls refused because of counts: {differing}; calls that changed counts: {counted}");
     println!(
         "options refused with 7: {}, with 16: {}; both in one suboption: {in_one}, in two: {in_two}; at 256: {last_place}",
@@ -1335,6 +1360,19 @@ fn main() {
         "calls refused with 19: {}, with 6 because of option 118: {bad_selections}, with 1 because of 263: {below_263}; asks \
          granted in a named root: {in_a_root}; takes that left entries outside: {left_out}",
         refused(19)
+    );
+    println!(
+        "saves for an older desk refused with 20: {}, in the first form: {}, with names too: {}, without room too: {}, of 257 \
+         leases: {}; accepted: {}, of 256 leases: {}; calls that left more than 256 leases: {}, 1,024: {}",
+        refused(20),
+        too_many[0],
+        too_many[1],
+        too_many[2],
+        too_many[3],
+        too_many[4],
+        too_many[5],
+        at_limit[0],
+        at_limit[1]
     );
     println!("agree: {calls} calls, the same answer, image, figures, counts and output by all {}", names.len());
 }

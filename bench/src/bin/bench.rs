@@ -141,7 +141,7 @@ fn print_table(rows: &[Row], measured: &[Measured], desks: &[&Desk]) {
     }
     print!(" {:>6} {:>6} {:>9}", "ratio", "median", "floor ns");
     for desk in desks {
-        print!(" {:>13}", format!("{} x64", desk.name));
+        print!(" {:>13}", format!("{} x1/4", desk.name));
     }
     println!();
     for (row, found) in rows.iter().zip(measured) {
@@ -154,9 +154,10 @@ fn print_table(rows: &[Row], measured: &[Measured], desks: &[&Desk]) {
             _ => print!(" {:>6} {:>6}", "-", "-"),
         }
         print!(" {:>9.0}", found.checksum);
-        if row.scale == 256 {
+        if row.scale > 64 {
+            let quarter = row.scale / 4;
             let smaller = rows.iter().position(|other| {
-                (other.call, other.shape, other.number, other.scale) == (row.call, row.shape, row.number, 64)
+                (other.call, other.shape, other.number, other.scale) == (row.call, row.shape, row.number, quarter)
             });
             if let Some(smaller) = smaller {
                 for (ns, before) in found.desks.iter().zip(&measured[smaller].desks) {

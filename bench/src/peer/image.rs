@@ -1,11 +1,12 @@
 //! The image in place: checked in one pass, and changed by moving records.
 //!
-//! A sound image is one head, 1 to 8 pools and up to 256 leases, records of fixed sizes, so the place of each is known. The
+//! A sound image is one head, 1 to 8 pools and up to 1,024 leases, records of fixed sizes, so the place of each is known. The
 //! calls work on the second form; the first is checked where it lies and widened record by record, or narrowed when saved.
 
 use super::counts::Levels;
 use super::figures::{self, Row};
 use crate::desk::{Counts, FULL, NAME};
+pub use crate::desk::{LEASES, OLDER_LEASES};
 
 const HEAD: usize = 13;
 const POOL: usize = 9;
@@ -16,7 +17,6 @@ pub const NAMED: usize = 1 + NAME;
 pub const LEASE: usize = FIRST + NAMED;
 
 pub const POOLS: usize = 8;
-pub const LEASES: usize = 256;
 
 // The first four bytes of each record: its length and its kind, both 16 bits, low byte first.
 const FIRST_HEAD_START: u32 = 0x0001_000b;

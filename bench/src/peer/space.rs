@@ -2,22 +2,21 @@
 //!
 //! Addresses are counted in fours: no prefix is longer than 30, so every boundary is a multiple of four, and 2^32 fits.
 
-use super::image::{LEASES, Met, POOLS, Pools};
+use super::image::{Met, Pools};
 
-const GAPS: usize = LEASES + POOLS;
-
-/// The free ranges, ascending; each lies inside one pool. An empty one is harmless.
-pub struct Gaps {
-    ranges: [(u32, u32); GAPS],
+/// The free ranges, ascending; each lies inside one pool. An empty one is harmless. There is room for `N` of them: one for
+/// each lease, those to come included, and one for each pool.
+pub struct Gaps<const N: usize> {
+    ranges: [(u32, u32); N],
     count: usize,
     /// The pool that the last lease lies in, and where that lease ends.
     pool: usize,
     free_from: u64,
 }
 
-impl Gaps {
-    pub fn new() -> Gaps {
-        Gaps { ranges: [(0, 0); GAPS], count: 0, pool: usize::MAX, free_from: 0 }
+impl<const N: usize> Gaps<N> {
+    pub fn new() -> Gaps<N> {
+        Gaps { ranges: [(0, 0); N], count: 0, pool: usize::MAX, free_from: 0 }
     }
 
     fn push(&mut self, from: u64, to: u64) {

@@ -8,6 +8,7 @@ use mathlib.Core.List.{List, [], _∷_, _++_}
 use mathlib.Core.Option.{Option, none, some}
 use native.Mathlib.Omega.{arith}
 use lib.ListN.{length, take, drop}
+use lib.Dec.{ltb}
 use borrow.Author.Tests.{lt-ltb, le-ltb}
 use Rattle.lists.specs.Lists.{all?, any?, filter}
 use Rattle.lists.proofs.Tests.{bool-cases}
@@ -16,7 +17,7 @@ use Rattle.names.specs.Names.{unnamed?}
 use Rattle.names.proofs.NameLaws.{unnamed-of}
 use Rattle.table.specs.declared.Lease.{Lease}
 use Rattle.table.specs.declared.LeaseTable.{LeaseTable}
-use Rattle.table.specs.Table.{poolSlots, leaseSlots, empty?, sound}
+use Rattle.table.specs.Table.{poolSlots, leaseSlots, olderSlots, empty?, sound}
 use Rattle.table.proofs.TableLaws.{empty-to}
 use Rattle.image.specs.declared.Form.{Form}
 use Rattle.image.specs.declared.Form.the-variants.{First}
@@ -29,7 +30,7 @@ use Rattle.image_records.proofs.SoundLaws.{used-few, image-records}
 use Rattle.ledger.specs.declared.Answer.{Answer}
 use Rattle.ledger.specs.Sizes.{Bytes}
 use Rattle.ledger.specs.Ledger.{Result, result, refusal, acceptance, firstOf, orElse, refuse, accept}
-use Rattle.call_spec.specs.ImageCalls.{Lent, tableIn, saveFrom}
+use Rattle.call_spec.specs.ImageCalls.{Lent, tableIn, tooMany?, saveFrom}
 use Rattle.call_spec.specs.Books.{Book, lentIn, saveBook}
 use Rattle.call_spec.proofs.TableLaws.{held-loads, held-within, held-image}
 use Rattle.call_spec.proofs.BookLaws.{same-buffers, sound-lent}
@@ -90,12 +91,12 @@ first-records t l bytes image pools e = subst (λ (n : ℕ). Records l (headSize
 pub first-size : (t : LeaseTable) (pools leases : ℕ) → pools ≡ length (usedPools t) → leases ≡ length (usedLeases t) → headSize + poolSize * pools + firstLeaseSize * leases ≡ length (imageAs First t)
 first-size t pools leases p l = omega (arith, length-image-in First t, p, l)
 
--- A SAVE, where row 5 does not apply
+-- A SAVE, where rows 5 and 20 do not apply
 
 abbrev seen : Result Lent → Answer × List ℕ
 seen r = (r .answer, r .reply)
 
-module _ (h : Lent) (form : Form) (buffer : List ℕ) where
+module _ (h : Lent) (form : Form) (older : Bool) (buffer : List ℕ) where
   abbrev image : List ℕ
   image = imageAs form (tableIn h)
 
@@ -106,24 +107,34 @@ module _ (h : Lent) (form : Form) (buffer : List ℕ) where
   by-rows none = refl
   by-rows (some n) = refl
 
-  later-only : sound (tableIn h) ≡ true → seen (saveFrom h form buffer) ≡ savedTo form (tableIn h) buffer
+  later-only : sound (tableIn h) ≡ true → tooMany? (tableIn h) older ≡ false → seen (saveFrom h form older buffer) ≡ savedTo form (tableIn h) buffer
   unfolding saveFrom savedTo
-  later-only s =
+  later-only s m =
       let later : Option ℕ = firstOf (laterRows form (tableIn h) buffer) in
-      ap (λ (b : Bool). seen (served (cond (not b) (some 5) later))) s ∙ by-rows later
+      ap₂ (λ (b c : Bool). seen (served (cond (not b) (some 5) (cond c (some 20) later)))) s m ∙ by-rows later
 
-  save-unsound : sound (tableIn h) ≡ false → (refusal 5 0, buffer) ≡ seen (saveFrom h form buffer)
+  save-unsound : sound (tableIn h) ≡ false → (refusal 5 0, buffer) ≡ seen (saveFrom h form older buffer)
   unfolding saveFrom
   save-unsound e = rw e
 
+  save-too-many : sound (tableIn h) ≡ true → tooMany? (tableIn h) older ≡ true → (refusal 20 0, buffer) ≡ seen (saveFrom h form older buffer)
+  unfolding saveFrom
+  save-too-many s m =
+      let later : Option ℕ = firstOf (laterRows form (tableIn h) buffer) in
+      sym (ap₂ (λ (b c : Bool). seen (served (cond (not b) (some 5) (cond c (some 20) later)))) s m)
+
 -- ON AN OPEN BOOK, which a save leaves as it was.
 
-module _ (b : Book) (form : Form) (buffer : List ℕ) where
-  pub book-unsound : sound (tableIn (lentIn b)) ≡ false → result (refusal 5 0) b buffer ≡ saveBook b form buffer
-  book-unsound e = ap (λ (w : Answer × List ℕ). result (w .0) b (w .1)) (save-unsound (lentIn b) form buffer e)
+module _ (b : Book) (form : Form) (older : Bool) (buffer : List ℕ) where
+  pub book-unsound : sound (tableIn (lentIn b)) ≡ false → result (refusal 5 0) b buffer ≡ saveBook b form older buffer
+  book-unsound e = ap (λ (w : Answer × List ℕ). result (w .0) b (w .1)) (save-unsound (lentIn b) form older buffer e)
 
-  pub book-saved : sound (tableIn (lentIn b)) ≡ true → (a : Answer) (l : List ℕ) → (a, l) ≡ savedTo form (tableIn (lentIn b)) buffer → result a b l ≡ saveBook b form buffer
-  book-saved s a l e = ap (λ (w : Answer × List ℕ). result (w .0) b (w .1)) (e ∙ sym (later-only (lentIn b) form buffer s))
+  pub book-too-many : sound (tableIn (lentIn b)) ≡ true → tooMany? (tableIn (lentIn b)) older ≡ true → result (refusal 20 0) b buffer ≡ saveBook b form older buffer
+  book-too-many s m = ap (λ (w : Answer × List ℕ). result (w .0) b (w .1)) (save-too-many (lentIn b) form older buffer s m)
+
+  pub book-saved : sound (tableIn (lentIn b)) ≡ true → tooMany? (tableIn (lentIn b)) older ≡ false
+      → (a : Answer) (l : List ℕ) → (a, l) ≡ savedTo form (tableIn (lentIn b)) buffer → result a b l ≡ saveBook b form older buffer
+  book-saved s m a l e = ap (λ (w : Answer × List ℕ). result (w .0) b (w .1)) (e ∙ sym (later-only (lentIn b) form older buffer s m))
 
 -- What the check tells of it.
 module _ (b : Book) (bytes : Bytes (b .lent .image)) (summary : ImageSummary) (i : SummaryIn (lentIn b) 0 summary) (yes : summary .sound ≡ true) where
@@ -144,6 +155,10 @@ module _ (b : Book) (bytes : Bytes (b .lent .image)) (summary : ImageSummary) (i
 
   pub leases-are : summary .leases ≡ length (usedLeases t)
   leases-are = ap (λ (x : ImageSummary). x .leases) summary-is
+
+  -- What row 20 tests.
+  pub many-told : (older told : Bool) → told ≡ older && ltb olderSlots (summary .leases) → tooMany? t older ≡ told
+  many-told older told e = ap (λ (n : ℕ). older && ltb olderSlots n) (sym leases-are) ∙ sym e
 
   -- The image lies in its buffer, and is no longer than a full one.
   pub image-is : imageOf t ≡ take (b .lent .bytes) (b .lent .image)

@@ -5,17 +5,30 @@ use image::Form;
 use image::HEAD;
 use image::POOL;
 use ledger::Answer;
+use table::OLDER_LEASES;
 ghost use mathlib.Core.Path.{_≡_};
+ghost use mathlib.Core.Bool.{_&&_};
 ghost use mathlib.Core.List.{[]};
 ghost use Prim.Native.Nat.{ℕ, _+_, _*_, _≤_};
 ghost use lib.ListN.{length, take};
+ghost use lib.Dec.{ltb};
 ghost use Rattle.table.specs.declared.LeaseTable.{LeaseTable};
-ghost use Rattle.table.specs.Table.{poolSlots, leaseSlots};
+ghost use Rattle.table.specs.Table.{poolSlots, leaseSlots, olderSlots};
 ghost use Rattle.image.specs.declared.Form.the-variants.{First, Second};
 ghost use Rattle.image.specs.Image.{fullImage, headSize, poolSize, leaseSize, usedPools, usedLeases, imageOf};
 ghost use Rattle.ledger.specs.Ledger.{result};
 ghost use Rattle.call_spec.specs.Books.{bookOf, saveBook};
 ghost use Rattle.call_save.specs.InnerSaving.{savedTo};
+
+// "Older desks read only 256 lines": row 20.
+fn too_many(leases: usize, older: bool) -> bool
+    ensures { λ r. ⌜ r ≡ older && ltb olderSlots leases ⌝ }
+{
+    if !older {
+        return false;
+    }
+    OLDER_LEASES < leases
+}
 
 // The first form has no place for a name: row 18.
 fn save_first(image: &[u8], pools: usize, leases: usize, buffer: &mut [u8]) -> Answer
@@ -46,20 +59,24 @@ fn save_second(image: &[u8], buffer: &mut [u8]) -> Answer
     call_spec::accepted(size as u32, 0)
 }
 
-// The bytes after those written stay.
+// `older`: the image is for an older desk. The bytes after those written stay.
 pub fn save(
     image: &[u8],
     image_bytes: usize,
     counts: &Counts,
     form: Form,
+    older: bool,
     buffer: &mut [u8],
 ) -> Answer
     ensures { λ r. ⌜ result r (bookOf (now (image .entry)) «image_bytes» [] (now (counts .entry))) (now (buffer .exit))
-        ≡ saveBook (bookOf (now (image .entry)) «image_bytes» [] (now (counts .entry))) form (now (buffer .entry)) ⌝ }
+        ≡ saveBook (bookOf (now (image .entry)) «image_bytes» [] (now (counts .entry))) form older (now (buffer .entry)) ⌝ }
 {
     let summary = call_rows::summary_in(image, image_bytes, counts, 0);
     if !summary.sound {
         return call_spec::refused(5, 0);
+    }
+    if too_many(summary.leases, older) {
+        return call_spec::refused(20, 0);
     }
     match form {
         Form::First => save_first(image, summary.pools, summary.leases, buffer),

@@ -71,8 +71,8 @@ refusals-leave-book = record {
       (refused-by (openRows networks lengths term defaultLength start ++ roomRows (b .lent)) (λ n. 0) (b .lent) [] _ refl);
   loads = λ b saved. book-unchanged b (loadInto (b .lent) saved) (refused-by ((5, none? (loadSaved saved)) ∷ roomRows (b .lent)) (λ n. 0) (b .lent) [] _ refl);
   saves =
-      λ b form buffer k. let h : Lent = lentIn b in
-      let w = refused-by (saveRows (tableIn h) form buffer) (λ n. 0) h buffer (accept h (imageAs form (tableIn h)) 0 buffer) refl k in
+      λ b form older buffer k. let h : Lent = lentIn b in
+      let w = refused-by (saveRows (tableIn h) form older buffer) (λ n. 0) h buffer (accept h (imageAs form (tableIn h)) 0 buffer) refl k in
       record { stays = refl; reply-stays = w .reply-stays; bytes = w .bytes; count = w .count };
 }
 
@@ -93,11 +93,11 @@ module _ (image : List ℕ) (bytes : ℕ) (figures : List ℕ) where
   unfolding tableIn
   lists-alike now c = list-without-rows (tableIn (lent image bytes [])) (sheetRows figures) (sheetRows []) now c
 
-  saves-alike : (form : Form) (buffer : List ℕ) → Alike (saveFrom (lent image bytes figures) form buffer) (saveFrom (lent image bytes []) form buffer)
+  saves-alike : (form : Form) (older : Bool) (buffer : List ℕ) → Alike (saveFrom (lent image bytes figures) form older buffer) (saveFrom (lent image bytes []) form older buffer)
   unfolding tableIn saveFrom
-  saves-alike form buffer =
+  saves-alike form older buffer =
       let t : LeaseTable = tableIn (lent image bytes []) in
-      served-alike (lent image bytes figures) (lent image bytes []) (imageAs form t) buffer (firstOf (saveRows t form buffer))
+      served-alike (lent image bytes figures) (lent image bytes []) (imageAs form t) buffer (firstOf (saveRows t form older buffer))
 
 -- Whether or not the counts are right, which no sheet decides.
 module _ (image : List ℕ) (bytes : ℕ) (figures : List ℕ) (counts : List (List ℕ)) (f : Lent → Result Lent) (alike : (n : ℕ) → Alike (f (lent image n figures)) (f (lent image n []))) where
@@ -116,7 +116,8 @@ module _ (image : List ℕ) (bytes : ℕ) (figures : List ℕ) (counts : List (L
 pub without-sheet : WithoutSheet
 without-sheet = record {
   lists = λ image bytes figures counts now c. without image bytes figures counts (λ h. listImage h now c) (λ n. lists-alike image n figures now c);
-  saves = λ image bytes figures counts form buffer. without image bytes figures counts (λ h. saveFrom h form buffer) (λ n. saves-alike image n figures form buffer);
+  saves = λ image bytes figures counts form older buffer.
+      without image bytes figures counts (λ h. saveFrom h form older buffer) (λ n. saves-alike image n figures form older buffer);
 }
 
 -- A STRUCK LEASE LEAVES NOTHING BEHIND: two images that differ only in ended leases get the same answers and replies, and accepted calls leave the same table.

@@ -55,8 +55,8 @@ markBook b now network len d = kept (markImage (lentIn b) now network len d) b
 abbrev pub listBook : Book → ℕ → Call → Result Book
 listBook b now c = let r = listImage (lentIn b) now c in result (r .answer) b (r .reply)
 
-abbrev pub saveBook : Book → Form → List ℕ → Result Book
-saveBook b form buffer = let r = saveFrom (lentIn b) form buffer in result (r .answer) b (r .reply)
+abbrev pub saveBook : Book → Form → Bool → List ℕ → Result Book
+saveBook b form older buffer = let r = saveFrom (lentIn b) form older buffer in result (r .answer) b (r .reply)
 
 abbrev pub bookCalls : Calls Book
 bookCalls = record { stateOf = stateInBook; asks = askBook; takes = takeBook; lists = listBook; releases = releaseBook; marks = markBook }

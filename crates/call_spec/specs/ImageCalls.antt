@@ -3,10 +3,10 @@
 -- image and the sheet of what the ledger leaves.
 use Rattle.lists.specs.Basics.{ℕ, _-_, Bool, not, cond, _&&_, _||_, List, [], _∷_, _++_, Option, none, some, length, drop, replicate, take as upTo, leb, ltb, eqb}
 use Rattle.table.specs.declared.LeaseTable.{LeaseTable}
-use Rattle.table.specs.Table.{sound}
+use Rattle.table.specs.Table.{olderSlots, sound}
 use Rattle.table_open.specs.Open.{given, fresh}
 use Rattle.image.specs.declared.Form.{Form}
-use Rattle.image.specs.Image.{fullImage, imageAs, imageOf, fitsForm, loadedTable}
+use Rattle.image.specs.Image.{fullImage, usedLeases, imageAs, imageOf, fitsForm, loadedTable}
 use Rattle.image.specs.Reading.{loadImage, loadSaved}
 use Rattle.image_figures.specs.Sheets.{figuresSize, sheetRows, sheetOf}
 use Rattle.ledger.specs.Ledger.{State, state, filled, Call, Result, result, accept, Row, byRows, openRows, ask, take, list, release, mark, Calls}
@@ -86,7 +86,7 @@ imageCalls = record { stateOf = stateIn; asks = askImage; takes = takeImage; lis
 abbrev pub roomRows : Lent → List Row
 roomRows h = (14, ltb (length (h .image)) fullImage || not (eqb (length (h .figures)) figuresSize)) ∷ []
 
--- They leave zeros up to the end of a full book: "A fresh book has 256 empty lines, all zero", and of an older book nothing is left behind.
+-- They leave zeros up to the end of a full book: "A fresh book has 256 empty lines, all zero", read as 1,024, and of an older book nothing is left behind.
 unfoldable pub openImage : Lent → List ℕ → List ℕ → ℕ → ℕ → ℕ → Result Lent
 openImage h networks lengths term defaultLength start =
     byRows (openRows networks lengths term defaultLength start ++ roomRows h) (λ number. 0) h []
@@ -98,9 +98,15 @@ loadInto h saved =
     byRows ((5, none? (loadSaved saved)) ∷ roomRows h) (λ number. 0) h []
     (accept (storedIn (filled (loadedTable (loadSaved saved))) fullImage h) [] 0 [])
 
--- The image in a form into a buffer, the reply of this call; nothing that is lent changes. "18, names would be lost, in save, before 14."
-abbrev pub saveRows : LeaseTable → Form → List ℕ → List Row
-saveRows t form buffer = (5, not (sound t)) ∷ (18, not (fitsForm form t)) ∷ (14, ltb (length buffer) (length (imageAs form t))) ∷ []
+-- "Older desks read only 256 lines, so saving for one is a separate choice, refused exactly if more lines are in the book."
+abbrev pub tooMany? : LeaseTable → Bool → Bool
+tooMany? t older = older && ltb olderSlots (length (usedLeases t))
 
-unfoldable pub saveFrom : Lent → Form → List ℕ → Result Lent
-saveFrom h form buffer = byRows (saveRows (tableIn h) form buffer) (λ number. 0) h buffer (accept h (imageAs form (tableIn h)) 0 buffer)
+-- The image in a form into a buffer, the reply of this call; nothing that is lent changes. "20, too many lines for the older desk, in save, before 18";
+-- "18, names would be lost, in save, before 14."
+abbrev pub saveRows : LeaseTable → Form → Bool → List ℕ → List Row
+saveRows t form older buffer =
+    (5, not (sound t)) ∷ (20, tooMany? t older) ∷ (18, not (fitsForm form t)) ∷ (14, ltb (length buffer) (length (imageAs form t))) ∷ []
+
+unfoldable pub saveFrom : Lent → Form → Bool → List ℕ → Result Lent
+saveFrom h form older buffer = byRows (saveRows (tableIn h) form older buffer) (λ number. 0) h buffer (accept h (imageAs form (tableIn h)) 0 buffer)

@@ -1,5 +1,5 @@
 -- Where a history of calls on what is lent begins, and what holds of the calls that make a book or have no sheet.
-use Rattle.lists.specs.Basics.{ℕ, _≡_, List, []}
+use Rattle.lists.specs.Basics.{ℕ, _≡_, Bool, List, []}
 use Rattle.image.specs.declared.Form.{Form}
 use Rattle.ledger.specs.Sizes.{Bytes}
 use Rattle.ledger.specs.Ledger.{Call, Result, result}
@@ -28,7 +28,7 @@ StartsUntold = (b : Book) → Begins b → AllUntold (stateInBook b)
 pub record RefusalsLeaveBook : Type 0 where
   pub opens : (b : Book) (networks lengths : List ℕ) (term defaultLength start : ℕ) → UnchangedIfRefused b [] (openBook b networks lengths term defaultLength start)
   pub loads : (b : Book) (saved : List ℕ) → UnchangedIfRefused b [] (loadBook b saved)
-  pub saves : (b : Book) (form : Form) (buffer : List ℕ) → UnchangedIfRefused b buffer (saveBook b form buffer)
+  pub saves : (b : Book) (form : Form) (older : Bool) (buffer : List ℕ) → UnchangedIfRefused b buffer (saveBook b form older buffer)
 
 -- CALLS WITHOUT THE SHEET: "Ask, take, return and mark take the sheet". What list and save give with any sheet they give with none, and it stays as it was.
 abbrev pub GivenAlike : List ℕ → ℕ → List ℕ → List (List ℕ) → (Book → Result Book) → Type 0
@@ -38,4 +38,5 @@ GivenAlike image bytes figures counts f =
 
 pub record WithoutSheet : Type 0 where
   pub lists : (image : List ℕ) (bytes : ℕ) (figures : List ℕ) (counts : List (List ℕ)) (now : ℕ) (c : Call) → GivenAlike image bytes figures counts (λ b. listBook b now c)
-  pub saves : (image : List ℕ) (bytes : ℕ) (figures : List ℕ) (counts : List (List ℕ)) (form : Form) (buffer : List ℕ) → GivenAlike image bytes figures counts (λ b. saveBook b form buffer)
+  pub saves : (image : List ℕ) (bytes : ℕ) (figures : List ℕ) (counts : List (List ℕ)) (form : Form) (older : Bool) (buffer : List ℕ)
+      → GivenAlike image bytes figures counts (λ b. saveBook b form older buffer)

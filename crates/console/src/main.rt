@@ -20,7 +20,7 @@ ghost use Rattle.console_commands.specs.Commands.{given, Ran};
 ghost use Rattle.console.specs.Runs.{RanLine};
 ghost use Rattle.console.specs.InnerRuns.{Echoed, Set};
 
-const HELP: [u8; 896] = *b"usage: console [--echo] [FILE]
+const HELP: [u8; 904] = *b"usage: console [--echo] [FILE]
 
 Runs the commands in FILE, one to a line, and prints what each call answers. Without FILE,
 or where it is -, the commands are read from standard input.
@@ -33,7 +33,7 @@ or where it is -, the commands are read from standard input.
 Commands:
   open TERM DEFAULT START PREFIX..    ask, take STATION NOW OPTION [HEX]
   mark NOW PREFIX D                   list, return STATION NOW OPTION
-  read OPTION, write ITEM..           save [FORM], load IMAGE, sheet
+  read OPTION, write ITEM..           save [FORM [older]], load IMAGE, sheet
   whole LENGTH                        figures [SHEET], counts [COUNTS]
   buffer N                            selection on|off
 
@@ -102,7 +102,9 @@ fn run(
             let to = c.to;
             console_commands::load(s, &line[from..to], image, image_bytes, figures, counts, out)
         }
-        Command::Save(c) => { console_commands::save(s, c.form, image, *image_bytes, counts, out) }
+        Command::Save(c) => {
+            console_commands::save(s, c.form, c.older, image, *image_bytes, counts, out)
+        }
         Command::Sheet => console_commands::sheet(s, image, *image_bytes, counts, out),
         Command::Read(c) => {
             let from = c.from;

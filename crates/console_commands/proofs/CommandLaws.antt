@@ -91,8 +91,8 @@ module _ (g : Given) (a : Answer) (h : Book) (old : List ℕ) (at : ℕ) (new : 
         wrote = appended old at _ new next inside w;
       }
 
-  pub save-ran : (form : ℕ) (buffer after : List ℕ) → length buffer ≡ fullImage → result a h after ≡ saveBook (g .book) (formNumbered form) buffer → Wrote old at (savedLine (result a h after)) new next → Ran (save form) g h old at new next
-  save-ran form buffer after size same w =
+  pub save-ran : (form : ℕ) (older : Bool) (buffer after : List ℕ) → length buffer ≡ fullImage → result a h after ≡ saveBook (g .book) (formNumbered form) older buffer → Wrote old at (savedLine (result a h after)) new next → Ran (save form older) g h old at new next
+  save-ran form older buffer after size same w =
       record {
         text = savedLine (result a h after);
         does = record { buffer = buffer; size = size; leaves = ap (λ (q : Result Book). q .state) same; says = ap savedLine same };

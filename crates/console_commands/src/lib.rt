@@ -232,6 +232,7 @@ pub fn load(
 pub fn save(
     s: State,
     form: u32,
+    older: bool,
     image: &[u8],
     image_bytes: usize,
     counts: &Counts,
@@ -239,7 +240,7 @@ pub fn save(
 ) -> usize
     requires { ⌜ AnswerFits (s .at) (now out) ⌝ }
     ensures { λ r. ⌜ r ≤ length (now (out .entry)) ⌝ }
-    ensures { λ r. ⌜ ((figures : List ℕ) → Ran (saveValue form)
+    ensures { λ r. ⌜ ((figures : List ℕ) → Ran (saveValue form older)
         (given (bookOf (now (image .entry)) «image_bytes» figures (now (counts .entry))) (s .«reply_length») (s .selected) (s .lines) (drop (s .at) (now (out .entry))))
         (bookOf (now (image .entry)) «image_bytes» figures (now (counts .entry))) (now (out .entry)) (s .at) (now (out .exit)) r) ⌝ }
 {
@@ -249,6 +250,7 @@ pub fn save(
         image_bytes,
         counts,
         image::form_numbered(form),
+        older,
         &mut buffer,
     );
     console_lines::written(out, s.at, a, &buffer)

@@ -42,7 +42,7 @@ enum Fault {
 }
 
 // KINDS. What a word should be is told by a letter:
-// n a number, b a number below 256, r a length of the reply buffer, f 0 or 1, v the form of a saved book, o on or off, p a prefix, a an address, x octets, t those of a figures sheet, u those of counts;
+// n a number, b a number below 256, r a length of the reply buffer, f 0 or 1, v the form of a saved book, y older, o on or off, p a prefix, a an address, x octets, t those of a figures sheet, u those of counts;
 // of `write` h, i, c, s and d a bit behind its key, l `prefix=` and a length, g `figures=` and figures, w a word that begins an item, e an entry in its place.
 
 fn is_number(n: Number) -> bool {
@@ -144,6 +144,7 @@ fn is_of(kind: u8, word: &[u8]) -> bool {
         b'r' => is_at_most(word, LONGEST_REPLY),
         b'f' => is_number(console_words::read_flag(word)),
         b'v' => is_number(console_script::read_form(word)),
+        b'y' => check::same(word, b"older"),
         b'o' => is_switch(word),
         b'p' => is_prefix(word),
         b'a' => is_number(console_words::read_network(word)),
@@ -291,7 +292,7 @@ fn command_fault(name: Name, s: &[u8], from: usize) -> Fault
         // Up to 16 prefixes.
         Name::Open => line_fault(s, from, b"nbnpppppppppppppppp", 3),
         Name::Load => line_fault(s, from, b"x", 1),
-        Name::Save => line_fault(s, from, b"v", 0),
+        Name::Save => line_fault(s, from, b"vy", 0),
         Name::Sheet => line_fault(s, from, b"", 0),
         Name::Read => line_fault(s, from, b"x", 1),
         Name::Write => write_fault(s, from),
@@ -377,6 +378,7 @@ fn put_kind(out: &mut [u8], at: usize, kind: u8) -> usize
         b'r' => console_text::fill(out, at, b"a number up to %", &[LONGEST_REPLY]),
         b'f' => console_text::text(out, at, b"0 or 1"),
         b'v' => console_text::text(out, at, b"1 or 2"),
+        b'y' => console_text::text(out, at, b"older"),
         b'o' => console_text::text(out, at, b"on or off"),
         b'p' => console_text::text(out, at, b"a prefix A.B.C.D/L"),
         b'a' => console_text::text(out, at, b"an address A.B.C.D"),
@@ -451,7 +453,7 @@ fn put_form(out: &mut [u8], at: usize, name: Name) -> usize
         Name::Mark => console_text::text(out, at, b" NOW PREFIX D)\n"),
         Name::Open => console_text::text(out, at, b" TERM DEFAULT START PREFIX.., 16 at most)\n"),
         Name::Load => console_text::text(out, at, b" IMAGE)\n"),
-        Name::Save => console_text::text(out, at, b" alone, or FORM)\n"),
+        Name::Save => console_text::text(out, at, b" alone, or FORM [older])\n"),
         Name::Sheet => console_text::text(out, at, b" alone)\n"),
         Name::Read => console_text::text(out, at, b" OPTION)\n"),
         Name::Write => console_text::text(out, at, b" ITEM.. or address A.B.C.D)\n"),

@@ -3,13 +3,14 @@
 use Prim.Native.Nat.{ℕ, _-_, _≤_, _<_}
 use native.Mathlib.Omega.{arith}
 use mathlib.Core.Path.{_≡_, refl, sym, ap, ap₂, _∙_}
-use mathlib.Core.Bool.{Bool, true, false, cond}
+use mathlib.Core.Bool.{Bool, true, false, cond, _&&_}
 use mathlib.Core.Option.{Option, none, some}
 use mathlib.Core.List.{List, [], _∷_}
 use lib.ListN.{length, drop, getD}
 use lib.Dec.{eqb}
 use borrow.Author.Tests.{lt-ltb, le-ltb, eq-eqb, ne-eqb}
 use Rattle.lists.proofs.Tests.{cond-true, cond-false}
+use Rattle.text.specs.Ascii.{ascii}
 use Rattle.console_words.specs.declared.Number.{Number}
 use Rattle.console_words.specs.declared.Number.the-variants as number
 use Rattle.console_words.specs.declared.NumberAt.{NumberAt}
@@ -24,7 +25,7 @@ use Rattle.console_script.specs.declared.OptionCall.{OptionCall}
 use Rattle.console_script.specs.declared.Name.{Name}
 use Rattle.console_script.specs.declared.Switch.the-variants as switch
 use Rattle.console_script.specs.Commands.{CommandValue, call, mark, «open», load, save, sheet, read, whole, buffer, selection, nothing, bad, Message, longestLine, longestReply, mostPrefixes, withPrefixes}
-use Rattle.console_script.specs.Parsing.{withNumber, withOctets, withMessage, messageOf, switchOf, ofSize, aloneOr, atEnd, nameOf, parseCall, parseMark, parseOpen, formOf, parseLoad, parseSave, parseRead, parseWhole, parseBuffer, parseSelection, parseSheet, parseWords, parseLine, unreturned}
+use Rattle.console_script.specs.Parsing.{same?, withNumber, withOctets, withMessage, messageOf, switchOf, ofSize, aloneOr, atEnd, nameOf, parseCall, parseMark, parseOpen, formOf, parseLoad, olderAlone?, saveAs, parseSave, parseRead, parseWhole, parseBuffer, parseSelection, parseSheet, parseWords, parseLine, unreturned}
 
 -- What the next word spells, where xs is left of the line.
 pub spells : (spelt : List ℕ → Number) (s : List ℕ) (from : ℕ) (r : NumberAt) (xs : List ℕ) (n : Number) → NextNumber spelt s from r → drop from s ≡ xs → r .number ≡ n → spelt (firstWord xs) ≡ n
@@ -136,26 +137,40 @@ module _ (xs : List ℕ) where
 
 -- Nothing more, or FORM
 module _ (xs : List ℕ) where
-  pub save-alone : last? xs ≡ true → save 2 ≡ parseSave xs
+  pub another-word : same? (firstWord xs) (ascii "older") ≡ false → false ≡ olderAlone? xs
+  unfolding olderAlone?
+  another-word e = rw e
+
+  pub older-then : same? (firstWord xs) (ascii "older") ≡ true → (ends : Bool) → ends ≡ last? (afterWord xs) → ends ≡ olderAlone? xs
+  unfolding olderAlone?
+  older-then e ends is = is ∙ sym (ap (λ (b : Bool). b && last? (afterWord xs)) e)
+
+  pub save-alone : last? xs ≡ true → save 2 false ≡ parseSave xs
   unfolding parseSave
-  save-alone e = sym (ap (λ (b : Bool). cond b (save 2) (withNumber (formOf (firstWord xs)) (λ form. atEnd (afterWord xs) (save form)))) e)
+  save-alone e = sym (ap (λ (b : Bool). cond b (save 2 false) (withNumber (formOf (firstWord xs)) (saveAs (afterWord xs)))) e)
 
   module _ (more : last? xs ≡ false) where
-    with-form : (n : Number) → formOf (firstWord xs) ≡ n → withNumber n (λ form. atEnd (afterWord xs) (save form)) ≡ parseSave xs
+    with-form : (n : Number) → formOf (firstWord xs) ≡ n → withNumber n (saveAs (afterWord xs)) ≡ parseSave xs
     unfolding parseSave
     with-form n e =
-        sym (ap (λ (b : Bool). cond b (save 2) (withNumber (formOf (firstWord xs)) (λ form. atEnd (afterWord xs) (save form)))) more
-        ∙ ap (λ (m : Number). withNumber m (λ form. atEnd (afterWord xs) (save form))) e)
+        sym (ap (λ (b : Bool). cond b (save 2 false) (withNumber (formOf (firstWord xs)) (saveAs (afterWord xs)))) more
+        ∙ ap (λ (m : Number). withNumber m (saveAs (afterWord xs))) e)
 
     pub save-no-form : formOf (firstWord xs) ≡ number.Bad → bad ≡ parseSave xs
     save-no-form e = with-form number.Bad e
 
     module _ (n : ℕ) (e₁ : formOf (firstWord xs) ≡ number.Of n) where
-      pub save-more : last? (afterWord xs) ≡ false → bad ≡ parseSave xs
-      save-more e = sym (ap (λ (b : Bool). cond b (save n) bad) e) ∙ with-form (number.Of n) e₁
+      as-form : (last older : Bool) → last? (afterWord xs) ≡ last → olderAlone? (afterWord xs) ≡ older → cond last (save n false) (cond older (save n true) bad) ≡ parseSave xs
+      as-form last older e f = sym (ap₂ (λ (a b : Bool). cond a (save n false) (cond b (save n true) bad)) e f) ∙ with-form (number.Of n) e₁
 
-      pub save-of : last? (afterWord xs) ≡ true → save n ≡ parseSave xs
-      save-of e = sym (ap (λ (b : Bool). cond b (save n) bad) e) ∙ with-form (number.Of n) e₁
+      pub save-of : last? (afterWord xs) ≡ true → save n false ≡ parseSave xs
+      save-of e = as-form true (olderAlone? (afterWord xs)) e refl
+
+      pub save-more : last? (afterWord xs) ≡ false → olderAlone? (afterWord xs) ≡ false → bad ≡ parseSave xs
+      save-more e f = as-form false false e f
+
+      pub save-older : last? (afterWord xs) ≡ false → olderAlone? (afterWord xs) ≡ true → save n true ≡ parseSave xs
+      save-older e f = as-form false true e f
 
 -- Nothing more, or so many octets
 module _ (alone : CommandValue) (n : ℕ) (f : List ℕ → CommandValue) (xs : List ℕ) where

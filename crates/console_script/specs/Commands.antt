@@ -23,8 +23,8 @@ pub data CommandValue : Type 0 where
   «open» : ℕ → ℕ → ℕ → List ℕ → List ℕ → CommandValue
   -- the image's octets
   load : List ℕ → CommandValue
-  -- the number of the form
-  save : ℕ → CommandValue
+  -- the number of the form, and whether the image is for an older desk
+  save : ℕ → Bool → CommandValue
   sheet : CommandValue
   -- the option's octets
   read : List ℕ → CommandValue
@@ -86,7 +86,7 @@ valueIn s (command.Call c) = call (c .call) (c .client) (c .time) (between (c .m
 valueIn s (command.Mark c) = mark (c .time) (c .network) (c .length) (c .deprecated)
 valueIn s (command.Open c) = withPrefixes (prefixesOf mostPrefixes (drop (c .from) s)) («open» (c .term) (c .«default_length») (c .start))
 valueIn s (command.Load c) = load (between (c .from) (c .to) s)
-valueIn s (command.Save c) = save (c .form)
+valueIn s (command.Save c) = save (c .form) (c .older)
 valueIn s command.Sheet = sheet
 valueIn s (command.Read c) = read (between (c .from) (c .to) s)
 valueIn s (command.Write c) = write (drop (c .from) s)

@@ -129,9 +129,17 @@ parseLoad xs = withOctets (lastOctets xs) load
 unfoldable pub formOf : List ℕ → Number
 formOf w = cond (same? w (ascii "1")) (number.Of 1) (cond (same? w (ascii "2")) (number.Of 2) number.Bad)
 
--- Nothing more, or FORM: "`save` and `save 2` write the second form, `save 1` the first"
+-- The word older, and no further one.
+unfoldable pub olderAlone? : List ℕ → Bool
+olderAlone? xs = same? (firstWord xs) (ascii "older") && last? (afterWord xs)
+
+-- Nothing more, FORM, or FORM older: "`save` and `save 2` write the second form, `save 1` the first"; "`save 1 older`, `save 2 older`: saved for an older desk
+-- (`save older` is an error)".
+abbrev pub saveAs : List ℕ → ℕ → CommandValue
+saveAs xs form = cond (last? xs) (save form false) (cond (olderAlone? xs) (save form true) bad)
+
 unfoldable pub parseSave : List ℕ → CommandValue
-parseSave xs = cond (last? xs) (save 2) (withNumber (formOf (firstWord xs)) (λ form. atEnd (afterWord xs) (save form)))
+parseSave xs = cond (last? xs) (save 2 false) (withNumber (formOf (firstWord xs)) (saveAs (afterWord xs)))
 
 -- OPTION
 unfoldable pub parseRead : List ℕ → CommandValue

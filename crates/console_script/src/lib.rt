@@ -31,6 +31,7 @@ ghost use Rattle.console_script.specs.Parsing.{
   parseWhole,
   parseBuffer,
   parseSelection,
+  olderAlone?,
   parseSave,
   parseSheet,
   parseWords,
@@ -102,9 +103,10 @@ pub struct WriteLine {
     pub from: usize,
 }
 
-// FORM: 1 or 2.
+// FORM: 1 or 2; and whether the image is for an older desk.
 pub struct SaveLine {
     pub form: u32,
+    pub older: bool,
 }
 
 // LENGTH
@@ -431,14 +433,31 @@ pub fn read_form(word: &[u8]) -> Number
     Number::Bad
 }
 
-// Nothing more, which is the second form, or FORM.
+// The word older, and no further one.
+fn older_alone(s: &[u8], from: usize) -> bool
+    requires { ⌜ from ≤ length (now s) ⌝ }
+    ensures { λ r. ⌜ r ≡ olderAlone? (drop from (now (s .entry))) ⌝ }
+{
+    let w = console_words::next_word(s, from);
+    let start = w.start;
+    let end = w.end;
+    if !is(&s[start..end], b"older") {
+        return false;
+    }
+    console_words::ends(s, end)
+}
+
+// Nothing more, which is the second form, FORM, or FORM older.
 fn save_line(s: &[u8], from: usize) -> Command
     requires { ⌜ from ≤ length (now s) ⌝ }
     ensures { λ r. ⌜ Within (length (now (s .entry))) r ⌝ }
     ensures { λ r. ⌜ valueIn (now (s .entry)) r ≡ parseSave (drop from (now (s .entry))) ⌝ }
 {
     if console_words::ends(s, from) {
-        return Command::Save(SaveLine { form: 2 });
+        return Command::Save(SaveLine {
+            form: 2,
+            older: false,
+        });
     }
     let w = console_words::next_word(s, from);
     let start = w.start;
@@ -447,10 +466,13 @@ fn save_line(s: &[u8], from: usize) -> Command
     let Number::Of(form) = number else {
         return Command::Bad;
     };
-    if !console_words::ends(s, end) {
+    if console_words::ends(s, end) {
+        return Command::Save(SaveLine { form, older: false });
+    }
+    if !older_alone(s, end) {
         return Command::Bad;
     }
-    Command::Save(SaveLine { form })
+    Command::Save(SaveLine { form, older: true })
 }
 
 // OPTION

@@ -44,7 +44,7 @@ abbrev pub echoMost : ℕ
 echoMost = lineSpace + 3
 
 abbrev pub answerMost : ℕ
-answerMost = 196608
+answerMost = 655360
 
 abbrev pub outputSpace : ℕ
 outputSpace = waitingMost + echoMost + answerMost

@@ -24,7 +24,7 @@ ghost use Rattle.console_session.specs.States.{
 const WAITING: usize = 65536;
 
 // Room for any answer, and for the line before it: two bytes, the line, and its newline.
-const ANSWER: usize = 196608;
+const ANSWER: usize = 655360;
 
 const ECHO: usize = LINE + 3;
 

@@ -87,16 +87,18 @@ pub extern "C" fn flockdrift_save(
     image_bytes: usize,
     counts: &Counts,
     form: u32,
+    older: u32,
     buffer: &mut [u8],
 ) -> Answer
     ensures { λ r. ⌜ result r (bookOf (now (image .entry)) «image_bytes» [] (now (counts .entry))) (now (buffer .exit))
-        ≡ saveBook (bookOf (now (image .entry)) «image_bytes» [] (now (counts .entry))) (formNumbered form) (now (buffer .entry)) ⌝ }
+        ≡ saveBook (bookOf (now (image .entry)) «image_bytes» [] (now (counts .entry))) (formNumbered form) (not (eqb older 0)) (now (buffer .entry)) ⌝ }
 {
     call_save::save(
         image,
         image_bytes,
         counts,
         image::form_numbered(form),
+        older != 0,
         buffer,
     )
 }

@@ -24,8 +24,9 @@ use Rattle.names.proofs.NameLaws.{name-reads, name-written, unnamed-to, unnamed
 use Rattle.table.specs.declared.Pool.{Pool}
 use Rattle.table.specs.declared.Lease.{Lease}
 use Rattle.table.specs.declared.LeaseTable.{LeaseTable}
-use Rattle.table.specs.Table.{poolSlots, leaseSlots, noPool, noLease, unused?, empty?, sound, padded}
-use Rattle.table.proofs.TableLaws.{unused-of, empty-of, sound-slots, sound-pool-slots, sound-pools-whole, sound-used, sound-whole}
+use Rattle.table.specs.Table.{poolSlots, leaseSlots, noPool, noLease, unused?, empty?, soundFor, sound, paddedTo}
+use Rattle.table.proofs.TableLaws.{unused-of, empty-of, sound-slots, sound-pool-slots}
+use Rattle.table.proofs.OlderLaws.{sound-ours, slots-for, pool-slots-for, pools-whole-for, leases-whole-for}
 use Rattle.image.specs.declared.Head.{Head}
 use Rattle.image.specs.declared.Form.{Form}
 use Rattle.image.specs.declared.Form.the-variants.{First, Second}
@@ -33,7 +34,7 @@ use Rattle.image.specs.Fields.{number16, number32, Run}
 use Rattle.image.specs.Image.{le16, le32, headKind, headRecordIn, headRecord, poolRecord, leaseKind, nameRecord, leaseRecordIn, leaseRecord, stateByte, flagsByte, usedPools, usedLeases, headOf, imageAs, imageOf, fitsForm}
 use Rattle.image.specs.Image.{headSize, poolSize, leaseSizeIn, leaseSize, fullImageIn, fullImage}
 use Rattle.image.specs.Reading.{stateByteIn, flagsByteIn, expiresIn, nameLengthAt, nameAt, nameFieldIn, nameTest, headIn, headTestsIn, headAtIn, poolIn, poolTests, poolAt}
-use Rattle.image.specs.Reading.{leaseFieldsIn, leaseTestsIn, leaseAtIn, leaseAt, poolsAt, leasesAtIn, tableWith, whole, afterHeadIn, loadIn, loadImage}
+use Rattle.image.specs.Reading.{leaseFieldsIn, leaseTestsIn, leaseAtIn, leaseAt, poolsAt, leasesWithin, tableFor, tableWith, wholeFor, afterHeadIn, afterHeadFor, loadIn, loadFor, loadImage}
 use Rattle.image.proofs.FieldLaws.{Bytes, bytes-of, bytes-all, bytes-drop, spell32, le16-number, le32-number, spelled, front-spelled, records-concatMap, readings}
 
 -- EACH RECORD READS BACK
@@ -49,7 +50,7 @@ spell16 : (n : ℕ) → n % 256 + 256 * (n / 256) ≡ n
 spell16 n = omega arith
 
 module _ (form : Form) (x : Head) (q : List ℕ) where
-  head-reads : headAtIn form (headRecordIn form x ++ q) ≡ some x
+  pub head-reads : headAtIn form (headRecordIn form x ++ q) ≡ some x
   unfolding headAtIn headRecordIn le16 le32 number16 number32
   head-reads =
       let s : List ℕ = headRecordIn form x ++ q in
@@ -57,7 +58,7 @@ module _ (form : Form) (x : Head) (q : List ℕ) where
       (and-list-of (headTestsIn form s) (le-leb headSize (length s) (omega arith), (refl, (eq-eqb (number16 s 2) (headKind form) (spell16 (headKind form)), tt))))
       ∙ ap₂ (λ (t l : ℕ). some (head t (x .«default_length») l)) (spell32 (x .term)) (spell32 (x .last))
 
-  head-skips : drop headSize (headRecordIn form x ++ q) ≡ q
+  pub head-skips : drop headSize (headRecordIn form x ++ q) ≡ q
   unfolding headRecordIn le16 le32
   head-skips = refl
 
@@ -151,7 +152,7 @@ unfolding leaseRecordIn le16 le32 nameOctets octets
 length-lease-in First x = refl
 length-lease-in Second x = refl
 
-lease-skips : (form : Form) (x : Lease) (q : List ℕ) → drop (leaseSizeIn form) (leaseRecordIn form x ++ q) ≡ q
+pub lease-skips : (form : Form) (x : Lease) (q : List ℕ) → drop (leaseSizeIn form) (leaseRecordIn form x ++ q) ≡ q
 unfolding leaseRecordIn le16 le32 nameOctets octets
 lease-skips First x q = refl
 lease-skips Second x q = refl
@@ -253,7 +254,7 @@ not-third true true c = refl
 not-third true false c = refl
 not-third false b c = refl
 
-no-pool : (form : Form) (xs : List Lease) → poolAt (concatMap (leaseRecordIn form) xs) ≡ none
+pub no-pool : (form : Form) (xs : List Lease) → poolAt (concatMap (leaseRecordIn form) xs) ≡ none
 unfolding poolAt leaseRecordIn le16 le32 number16
 no-pool form [] = refl
 no-pool First (x ∷ xs) =
@@ -285,54 +286,69 @@ used-leases k xs a =
     ∙ ap₂ (λ (x y : List Lease). x ++ y) (filter-whole f xs (all-map (λ x (e : empty? x ≡ false). not-of (empty? x) e) xs a)) (filter-replicate f k noLease (ap not empty-of))
     ∙ append-nil xs
 
-used-all : {A : Type 0} (none? : A → Bool) (xs : List A) → All (λ x. none? x ≡ false) (filter (λ x. not (none? x)) xs)
+pub used-all : {A : Type 0} (none? : A → Bool) (xs : List A) → All (λ x. none? x ≡ false) (filter (λ x. not (none? x)) xs)
 used-all none? xs = all-map (λ x (e : not (none? x) ≡ true). not-true (none? x) e) (filter (λ x. not (none? x)) xs) (filter-pass (λ x. not (none? x)) xs)
 
 -- A sound table is that of its head, its used pools and its used leases.
-pub table-whole : (t : LeaseTable) → sound t ≡ true → t ≡ tableWith (headOf t) (usedPools t) (usedLeases t)
-table-whole t e =
-    let ps = sound-pools-whole t e in
-    let xs : t .leases ≡ padded (usedLeases t) = subst (λ (l : List Lease). t .leases ≡ padded l) (sym (sound-used t e)) (sound-whole t e) in
-    ap₂ (λ (p : List Pool) (l : List Lease). record { pools = p; leases = l; term = t .term; «default_length» = t .«default_length»; last = t .last }) ps xs
+table-whole-for : (slots : ℕ) (t : LeaseTable) → soundFor slots t ≡ true → t ≡ tableFor slots (headOf t) (usedPools t) (usedLeases t)
+table-whole-for slots t e =
+    ap₂ (λ (p : List Pool) (l : List Lease). record { pools = p; leases = l; term = t .term; «default_length» = t .«default_length»; last = t .last })
+    (pools-whole-for slots t e) (leases-whole-for slots t e)
 
-whole-some : (t : LeaseTable) → sound t ≡ true → whole t [] ≡ some t
-whole-some t e = rw e
+pub table-whole : (t : LeaseTable) → sound t ≡ true → t ≡ tableWith (headOf t) (usedPools t) (usedLeases t)
+table-whole t e = table-whole-for leaseSlots t (sound-ours t ∙ e)
+
+whole-some : (slots : ℕ) (t : LeaseTable) → soundFor slots t ≡ true → wholeFor slots t [] ≡ some t
+whole-some slots t e = rw e
 
 -- What fits the form, of a table and of its used leases.
-fits-used : (form : Form) (t : LeaseTable) → fitsForm form t ≡ true → All (λ x. nameFits form (x .name) ≡ true) (usedLeases t)
+pub fits-used : (form : Form) (t : LeaseTable) → fitsForm form t ≡ true → All (λ x. nameFits form (x .name) ≡ true) (usedLeases t)
 fits-used First t e = filter-all (λ x. not (empty? x)) (λ x. unnamed? (x .name) ≡ true) (t .leases) (all?-to (λ x. unnamed? (x .name)) (λ x f. f) (t .leases) e)
 fits-used Second t e = all-every (λ x. refl) (usedLeases t)
 
-used-fits : (form : Form) (x : Head) (ps : List Pool) (xs : List Lease) → All (λ y. nameFits form (y .name) ≡ true) xs → fitsForm form (tableWith x ps xs) ≡ true
-used-fits First x ps xs a =
-    all?-of (λ y. unnamed? (y .name)) (λ y e. e) (padded xs)
-    (all-append (λ y. unnamed? (y .name) ≡ true) xs (replicate (leaseSlots - length xs) noLease) a
-    (all-replicate (λ y. unnamed? (y .name) ≡ true) (leaseSlots - length xs) noLease unnamed-of))
-used-fits Second x ps xs a = refl
+used-fits : (slots : ℕ) (form : Form) (x : Head) (ps : List Pool) (xs : List Lease) → All (λ y. nameFits form (y .name) ≡ true) xs → fitsForm form (tableFor slots x ps xs) ≡ true
+used-fits slots First x ps xs a =
+    all?-of (λ y. unnamed? (y .name)) (λ y e. e) (paddedTo slots xs)
+    (all-append (λ y. unnamed? (y .name) ≡ true) xs (replicate (slots - length xs) noLease) a
+    (all-replicate (λ y. unnamed? (y .name) ≡ true) (slots - length xs) noLease unnamed-of))
+used-fits slots Second x ps xs a = refl
+
+-- Load as it is for our desk.
+after-ours : (form : Form) (o : Option Head) (s : List ℕ) → afterHeadFor leaseSlots form o s ≡ afterHeadIn form o s
+unfolding soundFor sound
+after-ours form none s = refl
+after-ours form (some x) s = refl
+
+pub load-ours : (form : Form) (s : List ℕ) → loadFor leaseSlots form s ≡ loadIn form s
+unfolding loadFor loadIn
+load-ours form s = after-ours form (headAtIn form s) (drop headSize s)
 
 -- "Load and save undo each other on sound books": what is saved loads as the same table.
-pub load-image-in : (form : Form) (t : LeaseTable) → sound t ≡ true → fitsForm form t ≡ true → loadIn form (imageAs form t) ≡ some t
-unfolding loadIn imageAs
-load-image-in form t e fits =
+pub load-image-for : (slots : ℕ) (form : Form) (t : LeaseTable) → soundFor slots t ≡ true → fitsForm form t ≡ true → loadFor slots form (imageAs form t) ≡ some t
+unfolding loadFor imageAs
+load-image-for slots form t e fits =
     let ps : List Pool = usedPools t in
     let xs : List Lease = usedLeases t in
     let tail : List ℕ = concatMap (leaseRecordIn form) xs in
     let body : List ℕ = concatMap poolRecord ps ++ tail in
-    let few : length ps ≤ poolSlots = omega (arith, filter-fewer (λ p. not (unused? p)) (t .pools), sound-pool-slots t e) in
-    let fewer : length xs ≤ leaseSlots = omega (arith, filter-fewer (λ x. not (empty? x)) (t .leases), sound-slots t e) in
+    let few : length ps ≤ poolSlots = omega (arith, filter-fewer (λ p. not (unused? p)) (t .pools), pool-slots-for slots t e) in
+    let fewer : length xs ≤ slots = omega (arith, filter-fewer (λ x. not (empty? x)) (t .leases), slots-for slots t e) in
     let pools : poolsAt body ≡ record { items = ps; rest = tail } =
     records-concatMap poolAt poolSize poolRecord (λ p. unused? p ≡ false) (λ p q u. pool-reads p q u) pool-skips poolSlots ps tail (used-all unused? (t .pools)) few (no-pool form xs) in
     let each : All (λ x. (empty? x ≡ false) × (nameFits form (x .name) ≡ true)) xs =
     all-map₂ (λ x (u : empty? x ≡ false) (f : nameFits form (x .name) ≡ true). (u, f)) xs (used-all empty? (t .leases)) (fits-used form t fits) in
-    let leases : leasesAtIn form tail ≡ record { items = xs; rest = [] } =
-    ap (leasesAtIn form) (sym (append-nil tail))
+    let leases : leasesWithin slots form tail ≡ record { items = xs; rest = [] } =
+    ap (leasesWithin slots form) (sym (append-nil tail))
     ∙ records-concatMap (leaseAtIn form) (leaseSizeIn form) (leaseRecordIn form) (λ x. (empty? x ≡ false) × (nameFits form (x .name) ≡ true))
-    (λ x q u. lease-reads-in form x q (u .1) (u .0)) (lease-skips form) leaseSlots xs [] each fewer (no-lease form) in
-    ap₂ (afterHeadIn form) (head-reads form (headOf t) body) (head-skips form (headOf t) body)
-    ∙ ap (λ (r : Run Pool). whole (tableWith (headOf t) (r .items) (leasesAtIn form (r .rest) .items)) (leasesAtIn form (r .rest) .rest)) pools
-    ∙ ap (λ (r : Run Lease). whole (tableWith (headOf t) ps (r .items)) (r .rest)) leases
-    ∙ ap (λ (u : LeaseTable). whole u []) (sym (table-whole t e))
-    ∙ whole-some t e
+    (λ x q u. lease-reads-in form x q (u .1) (u .0)) (lease-skips form) slots xs [] each fewer (no-lease form) in
+    ap₂ (afterHeadFor slots form) (head-reads form (headOf t) body) (head-skips form (headOf t) body)
+    ∙ ap (λ (r : Run Pool). wholeFor slots (tableFor slots (headOf t) (r .items) (leasesWithin slots form (r .rest) .items)) (leasesWithin slots form (r .rest) .rest)) pools
+    ∙ ap (λ (r : Run Lease). wholeFor slots (tableFor slots (headOf t) ps (r .items)) (r .rest)) leases
+    ∙ ap (λ (u : LeaseTable). wholeFor slots u []) (sym (table-whole-for slots t e))
+    ∙ whole-some slots t e
+
+pub load-image-in : (form : Form) (t : LeaseTable) → sound t ≡ true → fitsForm form t ≡ true → loadIn form (imageAs form t) ≡ some t
+load-image-in form t e fits = sym (load-ours form (imageAs form t)) ∙ load-image-for leaseSlots form t (sound-ours t ∙ e) fits
 
 pub load-image : (t : LeaseTable) → sound t ≡ true → loadImage (imageOf t) ≡ some t
 load-image t e = load-image-in Second t e refl
@@ -342,12 +358,12 @@ length-zero [] e = refl
 length-zero (x ∷ xs) e = absurd (omega arith)
 
 -- What loads is sound, fits the form, and is saved as the same bytes.
-pub image-loaded-in : (form : Form) (s : List ℕ) (t : LeaseTable) → All (λ b. b < 256) s → loadIn form s ≡ some t
-    → (sound t ≡ true) × ((fitsForm form t ≡ true) × (imageAs form t ≡ s))
-unfolding loadIn imageAs
-image-loaded-in form s t a e = cases (headAtIn form s) refl e
+pub image-loaded-for : (slots : ℕ) (form : Form) (s : List ℕ) (t : LeaseTable) → All (λ b. b < 256) s → loadFor slots form s ≡ some t
+    → (soundFor slots t ≡ true) × ((fitsForm form t ≡ true) × (imageAs form t ≡ s))
+unfolding loadFor imageAs
+image-loaded-for slots form s t a e = cases (headAtIn form s) refl e
   where
-    cases : (o : Option Head) → headAtIn form s ≡ o → afterHeadIn form o (drop headSize s) ≡ some t → (sound t ≡ true) × ((fitsForm form t ≡ true) × (imageAs form t ≡ s))
+    cases : (o : Option Head) → headAtIn form s ≡ o → afterHeadFor slots form o (drop headSize s) ≡ some t → (soundFor slots t ≡ true) × ((fitsForm form t ≡ true) × (imageAs form t ≡ s))
     cases none h f = let z : _≡_ {A = ℕ} 0 1 = cc in absurd (omega arith)
     cases (some x) h f =
         let body : List ℕ = drop headSize s in
@@ -356,23 +372,27 @@ image-loaded-in form s t a e = cases (headAtIn form s) refl e
         let r = readings poolAt poolSize poolRecord (λ p. unused? p ≡ false) pool-written poolSlots body (bytes-of body bodyBytes) in
         let restBytes : All (λ b. b < 256) (ps .rest) =
         all-right (λ b. b < 256) (concatMap poolRecord (ps .items)) (ps .rest) (subst (All (λ b. b < 256)) (r .same) bodyBytes) in
-        let xs : Run Lease = leasesAtIn form (ps .rest) in
+        let xs : Run Lease = leasesWithin slots form (ps .rest) in
         let rec : Lease → List ℕ = leaseRecordIn form in
-        let q = readings (leaseAtIn form) (leaseSizeIn form) rec (λ y. (empty? y ≡ false) × (nameFits form (y .name) ≡ true)) (lease-written-in form) leaseSlots (ps .rest) (bytes-of (ps .rest) restBytes) in
+        let q = readings (leaseAtIn form) (leaseSizeIn form) rec (λ y. (empty? y ≡ false) × (nameFits form (y .name) ≡ true)) (lease-written-in form) slots (ps .rest) (bytes-of (ps .rest) restBytes) in
         let used : All (λ y. empty? y ≡ false) (xs .items) = all-map (λ y (b : (empty? y ≡ false) × (nameFits form (y .name) ≡ true)). b .0) (xs .items) (q .each) in
         let named : All (λ y. nameFits form (y .name) ≡ true) (xs .items) = all-map (λ y (b : (empty? y ≡ false) × (nameFits form (y .name) ≡ true)). b .1) (xs .items) (q .each) in
-        let u : LeaseTable = tableWith x (ps .items) (xs .items) in
-        let w = some-same (and (eqb (length (xs .rest)) 0 ∷ sound u ∷ [])) u t f in
-        let tests = and-list-to (eqb (length (xs .rest)) 0 ∷ sound u ∷ []) (w .0) in
+        let u : LeaseTable = tableFor slots x (ps .items) (xs .items) in
+        let w = some-same (and (eqb (length (xs .rest)) 0 ∷ soundFor slots u ∷ [])) u t f in
+        let tests = and-list-to (eqb (length (xs .rest)) 0 ∷ soundFor slots u ∷ []) (w .0) in
         let nothing : xs .rest ≡ [] = length-zero (xs .rest) (eqb-true (length (xs .rest)) 0 (tests .0)) in
         let tail : ps .rest ≡ concatMap rec (xs .items) = q .same ∙ ap (λ (l : List ℕ). concatMap rec (xs .items) ++ l) nothing ∙ append-nil (concatMap rec (xs .items)) in
         let bytes : s ≡ headRecordIn form x ++ (concatMap poolRecord (ps .items) ++ concatMap rec (xs .items)) =
         head-written form s x (bytes-of s a) h ∙ ap (λ (l : List ℕ). headRecordIn form x ++ l) (r .same ∙ ap (λ (l : List ℕ). concatMap poolRecord (ps .items) ++ l) tail) in
         let image : imageAs form u ≡ s =
         ap₂ (λ (p : List Pool) (l : List Lease). headRecordIn form x ++ (concatMap poolRecord p ++ concatMap rec l))
-        (used-pools (poolSlots - length (ps .items)) (ps .items) (r .each)) (used-leases (leaseSlots - length (xs .items)) (xs .items) used)
+        (used-pools (poolSlots - length (ps .items)) (ps .items) (r .each)) (used-leases (slots - length (xs .items)) (xs .items) used)
         ∙ sym bytes in
-        (ap sound (sym (w .1)) ∙ tests .1 .0, (ap (fitsForm form) (sym (w .1)) ∙ used-fits form x (ps .items) (xs .items) named, ap (imageAs form) (sym (w .1)) ∙ image))
+        (ap (soundFor slots) (sym (w .1)) ∙ tests .1 .0, (ap (fitsForm form) (sym (w .1)) ∙ used-fits slots form x (ps .items) (xs .items) named, ap (imageAs form) (sym (w .1)) ∙ image))
+
+pub image-loaded-in : (form : Form) (s : List ℕ) (t : LeaseTable) → All (λ b. b < 256) s → loadIn form s ≡ some t
+    → (sound t ≡ true) × ((fitsForm form t ≡ true) × (imageAs form t ≡ s))
+image-loaded-in form s t a e = let r = image-loaded-for leaseSlots form s t a (load-ours form s ∙ e) in (sym (sound-ours t) ∙ r .0, r .1)
 
 pub image-loaded : (s : List ℕ) (t : LeaseTable) → All (λ b. b < 256) s → loadImage s ≡ some t → (sound t ≡ true) × (imageOf t ≡ s)
 image-loaded s t a e = let r = image-loaded-in Second s t a e in (r .0, r .1 .1)
@@ -381,6 +401,10 @@ image-loaded s t a e = let r = image-loaded-in Second s t a e in (r .0, r .1 .1)
 pub loads⇔image-in : (form : Form) (s : List ℕ) (t : LeaseTable) → All (λ b. b < 256) s
     → (loadIn form s ≡ some t) ↔ ((sound t ≡ true) × ((fitsForm form t ≡ true) × (imageAs form t ≡ s)))
 loads⇔image-in form s t a = (image-loaded-in form s t a, λ p. ap (loadIn form) (sym (p .1 .1)) ∙ load-image-in form t (p .0) (p .1 .0))
+
+pub loads⇔image-for : (slots : ℕ) (form : Form) (s : List ℕ) (t : LeaseTable) → All (λ b. b < 256) s
+    → (loadFor slots form s ≡ some t) ↔ ((soundFor slots t ≡ true) × ((fitsForm form t ≡ true) × (imageAs form t ≡ s)))
+loads⇔image-for slots form s t a = (image-loaded-for slots form s t a, λ p. ap (loadFor slots form) (sym (p .1 .1)) ∙ load-image-for slots form t (p .0) (p .1 .0))
 
 pub loads⇔image : (s : List ℕ) (t : LeaseTable) → All (λ b. b < 256) s → (loadImage s ≡ some t) ↔ ((sound t ≡ true) × (imageOf t ≡ s))
 loads⇔image s t a = (image-loaded s t a, λ p. ap loadImage (sym (p .1)) ∙ load-image t (p .0))
@@ -427,12 +451,16 @@ length-image-in form t =
 pub length-image : (t : LeaseTable) → length (imageOf t) ≡ headSize + poolSize * length (usedPools t) + leaseSize * length (usedLeases t)
 length-image t = length-image-in Second t
 
--- "A full book is 4,949 bytes" in the first form, "A full book is then 11,349 bytes" in the second. No image of a sound table is longer.
+-- "Full books are 19,541 bytes in the first form and 45,141 in the second" (`full-books`). No image of a sound table is longer.
 pub full-image-in : (form : Form) (t : LeaseTable) → length (usedPools t) ≡ poolSlots → length (usedLeases t) ≡ leaseSlots → length (imageAs form t) ≡ fullImageIn form
 full-image-in form t p l = length-image-in form t ∙ ap₂ (λ (m n : ℕ). headSize + poolSize * m + leaseSizeIn form * n) p l
 
 pub full-image : (t : LeaseTable) → length (usedPools t) ≡ poolSlots → length (usedLeases t) ≡ leaseSlots → length (imageOf t) ≡ fullImage
 full-image t p l = full-image-in Second t p l
+
+-- The sizes as they are said.
+pub full-books : (fullImageIn First ≡ 19541) × (fullImageIn Second ≡ 45141)
+full-books = (refl, refl)
 
 few-pools : (t : LeaseTable) → sound t ≡ true → length (usedPools t) ≤ poolSlots
 few-pools t e = omega (arith, filter-fewer (λ p. not (unused? p)) (t .pools), sound-pool-slots t e)

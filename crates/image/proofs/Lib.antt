@@ -2,5 +2,6 @@
 pub mod FieldLaws
 pub mod ImageLaws
 pub mod FormLaws
+pub mod OlderLaws
 pub mod Examples
 pub mod WriteLaws

@@ -35,7 +35,7 @@ abbrev pub leaseSizeIn : Form → ℕ
 leaseSizeIn First = firstLeaseSize
 leaseSizeIn Second = leaseSize
 
--- "A full book is then 11,349 bytes"; "A full book is 4,949 bytes" in the first form.
+-- "Full books are 19,541 bytes in the first form and 45,141 in the second."
 abbrev pub fullImageIn : Form → ℕ
 fullImageIn form = headSize + poolSize * poolSlots + leaseSizeIn form * leaseSlots
 

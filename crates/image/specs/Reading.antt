@@ -5,7 +5,7 @@ use Rattle.lists.specs.Lists.{and}
 use Rattle.names.specs.declared.Name.{Name}
 use Rattle.names.specs.Names.{noName, nameIn, nameLength}
 use Rattle.table.specs.declared.{Pool.Pool, Lease.Lease, LeaseTable.LeaseTable}
-use Rattle.table.specs.Table.{poolSlots, leaseSlots, unused?, empty?, sound, padded, paddedPools}
+use Rattle.table.specs.Table.{poolSlots, leaseSlots, unused?, empty?, soundFor, sound, paddedTo, paddedPools}
 use Rattle.image.specs.declared.{Head.Head, Form.Form}
 use Rattle.image.specs.declared.Form.the-variants.{First, Second}
 use Rattle.image.specs.Fields.{number16, number32, Run, records}
@@ -107,18 +107,25 @@ leaseAtIn form s = cond (and (leaseTestsIn form s)) (some (leaseFieldsIn form s)
 abbrev pub poolsAt : List ℕ → Run Pool
 poolsAt s = records poolAt poolSize poolSlots s
 
+-- As a desk with so many lease slots reads them.
+abbrev pub leasesWithin : ℕ → Form → List ℕ → Run Lease
+leasesWithin slots form s = records (leaseAtIn form) (leaseSizeIn form) slots s
+
 abbrev pub leasesAtIn : Form → List ℕ → Run Lease
-leasesAtIn form s = records (leaseAtIn form) (leaseSizeIn form) leaseSlots s
+leasesAtIn form s = leasesWithin leaseSlots form s
 
 -- The table with a head, pools and leases, every other slot unused or empty.
-abbrev pub tableWith : Head → List Pool → List Lease → LeaseTable
-tableWith x ps xs = record {
+abbrev pub tableFor : ℕ → Head → List Pool → List Lease → LeaseTable
+tableFor slots x ps xs = record {
   pools = paddedPools ps;
-  leases = padded xs;
+  leases = paddedTo slots xs;
   term = x .term;
   «default_length» = x .«default_length»;
   last = x .last;
 }
+
+abbrev pub tableWith : Head → List Pool → List Lease → LeaseTable
+tableWith x ps xs = tableFor leaseSlots x ps xs
 
 -- The table that was read, if nothing follows and it is sound.
 abbrev pub whole : LeaseTable → List ℕ → Option LeaseTable
@@ -134,12 +141,29 @@ afterHeadIn form (some x) s =
 unfoldable pub loadIn : Form → List ℕ → Option LeaseTable
 loadIn form s = afterHeadIn form (headAtIn form s) (drop headSize s)
 
+-- The same for a desk with so many lease slots; with ours it is the above (`load-ours`).
+abbrev pub wholeFor : ℕ → LeaseTable → List ℕ → Option LeaseTable
+wholeFor slots t rest = cond (and (eqb (length rest) 0 ∷ soundFor slots t ∷ [])) (some t) none
+
+abbrev pub afterHeadFor : ℕ → Form → Option Head → List ℕ → Option LeaseTable
+afterHeadFor slots form none s = none
+afterHeadFor slots form (some x) s =
+    let ps = poolsAt s in
+    let xs = leasesWithin slots form (ps .rest) in
+    wholeFor slots (tableFor slots x (ps .items) (xs .items)) (xs .rest)
+
+unfoldable pub loadFor : ℕ → Form → List ℕ → Option LeaseTable
+loadFor slots form s = afterHeadFor slots form (headAtIn form s) (drop headSize s)
+
 -- The form of bytes, told by the head's kind: "Load accepts both forms, never a mixture".
 abbrev pub formOf : List ℕ → Form
 formOf s = cond (and (headTestsIn First s)) First Second
 
 abbrev pub loadSaved : List ℕ → Option LeaseTable
 loadSaved s = loadIn (formOf s) s
+
+abbrev pub loadSavedFor : ℕ → List ℕ → Option LeaseTable
+loadSavedFor slots s = loadFor slots (formOf s) s
 
 -- As the calls have them, in the second form.
 abbrev pub headTests : List ℕ → List Bool

@@ -21,7 +21,7 @@ pub const LEASE: usize = 44;
 // The record of a lease in the first form, which has no name.
 pub const FIRST_LEASE: usize = 19;
 
-// "A full book is then 11,349 bytes."
+// "Full books are 19,541 bytes in the first form and 45,141 in the second."
 pub const FULL_IMAGE: usize = HEAD + POOL * POOLS + LEASE * LEASES;
 
 // The first four bytes of each record as a number: its length, which counts what follows it, and its kind.

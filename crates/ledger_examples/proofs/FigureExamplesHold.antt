@@ -13,11 +13,15 @@ use Rattle.ledger.specs.Ledger.{left, offer, offers, addAll, again, restOf, inT
 use Rattle.ledger_examples.specs.Examples.{buffer}
 use Rattle.ledger_examples.specs.SampleLists.{tableWith, lease, held}
 use Rattle.ledger_examples.specs.FurtherExamples.{numbers, listing}
-use Rattle.ledger_examples.specs.FigureExamples.{shownRow, rowsShown, pair, telling, takes, toldOnce, told, toldExpected, toldRow, both, alone, kept, keptExpected, made, madeExpected, heldTold, regiven, regivenExpected, withRows, toldOfNone, mismatched, mismatchedExpected}
+use Rattle.ledger_examples.specs.FigureExamples.{shownRow, rowsShown, pair, telling, takes, toldOnce, told, toldExpected, toldTogether, togetherExpected, toldRow, both, alone, kept, keptExpected, made, madeExpected, heldTold, regiven, regivenExpected, withRows, toldOfNone, mismatched, mismatchedExpected}
 
 pub told-hold : told ≡ toldExpected
-unfolding walk insertBy entryFields? fields? option? subInside? whenGood readRequest figuresAt entryAt entryFramed? readEntry readEntries readInformation readName readBody readSuboption readSuboptions readOption twoBytes fourBytes requestBytes entryHead entryBytes entriesBytes informationHead suboptionBytes suboptionsBytes optionHead optionBytes unused? unnamed? empty? prefixesOf present headOk poolOk leaseOk ascends? sound ofLease? untold? fits? store rowFor followed left offer offers addAll again restOf inTurn askRows ask takeRows highWaterOf inUseOf unusableOf newerHighWater newerInUse newerUnusable filed taken renewed take listRows list releaseRows release markRows mark buffer tableWith lease shownRow rowsShown pair telling takes toldOnce told narrowed usableLeases usableEntries
+unfolding walk insertBy entryFields? fields? option? subInside? whenGood readRequest figuresAt entryAt entryFramed? readEntry readEntries readInformation readName readBody readSuboption readSuboptions readOption twoBytes fourBytes requestBytes entryHead entryBytes entriesBytes informationHead suboptionBytes suboptionsBytes optionHead optionBytes unused? unnamed? empty? prefixesOf present headOk poolOk leaseOk ascends? sound ofLease? untold? fits? store rowFor followed left offer offers addAll again restOf inTurn askRows ask takeRows highWaterOf inUseOf unusableOf newerHighWater newerInUse newerUnusable filed taken renewed take listRows list releaseRows release markRows mark buffer tableWith lease shownRow rowsShown pair telling takes toldRow toldOnce told narrowed usableLeases usableEntries
 told-hold = refl
+
+pub together-hold : toldTogether ≡ togetherExpected
+unfolding walk insertBy entryFields? fields? option? subInside? whenGood readRequest figuresAt entryAt entryFramed? readEntry readEntries readInformation readName readBody readSuboption readSuboptions readOption twoBytes fourBytes requestBytes entryHead entryBytes entriesBytes informationHead suboptionBytes suboptionsBytes optionHead optionBytes unused? unnamed? empty? prefixesOf present headOk poolOk leaseOk ascends? sound ofLease? untold? fits? store rowFor followed left offer offers addAll again restOf inTurn askRows ask takeRows highWaterOf inUseOf unusableOf newerHighWater newerInUse newerUnusable filed taken renewed take listRows list releaseRows release markRows mark buffer tableWith lease shownRow rowsShown pair telling takes toldTogether narrowed usableLeases usableEntries
+together-hold = refl
 
 pub kept-hold : kept ≡ keptExpected
 unfolding walk insertBy entryFields? fields? option? subInside? whenGood readRequest figuresAt entryAt entryFramed? readEntry readEntries readInformation readName readBody readSuboption readSuboptions readOption twoBytes fourBytes requestBytes entryHead entryBytes entriesBytes informationHead suboptionBytes suboptionsBytes optionHead optionBytes unused? unnamed? empty? prefixesOf present headOk poolOk leaseOk ascends? sound ofLease? untold? fits? store rowFor followed left offer offers addAll again restOf inTurn askRows ask takeRows highWaterOf inUseOf unusableOf newerHighWater newerInUse newerUnusable filed taken renewed take listRows list releaseRows release markRows mark buffer tableWith lease shownRow rowsShown pair telling takes toldRow both kept narrowed usableLeases usableEntries

@@ -167,10 +167,10 @@ samples-meet = refl
 pub samples-granted : All (λ s. AllGranted (λ s. s) ask (s .now) (s .start) (poolsOf (s .start .table)) (s .calls)) samples
 samples-granted = all?-to meets? (served ask demand3) samples samples-meet
 
--- How many asks are well-formed in each, and how many slots are empty before: in the fourth exactly as many, so that 256 leases are there in the end.
+-- How many asks are well-formed in each, and how many slots are empty before: in the fourth exactly as many, so that 1,024 leases are there in the end.
 pub samples-count :
     map (λ s. length (wellFormedAsks (s .now) (s .start) (s .calls)) ∷ emptySlots (s .now) (s .start .table) ∷ []) samples
-    ≡ (2 ∷ 256 ∷ []) ∷ (1 ∷ 256 ∷ []) ∷ (2 ∷ 256 ∷ []) ∷ (2 ∷ 2 ∷ []) ∷ (3 ∷ 256 ∷ []) ∷ (1 ∷ 255 ∷ []) ∷ []
+    ≡ (2 ∷ 1024 ∷ []) ∷ (1 ∷ 1024 ∷ []) ∷ (2 ∷ 1024 ∷ []) ∷ (2 ∷ 2 ∷ []) ∷ (3 ∷ 1024 ∷ []) ∷ (1 ∷ 1023 ∷ []) ∷ []
 unfolding samples malformedBetween endedGround prefixZero lastSlots filledExactly leasedBefore tableWith lease leasesFrom held callBy buffer walk entryFields? fields? option? subInside? whenGood readRequest figuresAt entryAt entryFramed? readEntry readEntries readInformation readName readBody readSuboption readSuboptions readOption unused? unnamed? empty? prefixesOf present headOk poolOk leaseOk ascends? sound ofLease? untold? fits? emptySlots askRows wellFormed narrowed usableLeases
 samples-count = refl
 
@@ -229,7 +229,7 @@ once-needed claim =
 -- THE FIRST SENTENCE: refused for want of ground between two that are granted, and for want of lines where no slot is empty.
 pub refused-for :
     fates (inUse 1000 (narrow .table)) (granted (λ s. s) ask 1000 narrow (callBy 7 (three 25 24 26)))
-    ∷ fates (inUse 1000 (crowded 256 .table)) (granted (λ s. s) ask 1000 (crowded 256) (callBy 7 (requesting 30)))
+    ∷ fates (inUse 1000 (crowded 1024 .table)) (granted (λ s. s) ask 1000 (crowded 1024) (callBy 7 (requesting 30)))
     ∷ []
     ≡ (isGranted ∷ wantsSpace ∷ isGranted ∷ []) ∷ (wantsSlot ∷ []) ∷ []
 unfolding narrow crowded tableWith lease leasesFrom callBy buffer walk insertBy entryFields? fields? option? subInside? whenGood readRequest figuresAt entryAt entryFramed? readEntry readEntries readInformation readName readBody readSuboption readSuboptions readOption twoBytes fourBytes requestBytes entryHead entryBytes entriesBytes informationHead suboptionBytes suboptionsBytes optionHead optionBytes unused? unnamed? empty? prefixesOf present headOk poolOk leaseOk ascends? sound ofLease? untold? fits? store rowFor followed left offer offers addAll again restOf inTurn askRows ask wellFormed granted narrowed usableLeases

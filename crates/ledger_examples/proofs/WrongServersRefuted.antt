@@ -1,30 +1,37 @@
 -- Document 01: "Try these against it". The wrong servers do not meet demand 3.
 -- Assumes nothing.
 use Prim.Native.Nat.{ℕ, _<_}
-use mathlib.Core.Path.{_≡_, refl, subst}
+use mathlib.Core.Path.{_≡_, refl, ap, ap₂, subst, _∙_}
 use mathlib.Core.Logic.{_↔_, ⊎-elim}
 use mathlib.Core.Bool.{true, false}
-use mathlib.Core.List.{List, [], _∷_, map, nil≢cons, head-eq-of-cons-eq, tail-eq-of-cons-eq}
+use mathlib.Core.List.{List, [], _∷_, _++_, map, nil≢cons, head-eq-of-cons-eq, tail-eq-of-cons-eq}
 use mathlib.Core.Option.{Option, none, some}
 use native.Mathlib.Omega.{arith}
-use lib.ListN.{length}
+use lib.ListN.{length, take as upTo}
 use Rattle.lists.specs.Lists.{Pairwise, catMaybes, insertBy}
 use Rattle.lists.specs.Walk.{walk}
+use Rattle.lists.proofs.Tests.{cond-false}
 use Rattle.prefix.specs.declared.Prefix.{Prefix}
 use Rattle.prefix.specs.Prefixes.{prefix, Inside, Apart}
 use Rattle.prefix.proofs.Nesting.{inside-refl, apart-absurd}
 use Rattle.free_space.specs.Space.{Free}
+use Rattle.free_space.specs.Grant.{lowestPart, grant}
+use Rattle.free_space.specs.Scan.{inPools}
+use Rattle.free_space.proofs.ScanLaws.{scan-best}
 use Rattle.option.specs.Values.{Entry}
 use Rattle.option.specs.Rules.{entryFields?, fields?}
 use Rattle.option.specs.Reading.{option?, subInside?, whenGood, readRequest, figuresAt, entryAt, entryFramed?, readEntry, readEntries, readInformation, readName, readBody, readSuboption, readSuboptions, readOption}
 use Rattle.option.specs.Writing.{twoBytes, fourBytes, requestBytes, entryHead, entryBytes, entriesBytes, informationHead, suboptionBytes, suboptionsBytes, optionHead, optionBytes}
-use Rattle.names.specs.Names.{unnamed?}
+use Rattle.names.specs.declared.Name.{Name}
+use Rattle.names.specs.Names.{noName, unnamed?, nameIn, spells}
 use Rattle.table.specs.declared.{Lease.Lease, LeaseTable.LeaseTable}
-use Rattle.table.specs.Table.{leaseSlots, poolsOf, unused?, empty?, prefixesOf, present, headOk, poolOk, leaseOk, ascends?, sound, store}
-use Rattle.option.specs.Contents.{Request}
+use Rattle.table.specs.Table.{leaseSlots, prefixOf, poolsOf, unused?, empty?, prefixesOf, present, headOk, poolOk, leaseOk, ascends?, sound, store}
+use Rattle.table.proofs.TableLaws.{sound-fine}
+use Rattle.option.specs.Contents.{Request, requestsIn}
 use Rattle.figures.specs.Figures.{ofLease?, untold?, fits?, rowFor, followed}
-use Rattle.ledger.specs.Ledger.{State, Call, left, askLength, emptySlots, offer, offers, addAll, again, restOf, inTurn, askRows, ask, narrowed, usableLeases}
-use Rattle.ledger.specs.Demand3.{Server, wellFormed, asksOf, heldBefore, entryPrefix, inUse, meets, isGranted, wantsSpace, fate, NoneFree, RefusedRightly, granted, received, AllGranted, Demand3}
+use Rattle.ledger.specs.Ledger.{State, Call, Result, accept, askName, informationFor, full, offered, left, askLength, emptySlots, offer, offers, addAll, again, restOf, inTurn, askRows, ask, narrowed, usableLeases}
+use Rattle.ledger.specs.Demand3.{Server, wellFormed, asksOf, heldBefore, entryPrefix, inUse, replyEntries, pairOff, confirmed, meets, isGranted, wantsSpace, fate, NoneFree, RefusedRightly, granted, received, AllGranted, Demand3}
+use Rattle.ledger.proofs.OfferLaws.{ordered}
 use Rattle.ledger_examples.specs.Examples.{buffer}
 use Rattle.ledger_examples.specs.SampleLists.{tableWith, lease, leasesFrom, held, callBy, two, three, Sample, leasedBefore, crowded}
 use Rattle.ledger_examples.specs.WrongServers.{refusesAll, samePrefix, leavesTable, firstOnly, answersTen, writesTwice, regivesLeased, regivesTwice}
@@ -70,29 +77,98 @@ not-samePrefix d =
     let z : Apart p p = apart samePrefix d .0 .0 in
     apart-absurd p p (inside-refl p) z
 
--- The entry written twice: with 254 leases the third of three requests would be refused for want of ground, and there is ground. (Were the entries
+-- The entry written twice: with 1,022 leases the third of three requests would be refused for want of ground, and there is ground. (Were the entries
 -- counted and not the leases newly made, it would seem to want a slot.)
-three-well : wellFormed 1000 (crowded 254) (callBy 7 (three 30 30 30)) ≡ true
+three-well : wellFormed 1000 (crowded 1022) (callBy 7 (three 30 30 30)) ≡ true
 unfolding crowded tableWith lease leasesFrom callBy buffer walk entryFields? fields? option? subInside? whenGood readRequest readInformation readName readBody readSuboption readSuboptions readOption unused? unnamed? empty? prefixesOf present headOk poolOk leaseOk ascends? sound ofLease? untold? fits? askRows wellFormed narrowed usableLeases
 three-well = refl
 
 -- What it grants: the first prefix for the first and for the second request.
 twice : Entry
-twice = record { network = 0x0a0003f8; length = 30; h = false; d = false; figures = [] }
+twice = record { network = 0x0a000ff8; length = 30; h = false; d = false; figures = [] }
 
-twice-granted : granted (λ s. s) writesTwice 1000 (crowded 254) (callBy 7 (three 30 30 30)) ≡ some twice ∷ some twice ∷ none ∷ []
-unfolding twice writesTwice crowded tableWith lease leasesFrom callBy buffer walk insertBy entryFields? fields? option? subInside? whenGood readRequest figuresAt entryAt entryFramed? readEntry readEntries readInformation readName readBody readSuboption readSuboptions readOption twoBytes fourBytes requestBytes entryHead entryBytes entriesBytes informationHead suboptionBytes suboptionsBytes optionHead optionBytes unused? unnamed? empty? prefixesOf present headOk poolOk leaseOk ascends? sound ofLease? untold? fits? store rowFor followed left offer offers addAll again restOf inTurn askRows ask granted narrowed usableLeases
-twice-granted = refl
+-- What it is asked, and what it answers with leases that it makes; in steps, since a computation over 1,022 leases is long.
+abbrev asked : Call
+asked = callBy 7 (three 30 30 30)
+
+abbrev answering : List Lease → Result State
+answering gs =
+    let xs = present 1000 (crowded 1022 .table .leases) in
+    accept (left (crowded 1022) 1000 (addAll (map some gs) xs)) (optionBytes (map informationFor (gs ++ gs))) 2 (asked .reply)
+
+abbrev made : Lease
+made = held 7 0x0a000ff8 30 false false 1120
+
+-- What it makes: the search through the gaps finds it in one pass over the leases.
+crowded-sound : sound (crowded 1022 .table) ≡ true
+unfolding crowded tableWith lease leasesFrom unused? unnamed? empty? prefixesOf headOk poolOk leaseOk ascends? sound
+crowded-sound = refl
+
+crowded-found : inPools 30 none (poolsOf (crowded 1022 .table)) (map prefixOf (present 1000 (crowded 1022 .table .leases))) ≡ some (prefix 0x0a000ff8 29)
+unfolding crowded tableWith lease leasesFrom present unused? prefixesOf
+crowded-found = refl
+
+crowded-grants : grant (poolsOf (crowded 1022 .table)) (map prefixOf (present 1000 (crowded 1022 .table .leases))) 30 ≡ some (prefix 0x0a000ff8 30)
+crowded-grants =
+    let t : LeaseTable = crowded 1022 .table in
+    let xs : List Lease = present 1000 (t .leases) in
+    ap (lowestPart 30) (scan-best (poolsOf t) (map prefixOf xs) (ordered t crowded-sound 1000 xs (sound-fine t crowded-sound 1000)) 30 (omega arith, omega arith) ∙ crowded-found)
+
+crowded-room : full (present 1000 (crowded 1022 .table .leases)) ≡ false
+unfolding crowded tableWith lease leasesFrom present
+crowded-room = refl
+
+crowded-offers : offer (crowded 1022 .table) 1000 7 noName (present 1000 (crowded 1022 .table .leases)) (record { h = false; i = false; length = 30 }) ≡ some made
+unfolding offer held
+crowded-offers =
+    let t : LeaseTable = crowded 1022 .table in
+    let xs : List Lease = present 1000 (t .leases) in
+    cond-false (full xs) none (offered 1000 7 noName false (grant (poolsOf t) (map prefixOf xs) 30)) crowded-room ∙ ap (offered 1000 7 noName false) crowded-grants
+
+first-asked : upTo 1 (requestsIn (asked .option)) ≡ record { h = false; i = false; length = 30 } ∷ []
+unfolding callBy walk fields? option? subInside? whenGood readRequest readInformation readName readBody readSuboption readSuboptions readOption
+first-asked = refl
+
+asked-name : askName asked ≡ noName
+unfolding callBy walk fields? option? subInside? whenGood readRequest readInformation readName readBody readSuboption readSuboptions readOption nameIn spells
+asked-name = refl
+
+asked-by : asked .client ≡ 7
+unfolding callBy
+asked-by = refl
+
+twice-made : catMaybes (map (offer (crowded 1022 .table) 1000 (asked .client) (askName asked) (present 1000 (crowded 1022 .table .leases))) (upTo 1 (requestsIn (asked .option)))) ≡ made ∷ []
+twice-made =
+    let t : LeaseTable = crowded 1022 .table in
+    let xs : List Lease = present 1000 (t .leases) in
+    ap₂ (λ (n : ℕ) (m : Name). catMaybes (map (offer t 1000 n m xs) (upTo 1 (requestsIn (asked .option))))) asked-by asked-name
+    ∙ ap (λ (rs : List Request). catMaybes (map (offer t 1000 7 noName xs) rs)) first-asked
+    ∙ ap (λ (o : Option Lease). catMaybes (o ∷ [])) crowded-offers
+
+twice-answers : writesTwice (crowded 1022) 1000 asked ≡ answering (made ∷ [])
+unfolding writesTwice
+twice-answers = ap answering twice-made
+
+abbrev grantedBy : Result State → List (Option Entry)
+grantedBy r = map (confirmed 1000 (asked .client) (r .state .table)) (pairOff (crowded 1022 .table) (asksOf asked) (replyEntries r))
+
+twice-read : grantedBy (answering (made ∷ [])) ≡ some twice ∷ some twice ∷ none ∷ []
+unfolding twice held crowded tableWith lease leasesFrom callBy buffer walk insertBy entryFields? fields? option? subInside? whenGood readRequest figuresAt entryAt entryFramed? readEntry readEntries readInformation readName readBody readSuboption readSuboptions readOption twoBytes fourBytes requestBytes entryHead entryBytes entriesBytes informationHead suboptionBytes suboptionsBytes optionHead optionBytes unused? unnamed? empty? prefixesOf present headOk poolOk leaseOk ascends? sound ofLease? untold? fits? store rowFor followed left offer offers addAll again restOf inTurn narrowed usableLeases
+twice-read = refl
+
+twice-granted : granted (λ s. s) writesTwice 1000 (crowded 1022) asked ≡ some twice ∷ some twice ∷ none ∷ []
+unfolding granted
+twice-granted = ap grantedBy twice-answers ∙ twice-read
 
 -- The prefixes in use that the third request meets: one more than at the start.
 unfoldable met : List Prefix
-met = prefix 0x0a0003f8 30 ∷ inUse 1000 (crowded 254 .table)
+met = prefix 0x0a000ff8 30 ∷ inUse 1000 (crowded 1022 .table)
 
-twice-met : meets (some twice) (meets (some twice) (inUse 1000 (crowded 254 .table))) ≡ met
+twice-met : meets (some twice) (meets (some twice) (inUse 1000 (crowded 1022 .table))) ≡ met
 unfolding met twice crowded tableWith lease leasesFrom present
 twice-met = refl
 
-met-length : length met ≡ 255
+met-length : length met ≡ 1023
 unfolding met crowded tableWith lease leasesFrom present
 met-length = refl
 
@@ -100,21 +176,21 @@ met-fate : fate met none ≡ wantsSpace
 unfolding met crowded tableWith lease leasesFrom present
 met-fate = refl
 
-still-free : Free (poolsOf (crowded 254 .table)) met (prefix 0x0a0003fc 30)
+still-free : Free (poolsOf (crowded 1022 .table)) met (prefix 0x0a000ffc 30)
 unfolding met crowded tableWith lease leasesFrom present unused? prefixesOf
-still-free = free-to (poolsOf (crowded 254 .table)) met (prefix 0x0a0003fc 30) refl
+still-free = free-to (poolsOf (crowded 1022 .table)) met (prefix 0x0a000ffc 30) refl
 
-three-asks : map (askLength (crowded 254 .table)) (asksOf (callBy 7 (three 30 30 30))) ≡ 30 ∷ 30 ∷ 30 ∷ []
+three-asks : map (askLength (crowded 1022 .table)) (asksOf (callBy 7 (three 30 30 30))) ≡ 30 ∷ 30 ∷ 30 ∷ []
 unfolding crowded tableWith callBy walk fields? option? subInside? whenGood readRequest readInformation readName readBody readSuboption readSuboptions readOption
 three-asks = refl
 
 -- Client 7 holds nothing, so all three are the rest.
-none-again : heldBefore 1000 (crowded 254 .table) (callBy 7 (three 30 30 30)) ≡ none ∷ none ∷ none ∷ []
+none-again : heldBefore 1000 (crowded 1022 .table) (callBy 7 (three 30 30 30)) ≡ none ∷ none ∷ none ∷ []
 unfolding crowded tableWith lease leasesFrom callBy walk fields? option? subInside? whenGood readRequest readInformation readName readBody readSuboption readSuboptions readOption present again usableLeases
 none-again = refl
 
 -- It names no root.
-three-ground : narrowed (crowded 254 .table) (callBy 7 (three 30 30 30)) ≡ crowded 254 .table
+three-ground : narrowed (crowded 1022 .table) (callBy 7 (three 30 30 30)) ≡ crowded 1022 .table
 unfolding narrowed callBy
 three-ground = refl
 
@@ -131,16 +207,16 @@ third t used (q ∷ r ∷ s ∷ rs) g h k a b c e f =
 
 pub not-writesTwice : Demand3 (λ s. s) writesTwice → ⊥
 not-writesTwice d =
-    let t : LeaseTable = crowded 254 .table in
+    let t : LeaseTable = crowded 1022 .table in
     let c : Call = callBy 7 (three 30 30 30) in
     let f : RefusedRightly t (inUse 1000 t) (asksOf c) (none ∷ none ∷ none ∷ []) (some twice ∷ some twice ∷ none ∷ []) =
     subst (λ (gs : List (Option Entry)). RefusedRightly t (inUse 1000 t) (asksOf c) (none ∷ none ∷ none ∷ []) gs) twice-granted
-    (subst (λ (hs : List (Option Lease)). RefusedRightly t (inUse 1000 t) (asksOf c) hs (granted (λ s. s) writesTwice 1000 (crowded 254) c)) none-again
-    (subst (λ (own : LeaseTable). RefusedRightly own (inUse 1000 t) (asksOf c) (heldBefore 1000 t c) (granted (λ s. s) writesTwice 1000 (crowded 254) c)) three-ground (d .sentence (crowded 254) 1000 c three-well))) in
+    (subst (λ (hs : List (Option Lease)). RefusedRightly t (inUse 1000 t) (asksOf c) hs (granted (λ s. s) writesTwice 1000 (crowded 1022) c)) none-again
+    (subst (λ (own : LeaseTable). RefusedRightly own (inUse 1000 t) (asksOf c) (heldBefore 1000 t c) (granted (λ s. s) writesTwice 1000 (crowded 1022) c)) three-ground (d .sentence (crowded 1022) 1000 c three-well))) in
     let g : length met < leaseSlots → (fate met none ≡ wantsSpace) ↔ NoneFree t met 30 =
     subst (λ (used : List Prefix). length used < leaseSlots → (fate used none ≡ wantsSpace) ↔ NoneFree t used 30) twice-met
     (third t (inUse 1000 t) (asksOf c) (some twice) (some twice) none 30 30 30 three-asks f) in
-    g (omega (arith, met-length)) .0 met-fate 0x0a0003fc still-free
+    g (omega (arith, met-length)) .0 met-fate 0x0a000ffc still-free
 
 -- ASKING TWICE
 

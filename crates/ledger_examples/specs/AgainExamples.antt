@@ -114,9 +114,9 @@ whichExpected =
 
 -- "A re-given line needs no empty line, so 9 and 10 apply only to the rest."
 
--- 255 leases of client 5, and one that client 7 holds: no slot is empty.
+-- 1,023 leases of client 5, and one that client 7 holds: no slot is empty.
 unfoldable pub filledUp : State
-filledUp = tableWith 0x0a000000 21 (leasesFrom 0x0a000000 255 ++ (held 7 0x0a0003fc 30 false false 1100 ∷ []))
+filledUp = tableWith 0x0a000000 19 (leasesFrom 0x0a000000 1023 ++ (held 7 0x0a000ffc 30 false false 1100 ∷ []))
 
 unfoldable pub shownFull : List SuboptionValue → List (List ℕ)
 shownFull rs = let r = ask filledUp 1050 (call 7 (optionBytes rs) buffer) in answered r ∷ granted r
@@ -134,8 +134,8 @@ rest =
 
 abbrev pub restExpected : List (List (List ℕ))
 restExpected =
-    ((0 ∷ 1 ∷ []) ∷ (0x0a0003fc ∷ 30 ∷ 0 ∷ 0 ∷ []) ∷ [])
-    ∷ ((0 ∷ 1 ∷ []) ∷ (0x0a0003fc ∷ 30 ∷ 0 ∷ 0 ∷ []) ∷ [])
+    ((0 ∷ 1 ∷ []) ∷ (0x0a000ffc ∷ 30 ∷ 0 ∷ 0 ∷ []) ∷ [])
+    ∷ ((0 ∷ 1 ∷ []) ∷ (0x0a000ffc ∷ 30 ∷ 0 ∷ 0 ∷ []) ∷ [])
     ∷ ((9 ∷ 0 ∷ []) ∷ [])
     ∷ ((0 ∷ 1 ∷ []) ∷ at 0 25 0 0 ∷ stands 0 0 0 1170 ∷ stands 128 1 0 9000 ∷ [])
     ∷ ((10 ∷ 0 ∷ []) ∷ stands 0 0 0 1100 ∷ stands 128 1 0 9000 ∷ [])

@@ -46,21 +46,28 @@ unfoldable pub takes : State → ℕ → List Entry → State
 takes s now es = take s now (call 5 (telling es) buffer) .state
 
 -- All three told of the first lease.
+unfoldable pub toldRow : ℕ → ℕ → ℕ → ℕ → FigureRow
+toldRow network high busy bad = record { network = network; length = 30; «high_water» = record { 0 = high }; «in_use» = record { 0 = busy }; unusable = record { 0 = bad } }
+
 unfoldable pub toldOnce : State
-toldOnce = takes pair 1001 (first (9 ∷ 7 ∷ 1 ∷ []) ∷ [])
+toldOnce = state (pair .table) (toldRow 0x0a000100 9 7 1 ∷ toldRow 0x0a000104 untold untold untold ∷ replicate 1022 emptyRow)
 
 -- "a take with figures updates the rows of its lines, in entry order; 0xffff or a missing figure keeps what was told before"
 unfoldable pub told : List (List (List ℕ))
 told =
     -- all three, of the first lease only
-    rowsShown toldOnce
+    rowsShown (takes pair 1001 (first (9 ∷ 7 ∷ 1 ∷ []) ∷ []))
     -- one missing, then all
     ∷ rowsShown (takes toldOnce 1002 (first (8 ∷ 6 ∷ []) ∷ []))
     ∷ rowsShown (takes toldOnce 1002 (first [] ∷ []))
     -- 0xffff
     ∷ rowsShown (takes toldOnce 1002 (first (0xffff ∷ 5 ∷ 0xffff ∷ []) ∷ []))
+    ∷ []
+
+unfoldable pub toldTogether : List (List (List ℕ))
+toldTogether =
     -- the same entry twice: figure by figure the later one
-    ∷ rowsShown (takes pair 1001 (first (9 ∷ 7 ∷ 1 ∷ []) ∷ first (0xffff ∷ 3 ∷ []) ∷ []))
+    rowsShown (takes pair 1001 (first (9 ∷ 7 ∷ 1 ∷ []) ∷ first (0xffff ∷ 3 ∷ []) ∷ []))
     -- each of two entries its own lease
     ∷ rowsShown (takes pair 1001 (second (4 ∷ 3 ∷ 2 ∷ []) ∷ first (9 ∷ 7 ∷ 1 ∷ []) ∷ []))
     -- an entry that is not found, and another length at the same network
@@ -75,21 +82,22 @@ toldExpected =
     ∷ (row 0x0a000100 8 6 1 ∷ row 0x0a000104 untold untold untold ∷ [])
     ∷ (row 0x0a000100 9 7 1 ∷ row 0x0a000104 untold untold untold ∷ [])
     ∷ (row 0x0a000100 9 5 1 ∷ row 0x0a000104 untold untold untold ∷ [])
-    ∷ (row 0x0a000100 9 3 1 ∷ row 0x0a000104 untold untold untold ∷ [])
+    ∷ []
+
+abbrev pub togetherExpected : List (List (List ℕ))
+togetherExpected =
+    (row 0x0a000100 9 3 1 ∷ row 0x0a000104 untold untold untold ∷ [])
     ∷ (row 0x0a000100 9 7 1 ∷ row 0x0a000104 4 3 2 ∷ [])
     ∷ (row 0x0a000100 untold untold untold ∷ row 0x0a000104 untold untold untold ∷ [])
     ∷ (row 0x0a000100 9 7 1 ∷ row 0x0a000104 untold untold untold ∷ [])
     ∷ []
 
 -- States of which something was told: both leases of the pair, and one lease alone, until 4601.
-unfoldable pub toldRow : ℕ → ℕ → ℕ → ℕ → FigureRow
-toldRow network high busy bad = record { network = network; length = 30; «high_water» = record { 0 = high }; «in_use» = record { 0 = busy }; unusable = record { 0 = bad } }
-
 unfoldable pub both : State
-both = state (pair .table) (toldRow 0x0a000100 9 7 1 ∷ toldRow 0x0a000104 4 3 2 ∷ replicate 254 emptyRow)
+both = state (pair .table) (toldRow 0x0a000100 9 7 1 ∷ toldRow 0x0a000104 4 3 2 ∷ replicate 1022 emptyRow)
 
 unfoldable pub alone : ℕ → State
-alone network = state (tableWith 0x0a000100 24 (lease network 30 4601 ∷ []) .table) (toldRow network 9 7 1 ∷ replicate 255 emptyRow)
+alone network = state (tableWith 0x0a000100 24 (lease network 30 4601 ∷ []) .table) (toldRow network 9 7 1 ∷ replicate 1023 emptyRow)
 
 -- "When a line is struck its row is cleared; nothing else changes a line's figures."
 unfoldable pub kept : List (List (List ℕ))
@@ -132,7 +140,7 @@ madeExpected =
 
 -- A lease of which something was told, that client 7 holds until this time.
 unfoldable pub heldTold : ℕ → ℕ → State
-heldTold network expires = state (tableWith 0x0a000100 24 (held 7 network 30 false false expires ∷ []) .table) (toldRow network 9 7 1 ∷ replicate 255 emptyRow)
+heldTold network expires = state (tableWith 0x0a000100 24 (held 7 network 30 false false expires ∷ []) .table) (toldRow network 9 7 1 ∷ replicate 1023 emptyRow)
 
 -- Given again it keeps its figures, also with a new lease before it (M-101); once it has ended nothing of them is left.
 unfoldable pub regiven : List (List (List ℕ))
@@ -161,7 +169,7 @@ unfoldable pub mismatched : List (List ℕ)
 mismatched =
     numbers (ask (withRows []) 999 (call 0 [] buffer) .answer)
     ∷ numbers (take (withRows (replicate leaseSlots emptyRow)) 999 (call 0 [] buffer) .answer)
-    ∷ numbers (release (withRows (upTo 255 (pair .rows) ++ (toldOfNone ∷ []))) 999 (call 0 [] []) .answer)
+    ∷ numbers (release (withRows (upTo 1023 (pair .rows) ++ (toldOfNone ∷ []))) 999 (call 0 [] []) .answer)
     ∷ numbers (mark (withRows (pair .rows ++ (emptyRow ∷ []))) 999 0x0a000100 30 true .answer)
     -- after 5, and after 1
     ∷ numbers (ask (state blank []) 999 (call 0 [] buffer) .answer)

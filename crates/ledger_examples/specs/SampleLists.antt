@@ -83,13 +83,13 @@ endedGround = record {
 unfoldable pub prefixZero : Sample
 prefixZero = record { start = tableWith 0x0a000100 24 []; now = 1000; calls = callBy 7 (two 0 28) ∷ []; networks = 0x0a000100 ∷ 0x0a000110 ∷ [] }
 
--- 254 leases, and two asks: exactly 256 at the end.
+-- 1,022 leases, and two asks: exactly 1,024 at the end.
 unfoldable pub lastSlots : Sample
 lastSlots = record {
-  start = tableWith 0x0a000000 21 (leasesFrom 0x0a000000 254);
+  start = tableWith 0x0a000000 19 (leasesFrom 0x0a000000 1022);
   now = 1000;
-  calls = callBy 7 (requesting 30) ∷ callBy 8 (requesting 22) ∷ [];
-  networks = 0x0a0003f8 ∷ 0x0a000400 ∷ [];
+  calls = callBy 7 (requesting 30) ∷ callBy 8 (requesting 20) ∷ [];
+  networks = 0x0a000ff8 ∷ 0x0a001000 ∷ [];
 }
 
 -- The ground filled exactly, by two calls.
@@ -135,9 +135,9 @@ abbrev pub fates : List Prefix → List (Option Entry) → List Fate
 fates used [] = []
 fates used (g ∷ gs) = fate used g ∷ fates (meets g used) gs
 
--- Tables on which asks are refused: for want of ground, and (with 256 leases) for want of lines.
+-- Tables on which asks are refused: for want of ground, and (with 1,024 leases) for want of lines.
 unfoldable pub narrow : State
 narrow = tableWith 0x0a000100 24 []
 
 unfoldable pub crowded : ℕ → State
-crowded n = tableWith 0x0a000000 21 (leasesFrom 0x0a000000 n)
+crowded n = tableWith 0x0a000000 19 (leasesFrom 0x0a000000 n)

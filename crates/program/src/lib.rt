@@ -4,7 +4,7 @@ ghost use lib.ListN.{length};
 ghost use Rattle.program.specs.Inputs.{Within};
 
 // The version of the repository; include/flockdrift.h has the same.
-const VERSION: [u8; 18] = *b"flockdrift 0.15.0\n";
+const VERSION: [u8; 18] = *b"flockdrift 0.16.0\n";
 
 // How a program is to run: whether commands are echoed, and the number of the argument that names its input; 0 where none does.
 pub struct Options {

@@ -46,10 +46,10 @@ mostFree = halvings * leaseSlots + poolSlots
 
 -- How many digits the numbers of leases and of free rows have.
 abbrev pub leaseDigits : ℕ
-leaseDigits = 3
+leaseDigits = 4
 
 abbrev pub freeDigits : ℕ
-freeDigits = 4
+freeDigits = 5
 
 abbrev pub headMost : ℕ
 headMost = headWords + leaseDigits + freeDigits

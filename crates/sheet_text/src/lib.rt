@@ -69,9 +69,9 @@ const PREFIX_MARKS: usize = (*b".../").len();
 
 const NUMBER_TEXT: usize = (*b"4294967295").len();
 
-const LEASE_DIGITS: usize = 3;
+const LEASE_DIGITS: usize = 4;
 
-const FREE_DIGITS: usize = 4;
+const FREE_DIGITS: usize = 5;
 
 const FIRST_ROW: usize = LINES.len() + LEASE_DIGITS + FREE_COUNT.len() + FREE_DIGITS + END.len();
 

@@ -2,3 +2,4 @@
 pub mod Ascending
 pub mod TableLaws
 pub mod PoolLaws
+pub mod OlderLaws

@@ -1,17 +1,21 @@
 -- The lease table (document 01: the book): what is present at a time, when a table is sound, and what an accepted call stores.
-use Rattle.lists.specs.Basics.{ℕ, _-_, Bool, true, false, not, cond, _&&_, List, [], _∷_, _++_, map, length, replicate, leb, ltb, eqb}
+use Rattle.lists.specs.Basics.{ℕ, _-_, Bool, true, false, not, cond, _&&_, List, [], _∷_, _++_, map, length, take, replicate, leb, ltb, eqb}
 use Rattle.lists.specs.Lists.{and, all?, any?, filter, insertBy}
 use Rattle.prefix.specs.declared.Prefix.{Prefix}
 use Rattle.prefix.specs.Prefixes.{shortest, longest, prefix, end, aligned?, inside?}
 use Rattle.names.specs.Names.{noName, unnamed?}
 use Rattle.table.specs.declared.{Pool.Pool, Lease.Lease, LeaseTable.LeaseTable}
 
--- The slots of a table, as POOLS and LEASES in the code: "1 to 8 roots", "256 empty lines".
+-- The slots of a table, as POOLS and LEASES in the code: "1 to 8 roots", "Raise the limit to 1,024": document 01's 256 lines are read as 1,024.
 abbrev pub poolSlots : ℕ
 poolSlots = 8
 
 abbrev pub leaseSlots : ℕ
-leaseSlots = 256
+leaseSlots = 1024
+
+-- As OLDER_LEASES in the code: "Older desks read only 256 lines".
+abbrev pub olderSlots : ℕ
+olderSlots = 256
 
 -- "A root has length 8 to 30", as SHORTEST_POOL in the code.
 abbrev pub shortestPool : ℕ
@@ -110,25 +114,39 @@ leasesAscend? pools last from xs = ascends? empty? (leaseOk pools last) prefixOf
 
 -- SOUND: "head and roots keep open's rules (row 12), each line is as just said and aligned, roots and lines each ascend by network without overlap,
 -- every line's end is after the last time, empty lines and unused roots follow and are all zero". It is measured against the last time, never now.
-abbrev pub tableRules : LeaseTable → List Bool
-tableRules t =
+-- For a desk with so many lease slots; an older desk has fewer.
+abbrev pub rulesFor : ℕ → LeaseTable → List Bool
+rulesFor slots t =
     eqb (length (t .pools)) poolSlots
-    ∷ eqb (length (t .leases)) leaseSlots
+    ∷ eqb (length (t .leases)) slots
     ∷ headOk (t .term) (t .«default_length») (t .last)
     ∷ ltb 0 (length (poolsOf t))
     ∷ poolsAscend? (t .pools)
     ∷ leasesAscend? (poolsOf t) (t .last) 0 (t .leases)
     ∷ []
 
+unfoldable pub soundFor : ℕ → LeaseTable → Bool
+soundFor slots t = and (rulesFor slots t)
+
+abbrev pub tableRules : LeaseTable → List Bool
+tableRules = rulesFor leaseSlots
+
 unfoldable pub sound : LeaseTable → Bool
 sound t = and (tableRules t)
 
 -- Leases in the table's slots, with empty slots behind them; the same for pools.
+abbrev pub paddedTo : ℕ → List Lease → List Lease
+paddedTo slots xs = xs ++ replicate (slots - length xs) noLease
+
 abbrev pub padded : List Lease → List Lease
-padded xs = xs ++ replicate (leaseSlots - length xs) noLease
+padded = paddedTo leaseSlots
 
 abbrev pub paddedPools : List Pool → List Pool
 paddedPools ps = ps ++ replicate (poolSlots - length ps) noPool
+
+-- A table as a desk with so many lease slots has it.
+abbrev pub cut : ℕ → LeaseTable → LeaseTable
+cut slots t = record { pools = t .pools; leases = take slots (t .leases); term = t .term; «default_length» = t .«default_length»; last = t .last }
 
 -- The table of all zeros, which is not sound: what a refusal holds in a table's place.
 abbrev pub blank : LeaseTable

@@ -43,7 +43,7 @@ openRules networks lengths term defaultLength start =
 unfoldable pub openOk : List ℕ → List ℕ → ℕ → ℕ → ℕ → Bool
 openOk networks lengths term defaultLength start = and (openRules networks lengths term defaultLength start)
 
--- A table with pools and no lease: "A fresh book has 256 empty lines, all zero."
+-- A table with pools and no lease: "A fresh book has 256 empty lines, all zero", read as 1,024.
 abbrev pub withPools : List Pool → ℕ → ℕ → ℕ → LeaseTable
 withPools ps term defaultLength start = record {
   pools = paddedPools ps;

@@ -16,8 +16,9 @@ use std::fmt;
 mod raw;
 
 pub use raw::{
-    COUNTS_LENGTHS, COUNTS_ROWS, FIGURES_CAPACITY, FIRST_FORM_CAPACITY, IMAGE_CAPACITY,
-    NAME_CAPACITY, REPLY_CAPACITY, SELECTED_REPLY_CAPACITY, SELECTION_CAPACITY, TEXT_CAPACITY,
+    COUNTS_LENGTHS, COUNTS_ROWS, FIGURES_CAPACITY, FIRST_FORM_CAPACITY, IMAGE_CAPACITY, LEASES,
+    NAME_CAPACITY, OLDER_LEASES, REPLY_CAPACITY, SELECTED_REPLY_CAPACITY, SELECTION_CAPACITY,
+    TEXT_CAPACITY,
 };
 
 use raw::Answer;
@@ -59,6 +60,7 @@ impl Refusal {
             17 => "the name is too long",
             18 => "names would be lost in the first form",
             19 => "no pool contains the address of option 118",
+            20 => "too many leases for an older desk",
             _ => "no number of this library",
         }
     }
@@ -347,6 +349,16 @@ impl Book {
 
     /// The bytes that load takes. The first form is refused with 18 exactly if a lease has a name.
     pub fn save(&self, form: Form) -> Result<Vec<u8>, Refusal> {
+        self.save_for(form, false)
+    }
+
+    /// The same bytes, for an older desk, one of a version before 0.16: it loads no more than [`OLDER_LEASES`]. Refused
+    /// with 20 exactly if the book has more, those that have ended too, and otherwise as [`Book::save`] is.
+    pub fn save_for_older(&self, form: Form) -> Result<Vec<u8>, Refusal> {
+        self.save_for(form, true)
+    }
+
+    fn save_for(&self, form: Form, older: bool) -> Result<Vec<u8>, Refusal> {
         let (form, capacity) = match form {
             Form::First => (raw::FIRST_FORM, FIRST_FORM_CAPACITY),
             Form::Second => (raw::SECOND_FORM, IMAGE_CAPACITY),
@@ -359,6 +371,7 @@ impl Book {
                 self.bytes,
                 self.counts.as_ptr(),
                 form,
+                older.into(),
                 saved.as_mut_ptr(),
                 saved.len(),
             )

@@ -29,6 +29,7 @@ fn no_book_is_refused() {
     assert_eq!(number(book.lease(0)), 5);
     assert_eq!(number(book.save(Form::First)), 5);
     assert_eq!(number(book.save(Form::Second)), 5);
+    assert_eq!(number(book.save_for_older(Form::Second)), 5);
     assert_eq!(number(book.whole(26)), 5);
     assert_eq!(number(book.whole(99)), 5);
     assert_eq!(number(book.sheet()), 5);
@@ -174,7 +175,7 @@ fn figures_are_told_and_not_saved() {
     };
     assert_eq!(book.figures(0), Some(told));
     assert_eq!(before.figures(0), Some(untold));
-    for index in [1, 255, 256, usize::MAX] {
+    for index in [1, 1023, 1024, usize::MAX] {
         assert_eq!(book.figures(index), None);
     }
     let loaded = Book::load(&book.save(Form::Second).unwrap()).unwrap();
@@ -182,6 +183,31 @@ fn figures_are_told_and_not_saved() {
     assert_ne!(loaded, book);
     book.release(7, 1020, NAME_26).unwrap();
     assert_eq!(book.figures(0), None);
+}
+
+#[test]
+fn an_older_desk_gets_256_leases() {
+    // 41 clients ask for 25 blocks each of a /16; the last of them gets 24.
+    let mut ask = vec![0xdc, 101, 0];
+    ask.extend([1, 2, 0, 30].repeat(25));
+    let mut book = Book::open(&[0x0a000000], &[16], 3600, 28, 1000).unwrap();
+    for client in 1..=41 {
+        for (form, bytes) in [(Form::First, 19), (Form::Second, 44)] {
+            let leases = book.head().unwrap().leases as usize;
+            assert_eq!(book.save(form).unwrap().len(), 22 + bytes * leases);
+            let older = book.save_for_older(form);
+            if leases > OLDER_LEASES {
+                assert_eq!(number(older), 20);
+            } else {
+                assert_eq!(older, book.save(form));
+            }
+        }
+        let granted = book.ask(client, 1000, &ask, None).unwrap();
+        assert_eq!(granted.count(), if client < 41 { 25 } else { 24 });
+    }
+    assert_eq!(book.head().unwrap().leases as usize, LEASES);
+    assert_eq!(number(book.ask(50, 1000, &ask, None)), 9);
+    assert_eq!(Book::load(&book.save(Form::Second).unwrap()), Ok(book));
 }
 
 #[test]

@@ -11,6 +11,7 @@ use crate::bytes::{entries_of, from_hex, reply_of};
 use crate::faults::{fault, Faults};
 use crate::left::Left;
 use crate::names::Names;
+use crate::older::Older;
 use crate::rounds::Rounds;
 use crate::script::{Script, Step};
 use crate::selection::Selection;
@@ -29,7 +30,7 @@ const COMMANDS: [(&str, &[u8]); 16] = [
     ("read", &[6, 7, 16]),
     ("write", &[13, 14]),
     ("whole", &[5]),
-    ("save", &[5, 18]),
+    ("save", &[5, 20, 18]),
     ("figures", &[]),
     ("counts", &[5]),
     ("buffer", &[]),
@@ -67,6 +68,8 @@ pub struct Counts {
     names: Names,
     /// Option 118, enabled and not.
     selection: Selection,
+    /// Books of many lines, and saves for an older desk.
+    older: Older,
 }
 
 impl Counts {
@@ -92,6 +95,7 @@ impl Counts {
         }
         self.names.add(&step.names);
         self.selection.add(&step.selection);
+        self.older.add(&step.older);
         if let Some(fault) = fault(&step.words(), &step.answer) {
             self.faults.add(&fault);
         }
@@ -133,6 +137,7 @@ impl Counts {
         missing.extend(self.faults.missing());
         missing.extend(self.names.missing());
         missing.extend(self.selection.missing());
+        missing.extend(self.older.missing());
         if self.filed == 0 {
             missing.push("take with figures".to_string());
         }
@@ -203,7 +208,7 @@ impl Display for Counts {
         }
         write!(
             out,
-            "error lines {}, {}, {} sheets given, {} calls refused with 15, {} takes filed figures, {}, {}, {}, {}, {}",
+            "error lines {}, {}, {} sheets given, {} calls refused with 15, {} takes filed figures, {}, {}, {}, {}, {}, {}",
             self.errors,
             self.rounds,
             self.sheets,
@@ -213,7 +218,8 @@ impl Display for Counts {
             self.left,
             self.faults,
             self.names,
-            self.selection
+            self.selection,
+            self.older
         )
     }
 }
@@ -246,7 +252,7 @@ mod tests {
             "{text}"
         );
         assert!(
-            text.contains("save 2 (1 ok, 1 x 5, 0 x 18, 0 error)"),
+            text.contains("save 2 (1 ok, 1 x 5, 0 x 20, 0 x 18, 0 error)"),
             "{text}"
         );
         assert!(text.contains("error lines 3,"), "{text}");

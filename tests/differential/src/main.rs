@@ -11,6 +11,7 @@ mod damage;
 mod faults;
 mod left;
 mod names;
+mod older;
 mod plant;
 mod program;
 mod rounds;

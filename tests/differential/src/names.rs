@@ -48,7 +48,7 @@ pub fn names(before: &Table, after: &Table, words: &[&[u8]], answer: &str) -> Na
         [b"take" | b"return", ..] | [b"mark", ..] if answer.starts_with("ok") => {
             names.struck = gone(before, after).len();
         }
-        [b"save", b"1"] => {
+        [b"save", b"1", ..] => {
             names.lost = usize::from(answer == "refused 18\n");
             names.saved_first = usize::from(answer.starts_with("ok"));
         }

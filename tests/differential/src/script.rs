@@ -7,6 +7,7 @@ use reference::table::Table;
 use crate::again::{given, Given};
 use crate::left::{met, Met};
 use crate::names::{names, Names};
+use crate::older::{older, Older};
 use crate::selection::{selection, Lent, Selection};
 
 pub struct Step {
@@ -22,6 +23,8 @@ pub struct Step {
     pub names: Names,
     /// What it has to do with option 118.
     pub selection: Selection,
+    /// What it has to do with books of many lines and an older desk.
+    pub older: Older,
 }
 
 impl Step {
@@ -77,6 +80,7 @@ impl Script {
         let met = met(&before, after, &words, &answer);
         let names = names(&before, after, &words, &answer);
         let selection = selection(&before, lent, &words, &answer);
+        let older = older(&before, &words, &answer);
         if before.leases != after.leases {
             self.counts = before.counts;
         }
@@ -87,6 +91,7 @@ impl Script {
             met,
             names,
             selection,
+            older,
         });
         &self.steps[self.steps.len() - 1].answer
     }

@@ -184,7 +184,7 @@ mod tests {
 
     #[test]
     fn what_option_118_did_is_counted() {
-        let full: String = (0..256)
+        let full: String = (0..1_024)
             .map(|index| {
                 format!(
                     "110003{:08x}1e020009000000ff000000",
@@ -205,7 +205,7 @@ mod tests {
              take 1 0 dc0b000208000a0000001d0000\n\
              ask 3 0 dc05000102001d 76040a00002f\nask 4 0 dc05000102001e 76040a00002f\n\
              ask 4 0 dc05000102001f 76040a00002f\n\
-             load 0b0001003c0000001c00000000070002000000000016070002000000000a18{full}\n\
+             load 0b0001003c0000001c00000000070002000000000014070002000000000a18{full}\n\
              ask 4 0 dc05000102001d 76040a00002f\n"
         );
         let mut all = Selection::default();

@@ -3,7 +3,7 @@
 use reference::console::LONGEST_LINE;
 use reference::image::Form;
 use reference::prefix::prefix;
-use reference::table::{State, Table, LATEST};
+use reference::table::{Lease, State, Table, LATEST, LEASES};
 
 use crate::author::{Author, Profile};
 use crate::bytes::{entry, hex, information, option, request, suboption};
@@ -14,7 +14,7 @@ use crate::script::Script;
 type Shape = (&'static str, fn(&mut Author));
 
 /// Taken in turn, so that every run has all of them.
-const SHAPES: [Shape; 24] = [
+const SHAPES: [Shape; 25] = [
     ("one pool", |author| walk(author, &ONE_POOL)),
     ("small pools", |author| walk(author, &SMALL_POOLS)),
     ("many pools", |author| walk(author, &MANY_POOLS)),
@@ -30,6 +30,7 @@ const SHAPES: [Shape; 24] = [
     ("counts", counts),
     ("names", names),
     ("selection", selection),
+    ("older desk", older_desk),
     ("faults", |author| walk(author, &FAULTS)),
     ("short", short),
     ("openings", openings),
@@ -150,19 +151,14 @@ fn walk(author: &mut Author, profile: &Profile) {
     author.say("sheet".to_string());
 }
 
-/// Asks until no slot is empty, and calls on the full table.
+/// Asks until no slot is empty, and calls on the full table. Its texts are long, so the calls are few.
 fn filled_up(author: &mut Author) {
-    let asks = Profile {
-        faults: 1_000,
-        ends: 1_000,
-        pace: &[0],
-        ..CROWDED
-    };
-    let pools = [prefix(0x0a00_0000, 20), prefix(0xffff_f000, 20)];
-    let start = author.start_time();
-    let line = author.open_line(&pools, &asks, start);
-    author.call(line);
-    for _ in 0..14 {
+    let count = LEASES - author.numbers.between(10, 60);
+    let mut table = author.table_of_held(count, &CROWDED);
+    table.pools[1] = prefix(0xffff_f000, 20);
+    let bytes = author.image_of(&table.counted());
+    author.call(format!("load {}", hex(&bytes)));
+    for _ in 0..3 {
         let now = author.script.table().last_time;
         let lengths = [28, 29, 30, 30, 30];
         let pieces: Vec<Vec<u8>> = (0..25)
@@ -172,9 +168,45 @@ fn filled_up(author: &mut Author) {
         let client = 1 + author.numbers.below(40);
         author.call(format!("ask {client} {now} {}", hex(&option(0, &pieces))));
     }
-    for _ in 0..author.numbers.between(10, 30) {
+    for _ in 0..author.numbers.between(4, 10) {
         author.any_call(&CROWDED);
     }
+}
+
+/// Books of about as many lines as an older desk reads, or of many more: asks and returns, and saves for it.
+fn older_desk(author: &mut Author) {
+    let profile = Profile {
+        pools: 1,
+        lengths: (28, 30),
+        requests: 3,
+        clients: 3,
+        ends: 30,
+        faults: 60,
+        ..ONE_POOL
+    };
+    let many = author.numbers.once_in(8);
+    let count = if many {
+        author.one_of(&[300, 1_000, 1_023, 1_024])
+    } else {
+        author.one_of(&[254, 255, 256, 256, 257, 257, 258])
+    };
+    let mut table = author.table_of_held(count, &profile);
+    if author.numbers.once_in(2) {
+        table = author.without_names(&table).counted();
+    }
+    let bytes = author.image_of(&table);
+    author.call(format!("load {}", hex(&bytes)));
+    for _ in 0..author.numbers.between(4, if many { 8 } else { 16 }) {
+        author.save_for_older();
+        match author.numbers.below(8) {
+            0 | 1 => author.ask(&profile),
+            2 => author.release(&profile),
+            3 => author.mark(&profile),
+            4 => author.any_counts(&profile),
+            _ => author.any_call(&profile),
+        }
+    }
+    author.save_for_older();
 }
 
 /// Time goes on to the latest that is accepted, and stands there.
@@ -214,12 +246,23 @@ fn pages(author: &mut Author) {
         ..ONE_POOL
     };
     let mut table = author.any_table(&profile);
-    if author.numbers.once_in(2) {
+    let thirty = author.numbers.once_in(8);
+    if thirty {
+        table = author.table_of_held(LEASES, &profile);
+        let all = table.used_leases().to_vec();
+        let leased = all.into_iter().map(|lease| Lease {
+            client: 1,
+            state: State::Leased,
+            ..lease
+        });
+        table.set_leases(leased.collect());
+    } else if author.numbers.once_in(2) {
         whole_pages(author, &mut table);
     }
-    let bytes = author.image_of(&table);
+    let bytes = author.image_of(&table.counted());
     author.call(format!("load {}", hex(&bytes)));
-    for _ in 0..author.numbers.between(15, 45) {
+    let (few, many) = if thirty { (4, 10) } else { (15, 45) };
+    for _ in 0..author.numbers.between(few, many) {
         match author.numbers.below(7) {
             0 => author.list_from_the_start(&profile),
             1..=3 => author.list(&profile),
@@ -283,14 +326,28 @@ fn asks_again(author: &mut Author) {
         leases: 16,
         ..ONE_POOL
     };
-    if author.numbers.once_in(2) {
-        let table = author.table_of_held(&profile);
-        let bytes = author.image_of(&table);
-        author.call(format!("load {}", hex(&bytes)));
-    } else {
-        author.start(&profile);
-    }
-    for _ in 0..author.numbers.between(20, 80) {
+    // Full, and then few calls, since its texts are long; or of some lines.
+    let kind = author.numbers.below(4);
+    let most = match kind {
+        0 => {
+            let count = author.few_empty();
+            let table = author.table_of_held(count, &profile);
+            let bytes = author.image_of(&table);
+            author.call(format!("load {}", hex(&bytes)));
+            14
+        }
+        1 => {
+            let table = author.table_of_held(60, &profile);
+            let bytes = author.image_of(&table);
+            author.call(format!("load {}", hex(&bytes)));
+            80
+        }
+        _ => {
+            author.start(&profile);
+            80
+        }
+    };
+    for _ in 0..author.numbers.between(most / 4, most) {
         match author.numbers.below(12) {
             0..=5 => author.ask_again(&profile),
             6 => author.ask(&profile),
@@ -373,14 +430,16 @@ fn selection(author: &mut Author) {
         ..ONE_POOL
     };
     author.select(true);
-    if author.numbers.once_in(3) {
+    let full = author.numbers.once_in(3);
+    if full {
         let table = author.full_table_and_a_pool(&profile);
         let bytes = author.image_of(&table);
         author.call(format!("load {}", hex(&bytes)));
     } else {
         author.start(&profile);
     }
-    for _ in 0..author.numbers.between(20, 80) {
+    let (few, many) = if full { (4, 14) } else { (20, 80) };
+    for _ in 0..author.numbers.between(few, many) {
         match author.numbers.below(12) {
             0..=2 => author.ask(&profile),
             3 | 4 => author.ask_again(&profile),
@@ -561,7 +620,7 @@ fn lines(author: &mut Author) {
         "open ask take list return mark save load sheet figures whole counts read write buffer \
          selection";
     const WORDS: &str = "0 1 2 7 1000 3600 28 257 10.0.0.0/8 10.0.0.0/28 dc05000102001c \
-                         dc0b000208000a0000001c0000 76040a000000 on off - # 4294967296 unknown name \
+                         dc0b000208000a0000001c0000 76040a000000 on off older - # 4294967296 unknown name \
                          address";
     let commands: Vec<&str> = COMMANDS.split_whitespace().collect();
     let any: Vec<&str> = WORDS.split_whitespace().chain(commands.clone()).collect();

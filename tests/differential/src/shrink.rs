@@ -361,7 +361,7 @@ mod tests {
 
     #[test]
     fn sheets_are_emptied() {
-        let mut rows = vec![Row::untold(Prefix::default()); 256];
+        let mut rows = vec![Row::untold(Prefix::default()); 1_024];
         for (place, row) in rows.iter_mut().enumerate().take(9) {
             row.prefix = prefix(0x0a00_0000 + 4 * place as u32, 30);
             (row.high_water, row.in_use) = (place as u16, 7);
@@ -376,7 +376,7 @@ mod tests {
             let rows = sheet.and_then(|sheet| rows_of(&sheet)).unwrap_or_default();
             rows.iter().any(|row| row.high_water == 3)
         });
-        let mut one = vec![Row::untold(Prefix::default()); 256];
+        let mut one = vec![Row::untold(Prefix::default()); 1_024];
         one[3] = Row {
             high_water: 3,
             ..Row::untold(prefix(0x0a00_000c, 30))

@@ -6,7 +6,7 @@ use std::io::{self, BufRead, Write};
 use crate::calls::{self, Answer};
 use crate::counts;
 use crate::figures::{rows_of, untold_sheet, SHEET, UNTOLD};
-use crate::image::{self, Form};
+use crate::image::{self, Desk, Form};
 use crate::option::{read118, read220, write118, write220, SUBNET_SELECTION};
 use crate::prefix::{dotted, Prefix};
 use crate::refusal::{refusal, Refusal};
@@ -142,9 +142,21 @@ impl Console {
                 Some(ok_or_refused(calls::mark(table, figures, now, prefix, d)))
             }
             // "`save` and `save 2` write the second form, `save 1` the first".
-            (b"save", []) => Some(self.save(Form::Second)),
-            (b"save", [b"2"]) => Some(self.save(Form::Second)),
-            (b"save", [b"1"]) => Some(self.save(Form::First)),
+            (b"save", []) => Some(self.save(Form::Second, Desk::Own)),
+            // "`save 1 older`, `save 2 older`: saved for an older desk (`save older` is an error)."
+            (b"save", [form, desk @ ..]) => {
+                let form = match *form {
+                    b"1" => Form::First,
+                    b"2" => Form::Second,
+                    _ => return None,
+                };
+                let desk = match desk {
+                    [] => Desk::Own,
+                    [b"older"] => Desk::Older,
+                    _ => return None,
+                };
+                Some(self.save(form, desk))
+            }
             (b"load", [image]) => {
                 let image = hex(image)?;
                 let (table, figures) = (&mut self.table, &mut self.figures[..]);
@@ -208,9 +220,9 @@ impl Console {
     }
 
     /// "The buffer holds every book of the form."
-    fn save(&self, form: Form) -> String {
+    fn save(&self, form: Form, desk: Desk) -> String {
         let mut buffer = vec![0; form.full()];
-        let saved = image::save(&self.table, form, &mut buffer);
+        let saved = image::save(&self.table, form, desk, &mut buffer);
         written(saved, &buffer)
     }
 

@@ -1,4 +1,5 @@
-//! The image: document 01's saved book, and the second form of M-105 in document 02.
+//! The image: document 01's saved book, and the second form of M-105 in document 02. M-107
+//! in document 02 makes a full book longer, and has the choice to save for an older desk.
 //!
 //! "Records: a 2-byte length counting kind and body, a 2-byte kind, the body; all
 //! little-endian."
@@ -6,7 +7,7 @@
 use crate::figures::fill;
 use crate::prefix::Prefix;
 use crate::refusal::{refusal, Refusal};
-use crate::table::{Lease, Name, State, Table, LEASES, NAME, POOLS};
+use crate::table::{Lease, Name, State, Table, LEASES, NAME, OLDER_LEASES, POOLS};
 
 const POOL: u16 = 2;
 
@@ -45,11 +46,11 @@ impl Form {
         }
     }
 
-    /// "A full book is 4,949 bytes."; M-105: "A full book is then 11,349 bytes."
+    /// M-107: "Full books are 19,541 bytes in the first form and 45,141 in the second."
     pub fn full(self) -> usize {
         match self {
-            Form::First => 4_949,
-            Form::Second => 11_349,
+            Form::First => 19_541,
+            Form::Second => 45_141,
         }
     }
 }
@@ -57,11 +58,36 @@ impl Form {
 const FLAG_H: u8 = 1;
 const FLAG_D: u8 = 2;
 
-/// Saves the table in a form into the front of `buffer` and returns the bytes written. The
-/// bytes after them keep their content.
-pub fn save(table: &Table, form: Form, buffer: &mut [u8]) -> Result<usize, Refusal> {
+/// Which desk a book is saved for. M-107: "saving for one", an older desk, "is a separate
+/// choice", in either form.
+#[derive(Clone, Copy, Debug, PartialEq, Eq)]
+pub enum Desk {
+    Own,
+    Older,
+}
+
+impl Desk {
+    pub const BOTH: [Desk; 2] = [Desk::Own, Desk::Older];
+
+    /// The lines that it reads.
+    pub fn lines(self) -> usize {
+        match self {
+            Desk::Own => LEASES,
+            Desk::Older => OLDER_LEASES,
+        }
+    }
+}
+
+/// Saves the table in a form, for a desk, into the front of `buffer` and returns the bytes
+/// written. The bytes after them keep their content.
+pub fn save(table: &Table, form: Form, desk: Desk, buffer: &mut [u8]) -> Result<usize, Refusal> {
     if !table.sound() {
         return Err(refusal(5));
+    }
+    // Row 20, before 18: "too many lines for the older desk", "refused exactly if more lines
+    // are in the book", whether they have ended by now or not: save has no time.
+    if table.used_leases().len() > desk.lines() {
+        return Err(refusal(20));
     }
     // Row 18, before 14: "names would be lost", "refused exactly if a line has a name".
     let named = |lease: &Lease| lease.name != Name::default();

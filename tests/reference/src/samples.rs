@@ -1,9 +1,9 @@
 //! What the tests and the scripts are made of: plain pieces, leases and tables.
 
-use crate::image::{save, Form};
+use crate::image::{save, Desk, Form};
 use crate::option::{write118, write220, Entry, Information, Request, Suboption};
 use crate::prefix::{prefix, Prefix};
-use crate::table::{Lease, Name, State, Table, LATEST};
+use crate::table::{Lease, Name, State, Table, LATEST, LEASES};
 
 /// 10.0.0.0.
 pub const TEN: u32 = 0x0a00_0000;
@@ -113,14 +113,14 @@ pub fn table(pools: &[Prefix], last_time: u32, leases: Vec<Lease>) -> Table {
     table
 }
 
-/// Eight pools and 256 leases of different lengths.
+/// Eight pools and 1,024 leases of different lengths.
 pub fn full_table() -> Table {
     let pools: Vec<Prefix> = (0..8)
         .map(|index| prefix(TEN + (index << 16), 16))
         .collect();
-    let leases = (0..256u32)
+    let leases = (0..LEASES as u32)
         .map(|index| Lease {
-            prefix: prefix(TEN + (index << 11), 21 + (index % 10) as u8),
+            prefix: prefix(TEN + (index << 9), 23 + (index % 8) as u8),
             client: 1 + index,
             state: if index % 2 == 0 {
                 State::Leased
@@ -139,7 +139,7 @@ pub fn full_table() -> Table {
 /// The image of a table in a form; no bytes if save refuses it.
 pub fn image_in(form: Form, table: &Table) -> Vec<u8> {
     let mut buffer = vec![0; form.full()];
-    let bytes = save(table, form, &mut buffer).unwrap_or(0);
+    let bytes = save(table, form, Desk::Own, &mut buffer).unwrap_or(0);
     buffer.truncate(bytes);
     buffer
 }

@@ -5,8 +5,11 @@ use crate::prefix::{Prefix, LONGEST, SHORTEST};
 
 /// "A book holds 1 to 8 roots".
 pub const POOLS: usize = 8;
-/// "A fresh book has 256 empty lines, all zero."
-pub const LEASES: usize = 256;
+/// "A fresh book has 256 empty lines, all zero." M-107 in document 02: "Raise the limit to
+/// 1,024."
+pub const LEASES: usize = 1_024;
+/// M-107: "Older desks read only 256 lines".
+pub const OLDER_LEASES: usize = 256;
 /// "now above 4,292,375,295", and the same for a start time.
 pub const LATEST: u32 = 4_292_375_295;
 /// "a term (60 to 2,592,000 s)".

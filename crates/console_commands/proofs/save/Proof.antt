@@ -23,9 +23,9 @@ returns c =
     let said = c .before .before .written in
     let buffer : List ℕ = replicate fullImage 0 in
     let size = length-replicate {A = ℕ} fullImage 0 in
-    let inside : said .result ≤ length (a .out .now) = omega (arith, said .ensures .0, start .pre, saved .save .kept .1 .1 .1 .1 .0, size) in (
+    let inside : said .result ≤ length (a .out .now) = omega (arith, said .ensures .0, start .pre, saved .save .kept .1 .1 .1 .1 .1 .0, size) in (
       inside,
-      λ figures. save-ran _ _ _ _ _ _ _ inside (a .form) buffer _ size (beside (a .image .now) (a .image-bytes) figures (a .counts .now) (λ b. saveBook b (formNumbered (a .form)) buffer) (without-sheet .saves _ _ _ _ _ _) (saved .save .result) _ (saved .save .ensures ∙ ap (λ (f : Form). saveBook (bookOf (a .image .now) (a .image-bytes) [] (a .counts .now)) f buffer) (numbered .form-numbered .ensures))) (said .ensures .1),
+      λ figures. save-ran _ _ _ _ _ _ _ inside (a .form) (a .older) buffer _ size (beside (a .image .now) (a .image-bytes) figures (a .counts .now) (λ b. saveBook b (formNumbered (a .form)) (a .older) buffer) (without-sheet .saves _ _ _ _ _ _ _) (saved .save .result) _ (saved .save .ensures ∙ ap (λ (f : Form). saveBook (bookOf (a .image .now) (a .image-bytes) [] (a .counts .now)) f (a .older) buffer) (numbered .form-numbered .ensures))) (said .ensures .1),
     )
 
 pub save-spec : {M : Type 1} → statement M

@@ -7,7 +7,7 @@ use native.Mathlib.Omega.{arith}
 use lib.ListN.{length, drop, replicate}
 use lib.Seq.{length-take-le}
 use borrow.Author.Needs.{needs}
-use Rattle.image.specs.Image.{imageOf}
+use Rattle.image.specs.Image.{fullImage, imageOf}
 use Rattle.sheet_text.specs.Sheet.{sheetText}
 use Rattle.sheet_text.specs.Answers.{into}
 use Rattle.sheet_text.proofs.AnswerLaws.{widened-sound, widened-sheet}
@@ -15,7 +15,7 @@ use Rattle.sheet_text.proofs.write_first.Statement.{statement}
 use Rattle.sheet_text.proofs.write_first.Tie as tie
 
 -- What is known of the buffer after it is widened into.
-abbrev widened : (c : tie.After-widen) → (c .widen .result ≡ length (imageOf (c .before .before .before .before .pre .table))) × (c .widen .last .1 .1 .1 .0 ≡ imageOf (c .before .before .before .before .pre .table) ++ drop (length (imageOf (c .before .before .before .before .pre .table))) (replicate 11349 0))
+abbrev widened : (c : tie.After-widen) → (c .widen .result ≡ length (imageOf (c .before .before .before .before .pre .table))) × (c .widen .last .1 .1 .1 .0 ≡ imageOf (c .before .before .before .before .pre .table) ++ drop (length (imageOf (c .before .before .before .before .pre .table))) (replicate fullImage 0))
 widened c = let pre = c .before .before .before .before .pre in c .widen .ensures .1 (pre .table) (pre .bytes) (pre .fitting) (pre .pools) (pre .leases)
 
 within : (c : tie.After-widen) → c .widen .result ≤ length (c .widen .last .1 .1 .1 .0)

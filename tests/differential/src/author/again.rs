@@ -2,7 +2,7 @@
 
 use reference::calls::MOST_REQUESTS;
 use reference::prefix::prefix;
-use reference::table::{Lease, State, Table, LEASES};
+use reference::table::{Lease, State, Table};
 
 use super::options::REQUEST_H;
 use super::tables::TEN;
@@ -78,10 +78,9 @@ impl Author {
         self.call(format!("mark {now} {at} {d}"));
     }
 
-    /// A sound table with no empty line, or few of them, most of its lines held.
-    pub fn table_of_held(&mut self, profile: &Profile) -> Table {
+    /// A sound table of so many lines, most of them held.
+    pub fn table_of_held(&mut self, count: usize, profile: &Profile) -> Table {
         let last_time = self.start_time();
-        let count = LEASES - self.one_of(&[0, 0, 0, 1, 2, 5]);
         // Some end soon, or it stays full for a while.
         let ends: &[u32] = self.one_of(&[&[1, 60, 600, 3_600], &[600, 3_600]]);
         let mut leases = Vec::new();
@@ -97,7 +96,7 @@ impl Author {
         let mut table = Table::zero();
         (table.term, table.default_length) = (600, self.one_of(&[28, 29, 30]));
         table.last_time = last_time;
-        table.pools[0] = prefix(TEN, 21);
+        table.pools[0] = prefix(TEN, 19);
         table.set_leases(leases);
         table.counted()
     }

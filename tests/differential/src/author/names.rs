@@ -77,14 +77,33 @@ impl Author {
 
     /// `save` in either form, seldom in one that there is not.
     pub fn save_in_a_form(&mut self) {
-        let word = self.one_of(&["1", "1", "1", "1", "2", "2"]);
-        let other = self.one_of(&["0", "3", "01", "-", "1 2", "2 older", "first"]);
+        let word = self.one_of(&["1", "1", "1", "1", "2", "2", "1 older", "2 older"]);
+        let others = [
+            "0",
+            "3",
+            "01",
+            "-",
+            "1 2",
+            "older",
+            "older 1",
+            "3 older",
+            "1 newer",
+            "2 older older",
+            "first",
+        ];
+        let other = self.one_of(&others);
         let word = if self.numbers.once_in(20) {
             other
         } else {
             word
         };
         self.script.say(format!("save {word}"));
+    }
+
+    /// `save` for an older desk, in either form.
+    pub fn save_for_older(&mut self) {
+        let word = self.one_of(&["1", "1", "2"]);
+        self.script.say(format!("save {word} older"));
     }
 
     /// An ask with a name of what the client already holds, of nothing that there is, or of

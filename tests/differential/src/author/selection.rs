@@ -75,8 +75,9 @@ impl Author {
 
     /// A full table, or one with few empty slots, with a pool that has no lease beside it.
     pub fn full_table_and_a_pool(&mut self, profile: &Profile) -> Table {
-        let mut table = self.table_of_held(profile);
-        let beside = [prefix(TEN + 2_048, 24), prefix(TEN + 4_096, 28)];
+        let count = self.few_empty();
+        let mut table = self.table_of_held(count, profile);
+        let beside = [prefix(TEN + 8_192, 24), prefix(TEN + 16_384, 28)];
         table.pools[1] = self.one_of(&beside);
         table.counted()
     }

@@ -1,7 +1,7 @@
 //! Pools and tables, good and bad.
 
 use reference::prefix::{prefix, Prefix};
-use reference::table::{Lease, Name, State, Table, LATEST, LONGEST_TERM};
+use reference::table::{Lease, Name, State, Table, LATEST, LEASES, LONGEST_TERM};
 
 use super::{Author, Profile};
 use crate::bytes::hex;
@@ -149,6 +149,11 @@ impl Author {
         let length = self.length(lengths).max(pool.length);
         let offset = u64::from(self.number()) % pool.size();
         aligned(pool.network + offset as u32, length)
+    }
+
+    /// How many lines a table has that is full, or nearly so.
+    pub fn few_empty(&mut self) -> usize {
+        LEASES - self.one_of(&[0, 0, 0, 1, 2, 5])
     }
 
     pub fn start_time(&mut self) -> u32 {

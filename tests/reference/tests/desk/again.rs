@@ -106,13 +106,13 @@ fn end(at: &str, expires: u32) -> (String, u32) {
     (at.to_string(), expires)
 }
 
-/// 256 leased /30s from 10.0.0.0 on, the first ones held by client 7 instead.
+/// 1,024 leased /30s from 10.0.0.0 on, the first ones held by client 7 instead.
 fn full_with_held(count: usize) -> Table {
     let mut leases = samples::row_of_leases(LEASES as u32, 9, 5000);
     for lease in &mut leases[..count] {
         (lease.client, lease.state) = (7, State::Offered);
     }
-    table_with(&["10.0.0.0/22"], 1000, &leases)
+    table_with(&["10.0.0.0/20"], 1000, &leases)
 }
 
 #[test]
@@ -320,7 +320,7 @@ fn nothing_granted_or_re_given_is_refused_and_nothing_is_struck() {
     // The station holds, but nothing of the length and h asked for.
     let mut full = full_with_held(3);
     full.leases[0].h = true;
-    full.leases[255].expires = 1001;
+    full.leases[LEASES - 1].expires = 1001;
     for requests in [&[(29, false)][..], &[(29, true), (8, false)]] {
         assert_eq!(gets_with(&mut full.clone(), 7, 1000, requests), Err(9));
         // At 1001 the last line is an empty one: no ground for these.
@@ -466,7 +466,7 @@ fn rows_1_to_8_come_before() {
     let start = full_with_held(1);
     let good = asking(&[30]);
     let mut unsound = start.clone();
-    unsound.leases[255].client = 0;
+    unsound.leases[LEASES - 1].client = 0;
     let long = asking(&[30; 26]);
     let listing = option(&[request_i()]);
     for (table, client, now, bytes, size, number) in [
@@ -567,8 +567,8 @@ fn random_table(numbers: &mut Numbers) -> Table {
             leases.push(lease);
         }
     }
-    if numbers.once_in(2) {
-        texts.push("172.16.0.0/22");
+    if numbers.once_in(5) {
+        texts.push("172.16.0.0/20");
         let room = LEASES - leases.len() - numbers.below(3);
         let first = p("172.16.0.0/30").network;
         let fillers = (0..room as u32).map(|index| prefix(first + 4 * index, 30));
@@ -650,7 +650,7 @@ fn expected(table: &Table, now: u32, requests: &[(u8, bool)]) -> Result<(Vec<Str
 fn only_the_rest_take_new_ground_over_random_tables() {
     let mut numbers = Numbers::new(101);
     let (mut only, mut some, mut none, mut cut, mut refused) = (0, 0, 0, 0, 0);
-    for _ in 0..6_000 {
+    for _ in 0..8_000 {
         let mut table = random_table(&mut numbers);
         let before = table.clone();
         let most = [1, 3, 8][numbers.below(3)];

@@ -109,7 +109,14 @@ fn words_lines_and_errors() {
         (b"save 01", "error line 1\n"),
         (b"save 12", "error line 1\n"),
         (b"save 1 2", "error line 1\n"),
-        (b"save 2 older", "error line 1\n"),
+        (b"save 1 older", "refused 5\n"),
+        (b" save  2   older \r", "refused 5\n"),
+        (b"save older", "error line 1\n"),
+        (b"save older 1", "error line 1\n"),
+        (b"save 3 older", "error line 1\n"),
+        (b"save 1 newer", "error line 1\n"),
+        (b"save 1 Older", "error line 1\n"),
+        (b"save 1 older 2", "error line 1\n"),
         (b"save second", "error line 1\n"),
         (b"save -", "error line 1\n"),
         (b"save +1", "error line 1\n"),
@@ -179,9 +186,9 @@ fn words_lines_and_errors() {
     assert_eq!(answers(b"\n# x\n\nx\nsave"), "error line 4\nrefused 5\n");
 }
 
-/// 256 rows: these, and empty lines' rows after them.
+/// 1,024 rows: these, and empty lines' rows after them.
 fn sheet(rows: &str) -> String {
-    let empty = "00000000 00 ffff ffff ffff ".repeat(256);
+    let empty = "00000000 00 ffff ffff ffff ".repeat(1_024);
     let rows: String = rows.split_whitespace().collect();
     let empty: String = empty.split_whitespace().collect();
     format!("{rows}{}", &empty[rows.len()..])

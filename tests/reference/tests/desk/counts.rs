@@ -3,7 +3,7 @@
 use reference::calls;
 use reference::counts::{bytes_of, column, of_bytes, whole, Counts, BYTES, LENGTHS};
 use reference::figures::untold_sheet;
-use reference::image::{save, Form};
+use reference::image::{save, Desk, Form};
 use reference::prefix::{prefix, Prefix};
 use reference::samples::full_table;
 use reference::sheet::sheet;
@@ -68,15 +68,15 @@ fn all_tried(table: &Table, longest: u8) -> Counts {
 /// The number that each call answers with that takes the book, which must leave it alone
 /// where it is refused.
 fn every_call(table: &Table, now: u32, at: Prefix) -> [u8; 8] {
-    let mut buffer = [0x5a; 11_349];
+    let mut buffer = [0x5a; 45_141];
     let ask = ask(&mut table.clone(), 77, now, &asking(&[30]));
     let take = take(&mut table.clone(), 7, now, &entries(&[at]));
     let list = list(table, 7, now, &option(&[request_i()]));
     let release = release(&mut table.clone(), 7, now, &entries(&[at]));
     let mark = mark(&mut table.clone(), now, at, true);
-    let saved = save(table, Form::Second, &mut buffer);
+    let saved = save(table, Form::Second, Desk::Own, &mut buffer);
     if saved.is_err() {
-        assert_eq!(buffer, [0x5a; 11_349]);
+        assert_eq!(buffer, [0x5a; 45_141]);
     }
     [
         ask.map(|_| ()),
@@ -170,20 +170,20 @@ fn a_full_root_and_an_empty_root() {
     let mut table = table;
     assert!(release(&mut table, 7, 1000, &entries(&[p("10.0.1.0/24")])).is_ok());
     assert_eq!(some(&table), [(0, 24, 1)]);
-    // 256 leases in a root that they fill.
-    let table = table_with(&["10.0.0.0/22"], 1000, &row_of_leases(256, 5000));
+    // 1,024 leases in a root that they fill.
+    let table = table_with(&["10.0.0.0/20"], 1000, &row_of_leases(1_024, 5000));
     assert_eq!(some(&table), []);
     // Every other /30: as many whole blocks as leases.
-    let apart: Vec<Lease> = row_of_leases(256, 5000)
+    let apart: Vec<Lease> = row_of_leases(1_024, 5000)
         .into_iter()
         .map(|lease| Lease {
             prefix: prefix(0x0a00_0000 + 2 * (lease.prefix.network - 0x0a00_0000), 30),
             ..lease
         })
         .collect();
-    let table = table_with(&["10.0.0.0/21"], 1000, &apart);
-    assert_eq!(some(&table), [(0, 30, 256)]);
-    assert_eq!(whole(&table, 30), Ok(256));
+    let table = table_with(&["10.0.0.0/19"], 1000, &apart);
+    assert_eq!(some(&table), [(0, 30, 1_024)]);
+    assert_eq!(whole(&table, 30), Ok(1_024));
 }
 
 #[test]

@@ -110,7 +110,7 @@ fn a_row_holds_network_length_and_three_figures() {
     let mut desk = Desk::with(&["10.0.1.0/24"], &[]);
     assert_eq!(desk.ask(7, 1000, &[26]), Ok(1));
     assert_eq!(desk.take(7, 1000, &[(A, &[0x0102, 0x0304, 0x0506])]), Ok(1));
-    assert_eq!(desk.sheet.len(), 2816);
+    assert_eq!(desk.sheet.len(), 11_264);
     assert_eq!(desk.sheet[..11], hex("0001000a 1a 0201 0403 0605")[..]);
     // "(an empty line's row is network and length 0, untold)".
     for row in desk.sheet[11..].chunks(11) {
@@ -244,7 +244,7 @@ fn open_and_load_fill_the_sheet() {
     for old in [desk.sheet.clone(), vec![0; SHEET], vec![0xa5; SHEET]] {
         let mut sheet = old.clone();
         let opened = calls::open(&pools(&["10.0.1.0/24"]), 3600, 28, 0, &mut sheet).unwrap();
-        assert_eq!(sheet, hex("00000000 00 ffff ffff ffff").repeat(256));
+        assert_eq!(sheet, hex("00000000 00 ffff ffff ffff").repeat(1_024));
         assert_eq!(sheet, untold_sheet(&opened));
         // "A new or loaded line starts with all three untold": figures are not saved.
         let (mut table, mut sheet) = (Table::zero(), old.clone());
@@ -276,7 +276,8 @@ fn a_sheet_of_another_size() {
         SHEET - 1,
         SHEET + 1,
         SHEET + 11,
-        11_264,
+        // 256 rows.
+        2_816,
     ] {
         let mut other = desk.clone();
         other.sheet.resize(size, 0xff);
@@ -416,11 +417,14 @@ fn four_calls(desk: &Desk, now: u32) -> [u8; 4] {
 
 #[test]
 fn every_place_must_match() {
-    // "a sheet that doesn't match is refused"; every bit of a sheet with two used rows.
+    // "a sheet that doesn't match is refused"; every bit of the first rows and of the last of
+    // a sheet with two used ones, and some of each row between.
     let leases = [A, B].map(|at| lease(p(at), 7, State::Leased, 5000));
     let desk = Desk::with(&["10.0.1.0/24"], &leases);
     assert_eq!(four_calls(&desk, 1000), [0; 4]);
-    for bit in 0..8 * SHEET {
+    let ends =
+        |bit: &usize| *bit < 88 * 40 || *bit >= 8 * SHEET - 88 * 40 || bit.is_multiple_of(13);
+    for bit in (0..8 * SHEET).filter(ends) {
         let mut other = desk.clone();
         other.sheet[bit / 8] ^= 1 << (bit % 8);
         // Figures of used rows are free; all else is not.
@@ -444,10 +448,10 @@ fn rows_that_match_no_line() {
         },
         |rows| rows[3] = Row::untold(p("10.0.1.0/26")),
         |rows| rows.swap(2, 200),
-        |rows| rows[255] = Row::untold(Prefix::default().halves()[0]),
+        |rows| rows[1_023] = Row::untold(Prefix::default().halves()[0]),
         // An empty line's row is untold, each figure of it.
         |rows| rows[3].high_water = 0,
-        |rows| rows[255].in_use = 1,
+        |rows| rows[1_023].in_use = 1,
         |rows| rows[100].unusable = 0xfffe,
     ];
     for (index, change) in changes.iter().enumerate() {
@@ -625,25 +629,25 @@ fn figures_over_random_histories() {
 
 #[test]
 fn the_sheet_goes_from_call_to_call() {
-    // "in demand 3's list the sheet goes from call to call with the book": 256 asks that
+    // "in demand 3's list the sheet goes from call to call with the book": 1,024 asks that
     // fit, each with the sheet that the one before left.
-    let mut desk = Desk::with(&["10.0.0.0/22"], &[]);
-    for index in 0..256 {
+    let mut desk = Desk::with(&["10.0.0.0/20"], &[]);
+    for index in 0..1_024 {
         assert_eq!(desk.ask(1 + index, 1000, &[30]), Ok(1));
     }
-    assert_eq!(desk.ask(300, 1000, &[30]), Err(9));
+    assert_eq!(desk.ask(2_000, 1000, &[30]), Err(9));
     let told: [(&str, &[u16]); 1] = [("10.0.0.0/30", &[1, 2, 3])];
     assert_eq!(desk.take(1, 1000, &told), Ok(1));
-    let told: [(&str, &[u16]); 1] = [("10.0.3.252/30", &[4, 5, 6])];
-    assert_eq!(desk.take(256, 1000, &told), Ok(1));
+    let told: [(&str, &[u16]); 1] = [("10.0.15.252/30", &[4, 5, 6])];
+    assert_eq!(desk.take(1_024, 1000, &told), Ok(1));
     let rows = desk.rows();
     assert_eq!(
-        (rows.len(), rows[0].1, rows[255].1),
-        (256, [1, 2, 3], [4, 5, 6])
+        (rows.len(), rows[0].1, rows[1_023].1),
+        (1_024, [1, 2, 3], [4, 5, 6])
     );
-    assert!(rows[1..255].iter().all(|row| row.1 == NEVER));
+    assert!(rows[1..1_023].iter().all(|row| row.1 == NEVER));
     // The offers end, and new lines take all their places.
-    assert_eq!(desk.ask(300, 1120, &[30; 25]), Ok(25));
+    assert_eq!(desk.ask(2_000, 1120, &[30; 25]), Ok(25));
     let rows = desk.rows();
     assert_eq!(
         (rows.len(), rows[0].1, rows[26].1),

@@ -1,6 +1,6 @@
 //! Images and sheets.
 
-use reference::image::{save, Form};
+use reference::image::{save, Desk, Form};
 use reference::samples::{full_table, image_in};
 use reference::sheet::{sheet, sheet_of_image};
 use reference::table::{State, Table};
@@ -29,21 +29,21 @@ fn the_sheet_example() {
 }
 
 #[test]
-fn a_full_book_is_4949_bytes() {
+fn a_full_book_is_19541_bytes() {
     let table = full_table();
     let bytes = image(&table);
-    assert_eq!(bytes.len(), 4949);
+    assert_eq!(bytes.len(), 19_541);
     let mut loaded = Table::zero();
     load(&mut loaded, &bytes).unwrap();
     assert_eq!(loaded, table);
     let text = sheet_of_image(&bytes);
-    assert!(text.starts_with("sheet lines=256 free="));
-    // A 257th line or any byte after it is too much.
+    assert!(text.starts_with("sheet lines=1024 free="));
+    // A 1,025th line or any byte after it is too much.
     let mut more = bytes.clone();
     more.extend(hex("1100 0300 0000080a 1e 01 00 01000000 ffffffff"));
     assert_eq!(load(&mut loaded, &more), Err(no(5, 0)));
     assert_eq!(sheet_of_image(&more), "refused 5\n");
-    more.truncate(4950);
+    more.truncate(19_542);
     assert_eq!(load(&mut loaded, &more), Err(no(5, 0)));
     assert_eq!(loaded, table);
 }
@@ -75,14 +75,20 @@ fn save_needs_room_and_leaves_the_rest() {
     for form in Form::BOTH {
         let full = form.full();
         let mut buffer = vec![0x5a; full + 3];
-        assert_eq!(save(&table, form, &mut buffer), Ok(full));
+        assert_eq!(save(&table, form, Desk::Own, &mut buffer), Ok(full));
         assert_eq!(buffer[full..], [0x5a; 3]);
         let mut small = vec![0x5a; full - 1];
-        assert_eq!(save(&table, form, &mut small), Err(no(14, 0)));
+        assert_eq!(save(&table, form, Desk::Own, &mut small), Err(no(14, 0)));
         assert!(small.iter().all(|byte| *byte == 0x5a));
         // 5 comes before 14.
-        assert_eq!(save(&Table::zero(), form, &mut []), Err(no(5, 0)));
-        assert_eq!(save(&Table::zero(), form, &mut buffer), Err(no(5, 0)));
+        assert_eq!(
+            save(&Table::zero(), form, Desk::Own, &mut []),
+            Err(no(5, 0))
+        );
+        assert_eq!(
+            save(&Table::zero(), form, Desk::Own, &mut buffer),
+            Err(no(5, 0))
+        );
     }
 }
 

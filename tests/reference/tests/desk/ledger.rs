@@ -171,7 +171,7 @@ fn a_list_depends_only_on_what_document_01_names() {
 
 #[test]
 fn pages_of_a_list_give_every_line_once() {
-    let mut leases = row_of_leases(256, 5000);
+    let mut leases = row_of_leases(1_024, 5000);
     for (index, lease) in leases.iter_mut().enumerate() {
         lease.client = 7 + (index % 3 == 0) as u32;
     }

@@ -10,6 +10,7 @@ mod faults;
 mod figures;
 mod images;
 mod ledger;
+mod lines;
 mod names;
 mod options;
 mod packing;

@@ -1,6 +1,6 @@
 //! M-105: names on the leases, and the second saved form.
 
-use reference::image::{save, Form};
+use reference::image::{save, Desk, Form};
 use reference::option::Suboption;
 use reference::samples::{full_table, image_in, named};
 use reference::sheet::{sheet, sheet_of_image};
@@ -56,7 +56,7 @@ pub fn named_table() -> Table {
 
 fn saved(table: &Table, form: Form) -> Result<Vec<u8>, u8> {
     let mut buffer = vec![0x5a; form.full() + 1];
-    match save(table, form, &mut buffer) {
+    match save(table, form, Desk::Own, &mut buffer) {
         Ok(bytes) => {
             assert!(buffer[bytes..].iter().all(|byte| *byte == 0x5a));
             Ok(buffer[..bytes].to_vec())
@@ -162,7 +162,7 @@ fn row_17_among_the_others() {
     let long = [0x62; 25];
     let too_long = asking_as(&[&long], &[26]);
     // Before 9 and 10, and where all would be re-given; after 8 and everything before it.
-    let none = table_with(&["10.0.0.0/16"], 1000, &row_of_leases(256, 5000));
+    let none = table_with(&["10.0.0.0/16"], 1000, &row_of_leases(1_024, 5000));
     let full = table_with(
         &["10.0.1.0/24"],
         1000,
@@ -251,14 +251,14 @@ fn a_record_of_the_second_form() {
     assert_eq!(sheet_of_image(&bytes), rows);
     assert_eq!(sheet(&table).unwrap(), rows);
     // Full books of both forms.
-    assert_eq!(image_in(Form::Second, &full_table()).len(), 11_349);
-    assert_eq!(image_in(Form::Second, &named_table()).len(), 11_349);
+    assert_eq!(image_in(Form::Second, &full_table()).len(), 45_141);
+    assert_eq!(image_in(Form::Second, &named_table()).len(), 45_141);
     let mut more = image_in(Form::Second, &named_table());
     more.extend(hex("2a00 0400 0000080a 1e 01 00 01000000 ffffffff"));
     more.extend([0; 25]);
     assert_eq!(load(&mut loaded, &more), Err(no(5, 0)));
-    assert_eq!(load(&mut loaded, &more[..11_350]), Err(no(5, 0)));
-    assert_eq!(load(&mut loaded, &more[..11_349]), Ok(()));
+    assert_eq!(load(&mut loaded, &more[..45_142]), Err(no(5, 0)));
+    assert_eq!(load(&mut loaded, &more[..45_141]), Ok(()));
     assert_eq!(loaded, named_table());
 }
 
@@ -280,7 +280,7 @@ fn forward_and_back() {
 
 #[test]
 fn going_back_is_refused_exactly_if_a_line_has_a_name() {
-    for count in [1, 2, 255, 256] {
+    for count in [1, 2, 255, 256, 1_024] {
         let leases = row_of_leases(count, 5000);
         let table = table_with(&["10.0.0.0/16"], 1000, &leases);
         assert!(saved(&table, Form::First).is_ok());
@@ -291,10 +291,16 @@ fn going_back_is_refused_exactly_if_a_line_has_a_name() {
                 assert_eq!(saved(&table, Form::First), Err(18));
                 assert!(saved(&table, Form::Second).is_ok());
                 // 18 before 14, 5 before 18.
-                assert_eq!(save(&table, Form::First, &mut []), Err(no(18, 0)));
-                assert_eq!(save(&table, Form::Second, &mut []), Err(no(14, 0)));
+                assert_eq!(
+                    save(&table, Form::First, Desk::Own, &mut []),
+                    Err(no(18, 0))
+                );
+                assert_eq!(
+                    save(&table, Form::Second, Desk::Own, &mut []),
+                    Err(no(14, 0))
+                );
                 table.counts[7][0] += 1;
-                assert_eq!(save(&table, Form::First, &mut []), Err(no(5, 0)));
+                assert_eq!(save(&table, Form::First, Desk::Own, &mut []), Err(no(5, 0)));
             }
         }
     }
@@ -432,6 +438,6 @@ fn the_same_name_for_25_new_leases() {
         )
         .ok()
     });
-    assert_eq!(full.count(), 10);
+    assert_eq!(full.count(), 40);
     assert_eq!(table.used_leases().len(), LEASES);
 }

@@ -3,7 +3,7 @@
 
 use reference::calls::{self, Answer};
 use reference::figures::untold_sheet;
-use reference::image::{save, Form};
+use reference::image::{save, Desk, Form};
 use reference::prefix::{prefix, Prefix};
 use reference::refusal::Refusal;
 use reference::table::{State, Table, LATEST};
@@ -185,11 +185,11 @@ fn ask_rows_in_every_combination() {
     for case in cases(&[0, 9, 10]) {
         let leases = match case.outcome {
             // Full, and no ground either: 9 comes first.
-            9 => row_of_leases(256, u32::MAX),
-            10 => vec![lease(p("10.0.0.0/22"), 7, State::Leased, u32::MAX)],
+            9 => row_of_leases(1_024, u32::MAX),
+            10 => vec![lease(p("10.0.0.0/20"), 7, State::Leased, u32::MAX)],
             _ => vec![],
         };
-        let before = case.spoil(table_with(&["10.0.0.0/22"], 1000, &leases));
+        let before = case.spoil(table_with(&["10.0.0.0/20"], 1000, &leases));
         let bytes = bad_option(case.option, &good, &hex("01 02 02 00"));
         try_case(
             case,
@@ -372,7 +372,7 @@ fn every_way_to_be_unsound() {
         |t| t.leases[1].client = 0,
         |t| t.leases[1].state = State::None,
         |t| t.leases[1].expires = 1000,
-        |t| t.leases[255].d = true,
+        |t| t.leases[1_023].d = true,
         |t| t.leases[2].expires = 1,
     ];
     for (index, spoil) in spoils.iter().enumerate() {
@@ -399,7 +399,7 @@ fn every_way_to_be_unsound() {
             Err(no(5, 0))
         );
         for form in Form::BOTH {
-            assert_eq!(save(&table, form, &mut buffer), Err(no(5, 0)));
+            assert_eq!(save(&table, form, Desk::Own, &mut buffer), Err(no(5, 0)));
         }
         assert_eq!(table, before);
         assert!(buffer.iter().all(|byte| *byte == 0x5a));
@@ -473,8 +473,8 @@ fn pieces_not_as_the_call_demands() {
 
 #[test]
 fn ended_lines_count_as_empty_and_stay_after_a_refusal() {
-    // 256 lines, one ends at 1500.
-    let mut leases = row_of_leases(256, u32::MAX);
+    // 1,024 lines, one ends at 1500.
+    let mut leases = row_of_leases(1_024, u32::MAX);
     leases[100].expires = 1500;
     let mut table = table_with(&["10.0.0.0/16"], 1000, &leases);
     let before = table.clone();
@@ -485,7 +485,7 @@ fn ended_lines_count_as_empty_and_stay_after_a_refusal() {
     assert_eq!(table, before);
     assert_eq!(ask(&mut table, 9, 1500, &asking(&[24, 24])).unwrap().0, 1);
     assert_eq!(table.last_time, 1500);
-    assert_eq!(table.used_leases().len(), 256);
+    assert_eq!(table.used_leases().len(), 1_024);
     assert!(!table.leases.iter().any(|lease| lease.expires == 1500));
 }
 

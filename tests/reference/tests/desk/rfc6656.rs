@@ -1,6 +1,6 @@
 //! RFC 6656 section 8 as conversations with the desk.
 
-use reference::image::{save, Form};
+use reference::image::{save, Desk, Form};
 use reference::option::read220;
 use reference::table::{State, Table};
 
@@ -50,8 +50,8 @@ fn example_2() {
     let deprecated = hex("DC 0B 00 02 08 00 0A 00 02 00 18 01 00");
     assert_eq!(take(&mut table, 7, 2000, &renewal), Ok((1, deprecated)));
     // The reload, of the client and here of the desk too.
-    let mut image = [0; 11_349];
-    let bytes = save(&table, Form::Second, &mut image).unwrap();
+    let mut image = [0; 45_141];
+    let bytes = save(&table, Form::Second, Desk::Own, &mut image).unwrap();
     let mut loaded = Table::zero();
     load(&mut loaded, &image[..bytes]).unwrap();
     assert_eq!(loaded, table);

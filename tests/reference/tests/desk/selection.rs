@@ -278,11 +278,11 @@ fn every_block_of_the_ask_lies_there() {
 
 #[test]
 fn nine_is_about_the_whole_table() {
-    // 256 leases in another pool.
+    // 1,024 leases in another pool.
     let mut table = table_with(
         &["10.0.0.0/16", "10.8.0.0/24"],
         NOW,
-        &row_of_leases(256, 5000),
+        &row_of_leases(1_024, 5000),
     );
     let selection = address("10.8.0.1");
     assert_eq!(ask118(&mut table, 8, &[30], &selection), Err(no(9, 0)));
@@ -294,7 +294,7 @@ fn nine_is_about_the_whole_table() {
     let mut table = table_with(
         &["10.0.0.0/16", "10.8.0.0/24"],
         NOW,
-        &row_of_leases(255, 5000),
+        &row_of_leases(1_023, 5000),
     );
     assert_eq!(
         ask118(&mut table, 8, &[30, 30], &selection),
@@ -447,16 +447,23 @@ fn rows_in_every_combination() {
                             if no_client { 2 } else { 0 },
                         ]);
                         let first = ROWS.into_iter().find(|row| rows.contains(row));
+                        let mut pools = vec!["10.0.0.0/21", "10.0.8.0/24"];
                         let leases = match outcome {
-                            9 => row_of_leases(256, u32::MAX),
+                            9 => row_of_leases(1_024, u32::MAX),
                             10 => vec![lease(p("10.0.0.0/21"), 9, State::Leased, u32::MAX)],
                             _ => vec![],
                         };
                         let mut leases = leases;
+                        if outcome == 9 {
+                            pools.push("10.16.0.0/20");
+                            for lease in &mut leases {
+                                lease.prefix.network += 16 << 16;
+                            }
+                        }
                         if outcome == 10 {
                             leases.push(lease(p("10.0.8.0/24"), 9, State::Leased, u32::MAX));
                         }
-                        let mut table = table_with(&["10.0.0.0/21", "10.0.8.0/24"], NOW, &leases);
+                        let mut table = table_with(&pools, NOW, &leases);
                         if unsound {
                             table.term = 59;
                         }

@@ -16,7 +16,7 @@ fn asking_h(lengths: &[u8]) -> String {
     hex(&option(&requests))
 }
 
-/// 256 /30s in 10.0.0.0/22, so neither an empty line nor a free block. Client 7 holds the
+/// 1,024 /30s in 10.0.0.0/20, so neither an empty line nor a free block. Client 7 holds the
 /// first `held`: every second with h, every third with d, the first ten until 1050.
 fn full_table(held: usize) -> Table {
     let mut leases = row_of_leases(LEASES as u32, 9, 5000);
@@ -25,7 +25,7 @@ fn full_table(held: usize) -> Table {
         (lease.h, lease.d) = (index % 2 == 1, index % 3 == 0);
         lease.expires = if index < 10 { 1050 } else { 1110 };
     }
-    table(&[prefix(TEN, 22)], 1000, leases)
+    table(&[prefix(TEN, 20)], 1000, leases)
 }
 
 /// A full table: re-given lines need no empty line and no ground.
@@ -45,33 +45,33 @@ pub fn full() -> String {
     for (option, count) in [(asking(&[30]), 1), (all.clone(), 25)] {
         let answer = script.say(&format!("ask 7 1001 {option}"));
         assert!(answer.contains(&format!(" count={count} ")));
-        script.say("save");
+        script.say("save 1");
     }
     script.remark("The other 26, with h.");
     script.say(&format!("ask 7 1002 {}", asking_h(&[30; 25])));
-    script.say("save");
+    script.say("save 1");
     script.say("figures");
     script.remark("Who holds nothing of that length gets 9, whatever others hold; so does 7 for another length.");
     for (client, lengths) in [(8, &[30][..]), (9, &[30]), (7, &[29]), (7, &[28, 0, 8, 1])] {
         let answer = script.say(&format!("ask {client} 1003 {}", asking(lengths)));
         assert_eq!(answer, "refused 9\n");
     }
-    script.say("save");
+    script.say("save 1");
     script.remark("Re-given and refused in one message, the refused first, last and between.");
     for lengths in [&[30, 29][..], &[29, 30], &[0, 30, 28, 30, 8, 1, 30]] {
         script.say(&format!("ask 7 1003 {}", asking(lengths)));
     }
-    script.say("save");
+    script.say("save 1");
     script.remark("26 requests: 8, and nothing is given again.");
     script.say(&format!("ask 7 1004 {}", asking(&[30; 26])));
-    script.say("save");
+    script.say("save 1");
     script.remark("A line of 9 is returned. Re-given lines leave the empty line alone, the first of the rest takes it.");
     script.say(&format!(
         "return 9 1005 {}",
         entries(&[prefix(TEN + 4 * 200, 30)])
     ));
     script.say(&format!("ask 7 1005 {all}"));
-    script.say("save");
+    script.say("save 1");
     script.say(&format!("load {}", image(&full_table(3))));
     script.say(&format!(
         "return 9 1005 {}",
@@ -79,27 +79,27 @@ pub fn full() -> String {
     ));
     let answer = script.say(&format!("ask 7 1005 {all}"));
     assert!(answer.contains(" count=3 "));
-    script.say("save");
+    script.say("save 1");
     script.say(&format!("ask 7 1006 {}", asking(&[29, 30, 30, 30, 30])));
-    script.say("save");
+    script.say("save 1");
     script.remark("At 1050 ten have ended, five of them without h: 21 again, and the ended blocks for the rest.");
     script.say(&load);
     script.say(&told);
     script.say(&format!("ask 7 1050 {all}"));
     script.say("figures");
-    script.say("save");
+    script.say("save 1");
     script.remark("Only ended ones: all new, with d 0 and untold.");
     script.say(&load);
     script.say(&told);
     script.say(&format!("ask 7 1110 {all}"));
     script.say("figures");
-    script.say("save");
+    script.say("save 1");
     script.remark("Half a message again, half of it new ground.");
     let mut few = full_table(24);
     few.set_leases(few.used_leases()[..200].to_vec());
     script.say(&format!("load {}", image(&few.counted())));
     script.say(&format!("ask 7 1001 {all}"));
-    script.say("save");
+    script.say("save 1");
     script.say("sheet");
     script.text
 }
@@ -125,12 +125,12 @@ fn crowded_table(numbers: &mut Numbers, last_time: u32) -> Table {
             prefix(TEN + 8 * index, [29, 30][numbers.below(2)]),
             numbers.between(1, 3) as u32,
             [State::Offered, State::Offered, State::Leased][numbers.below(3)],
-            last_time + [40, 600, 3_600, 3_600][numbers.below(4)],
+            last_time + [40, 600, 600, 600, 600, 3_600, 3_600, 3_600][numbers.below(8)],
         )
     });
     Table {
         default_length: 30,
-        ..table(&[prefix(TEN, 21)], last_time, leases.collect())
+        ..table(&[prefix(TEN, 19)], last_time, leases.collect())
     }
 }
 
@@ -210,7 +210,7 @@ pub fn random_calls() -> String {
             )),
         };
         if answer.starts_with("ok") && step % 8 == 0 {
-            script.say("save");
+            script.say("save 1");
         }
     }
     let enough = [met.all, met.beside_new, met.beside_refused];

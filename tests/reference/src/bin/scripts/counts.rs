@@ -158,21 +158,23 @@ pub fn roots_and_lengths() -> String {
     ] {
         assert_eq!(script.say(&format!("whole {length}")), "ok count=0\n");
     }
-    script.remark("256 leases: a root that they fill, and one where a whole /30 is beside each.");
+    script.remark("1,024 leases: a root that they fill, and one where a whole /30 is beside each.");
     script.say(&format!(
         "load {}",
         image(&table(
-            &[prefix(TEN, 22)],
+            &[prefix(TEN, 20)],
             1000,
-            row_of_leases(256, 7, 5000)
+            row_of_leases(1_024, 7, 5000)
         ))
     ));
     ask_all(&mut script);
-    let apart = row_of_leases(256, 7, 5000).into_iter().map(|lease| Lease {
-        prefix: prefix(2 * lease.prefix.network - TEN, 30),
-        ..lease
-    });
-    let apart = table(&[prefix(TEN, 21)], 1000, apart.collect());
+    let apart = row_of_leases(1_024, 7, 5000)
+        .into_iter()
+        .map(|lease| Lease {
+            prefix: prefix(2 * lease.prefix.network - TEN, 30),
+            ..lease
+        });
+    let apart = table(&[prefix(TEN, 19)], 1000, apart.collect());
     script.say(&format!("load {}", image(&apart)));
     ask_all(&mut script);
     script.say(&format!("load {}", image(&full_table())));

@@ -5,7 +5,7 @@ use reference::figures::{put_rows, rows_of, untold_sheet, Row, SHEET, UNTOLD};
 use reference::numbers::Numbers;
 use reference::prefix::{prefix, Prefix};
 use reference::samples::{lease, row_of_leases, table, telling, TEN};
-use reference::table::{State, Table};
+use reference::table::{State, Table, LEASES};
 
 use crate::{asking, combinations, entries, hex, image, option_for, Script};
 
@@ -99,13 +99,13 @@ pub fn matching() -> String {
             rows[4] = Row::untold(prefix(TEN + 448, 26));
         }),
         ("A row too many, in the last place.", |rows| {
-            rows[255] = Row::untold(prefix(TEN + 448, 26));
+            rows[LEASES - 1] = Row::untold(prefix(TEN + 448, 26));
         }),
         ("An empty line's row with a length.", |rows| {
             rows[4].prefix.length = 1;
         }),
         ("An empty line's row with a network.", |rows| {
-            rows[255].prefix.network = 1 << 31;
+            rows[LEASES - 1].prefix.network = 1 << 31;
         }),
         ("An empty line's row with high water told.", |rows| {
             rows[4].high_water = 0;
@@ -114,7 +114,7 @@ pub fn matching() -> String {
             rows[100].in_use = 0xfffe;
         }),
         ("An empty line's row with unusable told.", |rows| {
-            rows[255].unusable = 0x7fff;
+            rows[LEASES - 1].unusable = 0x7fff;
         }),
         ("Zeros alone.", |rows| {
             rows.fill(Row {
@@ -270,19 +270,19 @@ pub fn with_places(rows: &[Row]) -> Vec<Row> {
     .collect()
 }
 
-/// 256 leases and their figures: rows move up and down at every place.
+/// 1,024 leases and their figures: rows move up and down at every place.
 pub fn full() -> String {
     let mut script = Script::new(
-        "Figures (M-100): 256 lines, each with its own figures; they go along wherever the \
+        "Figures (M-100): 1,024 lines, each with its own figures; they go along wherever the \
          line goes.",
     );
-    let mut leases = row_of_leases(256, 7, 5000);
+    let mut leases = row_of_leases(LEASES as u32, 7, 5000);
     for (index, lease) in leases.iter_mut().enumerate() {
         lease.expires = 1500 + 500 * (index % 3) as u32;
     }
     script.say(&format!(
         "load {}",
-        image(&table(&[prefix(TEN, 21)], 1000, leases))
+        image(&table(&[prefix(TEN, 19)], 1000, leases))
     ));
     script.say(&line_of(&with_places(&rows(&script))));
     script.say("figures");
@@ -293,7 +293,7 @@ pub fn full() -> String {
     script.say(&format!("ask 8 1500 {}", asking(&[30; 25])));
     script.say("figures");
     script.remark("Ground before, between and after the others, and the last of the ended.");
-    script.say(&format!("ask 9 1501 {}", asking(&[29, 26, 30, 22, 30])));
+    script.say(&format!("ask 9 1501 {}", asking(&[29, 26, 30, 20, 30])));
     script.say("figures");
     script.remark("The first line, the last and one between are returned.");
     let used = script.console.table.used_leases().to_vec();
@@ -401,7 +401,7 @@ pub fn console() -> String {
     rows[3] = told(prefix(1, 0), 4);
     rows[3].high_water = UNTOLD;
     rows[4] = Row::untold(prefix(u32::MAX, 33));
-    rows[255] = told(prefix(TEN, 8), 3);
+    rows[LEASES - 1] = told(prefix(TEN, 8), 3);
     let good = line_of(&rows);
     let (_, digits) = good.split_once(' ').unwrap_or_default();
     script.say(&good);

@@ -6,6 +6,7 @@ mod again;
 mod counts;
 mod faults;
 mod figures;
+mod lines;
 mod names;
 mod selection;
 mod writing;
@@ -34,8 +35,9 @@ fn main() -> io::Result<()> {
     for (name, script) in [
         ("ask-25-and-26-requests", ask_25_and_26_requests()),
         ("list-35-and-36-leases", list_35_and_36_leases()),
-        ("list-pages-of-256-leases", list_pages_of_256_leases()),
-        ("table-full-at-256", table_full_at_256()),
+        ("list-pages-of-256-leases", list_pages(256)),
+        ("list-pages-of-1024-leases", list_pages(1_024)),
+        ("table-full-at-1024", table_full_at_1024()),
         ("pools-at-both-ends", pools_at_both_ends()),
         ("numbers-ask", numbers_ask()),
         ("numbers-take", numbers_with_entries("take")),
@@ -47,21 +49,21 @@ fn main() -> io::Result<()> {
         ("read-every-cut", read_every_cut()),
         ("read-places-up-to-256", read_places_up_to_256()),
         ("read-random-options", read_random_options()),
-        ("sheet-full-256-leases", sheet_script(&full_table())),
-        ("sheet-256-leases-in-one-pool", sheet_script(&one_full_pool())),
+        ("sheet-full-1024-leases", sheet_script(&full_table())),
+        ("sheet-1024-leases-in-one-pool", sheet_script(&one_full_pool())),
         ("sheet-eight-pools", sheet_script(&eight_pools())),
         ("sheet-over-long-input", sheet_over_long()),
         ("random-calls-one-pool", random_calls(21, "10.0.1.0/24", 25, false)),
         ("random-calls-small-pools", random_calls(22, "10.0.0.0/26 10.0.0.64/27 10.0.0.128/28 0.0.0.0/28", 24, false)),
         ("random-calls-eight-pools", random_calls(23, "10.0.0.0/24 10.0.1.0/24 10.0.2.0/23 10.2.0.0/16 0.0.0.0/30 255.255.255.0/24 128.0.0.0/9 127.255.255.252/30", 20, false)),
         ("random-calls-wide-pool", random_calls(24, "10.0.0.0/8", 8, false)),
-        ("random-calls-crowded-table", random_calls(25, "10.0.0.0/19 10.0.64.0/22", 26, true)),
+        ("random-calls-crowded-table", random_calls(25, "10.0.0.0/17 10.0.128.0/22", 26, true)),
         ("figures-match", figures::matching()),
         ("figures-numbers", figures::numbers()),
-        ("figures-full-256-leases", figures::full()),
+        ("figures-full-1024-leases", figures::full()),
         ("random-calls-figures", figures::random_calls()),
         ("console-figures", figures::console()),
-        ("again-full-256-leases", again::full()),
+        ("again-full-1024-leases", again::full()),
         ("random-calls-again", again::random_calls()),
         ("counts-wrong", counts::wrong()),
         ("counts-roots-and-lengths", counts::roots_and_lengths()),
@@ -85,22 +87,31 @@ fn main() -> io::Result<()> {
         ("names-image-bit-flips", names::image_bit_flips()),
         ("names-image-cuts-and-additions", names::image_cuts_and_additions()),
         ("names-mixtures", names::mixtures()),
-        ("names-full-256-leases", names::full()),
+        ("names-full-1024-leases", names::full()),
         ("random-calls-names", names::random_calls()),
         ("console-names", names::console()),
         ("selection-ends-of-roots", selection::ends()),
         ("selection-malformed", selection::malformed()),
         ("selection-buffers", selection::buffers()),
         ("selection-ground", selection::ground()),
-        ("selection-full-256-leases", selection::full()),
+        ("selection-full-1024-leases", selection::full()),
         ("selection-held-elsewhere", selection::held_elsewhere()),
         ("selection-takes", selection::takes()),
         ("selection-numbers", selection::numbers()),
         ("random-calls-selection", selection::random_calls()),
+        ("lines-in-every-call", lines::every_call()),
+        ("lines-with-names", lines::with_names()),
+        ("lines-of-one-station", lines::one_station()),
+        ("older-lines-and-forms", lines::older()),
+        ("older-ended-lines", lines::older_ended()),
+        ("older-by-calls", lines::older_by_calls()),
+        ("random-calls-lines", lines::random_calls()),
+        ("console-older", lines::console()),
         ("console-selection", selection::console()),
         ("sheet-names", names::sheet_names()),
         ("sheet-names-every-octet", names::sheet_every_octet()),
-        ("sheet-names-full-256-leases", names::sheet_full()),
+        ("sheet-names-full-1024-leases", names::sheet_full()),
+        ("sheet-names-1024-leases-apart", lines::sheet_apart()),
         ("sheet-names-over-long-input", names::sheet_over_long()),
         ("sheet-names-mixture", names::sheet_mixture()),
         ("sheet-second-form-no-leases", names::sheet_no_leases()),
@@ -249,10 +260,11 @@ fn echo_page(script: &mut Script, page: &str, now: u32) -> Option<String> {
     )))
 }
 
-fn list_pages_of_256_leases() -> String {
-    let mut script =
-        Script::new("Pages of 256 leases of two clients, with a return between two pages.");
-    let mut leases = row_of_leases(256, 7, 5000);
+fn list_pages(count: u32) -> String {
+    let mut script = Script::new(&format!(
+        "Pages of {count} leases of two clients, with a return between two pages."
+    ));
+    let mut leases = row_of_leases(count, 7, 5000);
     for (index, lease) in leases.iter_mut().enumerate() {
         if index % 4 == 0 {
             lease.client = 8;
@@ -267,7 +279,7 @@ fn list_pages_of_256_leases() -> String {
         image(&table(&[prefix(TEN, 16)], 1000, leases))
     ));
     let mut page = script.say("list 7 1000 dc050001020200");
-    for round in 0..8 {
+    for round in 0..count / 35 + 1 {
         if round == 1 {
             script.say(&format!(
                 "return 7 1001 {}",
@@ -284,12 +296,12 @@ fn list_pages_of_256_leases() -> String {
 
 // Tables at their limits.
 
-fn table_full_at_256() -> String {
+fn table_full_at_1024() -> String {
     let mut script = Script::new(
-        "A table full at 256 leases: an ask is refused with 9; ended ones count as empty.",
+        "A table full at 1,024 leases: an ask is refused with 9; ended ones count as empty.",
     );
     script.say("open 3600 30 1000 10.0.0.0/16");
-    for call in 0..10 {
+    for call in 0..40 {
         script.say(&format!(
             "ask {} {} {}",
             11 + call,
@@ -297,8 +309,8 @@ fn table_full_at_256() -> String {
             asking(&[30; 25])
         ));
     }
-    script.remark("250 now; ten more asks, six are granted.");
-    script.say(&format!("ask 8 1010 {}", asking(&[29; 10])));
+    script.remark("1,000 now; 25 more asks, 24 are granted.");
+    script.say(&format!("ask 8 1040 {}", asking(&[29; 25])));
     script.say("sheet");
     script.remark("Full: 9, also where there is no ground either.");
     for option in [
@@ -308,7 +320,7 @@ fn table_full_at_256() -> String {
         asking(&[1]),
         asking(&[0, 0]),
     ] {
-        script.say(&format!("ask 9 1010 {option}"));
+        script.say(&format!("ask 9 1040 {option}"));
     }
     script.say("save");
     script.remark("At 1119 nothing has ended yet, at 1120 the first 25 have.");
@@ -504,18 +516,18 @@ fn numbers_ask() -> String {
     script.say(&format!(
         "load {}",
         image(&table(
-            &[prefix(TEN, 22)],
+            &[prefix(TEN, 20)],
             1000,
-            row_of_leases(256, 7, u32::MAX)
+            row_of_leases(1_024, 7, u32::MAX)
         ))
     ));
     combinations(&mut script, &options, 9, &call);
     script.remark("The same, but the client holds a line of that length: it is given again.");
-    let mut held = row_of_leases(256, 7, u32::MAX);
-    held[200].state = State::Offered;
+    let mut held = row_of_leases(1_024, 7, u32::MAX);
+    held[900].state = State::Offered;
     script.say(&format!(
         "load {}",
-        image(&table(&[prefix(TEN, 22)], 1000, held))
+        image(&table(&[prefix(TEN, 20)], 1000, held))
     ));
     combinations(&mut script, &options, 0, &call);
     script.text
@@ -787,7 +799,7 @@ fn image_cuts_and_additions() -> String {
         }
         try_image(&mut script, &bytes, &start);
     }
-    script.remark("A full table, one with a 257th lease, and with one byte more.");
+    script.remark("A full table, one with a 1,025th lease, and with one byte more.");
     let full = bytes_of(&image(&full_table()));
     try_image(&mut script, &full, &start);
     let mut more = full.clone();
@@ -964,7 +976,11 @@ fn sheet_script(table: &Table) -> String {
 }
 
 fn one_full_pool() -> Table {
-    table(&[prefix(TEN, 22)], 1000, row_of_leases(256, u32::MAX, 1001))
+    table(
+        &[prefix(TEN, 20)],
+        1000,
+        row_of_leases(1_024, u32::MAX, 1001),
+    )
 }
 
 fn eight_pools() -> Table {
@@ -1015,7 +1031,7 @@ fn random_calls(start: u64, pools: &str, shortest: usize, crowded: bool) -> Stri
     let mut now: u32 = 1000;
     for step in 0..calls {
         now += if crowded {
-            numbers.below(5) as u32
+            [0, 0, 0, 1, 2][numbers.below(5)]
         } else {
             [0, 0, 0, 1, 5, 40][numbers.below(6)]
         };

@@ -208,22 +208,22 @@ pub fn numbers() -> String {
     script.remark("A table with ground and empty lines.");
     script.say("open 3600 28 1000 10.0.0.0/22");
     combinations(&mut script, &options, 0, &call);
-    let full = |leases| table(&[prefix(TEN, 22)], 1000, leases);
+    let full = |leases| table(&[prefix(TEN, 20)], 1000, leases);
     script.remark("No free block: 10.");
     let taken = vec![named(
-        lease(prefix(TEN, 22), 7, State::Leased, u32::MAX),
+        lease(prefix(TEN, 20), 7, State::Leased, u32::MAX),
         b"all of it",
     )];
     script.say(&format!("load {}", second(&full(taken))));
     combinations(&mut script, &options, 10, &call);
     script.remark("Neither an empty line nor a free block: 9.");
-    let leases = row_of_leases(256, 7, u32::MAX);
+    let leases = row_of_leases(1_024, 7, u32::MAX);
     script.say(&format!("load {}", image(&full(leases.clone()))));
     combinations(&mut script, &options, 9, &call);
     script.remark("The same, but the client holds a line of that length: it is given again.");
     let mut held = leases;
-    held[200] = named(held[200], b"held");
-    held[200].state = State::Offered;
+    held[900] = named(held[900], b"held");
+    held[900].state = State::Offered;
     script.say(&format!("load {}", second(&full(held))));
     combinations(&mut script, &options, 0, &call);
     script.remark("A sheet of figures that does not match: 15 before it.");
@@ -419,7 +419,7 @@ pub fn forms() -> String {
         ("no lease", empty),
         ("no lease, eight pools", eight),
         ("one lease", one),
-        ("256 leases", full_table()),
+        ("1,024 leases", full_table()),
     ] {
         script.remark(about);
         let (first, second) = (image(&book), second(&book));
@@ -456,11 +456,12 @@ pub fn going_back() -> String {
     for line in ["save", "save 1", "save 2"] {
         assert_eq!(script.say(line), "refused 5\n");
     }
-    for count in [1, 2, 255, 256] {
+    for count in [1, 2, 255, 256, 1_023, 1_024] {
         let leases = row_of_leases(count, 7, 5000);
         let plain = table(&[prefix(TEN, 16)], 1000, leases.clone());
         for place in [0, count as usize / 2, count as usize - 1] {
-            for octets in [&b"x"[..], &[0, 1], &[0xff; 24]] {
+            let names: [&[u8]; 3] = [b"x", &[0, 1], &[0xff; 24]];
+            for octets in &names[..if count > 256 { 1 } else { 3 }] {
                 let mut leases = leases.clone();
                 leases[place] = named(leases[place], octets);
                 let book = table(&[prefix(TEN, 16)], 1000, leases);
@@ -645,9 +646,9 @@ pub fn image_cuts_and_additions() -> String {
             try_image(&mut script, &bytes, &start);
         }
     }
-    script.remark("A full table, one with a 257th lease, and with one byte more.");
+    script.remark("A full table, one with a 1,025th lease, and with one byte more.");
     let full = bytes_of(&second(&full_of_names()));
-    assert_eq!(full.len(), 11_349);
+    assert_eq!(full.len(), 45_141);
     try_image(&mut script, &full, &start);
     let mut more = full.clone();
     more.extend(&full[full.len() - 44..]);
@@ -748,7 +749,7 @@ pub fn mixtures() -> String {
     script.text
 }
 
-/// 256 leases, every other one with a name, of every length.
+/// 1,024 leases, every other one with a name, of every length.
 fn full_of_names() -> Table {
     let mut book = full_table();
     for (index, lease) in book.leases.iter_mut().enumerate().step_by(2) {
@@ -761,18 +762,18 @@ fn full_of_names() -> Table {
 /// A full table of names, through the calls.
 pub fn full() -> String {
     let mut script = Script::new(
-        "Names (M-105): 256 leases, by asks with names of every length; pages, returns in the \
-         middle, a save of 11,349 bytes.",
+        "Names (M-105): 1,024 leases, by asks with names of every length; pages, returns in the \
+         middle, a save of 45,141 bytes.",
     );
     script.say("open 3600 30 1000 10.0.0.0/16");
-    for call in 0..10 {
-        let octets = octets(2 * call + 1);
+    for call in 0..40 {
+        let octets = octets(1 + 2 * call % NAME);
         let asked = asking_as(&[&octets], &[30; 25]);
         script.say(&format!("ask {} 1000 {asked}", 11 + call));
     }
     script.say(&format!(
         "ask 7 1000 {}",
-        asking_as(&[b"the last six"], &[30; 10])
+        asking_as(&[b"the last 24"], &[30; 25])
     ));
     let answer = script.say(&format!("ask 8 1000 {}", asking_as(&[b"none"], &[30])));
     assert_eq!(answer, "refused 9\n");
@@ -780,7 +781,7 @@ pub fn full() -> String {
     script.say("save");
     script.say("save 1");
     script.remark("Returned in the middle, granted again: without a name, and with one.");
-    for (client, place) in [(11, 3), (15, 110), (20, 249)] {
+    for (client, place) in [(11, 3), (15, 110), (50, 999)] {
         let gone = prefix(TEN + 4 * place, 30);
         script.say(&format!("return {client} 1001 {}", entries(&[gone])));
         script.say(&format!("ask 9 1001 {}", asking(&[30])));
@@ -799,14 +800,14 @@ pub fn full() -> String {
     script.say(&format!("load {}", second(&full_of_names())));
     script.say("save");
     script.say("figures");
-    let mut leases = row_of_leases(256, 7, 5000);
+    let mut leases = row_of_leases(1_024, 7, 5000);
     for (index, lease) in leases.iter_mut().enumerate() {
         *lease = named(*lease, &octets(index % 25));
     }
-    let book = table(&[prefix(TEN, 22)], 1000, leases);
+    let book = table(&[prefix(TEN, 20)], 1000, leases);
     script.say(&format!("load {}", second(&book)));
     let mut page = script.say("list 7 1000 dc050001020200");
-    for _ in 0..8 {
+    for _ in 0..30 {
         match echo_page(&mut script, &page, 1000) {
             Some(next) => page = next,
             None => break,
@@ -936,8 +937,7 @@ pub fn console() -> String {
             "save 12",
             "save 1 1",
             "save 2 1",
-            "save 1 older",
-            "save 2 older",
+            "save 1 newer",
             "save older",
             "save first",
             "save -",

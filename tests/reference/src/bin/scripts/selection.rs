@@ -322,15 +322,22 @@ pub fn ground() -> String {
     script.text
 }
 
-/// 256 leases.
+/// The answer, and then the book in the first form, which is shorter.
+fn shown_short(script: &mut Script, line: &str) -> String {
+    let answer = script.say(line);
+    script.say("save 1");
+    answer
+}
+
+/// 1,024 leases.
 pub fn full() -> String {
     let mut script = enabled(
-        "Option 118 (M-106): a table full at 256 leases. 9 is about the whole table, after 19; \
+        "Option 118 (M-106): a table full at 1,024 leases. 9 is about the whole table, after 19; \
          lines that are held in the named root are given again, those of another root are not.",
     );
     let pools = [prefix(TEN, 16), prefix(TEN + (8 << 16), 24)];
     let (here, other, nowhere) = (at118(8 << 16), at118(65_535), at118(65_536));
-    let mut leases = row_of_leases(255, 5, 5000);
+    let mut leases = row_of_leases(1_023, 5, 5000);
     leases[100] = held(leases[100].prefix, 8);
     leases.push(held(prefix(TEN + (8 << 16) + 16, 28), 8));
     script.say(&format!("load {}", image(&table(&pools, 1000, leases))));
@@ -345,7 +352,7 @@ pub fn full() -> String {
         (&[30, 28], &other, "ok bytes=19 count=1"),
     ] {
         let asked = asking(lengths);
-        let answer = shown(&mut script, &format!("ask 8 1000 {asked} {selection}"));
+        let answer = shown_short(&mut script, &format!("ask 8 1000 {asked} {selection}"));
         assert!(answer.starts_with(number), "{answer}");
     }
     script.remark("One is returned: there is one empty line, for the ground of the named root.");
@@ -353,13 +360,14 @@ pub fn full() -> String {
     let answer = script.say(&format!("ask 9 1000 {} {here}", asking(&[30, 30, 8])));
     assert!(answer.starts_with("ok bytes=19 count=1"));
     assert_eq!(script.console.table.used_leases().len(), LEASES);
-    shown(&mut script, &format!("ask 6 1000 {} {here}", asking(&[30])));
+    shown_short(&mut script, &format!("ask 6 1000 {} {here}", asking(&[30])));
     script.remark("The held lines end at 1120, those of 5 at 5000.");
-    shown(
+    shown_short(
         &mut script,
         &format!("ask 6 1120 {} {other}", asking(&[30])),
     );
-    shown(&mut script, &format!("ask 6 5000 {} {here}", asking(&[24])));
+    shown_short(&mut script, &format!("ask 6 5000 {} {here}", asking(&[24])));
+    script.say("figures");
     script.say("sheet");
     script.text
 }
@@ -553,6 +561,11 @@ pub fn numbers() -> String {
             .collect()
     };
     let held_here = vec![held(prefix(TEN, 28), 7)];
+    let elsewhere = prefix(TEN + (1 << 16), 20);
+    let mut no_line_left = row_of_leases(1_024, 9, 5000);
+    for lease in &mut no_line_left {
+        lease.prefix.network += 1 << 16;
+    }
     // The outcome where the second root is named, and where none is.
     type Case<'a> = (&'a str, &'a str, Table, Vec<(u8, String)>, u8, u8);
     let cases: [Case; 6] = [
@@ -568,7 +581,7 @@ pub fn numbers() -> String {
         (
             "No empty line: 9.",
             "ask",
-            table(&[prefix(TEN, 22), there], 1000, row_of_leases(256, 9, 5000)),
+            table(&[there, elsewhere], 1000, no_line_left),
             asks(30),
             9,
             9,
