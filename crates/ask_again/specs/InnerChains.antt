@@ -1,20 +1,20 @@
 -- Requests with the same length and h, chained in their order.
 use Rattle.std.specs.Prelude.{ℕ, ◌+◌, ◌*◌, ◌≤◌, ◌<◌, ◌≡◌, Bool, cond, List, eqb, length, get_or, set}
-use Rattle.ask_again.specs.Places.{noPlace}
+use Rattle.ask_again.specs.Places.{no_place}
 
 -- How many keys there are, and no request, as in the code.
 abbrev pub keys : ℕ
 keys = 512
 
-abbrev pub noRequest : ℕ
-noRequest = 255
+abbrev pub no_request : ℕ
+no_request = 255
 
 -- The key of a length and h, and that of the k-th request in the columns.
-abbrev pub keyOf : ℕ → Bool → ℕ
-keyOf len h = 2 * len + cond h 1 0
+abbrev pub key_of : ℕ → Bool → ℕ
+key_of len h = 2 * len + cond h 1 0
 
-abbrev pub keyIn : List ℕ → List ℕ → ℕ → ℕ → ℕ
-keyIn askLengths askH defaultLength k = keyOf (cond (eqb (get_or askLengths k 0) 0) defaultLength (get_or askLengths k 0)) (eqb (get_or askH k 0) 1)
+abbrev pub key_in : List ℕ → List ℕ → ℕ → ℕ → ℕ
+key_in asked_lengths asked_h default_length k = key_of (cond (eqb (get_or asked_lengths k 0) 0) default_length (get_or asked_lengths k 0)) (eqb (get_or asked_h k 0) 1)
 
 -- Of n requests with these keys, from the j-th on: the first of each key, and for each request the one after it with its key.
 pub record Heads (key : ℕ → ℕ) (n j : ℕ) (first : List ℕ) : Type 0 where
@@ -32,8 +32,8 @@ pub record Linked (key : ℕ → ℕ) (n j : ℕ) (next : List ℕ) : Type 0 whe
 pub record Waiting (key : ℕ → ℕ) (n : ℕ) (places first : List ℕ) : Type 0 where
   pub many : length first ≡ keys
   pub same : (c : ℕ) → c < keys → get_or first c 0 < n → key (get_or first c 0) ≡ c
-  pub empty : (k : ℕ) → k < n → get_or first (key k) 0 ≤ k → get_or places k 0 ≡ noPlace
-  pub given : (k : ℕ) → k < n → k < get_or first (key k) 0 → get_or places k 0 ≡ noPlace → ⊥
+  pub empty : (k : ℕ) → k < n → get_or first (key k) 0 ≤ k → get_or places k 0 ≡ no_place
+  pub given : (k : ℕ) → k < n → k < get_or first (key k) 0 → get_or places k 0 ≡ no_place → ⊥
 
 -- A place given to the request j, the first of a key, if that is one of n.
 pub record Gave (j n key place : ℕ) (before first next after left : List ℕ) (r : ℕ) : Type 0 where

@@ -1,19 +1,19 @@
 // A client that asks again: the leases that it holds already, found in one pass over the records of an image, each for the
 // first request that it is for, and held anew in place.
 ghost use Rattle.std.specs.Prelude.{◌≡◌, true, cond, List, ◌+◌, ◌*◌, ◌≤◌, ◌<◌, eqb, length as length_of, take, get_or, replicate};
-ghost use Rattle.lists.specs.Lists.{All, concatMap, catMaybes};
+ghost use Rattle.lists.specs.Lists.{All, concat_map, cat_maybes};
 ghost use Rattle.lists.specs.Put.{put};
 ghost use Rattle.table.specs.declared.{Lease.Lease, LeaseTable.LeaseTable};
 ghost use Rattle.table.specs.Table.{latest, present};
-ghost use Rattle.option.specs.Values.{mostRequests};
+ghost use Rattle.option.specs.Values.{most_requests};
 ghost use Rattle.option.specs.Contents.{Request};
-ghost use Rattle.image.specs.Image.{le32, leaseSize, leaseRecord};
-ghost use Rattle.image.specs.Reading.{expiresAt};
+ghost use Rattle.image.specs.Image.{le32, lease_size, lease_record};
+ghost use Rattle.image.specs.Reading.{expires_at};
 ghost use Rattle.image_records.specs.Records.{Records, Ascending};
-ghost use Rattle.ledger.specs.Ledger.{again, heldAgain};
-ghost use Rattle.ask_again.specs.Places.{noPlace, Within, InBuffer, givenIn, othersIn, Asks};
-ghost use Rattle.ask_again.specs.InnerGiving.{heldAt?, NextHeld, OthersAt};
-ghost use Rattle.ask_again.specs.InnerChains.{keys, noRequest, keyOf, keyIn, Heads, Linked, Gave};
+ghost use Rattle.ledger.specs.Ledger.{again, held_again};
+ghost use Rattle.ask_again.specs.Places.{no_place, Within, InBuffer, given_in, others_in, Asks};
+ghost use Rattle.ask_again.specs.InnerGiving.{held_at?, NextHeld, OthersAt};
+ghost use Rattle.ask_again.specs.InnerChains.{keys, no_request, key_of, key_in, Heads, Linked, Gave};
 
 use image::{EXPIRES, LEASE};
 use names::Name;
@@ -54,8 +54,8 @@ pub fn ask_length(length: u8, default_length: u8) -> u8
 // Whether the record here is that of a lease which the asker holds (and has not leased), and which is present. Most leases are
 // another client's, so that is looked at first.
 fn held_at(image: &[u8], at: usize, asker: Asker) -> bool
-    requires { at + leaseSize ≤ length_of image.now }
-    ensures { result ≡ heldAt? image.now at asker.client asker.time }
+    requires { at + lease_size ≤ length_of image.now }
+    ensures { result ≡ held_at? image.now at asker.client asker.time }
 {
     if image::client_at(image, at) != asker.client {
         return false;
@@ -68,7 +68,7 @@ fn held_at(image: &[u8], at: usize, asker: Asker) -> bool
 
 // The next of n records, from the i-th on, whose lease the asker holds; n where there is none.
 fn next_held_each(image: &[u8], from: usize, i: usize, n: usize, asker: Asker) -> usize
-    requires { (from + leaseSize * n ≤ length_of image.now) × (i ≤ n) }
+    requires { (from + lease_size * n ≤ length_of image.now) × (i ≤ n) }
     ensures { NextHeld image.now from asker.client asker.time i n result }
 {
     let mut k: usize = i;
@@ -83,7 +83,7 @@ fn next_held_each(image: &[u8], from: usize, i: usize, n: usize, asker: Asker) -
 
 // Whether four records, from the place `at` on, are those of other clients' leases.
 fn others_at(image: &[u8], at: usize, client: u32) -> bool
-    requires { at + 4 * leaseSize ≤ length_of image.now }
+    requires { at + 4 * lease_size ≤ length_of image.now }
     ensures { result ≡ true → OthersAt image.now at client }
 {
     if image::client_at(image, at) == client {
@@ -100,7 +100,7 @@ fn others_at(image: &[u8], at: usize, client: u32) -> bool
 
 // The same, passing over four records at a time while they are other clients'.
 fn next_held(image: &[u8], from: usize, i: usize, n: usize, asker: Asker) -> usize
-    requires { (from + leaseSize * n ≤ length_of image.now) × (i ≤ n) }
+    requires { (from + lease_size * n ≤ length_of image.now) × (i ≤ n) }
     ensures { NextHeld image.now from asker.client asker.time i n result }
 {
     let mut k: usize = i;
@@ -115,7 +115,7 @@ fn next_held(image: &[u8], from: usize, i: usize, n: usize, asker: Asker) -> usi
 
 // The key of a length and h.
 fn key_of(length: u8, h: bool) -> usize
-    ensures { (result ≡ keyOf length h) × (result < keys) }
+    ensures { (result ≡ key_of length h) × (result < keys) }
 {
     let twice = 2 * (length as usize);
     if h {
@@ -133,9 +133,9 @@ fn chain(
     ask_h: &[u8],
     default_length: u8,
 )
-    requires { (first.old ≡ replicate keys noRequest) × (length_of next.old ≡ mostRequests) × (length_of ask_lengths.now ≤ mostRequests) × (length_of ask_lengths.now ≤ length_of ask_h.now) }
-    ensures heads { Heads (keyIn ask_lengths.now ask_h.now default_length) (length_of ask_lengths.now) 0 first.new }
-    ensures linked { Linked (keyIn ask_lengths.now ask_h.now default_length) (length_of ask_lengths.now) 0 next.new }
+    requires { (first.old ≡ replicate keys no_request) × (length_of next.old ≡ most_requests) × (length_of ask_lengths.now ≤ most_requests) × (length_of ask_lengths.now ≤ length_of ask_h.now) }
+    ensures heads { Heads (key_in ask_lengths.now ask_h.now default_length) (length_of ask_lengths.now) 0 first.new }
+    ensures linked { Linked (key_in ask_lengths.now ask_h.now default_length) (length_of ask_lengths.now) 0 next.new }
 {
     let mut j: usize = ask_lengths.len();
     while 0 < j {
@@ -161,7 +161,7 @@ fn give_place(
     key: usize,
     place: u16,
 ) -> usize
-    requires { (requests ≤ length_of places.old) × (requests ≤ mostRequests) × (key < keys) }
+    requires { (requests ≤ length_of places.old) × (requests ≤ most_requests) × (key < keys) }
     ensures { Gave (get_or first.old key 0) requests key place places.old first.old next.now places.new first.new result }
 {
     let j = wide(first[key]);
@@ -175,7 +175,7 @@ fn give_place(
 
 // No request has a place.
 fn clear_places(places: &mut [u16])
-    ensures { places.new ≡ replicate (length_of places.old) noPlace }
+    ensures { places.new ≡ replicate (length_of places.old) no_place }
 {
     let mut j: usize = 0;
     while j < places.len() {
@@ -196,12 +196,12 @@ pub fn find_held(
     ask_h: &[u8],
     places: &mut [u16],
 ) -> usize
-    requires { (from + leaseSize * n ≤ length_of image.now) × (n ≤ noPlace) × (length_of ask_lengths.now ≤ length_of ask_h.now) × (length_of ask_lengths.now ≤ length_of places.old) × (length_of ask_lengths.now ≤ mostRequests) }
-    ensures value { result ≡ othersIn noPlace places.new (length_of ask_lengths.now) }
+    requires { (from + lease_size * n ≤ length_of image.now) × (n ≤ no_place) × (length_of ask_lengths.now ≤ length_of ask_h.now) × (length_of ask_lengths.now ≤ length_of places.old) × (length_of ask_lengths.now ≤ most_requests) }
+    ensures value { result ≡ others_in no_place places.new (length_of ask_lengths.now) }
     ensures all { All (Within n) (take (length_of ask_lengths.now) places.new) }
     ensures places_after { (t : LeaseTable) (us : List Lease) (rs : List Request) → Records image.now from us → n ≡ length_of us
         → Asks t rs default_length ask_lengths.now ask_h.now
-        → givenIn us (take (length_of ask_lengths.now) places.new) ≡ again t asker.client (present asker.time us) rs }
+        → given_in us (take (length_of ask_lengths.now) places.new) ≡ again t asker.client (present asker.time us) rs }
 {
     clear_places(places);
     let mut i: usize = next_held(image, from, 0, n, asker);
@@ -230,7 +230,7 @@ pub fn find_held(
 // The end of the lease at a place, if it is one.
 fn hold_one(image: &mut [u8], from: usize, place: u16, expires: u32)
     requires { InBuffer from (length_of image.old) place }
-    ensures { image.new ≡ cond (eqb place noPlace) image.old (put image.old (from + leaseSize * place + expiresAt) (le32 expires)) }
+    ensures { image.new ≡ cond (eqb place no_place) image.old (put image.old (from + lease_size * place + expires_at) (le32 expires)) }
 {
     if place == NONE {
         return;
@@ -242,7 +242,7 @@ fn hold_one(image: &mut [u8], from: usize, place: u16, expires: u32)
 pub fn hold_again(image: &mut [u8], from: usize, places: &[u16], time: u32)
     requires { All (InBuffer from (length_of image.old)) places.now × (time ≤ latest) }
     ensures { (us : List Lease) → Records image.old from us → Ascending us → All (Within (length_of us)) places.now
-        → image.new ≡ put image.old from (concatMap leaseRecord (heldAgain time (catMaybes (givenIn us places.now)) us)) }
+        → image.new ≡ put image.old from (concat_map lease_record (held_again time (cat_maybes (given_in us places.now)) us)) }
 {
     let expires = time + HOLD;
     let mut j: usize = 0;

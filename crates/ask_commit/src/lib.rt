@@ -2,26 +2,26 @@
 // and rows of the figures sheet, and the reply.
 ghost use Rattle.std.specs.Prelude.{◌≡◌, true, List, [], ◌∷◌, ◌++◌, map, ℕ, ◌+◌, ◌-◌, ◌*◌, ◌≤◌, length as length_of, drop};
 ghost use Rattle.std.proofs.Math.Option.{Option};
-ghost use Rattle.lists.specs.Lists.{All, catMaybes};
+ghost use Rattle.lists.specs.Lists.{All, cat_maybes};
 ghost use Rattle.lists.specs.Put.{put};
 ghost use Rattle.prefix.specs.Prefixes.{longest};
-ghost use Rattle.option.specs.Values.{longestOption, mostRequests};
+ghost use Rattle.option.specs.Values.{longest_option, most_requests};
 ghost use Rattle.option.specs.Contents.{Request};
-ghost use Rattle.option.specs.Writing.{suboptionBytes};
+ghost use Rattle.option.specs.Writing.{suboption_bytes};
 ghost use Rattle.names.specs.declared.Name.{Name};
 ghost use Rattle.table.specs.declared.Lease.{Lease};
-ghost use Rattle.table.specs.Table.{leaseSlots, present};
-ghost use Rattle.image.specs.Image.{leaseSize};
-ghost use Rattle.image.specs.Reading.{leaseIn};
+ghost use Rattle.table.specs.Table.{lease_slots, present};
+ghost use Rattle.image.specs.Image.{lease_size};
+ghost use Rattle.image.specs.Reading.{lease_in};
 ghost use Rattle.image_records.specs.Records.{Records};
-ghost use Rattle.ledger.specs.Ledger.{Call, callWith, result, narrowed, informationFor};
-ghost use Rattle.ask_again.specs.Places.{noPlace, Within, InBuffer, givenIn, othersIn};
-ghost use Rattle.ask_serve.specs.Granting.{offersIn, leasesIn, Granted};
-ghost use Rattle.call_spec.specs.ImageCalls.{Lent, lent, tableIn, askImage};
+ghost use Rattle.ledger.specs.Ledger.{Call, call_with, outcome, narrowed, information_for};
+ghost use Rattle.ask_again.specs.Places.{no_place, Within, InBuffer, given_in, others_in};
+ghost use Rattle.ask_serve.specs.Granting.{offers_in, leases_in, Granted};
+ghost use Rattle.call_spec.specs.ImageCalls.{Lent, lent, table_in, ask_image};
 ghost use Rattle.call_rows.specs.Admission.{Admitted};
 ghost use Rattle.call_ground.specs.Ground.{Grounds, returning};
 ghost use Rattle.ask_commit.specs.Asking.{WithinSite, Ready, Asking};
-ghost use Rattle.ask_commit.specs.InnerReply.{Shown, givenOr, eachOf, Replied};
+ghost use Rattle.ask_commit.specs.InnerReply.{Shown, given_or, each_of, Replied};
 ghost use Rattle.ask_commit.specs.InnerRest.{AdmittedImage};
 
 use ask_again::{Asker, NONE};
@@ -42,7 +42,7 @@ const GAPS: usize = LEASES + POOLS;
 // One information with one entry. The reply has room for it, so no byte is tested.
 fn put_offer(reply: &mut [u8], at: usize, x: Lease)
     requires { at + 10 ≤ length_of reply.old }
-    ensures* { λ _. ⌜ reply.new ≡ put reply.old at (suboptionBytes (informationFor x)) ⌝ }
+    ensures { reply.new ≡ put reply.old at (suboption_bytes (information_for x)) }
 {
     reply[at] = 2;
     reply[at + 1] = 8;
@@ -54,9 +54,9 @@ fn put_offer(reply: &mut [u8], at: usize, x: Lease)
 // Answers where the next information stands.
 fn put_one(reply: &mut [u8], at: usize, image: &[u8], from: usize, place: u16, x: Lease) -> usize
     requires { (at + 10 ≤ length_of reply.old) × InBuffer from (length_of image.now) place }
-    ensures* fact { λ r. ⌜ (at ≤ r) × (r ≤ at + 10) ⌝ }
-    ensures* fact_2 { λ r. ⌜ ((before : List ℕ) (xs : List Lease) → Shown before reply.old at xs
-        → Shown before reply.new r (xs ++ catMaybes (givenOr place (leaseIn (drop (from + leaseSize * place) image.now)) x ∷ []))) ⌝ }
+    ensures bounds { (at ≤ result) × (result ≤ at + 10) }
+    ensures equation { ((before : List ℕ) (xs : List Lease) → Shown before reply.old at xs
+        → Shown before reply.new result (xs ++ cat_maybes (given_or place (lease_in (drop (from + lease_size * place) image.now)) x ∷ []))) }
 {
     if place != NONE {
         let y = image_records::lease_at(image, from + LEASE * (place as usize));
@@ -81,12 +81,12 @@ fn put_offers(
     lengths: &[u8],
     flags: &[u8],
 ) -> usize
-    requires { (length_of flags.now ≤ mostRequests) × (3 + 10 * length_of flags.now ≤ length_of reply.old) × (length_of places.now ≡ length_of flags.now) × (length_of flags.now ≤ length_of networks.now)
+    requires { (length_of flags.now ≤ most_requests) × (3 + 10 * length_of flags.now ≤ length_of reply.old) × (length_of places.now ≡ length_of flags.now) × (length_of flags.now ≤ length_of networks.now)
         × (length_of flags.now ≤ length_of lengths.now) × All (InBuffer from (length_of image.now)) places.now }
-    ensures* r_bound { λ r. ⌜ r ≤ 3 + 10 * length_of flags.now ⌝ }
-    ensures* fact { λ r. ⌜ ((client expires : ℕ) (name : Name) (us : List Lease) → Records image.now from us → All (Within (length_of us)) places.now
-        → Replied reply.old reply.new r
-        (map informationFor (catMaybes (eachOf (givenIn us places.now) (offersIn client expires name networks.now lengths.now flags.now))))) ⌝ }
+    ensures upper_bound { result ≤ 3 + 10 * length_of flags.now }
+    ensures equation { ((client expires : ℕ) (name : Name) (us : List Lease) → Records image.now from us → All (Within (length_of us)) places.now
+        → Replied reply.old reply.new result
+        (map information_for (cat_maybes (each_of (given_in us places.now) (offers_in client expires name networks.now lengths.now flags.now))))) }
 {
     let nobody = Asker {
         client: 0,
@@ -125,12 +125,12 @@ fn serve_rest(
     networks: &mut [u32],
     lengths: &mut [u8],
 ) -> usize
-    requires { AdmittedImage image.now asker.time asker.client site.summary × WithinSite site × (length_of places.now ≡ length_of ask_lengths.now) × (again ≡ othersIn noPlace places.now (length_of ask_lengths.now))
-        × (length_of ask_lengths.now ≤ length_of networks.old) × (length_of ask_lengths.now ≤ length_of lengths.old) × (leasesIn lengths.old (length_of ask_lengths.now) ≡ 0) }
-    ensures* fact { λ r. ⌜ (r ≤ length_of ask_lengths.now) × (r ≤ leaseSlots - (site.summary.leases - site.summary.expired)) × (r ≡ leasesIn lengths.new (length_of ask_lengths.now)) ⌝ }
-    ensures* fact_2 { λ _. ⌜ ((h : Lent) (c : Call) (us : List Lease) (rs : List Request) → h.image ≡ image.now → Admitted true h asker.time asker.client site.summary → Grounds h c site.summary site.ground
+    requires { AdmittedImage image.now asker.time asker.client site.summary × WithinSite site × (length_of places.now ≡ length_of ask_lengths.now) × (again ≡ others_in no_place places.now (length_of ask_lengths.now))
+        × (length_of ask_lengths.now ≤ length_of networks.old) × (length_of ask_lengths.now ≤ length_of lengths.old) × (leases_in lengths.old (length_of ask_lengths.now) ≡ 0) }
+    ensures bounds { (result ≤ length_of ask_lengths.now) × (result ≤ lease_slots - (site.summary.leases - site.summary.expired)) × (result ≡ leases_in lengths.new (length_of ask_lengths.now)) }
+    ensures equation { ((h : Lent) (c : Call) (us : List Lease) (rs : List Request) → h.image ≡ image.now → Admitted true h asker.time asker.client site.summary → Grounds h c site.summary site.ground
         → ask_lengths.now ≡ map (λ r. r.length) rs → All (λ r. r.length ≤ longest) rs
-        → Granted (narrowed (tableIn h) c) asker.time asker.client asker.name (present asker.time (tableIn h).leases) (givenIn us places.now) rs networks.new lengths.new) ⌝ }
+        → Granted (narrowed (table_in h) c) asker.time asker.client asker.name (present asker.time (table_in h).leases) (given_in us places.now) rs networks.new lengths.new) }
 {
     if again == ask_lengths.len() {
         return 0;
@@ -179,11 +179,11 @@ pub fn grant(
     ask_h: &[u8],
 ) -> Answer
     requires { Ready (lent image.old image_bytes.old figures.old) asker.time asker.client reply.old site ask_lengths.now ask_h.now }
-    ensures* bytes_bound { λ r. ⌜ r.bytes ≤ longestOption ⌝ }
-    ensures* fact { λ r. ⌜ ((option : List ℕ) (selection : Option (List ℕ))
-        → Asking (lent image.old image_bytes.old figures.old) asker.time asker.name (callWith asker.client option selection reply.old) site ask_lengths.now ask_h.now
-        → returning selection (result r (lent image.new image_bytes.new figures.new) reply.new)
-        ≡ askImage (lent image.old image_bytes.old figures.old) asker.time (callWith asker.client option selection reply.old)) ⌝ }
+    ensures bytes_bound { result.bytes ≤ longest_option }
+    ensures equation { ((option : List ℕ) (selection : Option (List ℕ))
+        → Asking (lent image.old image_bytes.old figures.old) asker.time asker.name (call_with asker.client option selection reply.old) site ask_lengths.now ask_h.now
+        → returning selection (outcome result (lent image.new image_bytes.new figures.new) reply.new)
+        ≡ ask_image (lent image.old image_bytes.old figures.old) asker.time (call_with asker.client option selection reply.old)) }
 {
     let summary = site.summary;
     let ground = site.ground;

@@ -16,37 +16,37 @@ use Rattle.lists.proofs.IndexLaws.{all-at}
 use Rattle.prefix.specs.declared.Prefix.{Prefix}
 use Rattle.prefix.specs.Prefixes.{end}
 use Rattle.table.specs.declared.LeaseTable.{LeaseTable}
-use Rattle.table.specs.Table.{addresses, noPool, poolPrefix, prefixesOf, poolsOf, sound}
+use Rattle.table.specs.Table.{addresses, no_pool, pool_prefix, prefixes_of, pools_of, sound}
 use Rattle.table.proofs.TableLaws.{sound-pools, GoodPool}
-use Rattle.image.specs.Image.{headSize, poolSize, usedPools, usedLeases, image_of}
-use Rattle.image_check.specs.Inner.{nthPool}
+use Rattle.image.specs.Image.{head_size, pool_size, used_pools, used_leases, image_of}
+use Rattle.image_check.specs.Inner.{nth_pool}
 use Rattle.image_records.proofs.PoolRecords.{image-pools}
 use Rattle.image_records.proofs.SoundLaws.{image-records}
-use Rattle.gap_list.specs.Gaps.{Gap, between, PoolGaps, poolGaps, gapsOf}
-use Rattle.gap_list.specs.Columns.{held, heldIn}
+use Rattle.gap_list.specs.Gaps.{Gap, between, PoolGaps, pool_gaps, gaps_of}
+use Rattle.gap_list.specs.Columns.{held, held_in}
 use Rattle.ask_gaps.specs.Ground.{Ground}
 
 -- THE GROUND
 
 -- A buffer that the image of a sound table is the front of.
 module _ (t : LeaseTable) (e : sound t ≡ true) (l : List ℕ) (bytes : ℕ) (image : image_of t ≡ take bytes l) where
-  ground-pools : (k : ℕ) → k < length (usedPools t) → nthPool (drop headSize l) k ≡ poolPrefix (get_or (usedPools t) k noPool)
-  ground-pools k h = ap poolPrefix (image-pools t l bytes image k h)
+  ground-pools : (k : ℕ) → k < length (used_pools t) → nth_pool (drop head_size l) k ≡ pool_prefix (get_or (used_pools t) k no_pool)
+  ground-pools k h = ap pool_prefix (image-pools t l bytes image k h)
 
-  pub ground : Ground l 0 (length (usedPools t)) (headSize + poolSize * length (usedPools t)) (length (usedLeases t)) (poolsOf t) (usedLeases t)
-  unfolding prefixesOf
+  pub ground : Ground l 0 (length (used_pools t)) (head_size + pool_size * length (used_pools t)) (length (used_leases t)) (pools_of t) (used_leases t)
+  unfolding prefixes_of
   ground = record {
-    pools-are = sym (length-map (usedPools t) poolPrefix);
-    pool-at = λ k h. let lt : k < length (usedPools t) = omega (arith, length-map (usedPools t) poolPrefix) in ap (nthPool (drop headSize l)) (zero-add k) ∙ ground-pools k lt ∙ sym (get_or-map poolPrefix (usedPools t) k noPool);
+    pools-are = sym (length-map (used_pools t) pool_prefix);
+    pool-at = λ k h. let lt : k < length (used_pools t) = omega (arith, length-map (used_pools t) pool_prefix) in ap (nth_pool (drop head_size l)) (zero-add k) ∙ ground-pools k lt ∙ sym (get_or-map pool_prefix (used_pools t) k no_pool);
     leases-are = refl;
     leases-at = image-records t l bytes image;
   }
 
   -- No pool ends past the last address.
-  pub ground-ends : (k : ℕ) → k < length (usedPools t) → end (nthPool (drop headSize l) k) ≤ addresses
+  pub ground-ends : (k : ℕ) → k < length (used_pools t) → end (nth_pool (drop head_size l) k) ≤ addresses
   ground-ends k h =
       subst (λ (p : Prefix). end p ≤ addresses) (sym (ground-pools k h))
-      (all-at (λ p. end (poolPrefix p) ≤ addresses) (usedPools t) (all_map (λ p (g : GoodPool p). g.within) (usedPools t) (sound-pools t e).good) k noPool h)
+      (all-at (λ p. end (pool_prefix p) ≤ addresses) (used_pools t) (all_map (λ p (g : GoodPool p). g.within) (used_pools t) (sound-pools t e).good) k no_pool h)
 
 -- HOW MANY GAPS: at most one for each pool and one for each lease.
 
@@ -56,27 +56,27 @@ between-few a b =
     (λ (c : ltb a b ≡ false). omega (arith, ap length (cond-false {A = List Gap} (ltb a b) (record { from = a; to = b } ∷ []) [] c)))
     (bool_cases (ltb a b))
 
-pool-few : (from stop : ℕ) (xs : List Prefix) → length (poolGaps from stop xs).gaps + length (poolGaps from stop xs).left ≤ 1 + length xs
+pool-few : (from stop : ℕ) (xs : List Prefix) → length (pool_gaps from stop xs).gaps + length (pool_gaps from stop xs).left ≤ 1 + length xs
 pool-few from stop [] = omega (arith, between-few from stop)
 pool-few from stop (x ∷ xs) =
     ⊎_elim
     (λ (c : ltb x.network stop ≡ true).
-    rw c (omega (arith, length-append (between from x.network) (poolGaps (end x) stop xs).gaps, between-few from x.network, pool-few (end x) stop xs)))
+    rw c (omega (arith, length-append (between from x.network) (pool_gaps (end x) stop xs).gaps, between-few from x.network, pool-few (end x) stop xs)))
     (λ (c : ltb x.network stop ≡ false). rw c (omega (arith, between-few from stop)))
     (bool_cases (ltb x.network stop))
 
-gaps-few : (ps xs : List Prefix) → length (gapsOf ps xs) ≤ length ps + length xs
+gaps-few : (ps xs : List Prefix) → length (gaps_of ps xs) ≤ length ps + length xs
 gaps-few [] xs = omega arith
 gaps-few (p ∷ ps) xs =
-    let s : PoolGaps = poolGaps p.network (end p) xs in
-    omega (arith, length-append s.gaps (gapsOf ps s.left), pool-few p.network (end p) xs, gaps-few ps s.left)
+    let s : PoolGaps = pool_gaps p.network (end p) xs in
+    omega (arith, length-append s.gaps (gaps_of ps s.left), pool-few p.network (end p) xs, gaps-few ps s.left)
 
 length-held : (ss ls : List ℕ) → length ss ≡ length ls → length (held ss ls) ≡ length ss
 length-held [] ls e = refl
 length-held (s ∷ ss) [] e = absurd (omega arith)
 length-held (s ∷ ss) (l ∷ ls) e = ap suc (length-held ss ls (omega arith))
 
-pub held-few : (starts lasts : List ℕ) (r : ℕ) (ps xs : List Prefix) → r ≤ length starts → r ≤ length lasts → heldIn starts lasts r ≡ gapsOf ps xs → r ≤ length ps + length xs
+pub held-few : (starts lasts : List ℕ) (r : ℕ) (ps xs : List Prefix) → r ≤ length starts → r ≤ length lasts → held_in starts lasts r ≡ gaps_of ps xs → r ≤ length ps + length xs
 held-few starts lasts r ps xs h k e =
     let n = length-take-le r starts h in
     let m = length-take-le r lasts k in

@@ -2,8 +2,8 @@
 use Rattle.std.specs.Prelude.{ℕ, ◌+◌, ◌≤◌, ◌≡◌, List, ◌++◌, length}
 use Rattle.table.specs.declared.Lease.{Lease}
 use Rattle.image_records.specs.Records.{Records}
-use Rattle.gap_list.specs.Gaps.{poolGaps}
-use Rattle.gap_list.specs.Columns.{heldIn}
+use Rattle.gap_list.specs.Gaps.{pool_gaps}
+use Rattle.gap_list.specs.Columns.{held_in}
 use Rattle.ask_gaps.specs.declared.Pass.{Pass}
 use Rattle.ask_gaps.specs.Ground.{ahead}
 
@@ -13,5 +13,5 @@ pub record Went (image : List ℕ) (from n time network stop : ℕ) (p : Pass) (
   pub within : q.leases ≤ n
   pub few : q.gaps + p.leases ≤ p.gaps + q.leases + 1
   pub gaps : (xs : List Lease) → Records image from xs → n ≡ length xs
-      → heldIn ss ls q.gaps ≡ heldIn starts lasts p.gaps ++ (poolGaps network stop (ahead time p.leases xs)).gaps
-  pub left : (xs : List Lease) → Records image from xs → n ≡ length xs → ahead time q.leases xs ≡ (poolGaps network stop (ahead time p.leases xs)).left
+      → held_in ss ls q.gaps ≡ held_in starts lasts p.gaps ++ (pool_gaps network stop (ahead time p.leases xs)).gaps
+  pub left : (xs : List Lease) → Records image from xs → n ≡ length xs → ahead time q.leases xs ≡ (pool_gaps network stop (ahead time p.leases xs)).left

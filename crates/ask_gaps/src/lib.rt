@@ -4,10 +4,10 @@ ghost use Rattle.prefix.specs.declared.Prefix.{Prefix};
 ghost use Rattle.prefix.specs.Prefixes.{end};
 ghost use Rattle.table.specs.declared.Lease.{Lease};
 ghost use Rattle.table.specs.Table.{addresses};
-ghost use Rattle.image.specs.Image.{headSize, poolSize, leaseSize};
-ghost use Rattle.image_check.specs.Inner.{nthPool};
-ghost use Rattle.gap_list.specs.Gaps.{gapsOf};
-ghost use Rattle.gap_list.specs.Columns.{heldIn};
+ghost use Rattle.image.specs.Image.{head_size, pool_size, lease_size};
+ghost use Rattle.image_check.specs.Inner.{nth_pool};
+ghost use Rattle.gap_list.specs.Gaps.{gaps_of};
+ghost use Rattle.gap_list.specs.Columns.{held_in};
 ghost use Rattle.ask_gaps.specs.Ground.{ahead, Ground};
 ghost use Rattle.ask_gaps.specs.InnerPass.{Went};
 
@@ -32,7 +32,7 @@ fn in_pool(
     starts: &mut [u32],
     lasts: &mut [u32],
 ) -> Pass
-    requires { (from + leaseSize * n ≤ length image.now) × (end pool ≤ addresses) × (at.leases ≤ n) × (at.gaps + n < length starts.old + at.leases) × (at.gaps + n < length lasts.old + at.leases) }
+    requires { (from + lease_size * n ≤ length image.now) × (end pool ≤ addresses) × (at.leases ≤ n) × (at.gaps + n < length starts.old + at.leases) × (at.gaps + n < length lasts.old + at.leases) }
     ensures { Went image.now from n time pool.network (end pool) at starts.old lasts.old result starts.new lasts.new }
 {
     let stop = pool.end();
@@ -71,12 +71,12 @@ pub struct Span {
 
 // The gaps that those pools and the present ones of those leases leave, in order; how many there are.
 pub fn gaps_in(image: &[u8], span: Span, time: u32, starts: &mut [u32], lasts: &mut [u32]) -> usize
-    requires { (headSize + poolSize * (span.pool + span.pools) ≤ length image.now) × (span.from + leaseSize * span.leases ≤ length image.now)
+    requires { (head_size + pool_size * (span.pool + span.pools) ≤ length image.now) × (span.from + lease_size * span.leases ≤ length image.now)
         × (span.pools + span.leases ≤ length starts.old) × (span.pools + span.leases ≤ length lasts.old)
-        × ((k : ℕ) → k < span.pools → end (nthPool (drop headSize image.now) (span.pool + k)) ≤ addresses) }
+        × ((k : ℕ) → k < span.pools → end (nth_pool (drop head_size image.now) (span.pool + k)) ≤ addresses) }
     ensures upper_bound { result ≤ span.pools + span.leases }
     ensures result_after { (ps : List Prefix) (xs : List Lease) → Ground image.now span.pool span.pools span.from span.leases ps xs
-        → heldIn starts.new lasts.new result ≡ gapsOf ps (ahead time 0 xs) }
+        → held_in starts.new lasts.new result ≡ gaps_of ps (ahead time 0 xs) }
 {
     let mut at = Pass { leases: 0, gaps: 0 };
     let mut k: usize = 0;

@@ -5,8 +5,8 @@ ghost use Rattle.table.specs.declared.Lease.{Lease};
 ghost use Rattle.table.specs.declared.LeaseTable.{LeaseTable};
 ghost use Rattle.option.specs.Contents.{Request};
 ghost use Rattle.ledger.specs.Ledger.{Call, narrowed};
-ghost use Rattle.ask_again.specs.Places.{givenIn};
-ghost use Rattle.ask_serve.specs.Granting.{leasesIn, Serving, Granted};
+ghost use Rattle.ask_again.specs.Places.{given_in};
+ghost use Rattle.ask_serve.specs.Granting.{leases_in, Serving, Granted};
 ghost use Rattle.ask_serve.specs.InnerServing.{columns, Served};
 
 use ask_again::NONE;
@@ -80,10 +80,10 @@ pub fn serve(
     requires { (length_of places.now ≡ length_of ask_lengths.now) × (start.gaps + start.slots ≤ length_of starts.old) × (start.gaps + start.slots ≤ length_of lasts.old) × (1 ≤ start.default_length) × (length_of ask_lengths.now ≤ length_of networks.old) × (length_of ask_lengths.now ≤ length_of lengths.old) }
     ensures upper_bound { result ≤ length_of ask_lengths.now }
     ensures upper_bound_2 { result ≤ start.slots }
-    ensures value { result ≡ leasesIn lengths.new (length_of ask_lengths.now) }
+    ensures value { result ≡ leases_in lengths.new (length_of ask_lengths.now) }
     ensures granted { (t : LeaseTable) (c : Call) (time client : ℕ) (name : Name) (xs us : List Lease) (rs : List Request)
         → Serving t c time client xs rs starts.old lasts.old start ask_lengths.now
-        → Granted (narrowed t c) time client name xs (givenIn us places.now) rs networks.new lengths.new }
+        → Granted (narrowed t c) time client name xs (given_in us places.now) rs networks.new lengths.new }
 {
     let default_length = start.default_length;
     let mut at = Progress {

@@ -11,27 +11,27 @@ use lib.ListN.{length, length-map}
 use lib.Seq.{length-take-le}
 use borrow.Author.Tests.{lt-ltb, ltb-true, eqb-true, not-false}
 use Rattle.lists.proofs.Tests.{and-to}
-use Rattle.lists.specs.Lists.{All, any?, catMaybes}
-use Rattle.lists.proofs.SortingLaws.{insertBy-longer}
+use Rattle.lists.specs.Lists.{All, any?, cat_maybes}
+use Rattle.lists.proofs.SortingLaws.{insert_by-longer}
 use Rattle.lists.proofs.FilterLaws.{filter-pass, filter-yes}
 use Rattle.table.specs.declared.Lease.{Lease}
 use Rattle.table.specs.declared.Pool.{Pool}
 use Rattle.table.specs.declared.LeaseTable.{LeaseTable}
-use Rattle.table.specs.Table.{leaseSlots, networkOf, prefix_of, present, store, insert, sound}
+use Rattle.table.specs.Table.{lease_slots, network_of, prefix_of, present, store, insert, sound}
 use Rattle.table.proofs.TableLaws.{sound-used, present-padded}
-use Rattle.image.specs.Image.{usedPools, usedLeases, image_of}
+use Rattle.image.specs.Image.{used_pools, used_leases, image_of}
 use Rattle.image.proofs.ImageLaws.{length-image}
 use Rattle.image_check.specs.declared.ImageSummary.{ImageSummary}
-use Rattle.counts.specs.Counts.{countsOf}
-use Rattle.option.specs.Contents.{Request, requestsIn}
+use Rattle.counts.specs.Counts.{counts_of}
+use Rattle.option.specs.Contents.{Request, requests_in}
 use Rattle.ledger.specs.declared.Answer.{Answer}
-use Rattle.ledger.specs.Ledger.{State, left, Call, Result, result, or_else, refuse, accept, refusalPlace, returned, narrowed, usableLeases, askName, offers, addAll, rest_of, again, holdAgain, heldAgain, askHeld, askOffers, givesIn, leasesIn, informationFor, askRows, ask}
+use Rattle.ledger.specs.Ledger.{State, left, Call, Result, outcome, or_else, refuse, accept, refusal_place, returned, narrowed, usable_leases, ask_name, offers, add_all, rest_of, again, hold_again, held_again, ask_held, ask_offers, gives_in, leases_in, information_for, ask_rows, ask}
 use Rattle.ledger.proofs.GroundLaws.{ground}
-use Rattle.option.specs.Writing.{optionBytes}
+use Rattle.option.specs.Writing.{option_bytes}
 use Rattle.ledger.proofs.RowLaws.{accepted-none, numbered-ask}
-use Rattle.ledger.proofs.OfferLaws.{offers-all, addAll-all}
+use Rattle.ledger.proofs.OfferLaws.{offers-all, add_all-all}
 use Rattle.ledger.proofs.SoundKept.{ask-sound}
-use Rattle.call_spec.specs.ImageCalls.{Lent, tableIn, stateIn, storedIn, askImage}
+use Rattle.call_spec.specs.ImageCalls.{Lent, table_in, state_in, stored_in, ask_image}
 use Rattle.call_spec.proofs.StoreLaws.{settled-accepted}
 use Rattle.call_spec.proofs.OnImages.{follows-all}
 use Rattle.call_spec.proofs.PoolsKept.{ask-pools, same-table, left-sound, left-pools}
@@ -40,14 +40,14 @@ use Rattle.call_rows.proofs.SettleLaws.{unmoved}
 
 -- WHAT IS ADDED
 
-added : (os : List (Option Lease)) (xs : List Lease) → length (addAll os xs) ≡ length xs + length (catMaybes os)
-unfolding addAll
+added : (os : List (Option Lease)) (xs : List Lease) → length (add_all os xs) ≡ length xs + length (cat_maybes os)
+unfolding add_all
 added [] xs = omega arith
 added (none ∷ os) xs = added os xs
-added (some x ∷ os) xs = omega (arith, added os (insert x xs), insertBy-longer networkOf x xs)
+added (some x ∷ os) xs = omega (arith, added os (insert x xs), insert_by-longer network_of x xs)
 
-nothing-added : (os : List (Option Lease)) (xs : List Lease) → length (catMaybes os) ≡ 0 → addAll os xs ≡ xs
-unfolding addAll
+nothing-added : (os : List (Option Lease)) (xs : List Lease) → length (cat_maybes os) ≡ 0 → add_all os xs ≡ xs
+unfolding add_all
 nothing-added [] xs e = refl
 nothing-added (none ∷ os) xs e = nothing-added os xs e
 nothing-added (some x ∷ os) xs e = absurd (omega arith)
@@ -66,110 +66,110 @@ any-request : (rs : List Request) → All (λ r. Unit {0}) rs
 any-request [] = tt
 any-request (r ∷ rs) = (tt, any-request rs)
 
-offers-late : (t : LeaseTable) (c : Call) (now : ℕ) → sound t ≡ true → (xs : List Lease) (rs : List Request) → All (Late now) (catMaybes (offers (narrowed t c) now c.client (askName c) xs rs))
+offers-late : (t : LeaseTable) (c : Call) (now : ℕ) → sound t ≡ true → (xs : List Lease) (rs : List Request) → All (Late now) (cat_maybes (offers (narrowed t c) now c.client (ask_name c) xs rs))
 offers-late t c now so xs rs =
-    offers-all (narrowed t c) now c.client (askName c) (ground t c so).good (λ r. Unit {0}) (Late now) (λ us r x q f. lt-ltb now x.expires (omega (arith, f.until))) rs xs (any-request rs)
+    offers-all (narrowed t c) now c.client (ask_name c) (ground t c so).good (λ r. Unit {0}) (Late now) (λ us r x q f. lt-ltb now x.expires (omega (arith, f.until))) rs xs (any-request rs)
 
 -- What becomes of each lease that is present.
-abbrev heldOne : ℕ → List Lease → Lease → Lease
-heldOne now given x = cond (any? (λ y. eqb y.network x.network) given) (holdAgain now x) x
+abbrev held_one : ℕ → List Lease → Lease → Lease
+held_one now given x = cond (any? (λ y. eqb y.network x.network) given) (hold_again now x) x
 
-held_place : (now : ℕ) (b : Bool) (x : Lease) → prefix_of (cond b (holdAgain now x) x) ≡ prefix_of x
+held_place : (now : ℕ) (b : Bool) (x : Lease) → prefix_of (cond b (hold_again now x) x) ≡ prefix_of x
 held_place now true x = refl
 held_place now false x = refl
 
-held-late : (now : ℕ) (b : Bool) (x : Lease) → now < x.expires → now < (cond b (holdAgain now x) x).expires
+held-late : (now : ℕ) (b : Bool) (x : Lease) → now < x.expires → now < (cond b (hold_again now x) x).expires
 held-late now true x l = omega arith
 held-late now false x l = l
 
-held_all : (now : ℕ) (given xs : List Lease) → All (Late now) xs → All (Late now) (heldAgain now given xs)
+held_all : (now : ℕ) (given xs : List Lease) → All (Late now) xs → All (Late now) (held_again now given xs)
 held_all now given [] a = tt
 held_all now given (x ∷ xs) a =
-    (lt-ltb now (heldOne now given x).expires (held-late now (any? (λ y. eqb y.network x.network) given) x (ltb-true now x.expires a.0)), held_all now given xs a.1)
+    (lt-ltb now (held_one now given x).expires (held-late now (any? (λ y. eqb y.network x.network) given) x (ltb-true now x.expires a.0)), held_all now given xs a.1)
 
 -- THE CALL
 
 module _ (s : State) (now : ℕ) (c : Call) (z : (ask s now c).answer.number ≡ 0) where
-  ask-leaves : (ask s now c).state.table ≡ store s.table now (leasesIn s.table now c)
+  ask-leaves : (ask s now c).state.table ≡ store s.table now (leases_in s.table now c)
   unfolding ask left
   ask-leaves =
-      let granted : List Lease = catMaybes (givesIn s.table now c) in
-      let accepted : Result State = accept (left s now (leasesIn s.table now c)) (optionBytes (map informationFor granted) ++ returned c.selection) (length granted) c.reply in
-      ap (λ (o : Option ℕ). (or_else o (λ number. refuse number (refusalPlace c.option number) s c.reply) accepted).state.table)
-      (accepted-none (askRows s now c) (refusalPlace c.option) s c.reply accepted (numbered-ask s now c) z)
+      let granted : List Lease = cat_maybes (gives_in s.table now c) in
+      let accepted : Result State = accept (left s now (leases_in s.table now c)) (option_bytes (map information_for granted) ++ returned c.selection) (length granted) c.reply in
+      ap (λ (o : Option ℕ). (or_else o (λ number. refuse number (refusal_place c.option number) s c.reply) accepted).state.table)
+      (accepted-none (ask_rows s now c) (refusal_place c.option) s c.reply accepted (numbered-ask s now c) z)
 
 module _ (h : Lent) (now : ℕ) (c : Call) (summary : ImageSummary) (o : Admitted true h now c.client summary)
-    (a : Answer) (g : Lent) (reply : List ℕ) (is : result a g reply ≡ askImage h now c) (z : a.number ≡ 0) where
+    (a : Answer) (g : Lent) (reply : List ℕ) (is : outcome a g reply ≡ ask_image h now c) (z : a.number ≡ 0) where
   abbrev t : LeaseTable
-  t = tableIn h
+  t = table_in h
 
   abbrev xs : List Lease
   xs = present now t.leases
 
   abbrev rs : List Request
-  rs = requestsIn c.option
+  rs = requests_in c.option
 
   -- The table with the ground of the call, and the leases on it.
   abbrev u : LeaseTable
   u = narrowed t c
 
   abbrev hs : List Lease
-  hs = usableLeases t c xs
+  hs = usable_leases t c xs
 
   abbrev given : List Lease
-  given = catMaybes (again u c.client hs rs)
+  given = cat_maybes (again u c.client hs rs)
 
   abbrev held : List Lease
-  held = askHeld u now c.client hs xs rs
+  held = ask_held u now c.client hs xs rs
 
   abbrev os : List (Option Lease)
-  os = askOffers u now c.client (askName c) hs xs rs
+  os = ask_offers u now c.client (ask_name c) hs xs rs
 
   abbrev zs : List Lease
-  zs = leasesIn t now c
+  zs = leases_in t now c
 
-  zero : (ask (stateIn h) now c).answer.number ≡ 0
+  zero : (ask (state_in h) now c).answer.number ≡ 0
   zero = sym (ap (λ (w : Answer). w.number) (ap (λ (w : Result Lent). w.answer) is ∙ (follows-all.asks h now c).answer)) ∙ z
 
-  table_is : tableIn g ≡ store t now zs
-  table_is = same-table h (ask (stateIn h) now c) (askImage h now c) (follows-all.asks h now c) a g reply is z ∙ ask-leaves (stateIn h) now c zero
+  table_is : table_in g ≡ store t now zs
+  table_is = same-table h (ask (state_in h) now c) (ask_image h now c) (follows-all.asks h now c) a g reply is z ∙ ask-leaves (state_in h) now c zero
 
   size-before : length (image_of t) ≡ h.bytes
   size-before = ap length o.image ∙ length-take-le h.bytes h.image o.within
 
-  size-after : length (image_of (tableIn g)) ≡ g.bytes
+  size-after : length (image_of (table_in g)) ≡ g.bytes
   size-after =
-      let there : g ≡ storedIn (ask (stateIn h) now c).state h.bytes h = ap (λ (w : Result Lent). w.state) (is ∙ settled-accepted (ask (stateIn h) now c) h zero) in
-      ap (λ (u : LeaseTable). length (image_of u)) (same-table h (ask (stateIn h) now c) (askImage h now c) (follows-all.asks h now c) a g reply is z) ∙ ap (λ (w : Lent). w.bytes) (sym there)
+      let there : g ≡ stored_in (ask (state_in h) now c).state h.bytes h = ap (λ (w : Result Lent). w.state) (is ∙ settled-accepted (ask (state_in h) now c) h zero) in
+      ap (λ (u : LeaseTable). length (image_of u)) (same-table h (ask (state_in h) now c) (ask_image h now c) (follows-all.asks h now c) a g reply is z) ∙ ap (λ (w : Lent). w.bytes) (sym there)
 
   here-late : All (Late now) xs
   unfolding present
   here-late = filter-pass (λ x. ltb now x.expires) t.leases
 
   all_here : present now zs ≡ zs
-  all_here = all-late now zs (addAll-all (Late now) os held (offers-late t c now o.sound held (rest_of (again u c.client hs rs) rs)) (held_all now given xs here-late))
+  all_here = all-late now zs (add_all-all (Late now) os held (offers-late t c now o.sound held (rest_of (again u c.client hs rs) rs)) (held_all now given xs here-late))
 
   -- How many leases are left.
-  used-are : usedLeases (tableIn g) ≡ zs
+  used-are : used_leases (table_in g) ≡ zs
   unfolding store
   used-are =
-      sound-used (tableIn g) (left-sound h (ask (stateIn h) now c) (askImage h now c) (follows-all.asks h now c) a g reply is z (ask-sound (stateIn h) now c))
-      ∙ ap (λ (u : LeaseTable). present u.last u.leases) table_is ∙ present-padded now (leaseSlots - length zs) zs ∙ all_here
+      sound-used (table_in g) (left-sound h (ask (state_in h) now c) (ask_image h now c) (follows-all.asks h now c) a g reply is z (ask-sound (state_in h) now c))
+      ∙ ap (λ (u : LeaseTable). present u.last u.leases) table_is ∙ present-padded now (lease_slots - length zs) zs ∙ all_here
 
-  same-pools : length (usedPools (tableIn g)) ≡ length (usedPools t)
-  same-pools = ap (λ (ps : List Pool). length (usedPools (record { pools = ps; leases = []; term = 0; default_length = 0; last = 0 }))) (left-pools h (ask (stateIn h) now c) (askImage h now c) (follows-all.asks h now c) a g reply is z (ask-pools (stateIn h) now c))
+  same-pools : length (used_pools (table_in g)) ≡ length (used_pools t)
+  same-pools = ap (λ (ps : List Pool). length (used_pools (record { pools = ps; leases = []; term = 0; default_length = 0; last = 0 }))) (left-pools h (ask (state_in h) now c) (ask_image h now c) (follows-all.asks h now c) a g reply is z (ask-pools (state_in h) now c))
 
-  ask-unmoved : summary.expired ≡ 0 → g.bytes ≡ h.bytes → countsOf (tableIn g) ≡ countsOf t
+  ask-unmoved : summary.expired ≡ 0 → g.bytes ≡ h.bytes → counts_of (table_in g) ≡ counts_of t
   ask-unmoved none-gone same =
-      let all-used : xs ≡ usedLeases t = o.present-used ∙ o.none-expired none-gone in
+      let all-used : xs ≡ used_leases t = o.present-used ∙ o.none-expired none-gone in
       let as_many : length zs ≡ length xs =
-      omega (arith, length-image t, length-image (tableIn g), size-before, size-after, same, same-pools, ap length used-are, ap length all-used) in
-      let none-new : length (catMaybes os) ≡ 0 = omega (arith, as_many, added os held, length-map xs (heldOne now given)) in
-      ap countsOf (table_is ∙ ap (store t now) (nothing-added os held none-new))
-      ∙ unmoved now (heldOne now given) (λ x. held_place now (any? (λ y. eqb y.network x.network) given) x) (λ x. held-late now (any? (λ y. eqb y.network x.network) given) x) true h c.client summary o none-gone
+      omega (arith, length-image t, length-image (table_in g), size-before, size-after, same, same-pools, ap length used-are, ap length all-used) in
+      let none-new : length (cat_maybes os) ≡ 0 = omega (arith, as_many, added os held, length-map xs (held_one now given)) in
+      ap counts_of (table_is ∙ ap (store t now) (nothing-added os held none-new))
+      ∙ unmoved now (held_one now given) (λ x. held_place now (any? (λ y. eqb y.network x.network) given) x) (λ x. held-late now (any? (λ y. eqb y.network x.network) given) x) true h c.client summary o none-gone
 
   -- By what the code looks at.
-  pub ask-kept : (moved : Bool) → moved ≡ not (eqb summary.expired 0 && eqb h.bytes g.bytes) → moved ≡ false → countsOf (tableIn g) ≡ countsOf t
+  pub ask-kept : (moved : Bool) → moved ≡ not (eqb summary.expired 0 && eqb h.bytes g.bytes) → moved ≡ false → counts_of (table_in g) ≡ counts_of t
   ask-kept moved is e =
       let both = and-to (eqb summary.expired 0) (eqb h.bytes g.bytes) (not-false (eqb summary.expired 0 && eqb h.bytes g.bytes) (sym is ∙ e)) in
       ask-unmoved (eqb-true summary.expired 0 both.0) (sym (eqb-true h.bytes g.bytes both.1))

@@ -1,10 +1,10 @@
 // Ask as a call on an image, in place.
 ghost use Rattle.std.specs.Prelude.{◌≡◌, not, ◌&&◌, [], ◌∷◌, leb, eqb};
 ghost use Rattle.lists.specs.Lists.{and};
-ghost use Rattle.option.specs.Values.{mostRequests};
-ghost use Rattle.ledger.specs.Ledger.{callWith, result};
-ghost use Rattle.call_spec.specs.ImageCalls.{carriedIf};
-ghost use Rattle.call_spec.specs.Books.{bookOf, askBook};
+ghost use Rattle.option.specs.Values.{most_requests};
+ghost use Rattle.ledger.specs.Ledger.{call_with, outcome};
+ghost use Rattle.call_spec.specs.ImageCalls.{carried_if};
+ghost use Rattle.call_spec.specs.Books.{book_of, ask_book};
 
 use ask_again::Asker;
 use ask_commit::Site;
@@ -15,7 +15,7 @@ use option_scan::{MOST_ENTRIES, MOST_REQUESTS};
 
 // Row 8: "the option has 1 to 25 requests, none with i".
 fn for_ask(requests: usize, listing: usize) -> bool
-    ensures* { λ r. ⌜ r ≡ and (leb 1 requests ∷ leb requests mostRequests ∷ eqb listing 0 ∷ []) ⌝ }
+    ensures { result ≡ and (leb 1 requests ∷ leb requests most_requests ∷ eqb listing 0 ∷ []) }
 {
     if requests == 0 {
         return false;
@@ -28,7 +28,7 @@ fn for_ask(requests: usize, listing: usize) -> bool
 
 // Whether leases came or went: some had expired, or there are more than there were.
 fn moved(expired: usize, before: usize, after: usize) -> bool
-    ensures* { λ r. ⌜ r ≡ not (eqb expired 0 && eqb before after) ⌝ }
+    ensures { result ≡ not (eqb expired 0 && eqb before after) }
 {
     if expired != 0 {
         return true;
@@ -46,9 +46,9 @@ pub fn ask(
     selection: &[u8],
     reply: &mut [u8],
 ) -> Answer
-    ensures* { λ r. ⌜ result r (bookOf image.new image_bytes.new figures.new counts.new) reply.new
-        ≡ askBook (bookOf image.old image_bytes.old figures.old counts.old) message.time
-        (callWith message.client option.now (carriedIf message.selected selection.now) reply.old) ⌝ }
+    ensures { outcome result (book_of image.new image_bytes.new figures.new counts.new) reply.new
+        ≡ ask_book (book_of image.old image_bytes.old figures.old counts.old) message.time
+        (call_with message.client option.now (carried_if message.selected selection.now) reply.old) }
 {
     let bytes = *image_bytes;
     let client = message.client;

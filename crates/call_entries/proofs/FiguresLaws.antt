@@ -16,19 +16,19 @@ use Rattle.option_entry.specs.declared.EntryCursor.{EntryCursor}
 use Rattle.option_entry.specs.declared.EntryFields.{EntryFields}
 use Rattle.option_entry.specs.declared.EntryStep.{EntryStep}
 use Rattle.option_entry.specs.declared.EntryStep.TheVariants as entry-step
-use Rattle.option_entry.specs.Steps.{figuresOf, fields_of, entriesFrom, entryStepOf}
+use Rattle.option_entry.specs.Steps.{figures_of, fields_of, entries_from, entry_step_of}
 use Rattle.option_entry.specs.contracts.EntryStep.{the_type}
 use Rattle.option.specs.Values.{Entry, SuboptionValue, request, information, name, unknown}
-use Rattle.option.specs.Reading.{bit1, bit2, End, whole, badAt, subEnd, whenGood, read_entry, readEntries, readRequest, readInformation, readName, read_body, readSuboption, readSuboptions}
+use Rattle.option.specs.Reading.{bit1, bit2, End, whole, bad_at, sub_end, when_good, read_entry, read_entries, read_request, read_information, read_name, read_body, read_suboption, read_suboptions}
 use Rattle.option.specs.Contents.{entries}
-use Rattle.option.specs.Answers.{entriesOf}
+use Rattle.option.specs.Answers.{entries_of}
 use Rattle.option.proofs.EntryLaws.{entry-moves, entry-end, entries-more, entries-stop}
 use Rattle.option.proofs.SuboptionLaws.{good-read, suboption-read, suboption-ends, suboption-moves, suboption-whole, suboptions-more, suboptions-stop}
-use Rattle.call_entries.specs.EntryFigures.{firstEntries, LeftAt}
+use Rattle.call_entries.specs.EntryFigures.{first_entries, LeftAt}
 
 -- A SUBOPTION'S ENTRIES
 
-entries-cons : (x : SuboptionValue) (subs : List SuboptionValue) → entries (x ∷ subs) ≡ entriesOf x ++ entries subs
+entries-cons : (x : SuboptionValue) (subs : List SuboptionValue) → entries (x ∷ subs) ≡ entries_of x ++ entries subs
 entries-cons (request h i l) subs = refl
 entries-cons (information c s es) subs = refl
 entries-cons (name o) subs = refl
@@ -36,67 +36,67 @@ entries-cons unknown subs = refl
 
 -- Only an information has any.
 other-body : (one three f₁ f₃ h i : Bool) (p : ℕ) (o : List ℕ) (t : Turn SuboptionValue End) (at end : ℕ) (x : SuboptionValue) (next : ℕ)
-    → cond one (whenGood f₁ (request h i p) at end) (cond false t (cond three (whenGood f₃ (name o) at end) (more unknown end))) ≡ more x next → entriesOf x ≡ []
-other-body true three f₁ f₃ h i p o t at end x next e = ap entriesOf (sym (good-read f₁ (request h i p) at end x next e).2)
-other-body false true f₁ f₃ h i p o t at end x next e = ap entriesOf (sym (good-read f₃ (name o) at end x next e).2)
-other-body false false f₁ f₃ h i p o t at end x next e = let z : unknown ≡ x = cc in ap entriesOf (sym z)
+    → cond one (when_good f₁ (request h i p) at end) (cond false t (cond three (when_good f₃ (name o) at end) (more unknown end))) ≡ more x next → entries_of x ≡ []
+other-body true three f₁ f₃ h i p o t at end x next e = ap entries_of (sym (good-read f₁ (request h i p) at end x next e).2)
+other-body false true f₁ f₃ h i p o t at end x next e = ap entries_of (sym (good-read f₃ (name o) at end x next e).2)
+other-body false false f₁ f₃ h i p o t at end x next e = let z : unknown ≡ x = cc in ap entries_of (sym z)
 
 -- THE SUBOPTION AT A PLACE, where all from there on are good.
-module _ (s : List ℕ) (at : ℕ) (later : List SuboptionValue) (some : at < length s) (good : readSuboptions s at ≡ (later, whole)) where
+module _ (s : List ℕ) (at : ℕ) (later : List SuboptionValue) (some : at < length s) (good : read_suboptions s at ≡ (later, whole)) where
   pub record First : Type 0 where
     pub value : SuboptionValue
     pub rest : List SuboptionValue
-    pub is : readSuboption s at ≡ more value (subEnd s at)
-    pub after : readSuboptions s (subEnd s at) ≡ (rest, whole)
+    pub is : read_suboption s at ≡ more value (sub_end s at)
+    pub after : read_suboptions s (sub_end s at) ≡ (rest, whole)
     pub later-is : later ≡ value ∷ rest
 
   pub first_of : First
-  first_of = go (readSuboption s at) refl
+  first_of = go (read_suboption s at) refl
     where
-      go : (t : Turn SuboptionValue End) → readSuboption s at ≡ t → First
+      go : (t : Turn SuboptionValue End) → read_suboption s at ≡ t → First
       go (more x next) e =
-          let end : subEnd s at ≡ next = suboption-ends s at x next e in
-          let all : ◌≡◌ {A = List SuboptionValue × End} (x ∷ (readSuboptions s next).0, (readSuboptions s next).1) (later, whole) = sym (suboptions-more s at (omega arith) x next e) ∙ good in
+          let end : sub_end s at ≡ next = suboption-ends s at x next e in
+          let all : ◌≡◌ {A = List SuboptionValue × End} (x ∷ (read_suboptions s next).0, (read_suboptions s next).1) (later, whole) = sym (suboptions-more s at (omega arith) x next e) ∙ good in
           record {
             value = x;
-            rest = (readSuboptions s next).0;
+            rest = (read_suboptions s next).0;
             is = e ∙ ap (more x) (sym end);
             after =
-                ap (readSuboptions s) end
-                ∙ ap (λ (b : End). ((readSuboptions s next).0, b)) (ap (λ (q : List SuboptionValue × End). q.1) all);
+                ap (read_suboptions s) end
+                ∙ ap (λ (b : End). ((read_suboptions s next).0, b)) (ap (λ (q : List SuboptionValue × End). q.1) all);
             later-is = sym (ap (λ (q : List SuboptionValue × End). q.0) all);
           }
       go (stop whole) e = absurd (omega (arith, suboption-whole s at e))
-      go (stop (badAt f p)) e =
-          let two : ◌≡◌ {A = List SuboptionValue × End} ([], badAt f p) (later, whole) = sym (suboptions-stop s at (omega arith) (badAt f p) e) ∙ good in
-          let ends : badAt f p ≡ whole = ap (λ (q : List SuboptionValue × End). q.1) two in
+      go (stop (bad_at f p)) e =
+          let two : ◌≡◌ {A = List SuboptionValue × End} ([], bad_at f p) (later, whole) = sym (suboptions-stop s at (omega arith) (bad_at f p) e) ∙ good in
+          let ends : bad_at f p ≡ whole = ap (λ (q : List SuboptionValue × End). q.1) two in
           let z : ◌≡◌ {A = ℕ} 0 1 = cc in absurd (omega arith)
 
   pub first_head : at + 2 ≤ length s
-  first_head = let f = first_of in (suboption-read s at f.value (subEnd s at) f.is).head
+  first_head = let f = first_of in (suboption-read s at f.value (sub_end s at) f.is).head
 
-  pub first-within : subEnd s at ≤ length s
-  first-within = let f = first_of in (suboption-moves s at f.value (subEnd s at) f.is).1
+  pub first-within : sub_end s at ≤ length s
+  first-within = let f = first_of in (suboption-moves s at f.value (sub_end s at) f.is).1
 
   -- Another one is stepped over,
   pub first-other : (get_or s at 0 ≡ 2 → ⊥) → entries later ≡ entries first_of.rest
-  unfolding read_body readRequest readInformation readName
+  unfolding read_body read_request read_information read_name
   first-other k =
       let f = first_of in
-      let body : read_body (get_or s at 0) s at (subEnd s at) ≡ more f.value (subEnd s at) = (suboption-read s at f.value (subEnd s at) f.is).body in
-      let none_of : entriesOf f.value ≡ [] =
-      other-body (eqb (get_or s at 0) 1) (eqb (get_or s at 0) 3) _ _ _ _ _ _ (readInformation s at (subEnd s at)) at (subEnd s at) f.value (subEnd s at)
-      (subst (λ (b : Bool). cond (eqb (get_or s at 0) 1) (readRequest s at (subEnd s at)) (cond b (readInformation s at (subEnd s at)) (cond (eqb (get_or s at 0) 3) (readName s at (subEnd s at)) (more unknown (subEnd s at)))) ≡ more f.value (subEnd s at))
+      let body : read_body (get_or s at 0) s at (sub_end s at) ≡ more f.value (sub_end s at) = (suboption-read s at f.value (sub_end s at) f.is).body in
+      let none_of : entries_of f.value ≡ [] =
+      other-body (eqb (get_or s at 0) 1) (eqb (get_or s at 0) 3) _ _ _ _ _ _ (read_information s at (sub_end s at)) at (sub_end s at) f.value (sub_end s at)
+      (subst (λ (b : Bool). cond (eqb (get_or s at 0) 1) (read_request s at (sub_end s at)) (cond b (read_information s at (sub_end s at)) (cond (eqb (get_or s at 0) 3) (read_name s at (sub_end s at)) (more unknown (sub_end s at)))) ≡ more f.value (sub_end s at))
       (ne_eqb (get_or s at 0) 2 k) body) in
       ap entries f.later-is ∙ entries-cons f.value f.rest ∙ ap (λ (es : List Entry). es ++ entries f.rest) none_of
 
   -- and an information has entries.
-  pub first-here : get_or s at 0 ≡ 2 → LeftAt s (entriesFrom (at + 3) (subEnd s at)) (entries later) × (at + 3 < subEnd s at)
-  unfolding read_body readInformation
+  pub first-here : get_or s at 0 ≡ 2 → LeftAt s (entries_from (at + 3) (sub_end s at)) (entries later) × (at + 3 < sub_end s at)
+  unfolding read_body read_information
   first-here two =
       let f = first_of in
-      let end : ℕ = subEnd s at in
-      let all : List Entry × Bool = readEntries s end (at + 3) in
+      let end : ℕ = sub_end s at in
+      let all : List Entry × Bool = read_entries s end (at + 3) in
       let body : read_body 2 s at end ≡ more f.value end =
       subst (λ (n : ℕ). read_body n s at end ≡ more f.value end) two (suboption-read s at f.value end f.is).body in
       let g = good-read (ltb (at + 3) end && all.1) (information (bit2 (get_or s (at + 2) 0)) (bit1 (get_or s (at + 2) 0)) all.0) at end f.value end body in
@@ -109,15 +109,15 @@ module _ (s : List ℕ) (at : ℕ) (later : List SuboptionValue) (some : at < le
           inside = first-within;
           framed = ap (λ (b : Bool). (all.0, b)) framed.1;
           goes_on = f.after;
-          are = ap entries f.later-is ∙ entries-cons f.value f.rest ∙ ap (λ (x : SuboptionValue). entriesOf x ++ entries f.rest) (sym g.2);
+          are = ap entries f.later-is ∙ entries-cons f.value f.rest ∙ ap (λ (x : SuboptionValue). entries_of x ++ entries f.rest) (sym g.2);
         },
         some,
       )
 
 -- LOOKING FOR AN INFORMATION: the suboptions from `at` up to a place are stepped over, and none of them has entries.
 pub Skipping : List ℕ → ℕ → ℕ → Type 0
-Skipping s at place = (later : List SuboptionValue) → at ≤ length s → readSuboptions s at ≡ (later, whole)
-    → (rest : List SuboptionValue) × (place ≤ length s) × (readSuboptions s place ≡ (rest, whole)) × (entries rest ≡ entries later)
+Skipping s at place = (later : List SuboptionValue) → at ≤ length s → read_suboptions s at ≡ (later, whole)
+    → (rest : List SuboptionValue) × (place ≤ length s) × (read_suboptions s place ≡ (rest, whole)) × (entries rest ≡ entries later)
 
 pub skipping-none : (s : List ℕ) (at : ℕ) → Skipping s at at
 unfolding Skipping
@@ -125,7 +125,7 @@ skipping-none s at later inside good = (later, inside, good, refl)
 
 module _ (s : List ℕ) (at place : ℕ) (h : Skipping s at place) where
   module _ (lt : place < length s) (len end : ℕ) (e : end ≡ place + 2 + len) (l : len ≡ get_or s (place + 1) 0) where
-    end_is : end ≡ subEnd s place
+    end_is : end ≡ sub_end s place
     end_is = omega (arith, e, l)
 
     pub skipping-more : (get_or s place 0 ≡ 2 → ⊥) → Skipping s at end
@@ -133,34 +133,34 @@ module _ (s : List ℕ) (at place : ℕ) (h : Skipping s at place) where
     skipping-more k later inside good =
         let g = h later inside good in
         let f = first_of s place g.0 lt g.2 in
-        (f.rest, omega (arith, end_is, first-within s place g.0 lt g.2), ap (readSuboptions s) end_is ∙ f.after, sym (first-other s place g.0 lt g.2 k) ∙ g.3)
+        (f.rest, omega (arith, end_is, first-within s place g.0 lt g.2), ap (read_suboptions s) end_is ∙ f.after, sym (first-other s place g.0 lt g.2 k) ∙ g.3)
 
-    pub skipping-here : get_or s place 0 ≡ 2 → (later : List SuboptionValue) → at ≤ length s → readSuboptions s at ≡ (later, whole)
-        → LeftAt s (entriesFrom (place + 3) end) (entries later) × (place + 3 < end)
+    pub skipping-here : get_or s place 0 ≡ 2 → (later : List SuboptionValue) → at ≤ length s → read_suboptions s at ≡ (later, whole)
+        → LeftAt s (entries_from (place + 3) end) (entries later) × (place + 3 < end)
     unfolding Skipping
     skipping-here two later inside good =
         let g = h later inside good in
         let f = first-here s place g.0 lt g.2 two in
-        (subst (λ (m : ℕ). LeftAt s (entriesFrom (place + 3) m) (entries later)) (sym end_is) (subst (LeftAt s (entriesFrom (place + 3) (subEnd s place))) g.3 f.0), omega (arith, end_is, f.1))
+        (subst (λ (m : ℕ). LeftAt s (entries_from (place + 3) m) (entries later)) (sym end_is) (subst (LeftAt s (entries_from (place + 3) (sub_end s place))) g.3 f.0), omega (arith, end_is, f.1))
 
   -- It has its head,
-  pub skipping-head : place < length s → (later : List SuboptionValue) → at ≤ length s → readSuboptions s at ≡ (later, whole) → place + 2 ≤ length s
+  pub skipping-head : place < length s → (later : List SuboptionValue) → at ≤ length s → read_suboptions s at ≡ (later, whole) → place + 2 ≤ length s
   unfolding Skipping
   skipping-head lt later inside good = let g = h later inside good in first_head s place g.0 lt g.2
 
   -- and at the end of the option no entry is left.
-  pub skipping-end : length s ≤ place → (later : List SuboptionValue) → at ≤ length s → readSuboptions s at ≡ (later, whole) → entries later ≡ []
-  unfolding Skipping readSuboption
+  pub skipping-end : length s ≤ place → (later : List SuboptionValue) → at ≤ length s → read_suboptions s at ≡ (later, whole) → entries later ≡ []
+  unfolding Skipping read_suboption
   skipping-end past later inside good =
       let g = h later inside good in
-      let end : readSuboption s place ≡ stop whole = cond-true (leb (length s) place) _ _ (le-leb (length s) place past) in
+      let end : read_suboption s place ≡ stop whole = cond-true (leb (length s) place) _ _ (le-leb (length s) place past) in
       let nothing : ◌≡◌ {A = List SuboptionValue × End} ([], whole) (g.0, whole) = sym (suboptions-stop s place g.1 whole end) ∙ g.2 in
       sym g.3 ∙ ap (λ (q : List SuboptionValue × End). entries q.0) (sym nothing)
 
 -- THE ENTRY AT A CURSOR
 
 -- Before the first.
-pub left-first : (s : List ℕ) (subs : List SuboptionValue) → 3 ≤ length s → readSuboptions s 3 ≡ (subs, whole) → LeftAt s firstEntries (entries subs)
+pub left-first : (s : List ℕ) (subs : List SuboptionValue) → 3 ≤ length s → read_suboptions s 3 ≡ (subs, whole) → LeftAt s first_entries (entries subs)
 unfolding read_entry
 left-first s subs long good = record {
   here = [];
@@ -183,23 +183,23 @@ module _ (s : List ℕ) (c : EntryCursor) (e : Entry) (es : List Entry) (h : Lef
 
   -- One is left here.
   module _ (some : c.at < c.end) where
-    pub left-entry : (next : ℕ) × (read_entry s c.end c.at ≡ more e next) × LeftAt s (entriesFrom next c.end) es
+    pub left-entry : (next : ℕ) × (read_entry s c.end c.at ≡ more e next) × LeftAt s (entries_from next c.end) es
     left-entry = go (read_entry s c.end c.at) refl
       where
-        go : (t : Turn Entry Bool) → read_entry s c.end c.at ≡ t → (next : ℕ) × (read_entry s c.end c.at ≡ more e next) × LeftAt s (entriesFrom next c.end) es
+        go : (t : Turn Entry Bool) → read_entry s c.end c.at ≡ t → (next : ℕ) × (read_entry s c.end c.at ≡ more e next) × LeftAt s (entries_from next c.end) es
         go (more x next) k =
-            let all : ◌≡◌ {A = List Entry × Bool} (x ∷ (readEntries s c.end next).0, (readEntries s c.end next).1) (h.here, true) = sym (entries-more s c.end c.at h.ordered x next k) ∙ h.framed in
-            let are : e ∷ es ≡ x ∷ ((readEntries s c.end next).0 ++ entries h.later) = h.are ∙ ap (λ (q : List Entry × Bool). q.0 ++ entries h.later) (sym all) in
+            let all : ◌≡◌ {A = List Entry × Bool} (x ∷ (read_entries s c.end next).0, (read_entries s c.end next).1) (h.here, true) = sym (entries-more s c.end c.at h.ordered x next k) ∙ h.framed in
+            let are : e ∷ es ≡ x ∷ ((read_entries s c.end next).0 ++ entries h.later) = h.are ∙ ap (λ (q : List Entry × Bool). q.0 ++ entries h.later) (sym all) in
             let head : x ≡ e = cc in
-            let tail : es ≡ (readEntries s c.end next).0 ++ entries h.later = cc in (
+            let tail : es ≡ (read_entries s c.end next).0 ++ entries h.later = cc in (
               next,
               k ∙ ap (λ (y : Entry). more y next) head,
               record {
-                here = (readEntries s c.end next).0;
+                here = (read_entries s c.end next).0;
                 later = h.later;
                 ordered = (entry-moves s c.end c.at x next k).1;
                 inside = h.inside;
-                framed = ap (λ (b : Bool). ((readEntries s c.end next).0, b)) (ap (λ (q : List Entry × Bool). q.1) all);
+                framed = ap (λ (b : Bool). ((read_entries s c.end next).0, b)) (ap (λ (q : List Entry × Bool). q.1) all);
                 goes_on = h.goes_on;
                 are = tail;
               },
@@ -211,16 +211,16 @@ module _ (s : List ℕ) (c : EntryCursor) (e : Entry) (es : List Entry) (h : Lef
             let z : ◌≡◌ {A = ℕ} 0 1 = cc in absurd (omega arith)
 
     -- What the step's answer tells.
-    pub left-told : (f : EntryFields) (n : EntryCursor) → entry-step.Entry f n ≡ entryStepOf c.end (read_entry s c.end c.at) → (f.figures ≡ figuresOf e.figures) × LeftAt s n es
+    pub left-told : (f : EntryFields) (n : EntryCursor) → entry-step.Entry f n ≡ entry_step_of c.end (read_entry s c.end c.at) → (f.figures ≡ figures_of e.figures) × LeftAt s n es
     left-told f n k =
         let t = left-entry in
-        let told : entry-step.Entry f n ≡ entry-step.Entry (fields_of e) (entriesFrom t.0 c.end) = k ∙ ap (entryStepOf c.end) t.1 in
+        let told : entry-step.Entry f n ≡ entry-step.Entry (fields_of e) (entries_from t.0 c.end) = k ∙ ap (entry_step_of c.end) t.1 in
         let fields : f ≡ fields_of e = cc in
-        let cursor : entriesFrom t.0 c.end ≡ n = cc in
+        let cursor : entries_from t.0 c.end ≡ n = cc in
         (ap (λ (g : EntryFields). g.figures) fields, subst (λ (m : EntryCursor). LeftAt s m es) cursor t.2)
 
     -- So it is none of the others.
-    pub left-met : (t : EntryStep) → t ≡ entryStepOf c.end (read_entry s c.end c.at) → (tag_of the_type t ≡ 1) ⊎ (tag_of the_type t ≡ 2) → ⊥
+    pub left-met : (t : EntryStep) → t ≡ entry_step_of c.end (read_entry s c.end c.at) → (tag_of the_type t ≡ 1) ⊎ (tag_of the_type t ≡ 2) → ⊥
     left-met t k other =
-        let entry : tag_of the_type t ≡ 0 = ap (tag_of the_type) (k ∙ ap (entryStepOf c.end) left-entry.1) in
+        let entry : tag_of the_type t ≡ 0 = ap (tag_of the_type) (k ∙ ap (entry_step_of c.end) left-entry.1) in
         ⊎_elim (λ (cut : tag_of the_type t ≡ 1). omega arith) (λ (end : tag_of the_type t ≡ 2). omega arith) other

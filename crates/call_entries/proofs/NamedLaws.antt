@@ -9,24 +9,24 @@ use lib.ListN.{length, set, get_or, take, drop, length-map, take-append-drop}
 use lib.Seq.{get_or-set_same, length-take-le}
 use lib.Dec.{leb, ltb, eqb}
 use borrow.Author.Tests.{ltb-true, lt-ltb, eqb-true, eq-eqb}
-use Rattle.lists.specs.Lists.{All, and, filter, concatMap}
+use Rattle.lists.specs.Lists.{All, and, filter, concat_map}
 use Rattle.lists.specs.Put.{put}
 use Rattle.lists.proofs.Tests.{and-to, and-of, not-true⇒false, and-list-to, and-list-of}
 use Rattle.table.specs.declared.Lease.{Lease}
-use Rattle.table.specs.Table.{noLease}
-use Rattle.image.specs.Image.{le16, le32, leaseSize, leaseRecordIn, leaseRecord, stateByte}
-use Rattle.image.specs.Reading.{leaseIn}
+use Rattle.table.specs.Table.{no_lease}
+use Rattle.image.specs.Image.{le16, le32, lease_size, lease_record_in, lease_record, state_byte}
+use Rattle.image.specs.Reading.{lease_in}
 use Rattle.image.proofs.ImageLaws.{length-lease}
 use Rattle.image_records.specs.Records.{Records, Ascending}
 use Rattle.image_records.proofs.PutForms.{set-behind, put-behind, put-inside}
 use Rattle.image_records.proofs.RecordLaws.{record-at, record-within, lease-in-place, records-room, put-records, put-leases-same, edit-is}
 use Rattle.image_records.proofs.FindLaws.{none-map, found_within, found_none, found-other, found-filter, found_map}
-use Rattle.call_entries.specs.EntryLeases.{named?, FoundAt, leasedUntil, changedIf, ExpirySet}
+use Rattle.call_entries.specs.EntryLeases.{named?, FoundAt, leased_until, changed_if, ExpirySet}
 
 -- THE TEST
 
-abbrev namedTests : ℕ → ℕ → ℕ → Lease → List Bool
-namedTests client network len x = eqb x.client client ∷ eqb x.network network ∷ eqb x.length len ∷ []
+abbrev named_tests : ℕ → ℕ → ℕ → Lease → List Bool
+named_tests client network len x = eqb x.client client ∷ eqb x.network network ∷ eqb x.length len ∷ []
 
 abbrev pub Named : ℕ → ℕ → ℕ → ℕ → Lease → Type 0
 Named now client network len x = (now < x.expires) × (x.client ≡ client) × (x.network ≡ network) × (x.length ≡ len)
@@ -34,14 +34,14 @@ Named now client network len x = (now < x.expires) × (x.client ≡ client) × (
 module _ (now client network len : ℕ) (x : Lease) where
   pub named-to : named? now client network len x ≡ true → Named now client network len x
   named-to e =
-      let both = and-to (ltb now x.expires) (and (namedTests client network len x)) e in
-      let tests = and-list-to (namedTests client network len x) both.1 in
+      let both = and-to (ltb now x.expires) (and (named_tests client network len x)) e in
+      let tests = and-list-to (named_tests client network len x) both.1 in
       (ltb-true now x.expires both.0, eqb-true x.client client tests.0, eqb-true x.network network tests.1.0, eqb-true x.length len tests.1.1.0)
 
   pub named-of : Named now client network len x → named? now client network len x ≡ true
   named-of p =
-      and-of (ltb now x.expires) (and (namedTests client network len x)) (lt-ltb now x.expires p.0)
-      (and-list-of (namedTests client network len x) (eq-eqb x.client client p.1, (eq-eqb x.network network p.2, (eq-eqb x.length len p.3, tt))))
+      and-of (ltb now x.expires) (and (named_tests client network len x)) (lt-ltb now x.expires p.0)
+      (and-list-of (named_tests client network len x) (eq-eqb x.client client p.1, (eq-eqb x.network network p.2, (eq-eqb x.length len p.3, tt))))
 
 -- FINDING IT
 
@@ -59,8 +59,8 @@ module _ (now client network len : ℕ) (l : List ℕ) (from n r : ℕ)
       missing (named? now client network len) xs n counted (found_none network xs a r (placed xs held counted a) (named? now client network len) only z)
 
   -- The last of those that have.
-  module _ (h : 0 < r) (x : Lease) (read : x ≡ leaseIn (drop (from + leaseSize * (r - 1)) l)) where
-    it-is : (xs : List Lease) → Records l from xs → n ≡ length xs → Ascending xs → named? now client network len (get_or xs (r - 1) noLease) ≡ named? now client network len x
+  module _ (h : 0 < r) (x : Lease) (read : x ≡ lease_in (drop (from + lease_size * (r - 1)) l)) where
+    it-is : (xs : List Lease) → Records l from xs → n ≡ length xs → Ascending xs → named? now client network len (get_or xs (r - 1) no_lease) ≡ named? now client network len x
     it-is xs held counted a =
         ap (named? now client network len)
         (sym (read ∙ lease-in-place l from xs held (r - 1) (found_within network xs a r (placed xs held counted a) h)))
@@ -86,23 +86,23 @@ module _ (now client network len : ℕ) (l : List ℕ) (from n r : ℕ)
 
 -- CHANGING IT
 
-written : (x : Lease) (q : List ℕ) (expires : ℕ) → put (set (leaseRecord x ++ q) 9 (stateByte true)) 15 (le32 expires) ≡ leaseRecord (leasedUntil expires x) ++ q
-unfolding leaseRecordIn le16 le32 put
+written : (x : Lease) (q : List ℕ) (expires : ℕ) → put (set (lease_record x ++ q) 9 (state_byte true)) 15 (le32 expires) ≡ lease_record (leased_until expires x) ++ q
+unfolding lease_record_in le16 le32 put
 written x q expires = refl
 
-leased-in-place : (l : List ℕ) (at : ℕ) (x : Lease) (q : List ℕ) (expires : ℕ) → at ≤ length l → drop at l ≡ leaseRecord x ++ q
-    → put (set l (at + 9) (stateByte true)) (at + 15) (le32 expires) ≡ put l at (leaseRecord (leasedUntil expires x))
+leased-in-place : (l : List ℕ) (at : ℕ) (x : Lease) (q : List ℕ) (expires : ℕ) → at ≤ length l → drop at l ≡ lease_record x ++ q
+    → put (set l (at + 9) (state_byte true)) (at + 15) (le32 expires) ≡ put l at (lease_record (leased_until expires x))
 leased-in-place l at x q expires within e =
     let p : List ℕ = take at l in
     let size : length p ≡ at = length-take-le at l within in
-    let r : List ℕ = leaseRecord x ++ q in
+    let r : List ℕ = lease_record x ++ q in
     let here : l ≡ p ++ r = sym (take-append-drop at l) ∙ ap (λ (s : List ℕ). p ++ s) e in
-    ap₂ (λ (m : List ℕ) (k : ℕ). put (set m (k + 9) (stateByte true)) (k + 15) (le32 expires)) here (sym size)
-    ∙ ap (λ (m : List ℕ). put m (length p + 15) (le32 expires)) (set-behind p r 9 (stateByte true))
-    ∙ put-behind (le32 expires) p (set r 9 (stateByte true)) 15
+    ap₂ (λ (m : List ℕ) (k : ℕ). put (set m (k + 9) (state_byte true)) (k + 15) (le32 expires)) here (sym size)
+    ∙ ap (λ (m : List ℕ). put m (length p + 15) (le32 expires)) (set-behind p r 9 (state_byte true))
+    ∙ put-behind (le32 expires) p (set r 9 (state_byte true)) 15
     ∙ ap (λ (s : List ℕ). p ++ s) (written x q expires)
-    ∙ sym (put-inside at (leaseRecord (leasedUntil expires x)) p (leaseRecord x) q size (length-lease x ∙ sym (length-lease (leasedUntil expires x))))
-    ∙ ap (λ (m : List ℕ). put m at (leaseRecord (leasedUntil expires x))) (sym here)
+    ∙ sym (put-inside at (lease_record (leased_until expires x)) p (lease_record x) q size (length-lease x ∙ sym (length-lease (leased_until expires x))))
+    ∙ ap (λ (m : List ℕ). put m at (lease_record (leased_until expires x))) (sym here)
 
 module _ (g : Lease → Bool) (expires : ℕ) (l : List ℕ) (from : ℕ) (xs : List Lease) (held : Records l from xs) (r : ℕ) (f : FoundAt g xs r) where
   -- There is none.
@@ -111,29 +111,29 @@ module _ (g : Lease → Bool) (expires : ℕ) (l : List ℕ) (from : ℕ) (xs : 
     found = f;
     after_is =
         same
-        ∙ sym (ap (λ (ys : List Lease). put l from (concatMap leaseRecord ys)) (none-map g (leasedUntil expires) xs (f.none z)) ∙ put-leases-same l from xs held);
+        ∙ sym (ap (λ (ys : List Lease). put l from (concat_map lease_record ys)) (none-map g (leased_until expires) xs (f.none z)) ∙ put-leases-same l from xs held);
   }
 
   -- Of its record the state and the end are written.
-  pub set-expiry-here : r < length xs → (after : List ℕ) → after ≡ put (set l (from + leaseSize * r + 9) (stateByte true)) (from + leaseSize * r + 15) (le32 expires) → ExpirySet g expires l from xs after r
+  pub set-expiry-here : r < length xs → (after : List ℕ) → after ≡ put (set l (from + lease_size * r + 9) (state_byte true)) (from + lease_size * r + 15) (le32 expires) → ExpirySet g expires l from xs after r
   set-expiry-here h after e = record {
     found = f;
     after_is =
         e
-        ∙ leased-in-place l (from + leaseSize * r) (get_or xs r noLease) (drop (from + leaseSize * r + leaseSize) l) expires (omega (arith, record-within l from xs held r h)) (record-at l from xs held r h)
-        ∙ edit-is l from xs held r h (leasedUntil expires (get_or xs r noLease))
-        ∙ ap (λ (ys : List Lease). put l from (concatMap leaseRecord ys)) (sym (f.edited h (leasedUntil expires)));
+        ∙ leased-in-place l (from + lease_size * r) (get_or xs r no_lease) (drop (from + lease_size * r + lease_size) l) expires (omega (arith, record-within l from xs held r h)) (record-at l from xs held r h)
+        ∙ edit-is l from xs held r h (leased_until expires (get_or xs r no_lease))
+        ∙ ap (λ (ys : List Lease). put l from (concat_map lease_record ys)) (sym (f.edited h (leased_until expires)));
   }
 
   module _ (after : List ℕ) (c : ExpirySet g expires l from xs after r) where
     -- The leases stand there, with the changed one.
-    pub set-expiry-holds : from + leaseSize * length xs ≤ length l → Records after from (map (changedIf g expires) xs)
+    pub set-expiry-holds : from + lease_size * length xs ≤ length l → Records after from (map (changed_if g expires) xs)
     set-expiry-holds room =
-        subst (λ (s : List ℕ). Records s from (map (changedIf g expires) xs)) (sym c.after_is)
-        (put-records l from (map (changedIf g expires) xs) (omega (arith, length-map xs (changedIf g expires))))
+        subst (λ (s : List ℕ). Records s from (map (changed_if g expires) xs)) (sym c.after_is)
+        (put-records l from (map (changed_if g expires) xs) (omega (arith, length-map xs (changed_if g expires))))
 
-    pub set-expiry-lease : r < length xs → leaseIn (drop (from + leaseSize * r) after) ≡ leasedUntil expires (get_or xs r noLease)
+    pub set-expiry-lease : r < length xs → lease_in (drop (from + lease_size * r) after) ≡ leased_until expires (get_or xs r no_lease)
     set-expiry-lease h =
-        lease-in-place after from (map (changedIf g expires) xs) (set-expiry-holds (records-room l from xs held (omega arith))) r (omega (arith, length-map xs (changedIf g expires)))
-        ∙ ap (λ (ys : List Lease). get_or ys r noLease) (f.edited h (leasedUntil expires))
-        ∙ get_or-set_same xs r (leasedUntil expires (get_or xs r noLease)) noLease h
+        lease-in-place after from (map (changed_if g expires) xs) (set-expiry-holds (records-room l from xs held (omega arith))) r (omega (arith, length-map xs (changed_if g expires)))
+        ∙ ap (λ (ys : List Lease). get_or ys r no_lease) (f.edited h (leased_until expires))
+        ∙ get_or-set_same xs r (leased_until expires (get_or xs r no_lease)) no_lease h

@@ -1,15 +1,15 @@
 // What take and release have in common: the entries of an option, and the leases that they name, found and changed in place.
 ghost use Rattle.std.specs.Prelude.{◌≡◌, List, ◌∷◌, ◌+◌, ◌*◌, ◌≤◌, ◌<◌, length as count};
 ghost use Rattle.table.specs.declared.Lease.{Lease};
-ghost use Rattle.image.specs.Image.{leaseSize};
-ghost use Rattle.option.specs.Values.{mostEntries, Entry, SuboptionValue};
-ghost use Rattle.option.specs.Reading.{whole, readSuboptions};
+ghost use Rattle.image.specs.Image.{lease_size};
+ghost use Rattle.option.specs.Values.{most_entries, Entry, SuboptionValue};
+ghost use Rattle.option.specs.Reading.{whole, read_suboptions};
 ghost use Rattle.option.specs.Contents.{entries};
-ghost use Rattle.option.specs.Answers.{figuresOf};
+ghost use Rattle.option.specs.Answers.{figures_of};
 ghost use Rattle.image_records.specs.Records.{Records, Ascending};
 ghost use Rattle.call_entries.specs.EntryLeases.{named?, FoundAt, ExpirySet};
 ghost use Rattle.call_entries.specs.EntryRows.{ReadsEntries};
-ghost use Rattle.call_entries.specs.EntryFigures.{firstEntries, LeftAt};
+ghost use Rattle.call_entries.specs.EntryFigures.{first_entries, LeftAt};
 
 use image::{EXPIRES, LEASE, STATE};
 use ledger::Answer;
@@ -27,7 +27,7 @@ pub struct EntriesRead {
 
 // The networks and lengths of an option's entries, into two columns.
 pub fn read_entries(option: &[u8], networks: &mut [u32], lengths: &mut [u8]) -> EntriesRead
-    requires { (mostEntries ≤ count networks.old) × (mostEntries ≤ count lengths.old) }
+    requires { (most_entries ≤ count networks.old) × (most_entries ≤ count lengths.old) }
     ensures { ReadsEntries option.now result networks.new lengths.new }
 {
     let mut asks = [0u8; option_scan::MOST_REQUESTS];
@@ -62,14 +62,14 @@ const INFORMATION: u8 = 2;
 
 // Where the suboptions begin, before the first entry.
 pub fn first_entries() -> EntryCursor
-    ensures { result ≡ firstEntries }
+    ensures { result ≡ first_entries }
 {
     EntryCursor { at: 3, end: 3 }
 }
 
 // The entries of the first information from a place on.
 fn information_from(s: &[u8], at: usize) -> EntryCursor
-    ensures { (later : List SuboptionValue) → at ≤ count s.now → readSuboptions s.now at ≡ (later, whole) → 0 < count (entries later)
+    ensures { (later : List SuboptionValue) → at ≤ count s.now → read_suboptions s.now at ≡ (later, whole) → 0 < count (entries later)
         → LeftAt s.now result (entries later) × (result.at < result.end) }
 {
     let mut place = at;
@@ -110,7 +110,7 @@ pub struct FiguresRead {
 }
 
 pub fn read_figures(s: &[u8], entries: EntryCursor) -> FiguresRead
-    ensures { (e : Entry) (es : List Entry) → LeftAt s.now entries (e ∷ es) → (result.figures ≡ figuresOf e.figures) × LeftAt s.now result.next es }
+    ensures { (e : Entry) (es : List Entry) → LeftAt s.now entries (e ∷ es) → (result.figures ≡ figures_of e.figures) × LeftAt s.now result.next es }
 {
     let here = next_entry(s, entries);
     match here.step(s) {
@@ -145,7 +145,7 @@ pub fn find(
     network: u32,
     length: u8,
 ) -> usize
-    requires { from + leaseSize * n ≤ count image.now }
+    requires { from + lease_size * n ≤ count image.now }
     ensures upper_bound { result ≤ n }
     ensures found_at { (xs : List Lease) → Records image.now from xs → n ≡ count xs → Ascending xs → FoundAt (named? time client network length) xs result }
 {
@@ -186,7 +186,7 @@ pub fn set_expiry(
     network: u32,
     length: u8,
 ) -> usize
-    requires { from + leaseSize * n ≤ count image.old }
+    requires { from + lease_size * n ≤ count image.old }
     ensures upper_bound { result ≤ n }
     ensures expiry_set { (xs : List Lease) → Records image.old from xs → n ≡ count xs → Ascending xs
         → ExpirySet (named? expiry.time expiry.client network length) expiry.expires image.old from xs image.new result }

@@ -18,89 +18,89 @@ use Rattle.lists.proofs.FilterLaws.{filter-yes, filter-no, filter_none, filter-p
 use Rattle.prefix.specs.declared.Prefix.{Prefix}
 use Rattle.prefix.specs.Prefixes.{end}
 use Rattle.table.specs.declared.Pool.{Pool}
-use Rattle.table.specs.Table.{noPool, poolPrefix, unused?}
+use Rattle.table.specs.Table.{no_pool, pool_prefix, unused?}
 use Rattle.table.proofs.Ascending.{Ascending, ascending-low}
 use Rattle.table.proofs.TableLaws.{sound-pools}
-use Rattle.image.specs.Image.{headSize, poolSize, usedPools}
-use Rattle.image.specs.Reading.{poolIn}
+use Rattle.image.specs.Image.{head_size, pool_size, used_pools}
+use Rattle.image.specs.Reading.{pool_in}
 use Rattle.image_records.proofs.PoolRecords.{image-pools}
 use Rattle.ledger.specs.Ledger.{contains?}
 use Rattle.ledger.proofs.GroundLaws.{ground-filtered}
-use Rattle.call_ground.specs.Ground.{inPool?, onePool, PoolOf}
+use Rattle.call_ground.specs.Ground.{in_pool?, one_pool, PoolOf}
 
 -- The pool with this index in a buffer.
-abbrev pub poolAt : List ℕ → ℕ → Pool
-poolAt image k = poolIn (drop (headSize + poolSize * k) image)
+abbrev pub pool_at : List ℕ → ℕ → Pool
+pool_at image k = pool_in (drop (head_size + pool_size * k) image)
 
 -- Pools that ascend: at most one contains the address, the first that does.
-pub past : (a : ℕ) (p : Pool) → a < p.network → inPool? a p ≡ false
-past a p h = ap (λ (b : Bool). b && (ltb a (end (poolPrefix p)) && true)) (lt-leb p.network a h)
+pub past : (a : ℕ) (p : Pool) → a < p.network → in_pool? a p ≡ false
+past a p h = ap (λ (b : Bool). b && (ltb a (end (pool_prefix p)) && true)) (lt-leb p.network a h)
 
-pub reached : (a : ℕ) (p : Pool) → p.network ≤ a → (q : Prefix) (stop : ℕ) → q ≡ poolPrefix p → stop ≡ end q → ltb a stop ≡ inPool? a p
+pub reached : (a : ℕ) (p : Pool) → p.network ≤ a → (q : Prefix) (stop : ℕ) → q ≡ pool_prefix p → stop ≡ end q → ltb a stop ≡ in_pool? a p
 reached a p h q stop e f =
     ap (ltb a) (f ∙ ap end e)
-    ∙ sym (and-true (ltb a (end (poolPrefix p))))
-    ∙ sym (ap (λ (b : Bool). b && (ltb a (end (poolPrefix p)) && true)) (le-leb p.network a h))
+    ∙ sym (and-true (ltb a (end (pool_prefix p))))
+    ∙ sym (ap (λ (b : Bool). b && (ltb a (end (pool_prefix p)) && true)) (le-leb p.network a h))
   where
     and-true : (b : Bool) → (b && true) ≡ b
     and-true true = refl
     and-true false = refl
 
-filter-one : (a from : ℕ) (ps : List Pool) → Ascending poolPrefix from ps → (r : ℕ) → r ≤ length ps → ((j : ℕ) → j < r → inPool? a (get_or ps j noPool) ≡ false)
-    → (r < length ps → inPool? a (get_or ps r noPool) ≡ true) → filter (inPool? a) ps ≡ take 1 (drop r ps)
+filter-one : (a from : ℕ) (ps : List Pool) → Ascending pool_prefix from ps → (r : ℕ) → r ≤ length ps → ((j : ℕ) → j < r → in_pool? a (get_or ps j no_pool) ≡ false)
+    → (r < length ps → in_pool? a (get_or ps r no_pool) ≡ true) → filter (in_pool? a) ps ≡ take 1 (drop r ps)
 filter-one a from [] s zero h fails passes = refl
 filter-one a from [] s (suc r) h fails passes = absurd (omega arith)
 filter-one a from (p ∷ ps) s zero h fails passes =
-    let here : inPool? a p ≡ true = passes (omega arith) in
-    let below : a < end (poolPrefix p) = ltb-true a (end (poolPrefix p)) (and-to (ltb a (end (poolPrefix p))) true (and-to (leb p.network a) _ here).1).0 in
-    let later = ascending-low poolPrefix (end (poolPrefix p)) ps s.1 in
-    filter-yes (inPool? a) p ps here
-    ∙ ap (λ (l : List Pool). p ∷ l) (filter_none (inPool? a) ps (all_map (λ (q : Pool) (k : end (poolPrefix p) ≤ q.network). past a q (omega arith)) ps later))
+    let here : in_pool? a p ≡ true = passes (omega arith) in
+    let below : a < end (pool_prefix p) = ltb-true a (end (pool_prefix p)) (and-to (ltb a (end (pool_prefix p))) true (and-to (leb p.network a) _ here).1).0 in
+    let later = ascending-low pool_prefix (end (pool_prefix p)) ps s.1 in
+    filter-yes (in_pool? a) p ps here
+    ∙ ap (λ (l : List Pool). p ∷ l) (filter_none (in_pool? a) ps (all_map (λ (q : Pool) (k : end (pool_prefix p) ≤ q.network). past a q (omega arith)) ps later))
 filter-one a from (p ∷ ps) s (suc r) h fails passes =
-    filter-no (inPool? a) p ps (fails 0 (omega arith))
-    ∙ filter-one a (end (poolPrefix p)) ps s.1 r (omega arith) (λ j k. fails (suc j) (omega arith)) (λ k. passes (omega arith))
+    filter-no (in_pool? a) p ps (fails 0 (omega arith))
+    ∙ filter-one a (end (pool_prefix p)) ps s.1 r (omega arith) (λ j k. fails (suc j) (omega arith)) (λ k. passes (omega arith))
 
-contains-used : (a : ℕ) (p : Pool) → not (unused? p) ≡ true → contains? a p ≡ inPool? a p
-contains-used a p e = ap (λ (b : Bool). b && inPool? a p) e
+contains-used : (a : ℕ) (p : Pool) → not (unused? p) ≡ true → contains? a p ≡ in_pool? a p
+contains-used a p e = ap (λ (b : Bool). b && in_pool? a p) e
 
 -- No pool before the k-th contains the address.
 abbrev pub None : List ℕ → ℕ → ℕ → Type 0
-None image address k = (j : ℕ) → j < k → inPool? address (poolAt image j) ≡ false
+None image address k = (j : ℕ) → j < k → in_pool? address (pool_at image j) ≡ false
 
 pub none_first : (image : List ℕ) (address : ℕ) → None image address 0
 none_first image address j h = absurd (omega arith)
 
-pub none_more : (image : List ℕ) (address k : ℕ) → None image address k → inPool? address (poolAt image k) ≡ false → None image address (k + 1)
+pub none_more : (image : List ℕ) (address k : ℕ) → None image address k → in_pool? address (pool_at image k) ≡ false → None image address (k + 1)
 none_more image address k fails here j h =
     ⊎_elim
-    (λ (e : eqb j k ≡ true). ap (λ (i : ℕ). inPool? address (poolAt image i)) (eqb-true j k e) ∙ here)
+    (λ (e : eqb j k ≡ true). ap (λ (i : ℕ). in_pool? address (pool_at image i)) (eqb-true j k e) ∙ here)
     (λ (e : eqb j k ≡ false). let other = eqb-false j k e in fails j (omega (arith, other)))
     (bool_cases (eqb j k))
 
 module _ (image : List ℕ) (pools address r : ℕ) (within : r ≤ pools) (fails : None image address r)
-    (passes : r < pools → inPool? address (poolAt image r) ≡ true) where
+    (passes : r < pools → in_pool? address (pool_at image r) ≡ true) where
   pub pool-of : PoolOf image pools address r
   pool-of = record {
     within = within;
     ground = λ t bytes e i n s f.
-        let ps : List Pool = usedPools t in
-        let at : (k : ℕ) → k < pools → poolAt image k ≡ get_or ps k noPool =
-        λ k h. ap poolIn (sym (drop-drop (poolSize * k) headSize image)) ∙ image-pools t image bytes i k (omega (arith, n)) in
-        let one : filter (inPool? address) ps ≡ take 1 (drop r ps) =
+        let ps : List Pool = used_pools t in
+        let at : (k : ℕ) → k < pools → pool_at image k ≡ get_or ps k no_pool =
+        λ k h. ap pool_in (sym (drop-drop (pool_size * k) head_size image)) ∙ image-pools t image bytes i k (omega (arith, n)) in
+        let one : filter (in_pool? address) ps ≡ take 1 (drop r ps) =
         filter-one address 0 ps (sound-pools t e).ascending r (omega (arith, n, within))
-        (λ j h. ap (inPool? address) (sym (at j (omega arith))) ∙ fails j h)
-        (λ h. ap (inPool? address) (sym (at r (omega (arith, n)))) ∙ passes (omega (arith, n))) in
+        (λ j h. ap (in_pool? address) (sym (at j (omega arith))) ∙ fails j h)
+        (λ h. ap (in_pool? address) (sym (at r (omega (arith, n)))) ∙ passes (omega (arith, n))) in
         ground-filtered s t
-        ∙ ap (λ (a : ℕ). map poolPrefix (filter (contains? a) ps)) (sym f)
-        ∙ ap (map poolPrefix)
-        (filter-same-on (contains? address) (inPool? address) ps
+        ∙ ap (λ (a : ℕ). map pool_prefix (filter (contains? a) ps)) (sym f)
+        ∙ ap (map pool_prefix)
+        (filter-same-on (contains? address) (in_pool? address) ps
         (all_map (λ (p : Pool) (k : not (unused? p) ≡ true). contains-used address p k) ps (filter-pass (λ p. not (unused? p)) t.pools)) ∙ one);
   }
 
 -- The pool with that index: there is one exactly where the index is below their number.
 
-pub one-pool : (ps : List Pool) (r : ℕ) → r < length ps → onePool ps r ≡ poolPrefix (get_or ps r noPool) ∷ []
-one-pool ps r h = ap (λ (l : List Pool). map poolPrefix (take 1 l)) (drop_at ps r noPool h)
+pub one-pool : (ps : List Pool) (r : ℕ) → r < length ps → one_pool ps r ≡ pool_prefix (get_or ps r no_pool) ∷ []
+one-pool ps r h = ap (λ (l : List Pool). map pool_prefix (take 1 l)) (drop_at ps r no_pool h)
 
-pub no-pool : (ps : List Pool) (r : ℕ) → length ps ≤ r → onePool ps r ≡ []
-no-pool ps r h = ap (λ (l : List Pool). map poolPrefix (take 1 l)) (drop-end ps r h)
+pub no-pool : (ps : List Pool) (r : ℕ) → length ps ≤ r → one_pool ps r ≡ []
+no-pool ps r h = ap (λ (l : List Pool). map pool_prefix (take 1 l)) (drop-end ps r h)

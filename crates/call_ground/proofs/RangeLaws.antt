@@ -13,14 +13,14 @@ use Rattle.lists.proofs.FilterLaws.{filter-no}
 use Rattle.prefix.specs.declared.Prefix.{Prefix}
 use Rattle.prefix.specs.Prefixes.{end}
 use Rattle.table.specs.declared.Lease.{Lease}
-use Rattle.table.specs.Table.{noLease}
-use Rattle.image.specs.Image.{leaseSize}
+use Rattle.table.specs.Table.{no_lease}
+use Rattle.image.specs.Image.{lease_size}
 use Rattle.image_records.specs.Records.{Records, Ascending}
 use Rattle.image_records.proofs.RecordLaws.{records-drop}
 use Rattle.image_records.proofs.PlaceLaws.{filter-first}
 use Rattle.image_records.proofs.FindLaws.{place-splits}
 use Rattle.call_ground.specs.declared.LeaseRange.{LeaseRange}
-use Rattle.call_ground.specs.Ground.{Before, startsIn?, LeasesIn}
+use Rattle.call_ground.specs.Ground.{Before, starts_in?, LeasesIn}
 
 -- BEFORE A NETWORK
 
@@ -46,31 +46,31 @@ ascending-drop (suc i) [] a = tt
 ascending-drop (suc i) (x ∷ xs) a = ascending-drop i xs a.1
 
 -- The first ones that fail a test may go.
-filter-after : (f : Lease → Bool) (i : ℕ) (xs : List Lease) → i ≤ length xs → ((k : ℕ) → k < i → f (get_or xs k noLease) ≡ false) → filter f xs ≡ filter f (drop i xs)
+filter-after : (f : Lease → Bool) (i : ℕ) (xs : List Lease) → i ≤ length xs → ((k : ℕ) → k < i → f (get_or xs k no_lease) ≡ false) → filter f xs ≡ filter f (drop i xs)
 filter-after f zero xs h fails = refl
 filter-after f (suc i) [] h fails = refl
 filter-after f (suc i) (x ∷ xs) h fails = filter-no f x xs (fails 0 (omega arith)) ∙ filter-after f i xs (omega arith) (λ k l. fails (suc k) (omega arith))
 
-get_drop : (i k : ℕ) (xs : List Lease) → get_or (drop i xs) k noLease ≡ get_or xs (i + k) noLease
-get_drop zero k xs = let same : k ≡ 0 + k = omega arith in ap (λ (j : ℕ). get_or xs j noLease) same
+get_drop : (i k : ℕ) (xs : List Lease) → get_or (drop i xs) k no_lease ≡ get_or xs (i + k) no_lease
+get_drop zero k xs = let same : k ≡ 0 + k = omega arith in ap (λ (j : ℕ). get_or xs j no_lease) same
 get_drop (suc i) zero [] = refl
 get_drop (suc i) (suc k) [] = refl
-get_drop (suc i) k (x ∷ xs) = let same : suc (i + k) ≡ suc i + k = omega arith in get_drop i k xs ∙ ap (λ (j : ℕ). get_or (x ∷ xs) j noLease) same
+get_drop (suc i) k (x ∷ xs) = let same : suc (i + k) ≡ suc i + k = omega arith in get_drop i k xs ∙ ap (λ (j : ℕ). get_or (x ∷ xs) j no_lease) same
 
 length-drop : (i : ℕ) (xs : List Lease) → i ≤ length xs → length (drop i xs) ≡ length xs - i
 length-drop zero xs h = omega arith
 length-drop (suc i) [] h = absurd (omega arith)
 length-drop (suc i) (x ∷ xs) h = length-drop i xs (omega arith) ∙ omega arith
 
-low : (p : Prefix) (x : Lease) → x.network < p.network → startsIn? p x ≡ false
+low : (p : Prefix) (x : Lease) → x.network < p.network → starts_in? p x ≡ false
 low p x h = ap (λ (b : Bool). b && (ltb x.network (end p) && true)) (lt-leb p.network x.network h)
 
-high : (p : Prefix) (x : Lease) → p.network ≤ x.network → end p ≤ x.network → startsIn? p x ≡ false
+high : (p : Prefix) (x : Lease) → p.network ≤ x.network → end p ≤ x.network → starts_in? p x ≡ false
 high p x g h =
     ap (λ (b : Bool). b && (ltb x.network (end p) && true)) (le-leb p.network x.network g)
     ∙ ap (λ (b : Bool). b && true) (le-ltb x.network (end p) h)
 
-within : (p : Prefix) (x : Lease) → p.network ≤ x.network → x.network < end p → startsIn? p x ≡ true
+within : (p : Prefix) (x : Lease) → p.network ≤ x.network → x.network < end p → starts_in? p x ≡ true
 within p x g h =
     ap (λ (b : Bool). b && (ltb x.network (end p) && true)) (le-leb p.network x.network g)
     ∙ ap (λ (b : Bool). b && true) (lt-ltb x.network (end p) h)
@@ -78,7 +78,7 @@ within p x g h =
 -- What the second search finds in what is left.
 module _ (image : List ℕ) (from n : ℕ) (p : Prefix) (r : LeaseRange) (last : ℕ) (last-is : last + 1 ≡ end p) (few : r.first ≤ n) (fewer : r.count ≤ n - r.first)
     (first-is : (xs : List Lease) → Records image from xs → n ≡ length xs → Ascending xs → Before p.network xs r.first)
-    (count-is : (ys : List Lease) → Records image (from + leaseSize * r.first) ys → n - r.first ≡ length ys → Ascending ys → r.count ≡ length (filter (λ x. leb x.network last) ys)) where
+    (count-is : (ys : List Lease) → Records image (from + lease_size * r.first) ys → n - r.first ≡ length ys → Ascending ys → r.count ≡ length (filter (λ x. leb x.network last) ys)) where
   pub leases-in : (xs : List Lease) → Records image from xs → n ≡ length xs → Ascending xs → LeasesIn p xs r
   leases-in xs records many a =
       let f : ℕ = r.first in
@@ -88,10 +88,10 @@ module _ (image : List ℕ) (from n : ℕ) (p : Prefix) (r : LeaseRange) (last :
       let left : length ys ≡ length xs - f = length-drop f xs (omega (arith, many)) in
       let c = count-is ys (records-drop image from xs records f (omega (arith, many))) (omega (arith, many, left)) up in
       let s = place-splits last ys up in
-      let above : (k : ℕ) → k < length ys → p.network ≤ (get_or ys k noLease).network =
+      let above : (k : ℕ) → k < length ys → p.network ≤ (get_or ys k no_lease).network =
       λ k h. subst (λ (x : Lease). p.network ≤ x.network) (sym (get_drop f k xs)) (b.1 (f + k) (omega arith) (omega (arith, left))) in
       sym
-      (filter-after (startsIn? p) f xs (omega (arith, many)) (λ k h. low p (get_or xs k noLease) (b.0 k h))
-      ∙ filter-first (startsIn? p) noLease ys r.count (omega (arith, left, many))
-      (λ k h. within p (get_or ys k noLease) (above k (omega (arith, left, many))) (omega (arith, last-is, s.0 k (omega (arith, c)))))
-      (λ k h l. high p (get_or ys k noLease) (above k l) (omega (arith, last-is, s.1 k (omega (arith, c)) l))))
+      (filter-after (starts_in? p) f xs (omega (arith, many)) (λ k h. low p (get_or xs k no_lease) (b.0 k h))
+      ∙ filter-first (starts_in? p) no_lease ys r.count (omega (arith, left, many))
+      (λ k h. within p (get_or ys k no_lease) (above k (omega (arith, left, many))) (omega (arith, last-is, s.0 k (omega (arith, c)))))
+      (λ k h l. high p (get_or ys k no_lease) (above k l) (omega (arith, last-is, s.1 k (omega (arith, c)) l))))

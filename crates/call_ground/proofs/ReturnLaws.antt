@@ -14,8 +14,8 @@ use borrow.Author.Tests.{eq-eqb, ne_eqb}
 use Rattle.lists.specs.Put.{put}
 use Rattle.lists.proofs.Tests.{cond-true, cond-false}
 use Rattle.lists.proofs.PutLaws.{put-fits, set_more}
-use Rattle.ledger.specs.Ledger.{Result, result, acceptance, accept, refuse, returned}
-use Rattle.call_spec.specs.ImageCalls.{carriedIf}
+use Rattle.ledger.specs.Ledger.{Result, outcome, acceptance, accept, refuse, returned}
+use Rattle.call_spec.specs.ImageCalls.{carried_if}
 use Rattle.call_ground.specs.Ground.{returning}
 
 -- A refusal stays, and so does a call that carries none.
@@ -24,28 +24,28 @@ pub returning-refused : {S : Type 0} (o : Option (List ℕ)) (r : Result S) → 
 returning-refused none r h = refl
 returning-refused (some s) r h =
     cond-false (eqb r.answer.number 0)
-    (result (acceptance (r.answer.bytes + length s) r.answer.count) r.state (put r.reply r.answer.bytes s)) r (ne_eqb r.answer.number 0 h)
+    (outcome (acceptance (r.answer.bytes + length s) r.answer.count) r.state (put r.reply r.answer.bytes s)) r (ne_eqb r.answer.number 0 h)
 
 pub returning-refuse : {S : Type 0} (o : Option (List ℕ)) (number place : ℕ) (s : S) (reply : List ℕ) → (number ≡ 0 → ⊥) → returning o (refuse number place s reply) ≡ refuse number place s reply
 returning-refuse o number place s reply h = returning-refused o (refuse number place s reply) h
 
-pub returning-free : {S : Type 0} (selected : Bool) (s : List ℕ) (r : Result S) → selected ≡ false → returning (carriedIf selected s) r ≡ r
-returning-free selected s r e = ap (λ (b : Bool). returning (carriedIf b s) r) e
+pub returning-free : {S : Type 0} (selected : Bool) (s : List ℕ) (r : Result S) → selected ≡ false → returning (carried_if selected s) r ≡ r
+returning-free selected s r e = ap (λ (b : Bool). returning (carried_if b s) r) e
 
 -- An accepted call has it after its reply.
 
 pub returning-put : {S : Type 0} (selected : Bool) (s : List ℕ) (r : Result S) → r.answer.number ≡ 0 → selected ≡ true
-    → returning (carriedIf selected s) r ≡ result (acceptance (r.answer.bytes + length s) r.answer.count) r.state (put r.reply r.answer.bytes s)
+    → returning (carried_if selected s) r ≡ outcome (acceptance (r.answer.bytes + length s) r.answer.count) r.state (put r.reply r.answer.bytes s)
 returning-put selected s r z e =
-    ap (λ (b : Bool). returning (carriedIf b s) r) e
+    ap (λ (b : Bool). returning (carried_if b s) r) e
     ∙ cond-true (eqb r.answer.number 0)
-    (result (acceptance (r.answer.bytes + length s) r.answer.count) r.state (put r.reply r.answer.bytes s)) r (eq-eqb r.answer.number 0 z)
+    (outcome (acceptance (r.answer.bytes + length s) r.answer.count) r.state (put r.reply r.answer.bytes s)) r (eq-eqb r.answer.number 0 z)
 
 pub returning-accept : {S : Type 0} (o : Option (List ℕ)) (s : S) (w : List ℕ) (count : ℕ) (reply : List ℕ) → length w + length (returned o) ≤ length reply
     → returning o (accept s w count reply) ≡ accept s (w ++ returned o) count reply
 returning-accept none s w count reply h = ap (λ (l : List ℕ). accept s l count reply) (sym (append-nil w))
 returning-accept (some v) s w count reply h =
-    ap₂ (λ (n : ℕ) (l : List ℕ). result (acceptance n count) s l) (sym (length-append w v)) bytes
+    ap₂ (λ (n : ℕ) (l : List ℕ). outcome (acceptance n count) s l) (sym (length-append w v)) bytes
   where
     bytes : put (w ++ drop (length w) reply) (length w) v ≡ (w ++ v) ++ drop (length (w ++ v)) reply
     bytes =

@@ -18,60 +18,60 @@ use Rattle.prefix.specs.Prefixes.{end}
 use Rattle.option.specs.Reading.{four}
 use Rattle.table.specs.declared.Pool.{Pool}
 use Rattle.table.specs.declared.LeaseTable.{LeaseTable}
-use Rattle.table.specs.Table.{addresses, noPool, poolPrefix, prefixesOf, poolsOf, tableRules, sound}
+use Rattle.table.specs.Table.{addresses, no_pool, pool_prefix, prefixes_of, pools_of, table_rules, sound}
 use Rattle.table.proofs.TableLaws.{GoodPool, sound-pools}
-use Rattle.image.specs.Image.{headSize, poolSize, usedPools, image_of}
-use Rattle.image.specs.Reading.{poolIn}
+use Rattle.image.specs.Image.{head_size, pool_size, used_pools, image_of}
+use Rattle.image.specs.Reading.{pool_in}
 use Rattle.image_records.proofs.PoolRecords.{image-pools}
-use Rattle.ledger.specs.Ledger.{Call, nothing?, narrowedTo, narrowed}
+use Rattle.ledger.specs.Ledger.{Call, nothing?, narrowed_to, narrowed}
 use Rattle.ledger.proofs.GroundLaws.{narrowed_none}
-use Rattle.call_ground.specs.Ground.{onePool, PoolOf}
+use Rattle.call_ground.specs.Ground.{one_pool, PoolOf}
 use Rattle.call_ground.proofs.PoolLaws.{one-pool, no-pool}
 
-module _ (t : LeaseTable) (e : sound t ≡ true) (image : List ℕ) (bytes : ℕ) (i : image_of t ≡ take bytes image) (pools address r : ℕ) (many : pools ≡ length (usedPools t))
+module _ (t : LeaseTable) (e : sound t ≡ true) (image : List ℕ) (bytes : ℕ) (i : image_of t ≡ take bytes image) (pools address r : ℕ) (many : pools ≡ length (used_pools t))
     (p : PoolOf image pools address r) (c : Call) (s : List ℕ) (carries : c.selection ≡ some s) (four_is : address ≡ four s 2) where
-  pub ground-is : poolsOf (narrowed t c) ≡ onePool (usedPools t) r
+  pub ground-is : pools_of (narrowed t c) ≡ one_pool (used_pools t) r
   unfolding narrowed
-  ground-is = ap (λ (o : Option (List ℕ)). poolsOf (narrowedTo o t)) carries ∙ p.ground t bytes e i many s four_is
+  ground-is = ap (λ (o : Option (List ℕ)). pools_of (narrowed_to o t)) carries ∙ p.ground t bytes e i many s four_is
 
   -- Row 19 applies, or not.
-  pub groundless : pools ≤ r → nothing? (poolsOf (narrowed t c)) ≡ true
-  groundless h = ap nothing? (ground-is ∙ no-pool (usedPools t) r (omega (arith, many)))
+  pub groundless : pools ≤ r → nothing? (pools_of (narrowed t c)) ≡ true
+  groundless h = ap nothing? (ground-is ∙ no-pool (used_pools t) r (omega (arith, many)))
 
   module _ (h : r < pools) where
     abbrev pub theirs : Prefix
-    theirs = poolPrefix (get_or (usedPools t) r noPool)
+    theirs = pool_prefix (get_or (used_pools t) r no_pool)
 
-    pub ground-one : poolsOf (narrowed t c) ≡ theirs ∷ []
-    ground-one = ground-is ∙ one-pool (usedPools t) r (omega (arith, many))
+    pub ground-one : pools_of (narrowed t c) ≡ theirs ∷ []
+    ground-one = ground-is ∙ one-pool (used_pools t) r (omega (arith, many))
 
-    pub grounded : nothing? (poolsOf (narrowed t c)) ≡ false
+    pub grounded : nothing? (pools_of (narrowed t c)) ≡ false
     grounded = ap nothing? ground-one
 
     -- It is one of the table's, ends within the addresses, and stands in the image.
-    pub ground-member : Any (λ q. q ≡ theirs) (poolsOf t)
-    unfolding prefixesOf
-    ground-member = member (usedPools t) r (omega (arith, many))
+    pub ground-member : Any (λ q. q ≡ theirs) (pools_of t)
+    unfolding prefixes_of
+    ground-member = member (used_pools t) r (omega (arith, many))
       where
-        member : (ps : List Pool) (k : ℕ) → k < length ps → Any (λ q. q ≡ poolPrefix (get_or ps k noPool)) (map poolPrefix ps)
-        member ps k l = any-image ps (all-at (λ v. Any (λ x. x ≡ v) ps) ps (all-member ps) k noPool l)
+        member : (ps : List Pool) (k : ℕ) → k < length ps → Any (λ q. q ≡ pool_prefix (get_or ps k no_pool)) (map pool_prefix ps)
+        member ps k l = any-image ps (all-at (λ v. Any (λ x. x ≡ v) ps) ps (all-member ps) k no_pool l)
           where
-            any-image : (qs : List Pool) → Any (λ x. x ≡ get_or ps k noPool) qs → Any (λ q. q ≡ poolPrefix (get_or ps k noPool)) (map poolPrefix qs)
-            any-image (x ∷ qs) (inl z) = inl (ap poolPrefix z)
+            any-image : (qs : List Pool) → Any (λ x. x ≡ get_or ps k no_pool) qs → Any (λ q. q ≡ pool_prefix (get_or ps k no_pool)) (map pool_prefix qs)
+            any-image (x ∷ qs) (inl z) = inl (ap pool_prefix z)
             any-image (x ∷ qs) (inr z) = inr (any-image qs z)
 
     pub ground-ends : end theirs ≤ addresses
-    ground-ends = (all-at GoodPool (usedPools t) (sound-pools t e).good r noPool (omega (arith, many))).within
+    ground-ends = (all-at GoodPool (used_pools t) (sound-pools t e).good r no_pool (omega (arith, many))).within
 
-    pub ground-read : poolPrefix (poolIn (drop (poolSize * r) (drop headSize image))) ≡ theirs
-    ground-read = ap poolPrefix (image-pools t image bytes i r (omega (arith, many)))
+    pub ground-read : pool_prefix (pool_in (drop (pool_size * r) (drop head_size image))) ≡ theirs
+    ground-read = ap pool_prefix (image-pools t image bytes i r (omega (arith, many)))
 
 -- Without option 118 row 19 never applies: a sound table has a pool.
-pub always-grounded : (t : LeaseTable) → sound t ≡ true → (c : Call) → c.selection ≡ none → nothing? (poolsOf (narrowed t c)) ≡ false
+pub always-grounded : (t : LeaseTable) → sound t ≡ true → (c : Call) → c.selection ≡ none → nothing? (pools_of (narrowed t c)) ≡ false
 unfolding sound
 always-grounded t e c free =
-    let rules = and-list-to (tableRules t) e in
-    ap (λ (u : LeaseTable). nothing? (poolsOf u)) (narrowed_none t c free) ∙ some-pool (poolsOf t) (ltb-true 0 (length (poolsOf t)) rules.1.1.1.0)
+    let rules = and-list-to (table_rules t) e in
+    ap (λ (u : LeaseTable). nothing? (pools_of u)) (narrowed_none t c free) ∙ some-pool (pools_of t) (ltb-true 0 (length (pools_of t)) rules.1.1.1.0)
   where
     some-pool : (ps : List Prefix) → 0 < length ps → nothing? ps ≡ false
     some-pool [] h = absurd (omega arith)

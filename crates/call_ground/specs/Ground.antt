@@ -5,61 +5,61 @@ use Rattle.lists.specs.Lists.{All, and, any?, filter}
 use Rattle.lists.specs.Put.{put}
 use Rattle.prefix.specs.declared.Prefix.{Prefix}
 use Rattle.prefix.specs.Prefixes.{end, inside?}
-use Rattle.option.specs.Values.{longestOption}
+use Rattle.option.specs.Values.{longest_option}
 use Rattle.option.specs.Reading.{four}
-use Rattle.option.specs.Selection.{selectionSize}
+use Rattle.option.specs.Selection.{selection_size}
 use Rattle.table.specs.declared.{Pool.Pool, Lease.Lease, LeaseTable.LeaseTable}
-use Rattle.table.specs.Table.{poolPrefix, prefix_of, poolsOf, noLease, sound}
-use Rattle.image.specs.Image.{usedPools, usedLeases, image_of}
+use Rattle.table.specs.Table.{pool_prefix, prefix_of, pools_of, no_lease, sound}
+use Rattle.image.specs.Image.{used_pools, used_leases, image_of}
 use Rattle.image_check.specs.declared.ImageSummary.{ImageSummary}
-use Rattle.ledger.specs.Ledger.{Call, Result, result, acceptance, nothing?, narrowedTo, narrowed}
+use Rattle.ledger.specs.Ledger.{Call, Result, outcome, acceptance, nothing?, narrowed_to, narrowed}
 use Rattle.ledger.specs.declared.Answer.{Answer}
-use Rattle.call_spec.specs.ImageCalls.{Lent, tableIn}
+use Rattle.call_spec.specs.ImageCalls.{Lent, table_in}
 use Rattle.call_rows.specs.Admission.{Admitted}
 use Rattle.call_ground.specs.declared.{LeaseRange.LeaseRange, Ground.Ground}
 
 -- An address lies in a pool.
-abbrev pub inPool? : ℕ → Pool → Bool
-inPool? address p = and (leb p.network address ∷ ltb address (end (poolPrefix p)) ∷ [])
+abbrev pub in_pool? : ℕ → Pool → Bool
+in_pool? address p = and (leb p.network address ∷ ltb address (end (pool_prefix p)) ∷ [])
 
 -- The pool with this index, if there is one.
-abbrev pub onePool : List Pool → ℕ → List Prefix
-onePool ps k = map poolPrefix (take 1 (drop k ps))
+abbrev pub one_pool : List Pool → ℕ → List Prefix
+one_pool ps k = map pool_prefix (take 1 (drop k ps))
 
 -- The pools that the call may use are the one with this index; none, where there is no such index.
 pub record PoolOf (image : List ℕ) (pools address r : ℕ) : Type 0 where
   pub within : r ≤ pools
-  pub ground : (t : LeaseTable) (bytes : ℕ) → sound t ≡ true → image_of t ≡ take bytes image → pools ≡ length (usedPools t) → (s : List ℕ) → address ≡ four s 2
-      → poolsOf (narrowedTo (some s) t) ≡ onePool (usedPools t) r
+  pub ground : (t : LeaseTable) (bytes : ℕ) → sound t ≡ true → image_of t ≡ take bytes image → pools ≡ length (used_pools t) → (s : List ℕ) → address ≡ four s 2
+      → pools_of (narrowed_to (some s) t) ≡ one_pool (used_pools t) r
 
 -- The first r leases have a network below this one, and the others not.
 abbrev pub Before : ℕ → List Lease → ℕ → Type 0
-Before network xs r = ((k : ℕ) → k < r → (get_or xs k noLease).network < network) × ((k : ℕ) → r ≤ k → k < length xs → network ≤ (get_or xs k noLease).network)
+Before network xs r = ((k : ℕ) → k < r → (get_or xs k no_lease).network < network) × ((k : ℕ) → r ≤ k → k < length xs → network ≤ (get_or xs k no_lease).network)
 
 -- A lease has its network in a pool.
-abbrev pub startsIn? : Prefix → Lease → Bool
-startsIn? p x = and (leb p.network x.network ∷ ltb x.network (end p) ∷ [])
+abbrev pub starts_in? : Prefix → Lease → Bool
+starts_in? p x = and (leb p.network x.network ∷ ltb x.network (end p) ∷ [])
 
 -- Those that have stand together.
 abbrev pub LeasesIn : Prefix → List Lease → LeaseRange → Type 0
-LeasesIn p xs r = take r.count (drop r.first xs) ≡ filter (startsIn? p) xs
+LeasesIn p xs r = take r.count (drop r.first xs) ≡ filter (starts_in? p) xs
 
 -- THE GROUND AS A CALL LOOKS AT IT, with the option or without: some of the pools and some of the leases, which stand together.
 
 -- A lease lies on the ground: "Re-given lines (M-101) must lie in that root as well". Without the option all is ground.
-abbrev pub onIt? : Option (List ℕ) → LeaseTable → Lease → Bool
-onIt? none t x = true
-onIt? (some s) t x = any? (inside? (prefix_of x)) (poolsOf (narrowedTo (some s) t))
+abbrev pub on_it? : Option (List ℕ) → LeaseTable → Lease → Bool
+on_it? none t x = true
+on_it? (some s) t x = any? (inside? (prefix_of x)) (pools_of (narrowed_to (some s) t))
 
-abbrev pub poolsIn : Ground → List Pool → List Pool
-poolsIn g ps = take g.pools (drop g.pool ps)
+abbrev pub pools_in : Ground → List Pool → List Pool
+pools_in g ps = take g.pools (drop g.pool ps)
 
-abbrev pub leasesIn : Ground → List Lease → List Lease
-leasesIn g xs = take g.leases (drop g.first xs)
+abbrev pub leases_in : Ground → List Lease → List Lease
+leases_in g xs = take g.leases (drop g.first xs)
 
 -- The leases before those, and after them.
-abbrev pub leasesBeside : Ground → List Lease → List Lease
-leasesBeside g xs = take g.first xs ++ drop (g.first + g.leases) xs
+abbrev pub leases_beside : Ground → List Lease → List Lease
+leases_beside g xs = take g.first xs ++ drop (g.first + g.leases) xs
 
 -- The call is admitted with an image.
 pub record OfAdmitted (image : List ℕ) (summary : ImageSummary) : Type 0 where
@@ -73,18 +73,18 @@ pub record OfAdmitted (image : List ℕ) (summary : ImageSummary) : Type 0 where
 pub record Grounds (h : Lent) (c : Call) (summary : ImageSummary) (g : Ground) : Type 0 where
   pub few-pools : g.pool + g.pools ≤ summary.pools
   pub few-leases : g.first + g.leases ≤ summary.leases
-  pub row : nothing? (poolsOf (narrowed (tableIn h) c)) ≡ eqb g.pools 0
-  pub pools-are : poolsOf (narrowed (tableIn h) c) ≡ map poolPrefix (poolsIn g (usedPools (tableIn h)))
-  pub inside : All (λ x. onIt? c.selection (tableIn h) x ≡ true) (leasesIn g (usedLeases (tableIn h)))
-  pub outside : All (λ x. onIt? c.selection (tableIn h) x ≡ false) (leasesBeside g (usedLeases (tableIn h)))
+  pub row : nothing? (pools_of (narrowed (table_in h) c)) ≡ eqb g.pools 0
+  pub pools-are : pools_of (narrowed (table_in h) c) ≡ map pool_prefix (pools_in g (used_pools (table_in h)))
+  pub inside : All (λ x. on_it? c.selection (table_in h) x ≡ true) (leases_in g (used_leases (table_in h)))
+  pub outside : All (λ x. on_it? c.selection (table_in h) x ≡ false) (leases_beside g (used_leases (table_in h)))
 
 -- THE OPTION IN THE REPLY: "The option follows, unaltered, after option 220 in the reply"; a refusal has none.
 abbrev pub returning : {S : Type 0} → Option (List ℕ) → Result S → Result S
 returning none r = r
 returning (some s) r =
     cond (eqb r.answer.number 0)
-    (result (acceptance (r.answer.bytes + length s) r.answer.count) r.state (put r.reply r.answer.bytes s)) r
+    (outcome (acceptance (r.answer.bytes + length s) r.answer.count) r.state (put r.reply r.answer.bytes s)) r
 
 -- What it takes to put it there: six bytes of it, and room for them.
 abbrev pub MayReturn : Answer → Bool → List ℕ → List ℕ → Type 0
-MayReturn a selected s reply = a.number ≡ 0 → selected ≡ true → (length s ≡ selectionSize) × (a.bytes + selectionSize ≤ length reply) × (a.bytes ≤ longestOption)
+MayReturn a selected s reply = a.number ≡ 0 → selected ≡ true → (length s ≡ selection_size) × (a.bytes + selection_size ≤ length reply) × (a.bytes ≤ longest_option)

@@ -4,13 +4,13 @@ ghost use Rattle.std.specs.Prelude.{◌≡◌, true, List, ℕ, ◌+◌, ◌*◌
 ghost use Rattle.prefix.specs.Prefixes.{end};
 ghost use Rattle.table.specs.declared.Lease.{Lease};
 ghost use Rattle.table.specs.Table.{addresses};
-ghost use Rattle.image.specs.Image.{headSize, poolSize, leaseSize};
+ghost use Rattle.image.specs.Image.{head_size, pool_size, lease_size};
 ghost use Rattle.image_records.specs.Records.{Records, Ascending};
 ghost use Rattle.option.specs.Reading.{four};
-ghost use Rattle.ledger.specs.Ledger.{Call, result};
-ghost use Rattle.call_spec.specs.ImageCalls.{Lent, carriedIf};
+ghost use Rattle.ledger.specs.Ledger.{Call, outcome};
+ghost use Rattle.call_spec.specs.ImageCalls.{Lent, carried_if};
 ghost use Rattle.call_rows.specs.Admission.{Admitted};
-ghost use Rattle.call_ground.specs.Ground.{inPool?, PoolOf, Before, LeasesIn, OfAdmitted, Grounds, returning, MayReturn};
+ghost use Rattle.call_ground.specs.Ground.{in_pool?, PoolOf, Before, LeasesIn, OfAdmitted, Grounds, returning, MayReturn};
 
 use call_rows::SELECTION;
 use image::{HEAD, LEASE, POOL};
@@ -21,7 +21,7 @@ use table::Pool;
 
 // Whether an address lies in a pool, be it that of an unused slot.
 fn contains(p: Pool, address: u32) -> bool
-    ensures* { λ r. ⌜ r ≡ inPool? address p ⌝ }
+    ensures { result ≡ in_pool? address p }
 {
     if address < p.network {
         return false;
@@ -31,8 +31,8 @@ fn contains(p: Pool, address: u32) -> bool
 
 // The index of the pool that contains an address, or `pools` where none does.
 pub fn pool_of(image: &[u8], pools: usize, address: u32) -> usize
-    requires { headSize + poolSize * pools ≤ length image.now }
-    ensures* { λ r. ⌜ PoolOf image.now pools address r ⌝ }
+    requires { head_size + pool_size * pools ≤ length image.now }
+    ensures { PoolOf image.now pools address result }
 {
     let mut k: usize = 0;
     while k < pools {
@@ -54,9 +54,9 @@ pub struct LeaseRange {
 
 // How many of n leases that ascend lie before a network.
 fn places_before(image: &[u8], from: usize, n: usize, network: u32) -> usize
-    requires { from + leaseSize * n ≤ length image.now }
-    ensures* r_bound { λ r. ⌜ r ≤ n ⌝ }
-    ensures* fact { λ r. ⌜ ((xs : List Lease) → Records image.now from xs → n ≡ length xs → Ascending xs → Before network xs r) ⌝ }
+    requires { from + lease_size * n ≤ length image.now }
+    ensures upper_bound { result ≤ n }
+    ensures equation { ((xs : List Lease) → Records image.now from xs → n ≡ length xs → Ascending xs → Before network xs result) }
 {
     if network == 0 {
         return 0;
@@ -66,9 +66,9 @@ fn places_before(image: &[u8], from: usize, n: usize, network: u32) -> usize
 
 // Which of n leases that ascend have their network in a pool, found by halving: where the first of them stands, and how many.
 pub fn leases_in(image: &[u8], from: usize, n: usize, p: Prefix) -> LeaseRange
-    requires { (from + leaseSize * n ≤ length image.now) × (end p ≤ addresses) }
-    ensures* count_bound { λ r. ⌜ r.first + r.count ≤ n ⌝ }
-    ensures* fact { λ r. ⌜ ((xs : List Lease) → Records image.now from xs → n ≡ length xs → Ascending xs → LeasesIn p xs r) ⌝ }
+    requires { (from + lease_size * n ≤ length image.now) × (end p ≤ addresses) }
+    ensures count_bound { result.first + result.count ≤ n }
+    ensures equation { ((xs : List Lease) → Records image.now from xs → n ≡ length xs → Ascending xs → LeasesIn p xs result) }
 {
     let first = places_before(image, from, n, p.network);
     let last = (p.end() - 1) as u32;
@@ -89,9 +89,9 @@ pub struct Ground {
 // The ground of a call that is admitted and carries the option, with this address, or does not.
 pub fn ground_of(image: &[u8], summary: ImageSummary, selected: bool, address: u32) -> Ground
     requires { OfAdmitted image.now summary }
-    ensures* fact { λ r. ⌜ (r.pool + r.pools ≤ summary.pools) × (r.first + r.leases ≤ summary.leases) ⌝ }
-    ensures* fact_2 { λ r. ⌜ ((h : Lent) (time : ℕ) (c : Call) (s : List ℕ) → h.image ≡ image.now → Admitted true h time c.client summary
-        → c.selection ≡ carriedIf selected s → (selected ≡ true → address ≡ four s 2) → Grounds h c summary r) ⌝ }
+    ensures bounds { (result.pool + result.pools ≤ summary.pools) × (result.first + result.leases ≤ summary.leases) }
+    ensures equation { ((h : Lent) (time : ℕ) (c : Call) (s : List ℕ) → h.image ≡ image.now → Admitted true h time c.client summary
+        → c.selection ≡ carried_if selected s → (selected ≡ true → address ≡ four s 2) → Grounds h c summary result) }
 {
     if !selected {
         return Ground {
@@ -128,7 +128,7 @@ pub fn return_selection(
     reply: &mut [u8],
 ) -> Answer
     requires { MayReturn answer selected selection.now reply.old }
-    ensures* { λ r. ⌜ ((s : Lent) → result r s reply.new ≡ returning (carriedIf selected selection.now) (result answer s reply.old)) ⌝ }
+    ensures { ((s : Lent) → outcome result s reply.new ≡ returning (carried_if selected selection.now) (outcome answer s reply.old)) }
 {
     if answer.number != 0 {
         return answer;

@@ -3,9 +3,9 @@ use Rattle.std.specs.Prelude.{ℕ, ◌≡◌, Bool, ◌&&◌, List, map, length,
 use Rattle.std.proofs.Math.Option.{Option, none, some}
 use Rattle.lists.specs.Lists.{filter}
 use Rattle.lists.specs.Put.{put}
-use Rattle.option.specs.Writing.{entriesBytes}
+use Rattle.option.specs.Writing.{entries_bytes}
 use Rattle.table.specs.declared.Lease.{Lease}
-use Rattle.option_reply.specs.Reply.{mostEntries, entry_of}
+use Rattle.option_reply.specs.Reply.{most_entries, entry_of}
 use Rattle.call_list.specs.declared.Page.{Page}
 
 -- "the station's present leased lines"
@@ -19,6 +19,6 @@ start_of (some p) xs = length (filter (λ x. leb x.network p) xs)
 
 -- Of the leases that there are to show "at most 35", their entries from place 6 of the reply on, and whether more remain.
 pub record PageOf (ys : List Lease) (before after : List ℕ) (r : Page) : Type 0 where
-  pub count : r.count ≡ length (take mostEntries ys)
-  pub more : r.more ≡ ltb mostEntries (length ys)
-  pub bytes : after ≡ put before 6 (entriesBytes (map entry_of (take mostEntries ys)))
+  pub count : r.count ≡ length (take most_entries ys)
+  pub more : r.more ≡ ltb most_entries (length ys)
+  pub bytes : after ≡ put before 6 (entries_bytes (map entry_of (take most_entries ys)))

@@ -4,10 +4,10 @@ ghost use Rattle.std.proofs.Math.Option.{none, some};
 ghost use Rattle.lists.specs.Lists.{filter};
 ghost use Rattle.table.specs.declared.Lease.{Lease};
 ghost use Rattle.image_records.specs.Records.{Records, Ascending};
-ghost use Rattle.image.specs.Image.{leaseSize};
-ghost use Rattle.ledger.specs.Ledger.{call, result, leastReply};
-ghost use Rattle.call_spec.specs.ImageCalls.{lent, listImage};
-ghost use Rattle.call_spec.specs.Books.{bookOf, listBook};
+ghost use Rattle.image.specs.Image.{lease_size};
+ghost use Rattle.ledger.specs.Ledger.{call, outcome, least_reply};
+ghost use Rattle.call_spec.specs.ImageCalls.{lent, list_image};
+ghost use Rattle.call_spec.specs.Books.{book_of, list_book};
 ghost use Rattle.call_list.specs.InnerListing.{Listing};
 ghost use Rattle.call_list.specs.InnerPage.{shown?, start_of, PageOf};
 
@@ -27,7 +27,7 @@ struct Page {
 
 // The lease is leased by this client, and present at `time`.
 fn is_shown(x: Lease, time: u32, client: u32) -> bool
-    ensures* { λ r. ⌜ r ≡ shown? time client x ⌝ }
+    ensures { result ≡ shown? time client x }
 {
     if x.client != client {
         return false;
@@ -49,9 +49,9 @@ fn show_page(
     client: u32,
     reply: &mut [u8],
 ) -> Page
-    requires { (from + leaseSize * n ≤ length image.now) × (first ≤ n) × (leastReply ≤ length reply.old) }
-    ensures* { λ r. ⌜ ((xs : List Lease) → Records image.now from xs → n ≡ length xs
-        → PageOf (filter (shown? time client) (drop first xs)) reply.old reply.new r) ⌝ }
+    requires { (from + lease_size * n ≤ length image.now) × (first ≤ n) × (least_reply ≤ length reply.old) }
+    ensures { ((xs : List Lease) → Records image.now from xs → n ≡ length xs
+        → PageOf (filter (shown? time client) (drop first xs)) reply.old reply.new result) }
 {
     let mut count: usize = 0;
     let mut i: usize = first;
@@ -71,9 +71,9 @@ fn show_page(
 
 // The first lease above the position; all leases are meant where there is none.
 fn first_above(image: &[u8], from: usize, n: usize, resumes: bool, position: u32) -> usize
-    requires { from + leaseSize * n ≤ length image.now }
-    ensures* r_bound { λ r. ⌜ r ≤ n ⌝ }
-    ensures* fact { λ r. ⌜ ((xs : List Lease) → Records image.now from xs → n ≡ length xs → Ascending xs → r ≡ start_of (cond resumes (some position) none) xs) ⌝ }
+    requires { from + lease_size * n ≤ length image.now }
+    ensures upper_bound { result ≤ n }
+    ensures equation { ((xs : List Lease) → Records image.now from xs → n ≡ length xs → Ascending xs → result ≡ start_of (cond resumes (some position) none) xs) }
 {
     if resumes {
         return image_records::place_after(image, from, n, position);
@@ -83,7 +83,7 @@ fn first_above(image: &[u8], from: usize, n: usize, resumes: bool, position: u32
 
 // Row 8: "at least one request, all with i".
 fn for_list(requests: usize, listing: usize) -> bool
-    ensures* { λ r. ⌜ r ≡ (not (eqb requests 0) && eqb listing requests) ⌝ }
+    ensures { result ≡ (not (eqb requests 0) && eqb listing requests) }
 {
     if requests == 0 {
         return false;
@@ -103,8 +103,8 @@ fn show_listed(
     pieces: Contents,
 ) -> Answer
     requires { Listing (lent image.now image_bytes []) time (call client option.now reply.old) summary pieces }
-    ensures* { λ r. ⌜ result r (lent image.now image_bytes []) reply.new
-        ≡ listImage (lent image.now image_bytes []) time (call client option.now reply.old) ⌝ }
+    ensures { outcome result (lent image.now image_bytes []) reply.new
+        ≡ list_image (lent image.now image_bytes []) time (call client option.now reply.old) }
 {
     let n = summary.leases;
     if n == 0 {
@@ -131,8 +131,8 @@ pub fn list(
     option: &[u8],
     reply: &mut [u8],
 ) -> Answer
-    ensures* { λ r. ⌜ result r (bookOf image.now image_bytes [] counts.now) reply.new
-        ≡ listBook (bookOf image.now image_bytes [] counts.now) time (call client option.now reply.old) ⌝ }
+    ensures { outcome result (book_of image.now image_bytes [] counts.now) reply.new
+        ≡ list_book (book_of image.now image_bytes [] counts.now) time (call client option.now reply.old) }
 {
     let admission = call_rows::admit(
         image,

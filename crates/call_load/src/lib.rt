@@ -2,9 +2,9 @@
 // second form, the figures sheet is filled, and the whole free blocks are counted.
 ghost use Rattle.std.specs.Prelude.{◌≡◌, true, [], ◌++◌, ◌+◌, ◌*◌, ◌≤◌, length, drop};
 ghost use Rattle.table.specs.declared.LeaseTable.{LeaseTable};
-ghost use Rattle.image.specs.Image.{fullImage, headSize, poolSize, leaseSize, leaseSizeIn, usedPools, usedLeases, imageAs, image_of, fitsForm};
-ghost use Rattle.ledger.specs.Ledger.{result};
-ghost use Rattle.call_spec.specs.Books.{bookOf, loadBook};
+ghost use Rattle.image.specs.Image.{full_image, head_size, pool_size, lease_size, lease_size_in, used_pools, used_leases, image_as, image_of, fits_form};
+ghost use Rattle.ledger.specs.Ledger.{outcome};
+ghost use Rattle.call_spec.specs.Books.{book_of, load_book};
 
 use counts::Counts;
 use image::{FULL_IMAGE, Form, HEAD, POOL};
@@ -13,9 +13,9 @@ use ledger::Answer;
 
 // The image in the second form at the front of a buffer; how long it is.
 fn put_image(form: Form, saved: &[u8], pools: usize, leases: usize, image: &mut [u8]) -> usize
-    requires { (headSize + poolSize * pools + leaseSizeIn form * leases ≡ length saved.now) × (headSize + poolSize * pools + leaseSize * leases ≤ fullImage) × (fullImage ≤ length image.old) }
-    ensures* { λ r. ⌜ ((t : LeaseTable) → imageAs form t ≡ saved.now → fitsForm form t ≡ true → pools ≡ length (usedPools t) → leases ≡ length (usedLeases t)
-        → (r ≡ length (image_of t)) × (image.new ≡ image_of t ++ drop (length (image_of t)) image.old)) ⌝ }
+    requires { (head_size + pool_size * pools + lease_size_in form * leases ≡ length saved.now) × (head_size + pool_size * pools + lease_size * leases ≤ full_image) × (full_image ≤ length image.old) }
+    ensures { ((t : LeaseTable) → image_as form t ≡ saved.now → fits_form form t ≡ true → pools ≡ length (used_pools t) → leases ≡ length (used_leases t)
+        → (result ≡ length (image_of t)) × (image.new ≡ image_of t ++ drop (length (image_of t)) image.old)) }
 {
     match form {
         Form::First => image_forms::widen(saved, pools, leases, image),
@@ -31,8 +31,8 @@ pub fn load(
     counts: &mut Counts,
     saved: &[u8],
 ) -> Answer
-    ensures* { λ r. ⌜ result r (bookOf image.new image_bytes.new figures.new counts.new) []
-        ≡ loadBook (bookOf image.old image_bytes.old figures.old counts.old) saved.now ⌝ }
+    ensures { outcome result (book_of image.new image_bytes.new figures.new counts.new) []
+        ≡ load_book (book_of image.old image_bytes.old figures.old counts.old) saved.now }
 {
     let form = image::form_of(saved);
     let summary = image_check::check_in(form, saved, 0);

@@ -1,8 +1,8 @@
 // Mark as a call on an open book, in place.
 ghost use Rattle.std.specs.Prelude.{◌≡◌, true, not, [], eqb};
-ghost use Rattle.ledger.specs.Ledger.{result};
-ghost use Rattle.call_spec.specs.ImageCalls.{lent, markImage};
-ghost use Rattle.call_spec.specs.Books.{bookOf, markBook};
+ghost use Rattle.ledger.specs.Ledger.{outcome};
+ghost use Rattle.call_spec.specs.ImageCalls.{lent, mark_image};
+ghost use Rattle.call_spec.specs.Books.{book_of, mark_book};
 ghost use Rattle.call_rows.specs.Admission.{Admitted};
 
 use counts::Counts;
@@ -27,8 +27,8 @@ fn mark_lease(
     summary: ImageSummary,
 ) -> Answer
     requires { Admitted true (lent image.old image_bytes.old figures.old) time 1 summary }
-    ensures* { λ r. ⌜ result r (lent image.new image_bytes.new figures.new) []
-        ≡ markImage (lent image.old image_bytes.old figures.old) time network length (not (eqb deprecated 0)) ⌝ }
+    ensures { outcome result (lent image.new image_bytes.new figures.new) []
+        ≡ mark_image (lent image.old image_bytes.old figures.old) time network length (not (eqb deprecated 0)) }
 {
     // Every lease is a block, so what is none is no lease's prefix.
     let Checked::Good(p) = Prefix::new(network, call_spec::length_of(length)) else {
@@ -68,8 +68,8 @@ pub fn mark(
     deprecated: u32,
     time: u32,
 ) -> Answer
-    ensures* { λ r. ⌜ result r (bookOf image.new image_bytes.new figures.new counts.new) []
-        ≡ markBook (bookOf image.old image_bytes.old figures.old counts.old) time network length (not (eqb deprecated 0)) ⌝ }
+    ensures { outcome result (book_of image.new image_bytes.new figures.new counts.new) []
+        ≡ mark_book (book_of image.old image_bytes.old figures.old counts.old) time network length (not (eqb deprecated 0)) }
 {
     let bytes = *image_bytes;
     let admission = call_rows::admit(image, bytes, figures, true, counts, false, ANY_CLIENT, time);

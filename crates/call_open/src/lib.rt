@@ -1,13 +1,13 @@
 // Open as a call: the table that pools, a term, a default length and a start time make, as an image in a lent buffer,
 // its figures sheet, and the counts of its whole free blocks.
 ghost use Rattle.std.specs.Prelude.{◌≡◌, [], ◌+◌, ◌*◌, ◌≤◌, length};
-ghost use Rattle.lists.specs.Lists.{concatMap};
+ghost use Rattle.lists.specs.Lists.{concat_map};
 ghost use Rattle.lists.specs.Put.{put};
-ghost use Rattle.table.specs.Table.{poolSlots};
-ghost use Rattle.table_open.specs.Keys.{poolsIn};
-ghost use Rattle.image.specs.Image.{headSize, poolSize, poolRecord};
-ghost use Rattle.ledger.specs.Ledger.{result};
-ghost use Rattle.call_spec.specs.Books.{bookOf, openBook};
+ghost use Rattle.table.specs.Table.{pool_slots};
+ghost use Rattle.table_open.specs.Keys.{pools_in};
+ghost use Rattle.image.specs.Image.{head_size, pool_size, pool_record};
+ghost use Rattle.ledger.specs.Ledger.{outcome};
+ghost use Rattle.call_spec.specs.Books.{book_of, open_book};
 
 use counts::Counts;
 use image::{FULL_IMAGE, HEAD, Head, POOL};
@@ -25,8 +25,8 @@ pub struct Terms {
 
 // The records of the first n pools, after the head, each from the number that stands for it.
 fn put_pools(image: &mut [u8], keys: &[u64], n: usize)
-    requires { (headSize + poolSize * n ≤ length image.old) × (n ≤ poolSlots) × (n ≤ length keys.now) }
-    ensures* { λ _. ⌜ image.new ≡ put image.old headSize (concatMap poolRecord (poolsIn n keys.now)) ⌝ }
+    requires { (head_size + pool_size * n ≤ length image.old) × (n ≤ pool_slots) × (n ≤ length keys.now) }
+    ensures { image.new ≡ put image.old head_size (concat_map pool_record (pools_in n keys.now)) }
 {
     let mut i: usize = 0;
     while i < n {
@@ -47,8 +47,8 @@ pub fn open(
     lengths: &[u8],
     terms: Terms,
 ) -> Answer
-    ensures* { λ r. ⌜ result r (bookOf image.new image_bytes.new figures.new counts.new) []
-        ≡ openBook (bookOf image.old image_bytes.old figures.old counts.old) networks.now lengths.now terms.term terms.default_length terms.start ⌝ }
+    ensures { outcome result (book_of image.new image_bytes.new figures.new counts.new) []
+        ≡ open_book (book_of image.old image_bytes.old figures.old counts.old) networks.now lengths.now terms.term terms.default_length terms.start }
 {
     let term = terms.term;
     let start = terms.start;

@@ -2,33 +2,33 @@
 -- in numbers.
 use Rattle.lists.specs.Basics.{ℕ, List, ◌++◌, length, drop}
 use Rattle.option.specs.Values.{Outcome, refused, accepted}
-use Rattle.option.specs.Reading.{readOption}
-use Rattle.option.specs.Writing.{Writing, refusedWith, written}
-use Rattle.option.specs.Selection.{Selected, address, readSelection, writeSelection, refused as refusedSelection}
+use Rattle.option.specs.Reading.{read_option}
+use Rattle.option.specs.Writing.{Writing, refused_with, written}
+use Rattle.option.specs.Selection.{Selected, address, read_selection, write_selection, refused as refused_selection}
 use Rattle.ledger.specs.declared.Answer.{Answer}
 use Rattle.ledger.specs.Ledger.{refusal, acceptance}
 use Rattle.call_option.specs.declared.SelectionAnswer.{SelectionAnswer}
 
 -- OPTION 118 READ: row 6, or its address.
-abbrev pub selectionAnswer : Selected → SelectionAnswer
-selectionAnswer (refusedSelection number) = record { number = number; address = 0 }
-selectionAnswer (address a) = record { number = 0; address = a }
+abbrev pub selection_answer : Selected → SelectionAnswer
+selection_answer (refused_selection number) = record { number = number; address = 0 }
+selection_answer (address a) = record { number = 0; address = a }
 
-unfoldable pub selectionIn : List ℕ → SelectionAnswer
-selectionIn option = selectionAnswer (readSelection option)
+unfoldable pub selection_in : List ℕ → SelectionAnswer
+selection_in option = selection_answer (read_selection option)
 
 -- OPTION 118 WRITTEN to the start of a buffer: row 14, or its bytes; and the buffer after it. What is not written keeps its content.
-abbrev pub writingAnswer : Writing → List ℕ → Answer × List ℕ
-writingAnswer (refusedWith number) buffer = (refusal number 0, buffer)
-writingAnswer (written bytes) buffer = (acceptance (length bytes) 0, bytes ++ drop (length bytes) buffer)
+abbrev pub writing_answer : Writing → List ℕ → Answer × List ℕ
+writing_answer (refused_with number) buffer = (refusal number 0, buffer)
+writing_answer (written bytes) buffer = (acceptance (length bytes) 0, bytes ++ drop (length bytes) buffer)
 
-unfoldable pub selectionInto : ℕ → List ℕ → Answer × List ℕ
-selectionInto a buffer = writingAnswer (writeSelection (length buffer) a) buffer
+unfoldable pub selection_into : ℕ → List ℕ → Answer × List ℕ
+selection_into a buffer = writing_answer (write_selection (length buffer) a) buffer
 
 -- OPTION 220 CHECKED: row 6, or row 7 or 16 with its place.
-abbrev pub readingAnswer : Outcome → Answer
-readingAnswer (refused number place) = refusal number place
-readingAnswer (accepted subs) = acceptance 0 0
+abbrev pub reading_answer : Outcome → Answer
+reading_answer (refused number place) = refusal number place
+reading_answer (accepted subs) = acceptance 0 0
 
-unfoldable pub optionCheck : List ℕ → Answer
-optionCheck option = readingAnswer (readOption option)
+unfoldable pub option_check : List ℕ → Answer
+option_check option = reading_answer (read_option option)

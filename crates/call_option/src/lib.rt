@@ -1,6 +1,6 @@
 // Options as a server meets them before it makes a call: option 118 (RFC 3011) read and written, and the check of option 220.
 ghost use Rattle.std.specs.Prelude.{◌≡◌};
-ghost use Rattle.call_option.specs.Options.{selectionIn, selectionInto, optionCheck};
+ghost use Rattle.call_option.specs.Options.{selection_in, selection_into, option_check};
 
 use ledger::Answer;
 use option::Selection;
@@ -16,7 +16,7 @@ pub struct SelectionAnswer {
 }
 
 pub fn read_selection(option: &[u8]) -> SelectionAnswer
-    ensures { result ≡ selectionIn option.now }
+    ensures { result ≡ selection_in option.now }
 {
     match option::read_selection(option) {
         Selection::Address(address) => SelectionAnswer { number: 0, address },
@@ -28,7 +28,7 @@ pub fn read_selection(option: &[u8]) -> SelectionAnswer
 }
 
 pub fn write_selection(address: u32, buffer: &mut [u8]) -> Answer
-    ensures { (result, buffer.new) ≡ selectionInto address buffer.old }
+    ensures { (result, buffer.new) ≡ selection_into address buffer.old }
 {
     match option_reply::write_selection(address, buffer) {
         Written::Bytes(n) => call_spec::accepted(n as u32, 0),
@@ -39,7 +39,7 @@ pub fn write_selection(address: u32, buffer: &mut [u8]) -> Answer
 
 // By the reader of the calls, so that the library has it once; what it finds in the option is not looked at.
 pub fn check_option(option: &[u8]) -> Answer
-    ensures { result ≡ optionCheck option.now }
+    ensures { result ≡ option_check option.now }
 {
     let mut asks = [0u8; MOST_REQUESTS];
     let mut h = [0u8; MOST_REQUESTS];

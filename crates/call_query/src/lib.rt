@@ -2,14 +2,14 @@
 // length it has. Each checks the book and reads what it is asked for where it stands.
 ghost use Rattle.std.specs.Prelude.{◌≡◌, cond, []};
 ghost use Rattle.image.specs.Image.{bit};
-ghost use Rattle.call_spec.specs.Books.{bookOf, lentIn, wholeBook};
+ghost use Rattle.call_spec.specs.Books.{book_of, lent_in, whole_book};
 ghost use Rattle.call_query.specs.Queries.{
-  checkImage,
-  headImage,
-  poolAnswer,
-  poolImage,
-  leaseAnswer,
-  leaseImage,
+  check_image,
+  head_image,
+  pool_answer,
+  pool_image,
+  lease_answer,
+  lease_image,
 };
 
 use counts::Counts;
@@ -55,7 +55,7 @@ pub struct LeaseAnswer {
 
 // No query looks at which leases have expired, so the time of the summary is 0, here and below.
 pub fn check(image: &[u8], image_bytes: usize, counts: &Counts) -> Answer
-    ensures { result ≡ checkImage (lentIn (bookOf image.now image_bytes [] counts.now)) }
+    ensures { result ≡ check_image (lent_in (book_of image.now image_bytes [] counts.now)) }
 {
     let summary = call_rows::summary_in(image, image_bytes, counts, 0);
     if !summary.sound {
@@ -73,7 +73,7 @@ fn row_5(sound: bool) -> u32
 
 // Where there is no table the summary is all 0.
 pub fn head(image: &[u8], image_bytes: usize, counts: &Counts) -> HeadAnswer
-    ensures { result ≡ headImage (lentIn (bookOf image.now image_bytes [] counts.now)) }
+    ensures { result ≡ head_image (lent_in (book_of image.now image_bytes [] counts.now)) }
 {
     let summary = call_rows::summary_in(image, image_bytes, counts, 0);
     HeadAnswer {
@@ -89,7 +89,7 @@ pub fn head(image: &[u8], image_bytes: usize, counts: &Counts) -> HeadAnswer
 // POOLS
 
 fn pool_answer(number: u32, p: Pool) -> PoolAnswer
-    ensures { result ≡ poolAnswer number p }
+    ensures { result ≡ pool_answer number p }
 {
     PoolAnswer {
         number,
@@ -99,7 +99,7 @@ fn pool_answer(number: u32, p: Pool) -> PoolAnswer
 }
 
 pub fn pool(image: &[u8], image_bytes: usize, counts: &Counts, index: usize) -> PoolAnswer
-    ensures { result ≡ poolImage (lentIn (bookOf image.now image_bytes [] counts.now)) index }
+    ensures { result ≡ pool_image (lent_in (book_of image.now image_bytes [] counts.now)) index }
 {
     let summary = call_rows::summary_in(image, image_bytes, counts, 0);
     if !summary.sound {
@@ -121,7 +121,7 @@ fn bit(b: bool) -> u32
 }
 
 fn lease_answer(number: u32, state: u8, x: Lease) -> LeaseAnswer
-    ensures { result ≡ leaseAnswer number state x }
+    ensures { result ≡ lease_answer number state x }
 {
     LeaseAnswer {
         number,
@@ -138,7 +138,7 @@ fn lease_answer(number: u32, state: u8, x: Lease) -> LeaseAnswer
 }
 
 pub fn lease(image: &[u8], image_bytes: usize, counts: &Counts, index: usize) -> LeaseAnswer
-    ensures { result ≡ leaseImage (lentIn (bookOf image.now image_bytes [] counts.now)) index }
+    ensures { result ≡ lease_image (lent_in (book_of image.now image_bytes [] counts.now)) index }
 {
     let summary = call_rows::summary_in(image, image_bytes, counts, 0);
     if !summary.sound {
@@ -155,7 +155,7 @@ pub fn lease(image: &[u8], image_bytes: usize, counts: &Counts, index: usize) ->
 
 // How many whole free blocks of a length there are, as last written; 0 outside 8 to 30.
 pub fn whole(image: &[u8], image_bytes: usize, counts: &Counts, length: u32) -> Answer
-    ensures { result ≡ wholeBook (bookOf image.now image_bytes [] counts.now) length }
+    ensures { result ≡ whole_book (book_of image.now image_bytes [] counts.now) length }
 {
     let checked = check(image, image_bytes, counts);
     if checked.number != 0 {

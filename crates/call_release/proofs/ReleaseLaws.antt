@@ -10,65 +10,65 @@ use lib.ListN.{take as up_to}
 use lib.Dec.{eqb}
 use Rattle.lists.specs.Lists.{All, filter}
 use Rattle.option.specs.Values.{Entry}
-use Rattle.option.specs.Contents.{entriesIn}
+use Rattle.option.specs.Contents.{entries_in}
 use Rattle.table.specs.declared.Lease.{Lease}
 use Rattle.table.specs.declared.LeaseTable.{LeaseTable}
 use Rattle.table.specs.Table.{present}
-use Rattle.image.specs.Image.{usedLeases}
+use Rattle.image.specs.Image.{used_leases}
 use Rattle.image_records.specs.Records.{Records, Ascending, ExpiredIn}
 use Rattle.image_check.specs.declared.ImageSummary.{ImageSummary}
 use Rattle.figures.specs.declared.FigureRow.{FigureRow}
-use Rattle.image_figures.specs.Sheets.{sheetOf}
+use Rattle.image_figures.specs.Sheets.{sheet_of}
 use Rattle.image_figures.proofs.AcceptedLaws.{strike-changed, stays-follow}
-use Rattle.counts.specs.Counts.{countsOf}
+use Rattle.counts.specs.Counts.{counts_of}
 use Rattle.ledger.specs.declared.Answer.{Answer}
-use Rattle.ledger.specs.Ledger.{State, left, Call, Result, result, refusal, acceptance, accept, refusalPlace, forTake, namedBy?, releaseRows, release}
+use Rattle.ledger.specs.Ledger.{State, left, Call, Result, outcome, refusal, acceptance, accept, refusal_place, for_take, named_by?, release_rows, release}
 use Rattle.ledger.proofs.SoundKept.{release-sound}
-use Rattle.call_spec.specs.ImageCalls.{Lent, lent, tableIn, stateIn, releaseImage}
-use Rattle.call_spec.specs.Books.{Book, lentIn, releaseBook}
+use Rattle.call_spec.specs.ImageCalls.{Lent, lent, table_in, state_in, release_image}
+use Rattle.call_spec.specs.Books.{Book, lent_in, release_book}
 use Rattle.call_rows.specs.declared.Admission.{Admission}
 use Rattle.call_spec.proofs.StoreLaws.{row-refuses}
 use Rattle.call_spec.proofs.OnImages.{follows-all}
 use Rattle.call_spec.proofs.BookLaws.{refuses-book}
 use Rattle.call_spec.proofs.PoolsKept.{release-pools}
-use Rattle.call_rows.specs.Admission.{leasesFrom, Admitted, Admits, LeftIfAccepted}
+use Rattle.call_rows.specs.Admission.{leases_from, Admitted, Admits, LeftIfAccepted}
 use Rattle.call_rows.proofs.SettleLaws.{countable, settles}
 use Rattle.call_rows.proofs.RowLaws.{RefusedBy, refused-admission, nothing-found, none_left, accepts}
-use Rattle.call_entries.specs.EntryLeases.{Hold, changedBy}
-use Rattle.call_entries.proofs.ManyLaws.{namedByPresent?, none_of, struck-all, struck-left}
+use Rattle.call_entries.specs.EntryLeases.{Hold, changed_by}
+use Rattle.call_entries.proofs.ManyLaws.{named_by_present?, none_of, struck-all, struck-left}
 use Rattle.call_entries.proofs.EntriesLaws.{unchanged, changed-prefix, changed-fewer}
 use Rattle.call_entries.proofs.CallLaws.{EntriesCall, refused-entries, entries-passed, as_lent, on-lent, changed-many, changed-stand, changed-in-place}
 use Rattle.call_release.specs.declared.Strikes.{Strikes}
 use Rattle.call_release.specs.InnerStruck.{Struck, Removed}
-use Rattle.call_release.specs.InnerReleasing.{foundBy, eleven, Releasing}
+use Rattle.call_release.specs.InnerReleasing.{found_by, eleven, Releasing}
 
 -- WHAT IT LEAVES where no row applies: the leases that no entry names.
 abbrev others : Lent → ℕ → Call → List Lease
-others h now c = filter (λ x. not (namedBy? c.client (entriesIn c.option) x)) (present now (tableIn h).leases)
+others h now c = filter (λ x. not (named_by? c.client (entries_in c.option) x)) (present now (table_in h).leases)
 
 abbrev outcome : Lent → ℕ → Call → Result State
-outcome h now c = accept (left (stateIn h) now (others h now c)) [] (length (foundBy h now c)) c.reply
+outcome h now c = accept (left (state_in h) now (others h now c)) [] (length (found_by h now c)) c.reply
 
 -- THE CALL, UP TO ROW 8
 
 module _ (h : Lent) (now : ℕ) (c : Call) where
   -- A row that applies refuses it.
-  by_row : RefusedBy (releaseRows (stateIn h) now c) h c (releaseImage h now c)
+  by_row : RefusedBy (release_rows (state_in h) now c) h c (release_image h now c)
   unfolding release
-  by_row = row-refuses h (releaseRows (stateIn h) now c) (refusalPlace c.option) c.reply (outcome h now c)
+  by_row = row-refuses h (release_rows (state_in h) now c) (refusal_place c.option) c.reply (outcome h now c)
 
-  pub release-refused : (a : Admission) → Admits true false h now c.client a → (a.number ≡ 0 → ⊥) → result (refusal a.number 0) h c.reply ≡ releaseImage h now c
-  unfolding releaseRows
-  release-refused = refused-admission true false h now c forTake (eleven h now c) (releaseImage h now c) by_row
+  pub release-refused : (a : Admission) → Admits true false h now c.client a → (a.number ≡ 0 → ⊥) → outcome (refusal a.number 0) h c.reply ≡ release_image h now c
+  unfolding release_rows
+  release-refused = refused-admission true false h now c for_take (eleven h now c) (release_image h now c) by_row
 
   module _ (s : EntriesCall false h now c) where
-    pub release-unread : (s.read.answer.number ≡ 0 → ⊥) → result s.read.answer h c.reply ≡ releaseImage h now c
-    unfolding release releaseRows
+    pub release-unread : (s.read.answer.number ≡ 0 → ⊥) → outcome s.read.answer h c.reply ≡ release_image h now c
+    unfolding release release_rows
     release-unread = refused-entries false h now c (eleven h now c) s (outcome h now c)
 
     -- Every row before 11 has passed.
     pub release-passed : s.read.answer.number ≡ 0 → Releasing h now c s.admission.summary (up_to s.read.count s.networks) (up_to s.read.count s.lengths)
-    unfolding releaseRows
+    unfolding release_rows
     release-passed = entries-passed false h now c (eleven h now c) s
 
 -- ROW 11, AND WHAT IS FOUND
@@ -78,95 +78,95 @@ module _ (h : Lent) (now : ℕ) (c : Call) (summary : ImageSummary) (networks le
   o = t.admitted
 
   xs : List Lease
-  xs = usedLeases (tableIn h)
+  xs = used_leases (table_in h)
 
   es : List Entry
-  es = entriesIn c.option
+  es = entries_in c.option
 
   -- The leases that the entries name are struck.
   module _ (l₁ : List ℕ) (strikes : Strikes)
-      (strike : (zs : List Lease) → Records h.image (leasesFrom summary) zs → summary.leases ≡ length zs → Ascending zs → (ns : List Entry) → Hold networks lengths ns
-      → Struck h.image (leasesFrom summary) zs now c.client ns l₁ strikes) where
-    done : Struck h.image (leasesFrom summary) xs now c.client es l₁ strikes
+      (strike : (zs : List Lease) → Records h.image (leases_from summary) zs → summary.leases ≡ length zs → Ascending zs → (ns : List Entry) → Hold networks lengths ns
+      → Struck h.image (leases_from summary) zs now c.client ns l₁ strikes) where
+    done : Struck h.image (leases_from summary) xs now c.client es l₁ strikes
     unfolding xs es o
     done = strike xs o.records o.leases o.ascending es t.hold
 
-    struck-is : strikes.count ≡ length (foundBy h now c)
+    struck-is : strikes.count ≡ length (found_by h now c)
     unfolding xs es o
-    struck-is = done.counted ∙ ap (λ (l : List Lease). length (filter (namedBy? c.client es) l)) (sym o.present-used)
+    struck-is = done.counted ∙ ap (λ (l : List Lease). length (filter (named_by? c.client es) l)) (sym o.present-used)
 
     -- Row 11: there are none, so nothing was written.
-    pub release-nothing : strikes.count ≡ 0 → result (refusal 11 0) (lent l₁ h.bytes h.figures) c.reply ≡ releaseImage h now c
+    pub release-nothing : strikes.count ≡ 0 → outcome (refusal 11 0) (lent l₁ h.bytes h.figures) c.reply ≡ release_image h now c
     unfolding xs es o
     release-nothing k =
-        let no_one : All (λ x. namedByPresent? now c.client es x ≡ false) xs =
-        none_of (namedByPresent? now c.client es) xs (ap length (struck-all now c.client 0 (omega arith) es xs) ∙ sym done.counted ∙ k) in
-        ap (λ (l : List ℕ). result (refusal 11 0) (lent l h.bytes h.figures) c.reply) (done.after_is ∙ unchanged now c.client 0 h.image (leasesFrom summary) xs o.records es no_one)
-        ∙ nothing-found h c (releaseRows (stateIn h) now c) (releaseImage h now c) (by_row h now c) (foundBy h now c) t.left-rows (sym struck-is ∙ k)
+        let no_one : All (λ x. named_by_present? now c.client es x ≡ false) xs =
+        none_of (named_by_present? now c.client es) xs (ap length (struck-all now c.client 0 (omega arith) es xs) ∙ sym done.counted ∙ k) in
+        ap (λ (l : List ℕ). outcome (refusal 11 0) (lent l h.bytes h.figures) c.reply) (done.after_is ∙ unchanged now c.client 0 h.image (leases_from summary) xs o.records es no_one)
+        ∙ nothing-found h c (release_rows (state_in h) now c) (release_image h now c) (by_row h now c) (found_by h now c) t.left-rows (sym struck-is ∙ k)
 
     -- Accepted: they are removed with the expired ones, and so are their rows.
     module _ (l₂ sheet : List ℕ) (n : ℕ)
-        (finish : (zs : List Lease) → Records l₁ (leasesFrom summary) zs → summary.leases ≡ length zs → (summary.expired ≡ 0 → ExpiredIn now strikes.first strikes.last zs)
-        → Removed l₁ h.figures (leasesFrom summary) zs now l₂ sheet n) where
+        (finish : (zs : List Lease) → Records l₁ (leases_from summary) zs → summary.leases ≡ length zs → (summary.expired ≡ 0 → ExpiredIn now strikes.first strikes.last zs)
+        → Removed l₁ h.figures (leases_from summary) zs now l₂ sheet n) where
       struck : Lease → Lease
-      struck = changedBy now c.client 0 es
+      struck = changed_by now c.client 0 es
 
       ys : List Lease
       ys = map struck xs
 
-      removed : Removed l₁ h.figures (leasesFrom summary) ys now l₂ sheet n
+      removed : Removed l₁ h.figures (leases_from summary) ys now l₂ sheet n
       unfolding xs es ys struck o
       removed =
           finish ys (changed-stand h now c summary o 0 es l₁ done.after_is) (changed-many h now c summary o 0 es l₁ done.after_is) (λ w. done.between (o.none-expired w))
 
       -- The rows are those that follow the leases that are left.
-      rows_left : sheet ≡ sheetOf (left (stateIn h) now (present now ys)).rows
+      rows_left : sheet ≡ sheet_of (left (state_in h) now (present now ys)).rows
       unfolding xs es ys struck o left
       rows_left =
-          let t : LeaseTable = tableIn h in
-          let rows : List FigureRow = (stateIn h).rows in
+          let t : LeaseTable = table_in h in
+          let rows : List FigureRow = (state_in h).rows in
           let known = o.sheet-in refl in
           let same = changed-prefix now c.client 0 es in
           let fewer = changed-fewer now c.client 0 es in
           removed.rows rows known.whole
-          ∙ ap sheetOf
+          ∙ ap sheet_of
           (strike-changed t o.sound rows known.matched now struck same fewer (length ys) (length (present now ys)) refl refl
           ∙ stays-follow t o.sound rows known.matched now struck same fewer)
 
-      pub release-found : (strikes.count ≡ 0 → ⊥) → result (acceptance 0 strikes.count) (lent l₂ n sheet) c.reply ≡ releaseImage h now c
+      pub release-found : (strikes.count ≡ 0 → ⊥) → outcome (acceptance 0 strikes.count) (lent l₂ n sheet) c.reply ≡ release_image h now c
       unfolding xs es ys struck o left release
       release-found k =
           let left-are : present now ys ≡ others h now c =
-          struck-left now c.client 0 (omega arith) es xs ∙ ap (filter (λ (x : Lease). not (namedBy? c.client es x))) (sym o.present-used) in
-          let after : Result State = result (acceptance 0 strikes.count) (left (stateIn h) now (present now ys)) c.reply in
+          struck-left now c.client 0 (omega arith) es xs ∙ ap (filter (λ (x : Lease). not (named_by? c.client es x))) (sym o.present-used) in
+          let after : Result State = outcome (acceptance 0 strikes.count) (left (state_in h) now (present now ys)) c.reply in
           let after_is : after ≡ outcome h now c =
-          ap₂ (λ (l : List Lease) (m : ℕ). result (acceptance 0 m) (left (stateIn h) now l) c.reply) left-are struck-is in
-          accepts h (releaseRows (stateIn h) now c) (refusalPlace c.option) c.reply (outcome h now c)
-          (none_left h c (releaseRows (stateIn h) now c) (releaseImage h now c) (by_row h now c) (foundBy h now c) t.left-rows (λ w. k (struck-is ∙ w))) after refl after_is (lent l₂ n sheet)
-          (changed-in-place h now c summary o 0 es l₁ done.after_is l₂ n removed.finished (left (stateIn h) now (present now ys)).rows sheet rows_left)
+          ap₂ (λ (l : List Lease) (m : ℕ). outcome (acceptance 0 m) (left (state_in h) now l) c.reply) left-are struck-is in
+          accepts h (release_rows (state_in h) now c) (refusal_place c.option) c.reply (outcome h now c)
+          (none_left h c (release_rows (state_in h) now c) (release_image h now c) (by_row h now c) (found_by h now c) t.left-rows (λ w. k (struck-is ∙ w))) after refl after_is (lent l₂ n sheet)
+          (changed-in-place h now c summary o 0 es l₁ done.after_is l₂ n removed.finished (left (state_in h) now (present now ys)).rows sheet rows_left)
 
 -- ON THE OPEN BOOK
 
 module _ (b : Book) (now : ℕ) (c : Call) where
-  pub book-refused : (a : Admission) → Admits true false (lentIn b) now c.client a → (a.number ≡ 0 → ⊥) → (r : Answer) → r ≡ refusal a.number 0
-      → result r b c.reply ≡ releaseBook b now c
+  pub book-refused : (a : Admission) → Admits true false (lent_in b) now c.client a → (a.number ≡ 0 → ⊥) → (r : Answer) → r ≡ refusal a.number 0
+      → outcome r b c.reply ≡ release_book b now c
   book-refused a ad k r is =
-      refuses-book b (releaseImage (lentIn b) now c) r (lentIn b) c.reply (ap (λ (y : Answer). result y (lentIn b) c.reply) is ∙ release-refused (lentIn b) now c a ad k)
+      refuses-book b (release_image (lent_in b) now c) r (lent_in b) c.reply (ap (λ (y : Answer). outcome y (lent_in b) c.reply) is ∙ release-refused (lent_in b) now c a ad k)
       (λ z. k (sym (ap (λ (y : Answer). y.number) is) ∙ z))
 
-  module _ (s : EntriesCall false (lentIn b) now c) where
-    pub book-unread : (s.read.answer.number ≡ 0 → ⊥) → result s.read.answer b c.reply ≡ releaseBook b now c
-    book-unread k = refuses-book b (releaseImage (lentIn b) now c) s.read.answer (lentIn b) c.reply (release-unread (lentIn b) now c s k) k
+  module _ (s : EntriesCall false (lent_in b) now c) where
+    pub book-unread : (s.read.answer.number ≡ 0 → ⊥) → outcome s.read.answer b c.reply ≡ release_book b now c
+    book-unread k = refuses-book b (release_image (lent_in b) now c) s.read.answer (lent_in b) c.reply (release-unread (lent_in b) now c s k) k
 
     -- What it leaves, and the counts.
-    module _ (a : Answer) (g : Lent) (is : result a g c.reply ≡ releaseImage b.lent now c) where
+    module _ (a : Answer) (g : Lent) (is : outcome a g c.reply ≡ release_image b.lent now c) where
       pub release-countable : LeftIfAccepted a.number (lent g.image g.bytes []) s.admission.summary.pools
       release-countable =
-          countable b.lent (release (stateIn b.lent) now c) (follows-all.releases b.lent now c) (release-sound (stateIn b.lent) now c)
-          (release-pools (stateIn b.lent) now c) a g c.reply is s.admission.summary.pools ((on-lent false b now c s).admits.admitted s.admitted).pools
+          countable b.lent (release (state_in b.lent) now c) (follows-all.releases b.lent now c) (release-sound (state_in b.lent) now c)
+          (release-pools (state_in b.lent) now c) a g c.reply is s.admission.summary.pools ((on-lent false b now c s).admits.admitted s.admitted).pools
 
-      pub release-settles : (counts : List (List ℕ)) → counts ≡ cond (eqb a.number 0 && true) (countsOf (tableIn (lent g.image g.bytes []))) b.counts
-          → result a (record { lent = g; counts = counts }) c.reply ≡ releaseBook b now c
+      pub release-settles : (counts : List (List ℕ)) → counts ≡ cond (eqb a.number 0 && true) (counts_of (table_in (lent g.image g.bytes []))) b.counts
+          → outcome a (record { lent = g; counts = counts }) c.reply ≡ release_book b now c
       release-settles counts left =
-          settles b (as_lent false b now c s) (release (stateIn b.lent) now c) (λ (h : Lent). releaseImage h now c) (follows-all.releases b.lent now c) a g c.reply is true counts left
+          settles b (as_lent false b now c s) (release (state_in b.lent) now c) (λ (h : Lent). release_image h now c) (follows-all.releases b.lent now c) a g c.reply is true counts left
           (λ z e. absurd (true≢false e))

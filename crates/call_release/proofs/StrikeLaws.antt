@@ -11,15 +11,15 @@ use Rattle.lists.proofs.ListLaws.{all-every}
 use Rattle.lists.proofs.FilterLaws.{filter_none}
 use Rattle.option.specs.Values.{Entry}
 use Rattle.table.specs.declared.Lease.{Lease}
-use Rattle.table.specs.Table.{noLease, present}
-use Rattle.image.specs.Image.{leaseSize}
+use Rattle.table.specs.Table.{no_lease, present}
+use Rattle.image.specs.Image.{lease_size}
 use Rattle.image_records.specs.Records.{Records, Ascending, ExpiredIn}
 use Rattle.image_records.proofs.FindLaws.{none-map}
 use Rattle.image_records.proofs.RemoveLaws.{whole-stays, expired-more}
-use Rattle.ledger.specs.Ledger.{namedBy?}
-use Rattle.call_entries.specs.EntryLeases.{named?, Hold, leasedUntil, changedIf, changedBy, ExpirySet}
+use Rattle.ledger.specs.Ledger.{named_by?}
+use Rattle.call_entries.specs.EntryLeases.{named?, Hold, leased_until, changed_if, changed_by, ExpirySet}
 use Rattle.call_entries.proofs.ManyLaws.{changed-none, changed-more, struck-more, struck-all}
-use Rattle.call_entries.proofs.EntriesLaws.{noEntry, hold-long, next-entry, found-one, found-no, changed-by-none, turn-changed, turn-after}
+use Rattle.call_entries.proofs.EntriesLaws.{no_entry, hold-long, next-entry, found-one, found-no, changed-by-none, turn-changed, turn-after}
 use Rattle.call_release.specs.declared.Strikes.{Strikes}
 use Rattle.call_release.specs.InnerStruck.{Struck}
 
@@ -32,41 +32,41 @@ module _ (l : List ℕ) (from n now client : ℕ) (networks lengths : List ℕ) 
   pub striking-none : Striking l from n now client networks lengths l (record { count = 0; first = n; last = 0 }) 0
   unfolding Striking
   striking-none xs held counted ascending es p = record {
-    counted = sym (ap length (filter_none (namedBy? client []) (present now xs) (all-every (λ x. refl) (present now xs))));
+    counted = sym (ap length (filter_none (named_by? client []) (present now xs) (all-every (λ x. refl) (present now xs))));
     after_is = changed-by-none now client 0 l from xs held;
     between = λ all. subst (ExpiredIn now n 0) (sym (changed-none now client 0 xs)) (λ k h gone. absurd (omega (arith, whole-stays now xs all k h)));
   }
 
-  module _ (room : from + leaseSize * n ≤ length l) (image : List ℕ) (before : Strikes) (k : ℕ) (s : Striking l from n now client networks lengths image before k) (lt : k < length networks) (after : List ℕ) (r : ℕ)
+  module _ (room : from + lease_size * n ≤ length l) (image : List ℕ) (before : Strikes) (k : ℕ) (s : Striking l from n now client networks lengths image before k) (lt : k < length networks) (after : List ℕ) (r : ℕ)
       (set_expiry : (ys : List Lease) → Records image from ys → n ≡ length ys → Ascending ys → ExpirySet (named? now client (get_or networks k 0) (get_or lengths k 0)) 0 image from ys after r) where
     module _ (xs : List Lease) (held : Records l from xs) (counted : n ≡ length xs) (ascending : Ascending xs) (es : List Entry) (p : Hold networks lengths es) where
       -- The lease that the next entry names, if there is one.
       next : List Lease
-      next = filter (named? now client (get_or es k noEntry).network (get_or es k noEntry).length) (map (changedBy now client 0 (take k es)) xs)
+      next = filter (named? now client (get_or es k no_entry).network (get_or es k no_entry).length) (map (changed_by now client 0 (take k es)) xs)
 
-      changed : ExpirySet (named? now client (get_or es k noEntry).network (get_or es k noEntry).length) 0 image from (map (changedBy now client 0 (take k es)) xs) after r
+      changed : ExpirySet (named? now client (get_or es k no_entry).network (get_or es k no_entry).length) 0 image from (map (changed_by now client 0 (take k es)) xs) after r
       unfolding Striking
       changed =
           turn-changed now client 0 l from xs held (omega arith) ascending networks lengths es p k lt image (s xs held counted ascending es p).after_is after r
           (λ ys h c a. set_expiry ys h (counted ∙ c) a)
 
-      counted_next : length (filter (namedBy? client (take (k + 1) es)) (present now xs)) ≡ before.count + length next
+      counted_next : length (filter (named_by? client (take (k + 1) es)) (present now xs)) ≡ before.count + length next
       unfolding Striking next
       counted_next =
           let so_far = (s xs held counted ascending es p).counted in
-          ap (λ (a : List Entry). length (filter (namedBy? client a) (present now xs))) (next-entry es k (omega (arith, hold-long networks lengths es p)))
-          ∙ ap length (sym (struck-all now client 0 (omega arith) (take k es ++ (get_or es k noEntry ∷ [])) xs))
-          ∙ struck-more now client 0 (omega arith) (take k es) (get_or es k noEntry) xs
+          ap (λ (a : List Entry). length (filter (named_by? client a) (present now xs))) (next-entry es k (omega (arith, hold-long networks lengths es p)))
+          ∙ ap length (sym (struck-all now client 0 (omega arith) (take k es ++ (get_or es k no_entry ∷ [])) xs))
+          ∙ struck-more now client 0 (omega arith) (take k es) (get_or es k no_entry) xs
           ∙ ap (λ (m : ℕ). m + length next) (ap length (struck-all now client 0 (omega arith) (take k es) xs) ∙ sym so_far)
 
       -- The leases as the next entry leaves them.
-      leases-next : map (changedBy now client 0 (take (k + 1) es)) xs ≡ map (changedIf (named? now client (get_or es k noEntry).network (get_or es k noEntry).length) 0) (map (changedBy now client 0 (take k es)) xs)
+      leases-next : map (changed_by now client 0 (take (k + 1) es)) xs ≡ map (changed_if (named? now client (get_or es k no_entry).network (get_or es k no_entry).length) 0) (map (changed_by now client 0 (take k es)) xs)
       leases-next =
-          ap (λ (a : List Entry). map (changedBy now client 0 a) xs) (next-entry es k (omega (arith, hold-long networks lengths es p)))
-          ∙ sym (changed-more now client 0 (take k es) (get_or es k noEntry) xs)
+          ap (λ (a : List Entry). map (changed_by now client 0 a) xs) (next-entry es k (omega (arith, hold-long networks lengths es p)))
+          ∙ sym (changed-more now client 0 (take k es) (get_or es k no_entry) xs)
 
       goes_on : (s₁ : Strikes) → s₁.count ≡ before.count + length next
-          → (present now xs ≡ xs → ExpiredIn now s₁.first s₁.last (map (changedIf (named? now client (get_or es k noEntry).network (get_or es k noEntry).length) 0) (map (changedBy now client 0 (take k es)) xs)))
+          → (present now xs ≡ xs → ExpiredIn now s₁.first s₁.last (map (changed_if (named? now client (get_or es k no_entry).network (get_or es k no_entry).length) 0) (map (changed_by now client 0 (take k es)) xs)))
           → Struck l from xs now client (take (k + 1) es) after s₁
       unfolding Striking next
       goes_on s₁ e stand = record {
@@ -82,27 +82,27 @@ module _ (l : List ℕ) (from n now client : ℕ) (networks lengths : List ℕ) 
         → Striking l from n now client networks lengths after s₁ (k + 1)
     unfolding Striking next
     striking-more s₁ q a b c d h xs held counted ascending es p =
-        let ys : List Lease = map (changedBy now client 0 (take k es)) xs in
+        let ys : List Lease = map (changed_by now client 0 (take k es)) xs in
         let found = (changed xs held counted ascending es p).found in
-        let within : r < length ys = omega (arith, length-map xs (changedBy now client 0 (take k es))) in
-        let one = found-one (named? now client (get_or es k noEntry).network (get_or es k noEntry).length) ys r found within in
+        let within : r < length ys = omega (arith, length-map xs (changed_by now client 0 (take k es))) in
+        let one = found-one (named? now client (get_or es k no_entry).network (get_or es k no_entry).length) ys r found within in
         goes_on xs held counted ascending es p s₁ (omega (arith, q, one))
         (λ all.
-        subst (ExpiredIn now s₁.first s₁.last) (sym (found.edited within (leasedUntil 0)))
-        (expired-more now before.first before.last ys ((s xs held counted ascending es p).between all) s₁.first s₁.last r a c b (omega arith) (leasedUntil 0 (get_or ys r noLease))))
+        subst (ExpiredIn now s₁.first s₁.last) (sym (found.edited within (leased_until 0)))
+        (expired-more now before.first before.last ys ((s xs held counted ascending es p).between all) s₁.first s₁.last r a c b (omega arith) (leased_until 0 (get_or ys r no_lease))))
 
     -- or none is.
     pub striking-skip : (s₁ : Strikes) → s₁.count ≡ before.count → s₁.first ≡ before.first → s₁.last ≡ before.last → r ≡ n → Striking l from n now client networks lengths after s₁ (k + 1)
     unfolding Striking next
     striking-skip s₁ q a b z xs held counted ascending es p =
-        let ys : List Lease = map (changedBy now client 0 (take k es)) xs in
-        let g = named? now client (get_or es k noEntry).network (get_or es k noEntry).length in
+        let ys : List Lease = map (changed_by now client 0 (take k es)) xs in
+        let g = named? now client (get_or es k no_entry).network (get_or es k no_entry).length in
         let found = (changed xs held counted ascending es p).found in
-        let past : r ≡ length ys = omega (arith, length-map xs (changedBy now client 0 (take k es))) in
+        let past : r ≡ length ys = omega (arith, length-map xs (changed_by now client 0 (take k es))) in
         goes_on xs held counted ascending es p s₁ (omega (arith, q, ap length (found-no g ys r found past)))
         (λ all i h gone.
-        let same = none-map g (leasedUntil 0) ys (found.none past) in
-        let before-it = (s xs held counted ascending es p).between all i (omega (arith, ap length same)) (omega (arith, ap (λ (zs : List Lease). (get_or zs i noLease).expires) same)) in
+        let same = none-map g (leased_until 0) ys (found.none past) in
+        let before-it = (s xs held counted ascending es p).between all i (omega (arith, ap length same)) (omega (arith, ap (λ (zs : List Lease). (get_or zs i no_lease).expires) same)) in
         (omega (arith, a), omega (arith, b)))
 
   pub striking-all : (image : List ℕ) (after : Strikes) (k : ℕ) → Striking l from n now client networks lengths image after k → length networks ≤ k

@@ -4,22 +4,22 @@ use Rattle.lists.specs.Lists.{filter}
 use Rattle.option.specs.Values.{Entry}
 use Rattle.table.specs.declared.Lease.{Lease}
 use Rattle.table.specs.Table.{present}
-use Rattle.ledger.specs.Ledger.{namedBy?}
+use Rattle.ledger.specs.Ledger.{named_by?}
 use Rattle.image_records.specs.Records.{ExpiredIn}
 use Rattle.figures.specs.declared.FigureRow.{FigureRow}
-use Rattle.image_figures.specs.Sheets.{sheetOf}
+use Rattle.image_figures.specs.Sheets.{sheet_of}
 use Rattle.call_rows.specs.Admission.{Finished}
-use Rattle.call_rows.specs.StruckRows.{struckIn}
-use Rattle.call_entries.specs.EntryLeases.{changedBy, changedIn}
+use Rattle.call_rows.specs.StruckRows.{struck_in}
+use Rattle.call_entries.specs.EntryLeases.{changed_by, changed_in}
 use Rattle.call_release.specs.declared.Strikes.{Strikes}
 
 -- Each present lease that an entry names expires at 0, and `count` counts them. Where none had expired before, those that have stand between two places.
 pub record Struck (buffer : List ℕ) (from : ℕ) (xs : List Lease) (now client : ℕ) (es : List Entry) (after : List ℕ) (s : Strikes) : Type 0 where
-  pub counted : s.count ≡ length (filter (namedBy? client es) (present now xs))
-  pub after_is : after ≡ changedIn now client 0 es buffer from xs
-  pub between : present now xs ≡ xs → ExpiredIn now s.first s.last (map (changedBy now client 0 es) xs)
+  pub counted : s.count ≡ length (filter (named_by? client es) (present now xs))
+  pub after_is : after ≡ changed_in now client 0 es buffer from xs
+  pub between : present now xs ≡ xs → ExpiredIn now s.first s.last (map (changed_by now client 0 es) xs)
 
 -- The struck and the expired ones are removed, and their rows with them.
 pub record Removed (buffer sheet : List ℕ) (from : ℕ) (xs : List Lease) (now : ℕ) (after figures : List ℕ) (bytes : ℕ) : Type 0 where
   pub finished : Finished buffer from xs now after bytes
-  pub rows : (rs : List FigureRow) → sheet ≡ sheetOf rs → figures ≡ sheetOf (struckIn now xs rs)
+  pub rows : (rs : List FigureRow) → sheet ≡ sheet_of rs → figures ≡ sheet_of (struck_in now xs rs)

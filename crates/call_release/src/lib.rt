@@ -2,14 +2,14 @@
 ghost use Rattle.std.specs.Prelude.{◌≡◌, List, [], ℕ, ◌+◌, ◌*◌, ◌≤◌, length};
 ghost use Rattle.option.specs.Values.{Entry};
 ghost use Rattle.table.specs.declared.Lease.{Lease};
-ghost use Rattle.image.specs.Image.{headSize, leaseSize};
-ghost use Rattle.ledger.specs.Ledger.{call, result};
+ghost use Rattle.image.specs.Image.{head_size, lease_size};
+ghost use Rattle.ledger.specs.Ledger.{call, outcome};
 ghost use Rattle.image_records.specs.Records.{Records, Ascending, ExpiredIn};
 ghost use Rattle.call_entries.specs.EntryLeases.{Hold};
 ghost use Rattle.call_entries.specs.EntryCalls.{Sized};
-ghost use Rattle.call_spec.specs.ImageCalls.{lent, releaseImage};
-ghost use Rattle.call_spec.specs.Books.{bookOf, releaseBook};
-ghost use Rattle.image_figures.specs.Sheets.{rowSize};
+ghost use Rattle.call_spec.specs.ImageCalls.{lent, release_image};
+ghost use Rattle.call_spec.specs.Books.{book_of, release_book};
+ghost use Rattle.image_figures.specs.Sheets.{row_size};
 ghost use Rattle.call_release.specs.InnerReleasing.{Releasing};
 ghost use Rattle.call_release.specs.InnerStruck.{Struck, Removed};
 
@@ -28,13 +28,13 @@ struct Strikes {
 }
 
 fn smaller(a: usize, b: usize) -> usize
-    ensures* { λ r. ⌜ (r ≤ a) × (r ≤ b) ⌝ }
+    ensures { (result ≤ a) × (result ≤ b) }
 {
     if a < b { a } else { b }
 }
 
 fn larger(a: usize, b: usize) -> usize
-    ensures* { λ r. ⌜ (a ≤ r) × (b ≤ r) × ((m : ℕ) → a ≤ m → b ≤ m → r ≤ m) ⌝ }
+    ensures { (a ≤ result) × (b ≤ result) × ((m : ℕ) → a ≤ m → b ≤ m → result ≤ m) }
 {
     if a < b { b } else { a }
 }
@@ -49,10 +49,10 @@ fn strike_named(
     networks: &[u32],
     lengths: &[u8],
 ) -> Strikes
-    requires { (from + leaseSize * n ≤ length image.old) × (length networks.now ≡ length lengths.now) }
-    ensures* fact { λ r. ⌜ (r.count ≤ length networks.now) × (r.last ≤ n) × (1 ≤ r.count → r.first ≤ r.last) ⌝ }
-    ensures* fact_2 { λ r. ⌜ ((xs : List Lease) → Records image.old from xs → n ≡ length xs → Ascending xs → (es : List Entry) → Hold networks.now lengths.now es
-        → Struck image.old from xs time client es image.new r) ⌝ }
+    requires { (from + lease_size * n ≤ length image.old) × (length networks.now ≡ length lengths.now) }
+    ensures bounds { (result.count ≤ length networks.now) × (result.last ≤ n) × (1 ≤ result.count → result.first ≤ result.last) }
+    ensures equation { ((xs : List Lease) → Records image.old from xs → n ≡ length xs → Ascending xs → (es : List Entry) → Hold networks.now lengths.now es
+        → Struck image.old from xs time client es image.new result) }
 {
     let mut count: usize = 0;
     let mut first: usize = n;
@@ -87,9 +87,9 @@ fn remove_struck(
     last: usize,
     time: u32,
 ) -> usize
-    requires { (headSize ≤ from) × (first ≤ last) × (last ≤ n) × (from + leaseSize * n ≤ length image.old) × (rowSize * n ≤ length figures.old) }
-    ensures* { λ r. ⌜ ((xs : List Lease) → Records image.old from xs → n ≡ length xs → (expired ≡ 0 → ExpiredIn time first last xs)
-        → Removed image.old figures.old from xs time image.new figures.new r) ⌝ }
+    requires { (head_size ≤ from) × (first ≤ last) × (last ≤ n) × (from + lease_size * n ≤ length image.old) × (row_size * n ≤ length figures.old) }
+    ensures { ((xs : List Lease) → Records image.old from xs → n ≡ length xs → (expired ≡ 0 → ExpiredIn time first last xs)
+        → Removed image.old figures.old from xs time image.new figures.new result) }
 {
     if expired == 0 {
         image_figures::strike(figures, image, from, n, first, last, time);
@@ -111,9 +111,9 @@ fn strike_found(
     lengths: &[u8],
 ) -> Answer
     requires { Sized (lent image.old image_bytes.old figures.old) summary networks.now lengths.now }
-    ensures* { λ r. ⌜ ((option : List ℕ) → Releasing (lent image.old image_bytes.old figures.old) time (call client option []) summary networks.now lengths.now
-        → result r (lent image.new image_bytes.new figures.new) []
-        ≡ releaseImage (lent image.old image_bytes.old figures.old) time (call client option [])) ⌝ }
+    ensures { ((option : List ℕ) → Releasing (lent image.old image_bytes.old figures.old) time (call client option []) summary networks.now lengths.now
+        → outcome result (lent image.new image_bytes.new figures.new) []
+        ≡ release_image (lent image.old image_bytes.old figures.old) time (call client option [])) }
 {
     let from = HEAD + POOL * summary.pools;
     let n = summary.leases;
@@ -144,8 +144,8 @@ pub fn release(
     time: u32,
     option: &[u8],
 ) -> Answer
-    ensures* { λ r. ⌜ result r (bookOf image.new image_bytes.new figures.new counts.new) []
-        ≡ releaseBook (bookOf image.old image_bytes.old figures.old counts.old) time (call client option.now []) ⌝ }
+    ensures { outcome result (book_of image.new image_bytes.new figures.new counts.new) []
+        ≡ release_book (book_of image.old image_bytes.old figures.old counts.old) time (call client option.now []) }
 {
     let bytes = *image_bytes;
     let admission = call_rows::admit(image, bytes, figures, true, counts, false, client, time);

@@ -12,12 +12,12 @@ use Rattle.lists.proofs.Tests.{cond-true, cond-false}
 use Rattle.table.specs.Table.{latest, sound}
 use Rattle.figures.specs.Figures.{matches?}
 use Rattle.ledger.specs.Sizes.{Bytes}
-use Rattle.ledger.specs.Ledger.{Row, first_of, timeRows}
+use Rattle.ledger.specs.Ledger.{Row, first_of, time_rows}
 use Rattle.ledger.specs.FiguresKept.{Matched}
 use Rattle.ledger.proofs.RowLaws.{first-none}
 use Rattle.image_check.specs.declared.ImageSummary.{ImageSummary}
-use Rattle.call_spec.specs.ImageCalls.{Lent, tableIn, stateIn}
-use Rattle.call_spec.specs.Books.{Book, lentIn}
+use Rattle.call_spec.specs.ImageCalls.{Lent, table_in, state_in}
+use Rattle.call_spec.specs.Books.{Book, lent_in}
 use Rattle.call_spec.proofs.BookLaws.{same-buffers}
 use Rattle.call_spec.proofs.TableLaws.{held-size, held-sheet}
 use Rattle.call_rows.specs.declared.Admission.{Admission}
@@ -34,7 +34,7 @@ row-15 false false matches passes later e = refl
 row-15 true true matches passes later e = ap (λ (p : Bool). first_of ((15, not p) ∷ later)) (e refl)
 row-15 false true matches passes later e = ap (λ (p : Bool). first_of ((15, not p) ∷ later)) (e refl)
 
-sheet-of : (h : Lent) → sound (tableIn h) ≡ true → Bytes h.figures → Matched (stateIn h) → SheetIn h
+sheet-of : (h : Lent) → sound (table_in h) ≡ true → Bytes h.figures → Matched (state_in h) → SheetIn h
 sheet-of h s b m = record { matched = m; size = held-size h s m; whole = held-sheet h s m b }
 
 module _ (sheet short : Bool) (h : Lent) (now client : ℕ) (a : Admission) where
@@ -51,36 +51,36 @@ module _ (sheet short : Bool) (h : Lent) (now client : ℕ) (a : Admission) wher
   pub admit-rest : short ≡ false → Bytes h.image → Bytes h.figures → SummaryIn h now a.summary → (passes : Bool) → SheetPasses sheet a.summary h.image h.figures passes
       → a.number ≡ number_of (first_of (rest a.summary.sound passes a.summary.last)) → Admits sheet short h now client a
   admit-rest long b k i passes p e =
-      let rows : List Row = rest (sound (tableIn h)) passes (tableIn h).last in
+      let rows : List Row = rest (sound (table_in h)) passes (table_in h).last in
       let same : a.number ≡ number_of (first_of rows) = e ∙ rw (i.sound, i.last) in
-      let is : sound (tableIn h) ≡ true → passes ≡ (not sheet || matches? (tableIn h).leases (stateIn h).rows) = λ s. passes-is h now b a.summary i s sheet passes p in
-      let by-sheet = row-15 sheet (sound (tableIn h)) (matches? (tableIn h).leases (stateIn h).rows) passes ((2, eqb client 0) ∷ timeRows (stateIn h) now) is in
+      let is : sound (table_in h) ≡ true → passes ≡ (not sheet || matches? (table_in h).leases (state_in h).rows) = λ s. passes-is h now b a.summary i s sheet passes p in
+      let by-sheet = row-15 sheet (sound (table_in h)) (matches? (table_in h).leases (state_in h).rows) passes ((2, eqb client 0) ∷ time_rows (state_in h) now) is in
       record {
         number = same ∙ ap number_of (by-sheet ∙ sym (cond-false short (some 1) _ long));
         admitted = λ z.
             let r = first-none rows (number-none rows (refl, (refl, (refl, (refl, (refl, tt))))) a.number same z) in
-            let s : sound (tableIn h) ≡ true = not-false (sound (tableIn h)) r.0 in
-            let matched : sheet ≡ true → Matched (stateIn h) =
-            λ c. ap (λ (x : Bool). not x || matches? (tableIn h).leases (stateIn h).rows) (sym c) ∙ sym (is s) ∙ not-false passes r.1.0 in
-            admits h now b a.summary i s sheet client r.1.1.0 (ltb-false now (tableIn h).last r.1.1.1.0) (ltb-false latest now r.1.1.1.1.0)
+            let s : sound (table_in h) ≡ true = not-false (sound (table_in h)) r.0 in
+            let matched : sheet ≡ true → Matched (state_in h) =
+            λ c. ap (λ (x : Bool). not x || matches? (table_in h).leases (state_in h).rows) (sym c) ∙ sym (is s) ∙ not-false passes r.1.0 in
+            admits h now b a.summary i s sheet client r.1.1.0 (ltb-false now (table_in h).last r.1.1.1.0) (ltb-false latest now r.1.1.1.1.0)
             (λ c. sheet-of h s k (matched c));
       }
 
 -- AN OPEN BOOK: its buffers are those of what is given in its place.
-module _ (b : Book) (now : ℕ) (image : Bytes b.lent.image) (summary : ImageSummary) (i : SummaryIn (lentIn b) now summary) where
-  given-bytes : Bytes (lentIn b).image
+module _ (b : Book) (now : ℕ) (image : Bytes b.lent.image) (summary : ImageSummary) (i : SummaryIn (lent_in b) now summary) where
+  given-bytes : Bytes (lent_in b).image
   given-bytes = subst Bytes (sym (same-buffers b).0) image
 
   pub book-measured : Measured summary b.lent.image
-  book-measured = subst (Measured summary) (same-buffers b).0 (measured (lentIn b) now given-bytes summary i)
+  book-measured = subst (Measured summary) (same-buffers b).0 (measured (lent_in b) now given-bytes summary i)
 
 module _ (sheet short : Bool) (b : Book) (now client : ℕ) (a : Admission) where
-  pub admit-book : short ≡ false → Bytes b.lent.image → Bytes b.lent.figures → SummaryIn (lentIn b) now a.summary → (passes : Bool)
+  pub admit-book : short ≡ false → Bytes b.lent.image → Bytes b.lent.figures → SummaryIn (lent_in b) now a.summary → (passes : Bool)
       → SheetPasses sheet a.summary b.lent.image b.lent.figures passes
       → a.number ≡ number_of (first_of ((5, not a.summary.sound) ∷ (15, not passes) ∷ (2, eqb client 0) ∷ (3, ltb now a.summary.last) ∷ (4, ltb latest now) ∷ []))
-      → Admits sheet short (lentIn b) now client a
+      → Admits sheet short (lent_in b) now client a
   admit-book long image figures i passes p e =
       let same = same-buffers b in
-      admit-rest sheet short (lentIn b) now client a long (subst Bytes (sym same.0) image) (subst Bytes (sym same.1) figures) i passes
-      (subst (λ (f : List ℕ). SheetPasses sheet a.summary (lentIn b).image f passes) (sym same.1)
+      admit-rest sheet short (lent_in b) now client a long (subst Bytes (sym same.0) image) (subst Bytes (sym same.1) figures) i passes
+      (subst (λ (f : List ℕ). SheetPasses sheet a.summary (lent_in b).image f passes) (sym same.1)
       (subst (λ (l : List ℕ). SheetPasses sheet a.summary l b.lent.figures passes) (sym same.0) p)) e

@@ -10,18 +10,18 @@ use mathlib.Core.Option.{Option, none, some}
 use lib.ListN.{length, take}
 use Rattle.lists.proofs.Tests.{bool_cases}
 use Rattle.table.specs.declared.LeaseTable.{LeaseTable}
-use Rattle.table.specs.Table.{poolSlots, sound}
-use Rattle.image.specs.Image.{headSize, poolSize, leaseSize, usedPools, usedLeases, image_of}
-use Rattle.image.specs.Reading.{loadImage}
+use Rattle.table.specs.Table.{pool_slots, sound}
+use Rattle.image.specs.Image.{head_size, pool_size, lease_size, used_pools, used_leases, image_of}
+use Rattle.image.specs.Reading.{load_image}
 use Rattle.image.proofs.ImageLaws.{length-image}
 use Rattle.image_records.proofs.SoundLaws.{used-few}
 use Rattle.image_check.specs.declared.ImageSummary.{ImageSummary}
-use Rattle.image_check.specs.ImageSummary.{summaryOf}
-use Rattle.counts.specs.Counts.{countsOf, sameCounts?}
+use Rattle.image_check.specs.ImageSummary.{summary_of}
+use Rattle.counts.specs.Counts.{counts_of, same_counts?}
 use Rattle.image_counts.specs.Standing.{Stands, SomeTable}
 use Rattle.ledger.specs.Sizes.{Bytes}
-use Rattle.call_spec.specs.ImageCalls.{Lent, lent, holds?, imageIn, tableIn}
-use Rattle.call_spec.specs.Books.{bookOf, counted?, lentIn}
+use Rattle.call_spec.specs.ImageCalls.{Lent, lent, holds?, image_in, table_in}
+use Rattle.call_spec.specs.Books.{book_of, counted?, lent_in}
 use Rattle.call_spec.proofs.TableLaws.{nothing-loads, held-loads, held-image, held-length}
 use Rattle.call_spec.proofs.BookLaws.{cond_both, lent-counted, lent-differing}
 use Rattle.call_rows.specs.Admission.{LeftSound}
@@ -30,16 +30,16 @@ use Rattle.call_rows.proofs.SummaryLaws.{summary-in}
 
 -- NO BYTES
 
-no-image : (image figures : List ℕ) → loadImage (imageIn (lent image 0 figures)) ≡ none
-no-image image figures = ap (λ (n : ℕ). loadImage (take n image)) (cond_both (holds? (lent image 0 figures)) 0) ∙ nothing-loads
+no-image : (image figures : List ℕ) → load_image (image_in (lent image 0 figures)) ≡ none
+no-image image figures = ap (λ (n : ℕ). load_image (take n image)) (cond_both (holds? (lent image 0 figures)) 0) ∙ nothing-loads
 
-none-loaded : (now : ℕ) (o : Option LeaseTable) → (summaryOf now o).sound ≡ false → o ≡ none
+none-loaded : (now : ℕ) (o : Option LeaseTable) → (summary_of now o).sound ≡ false → o ≡ none
 none-loaded now none e = refl
 none-loaded now (some t) e = absurd (true≢false e)
 
 -- A SOUND TABLE STANDS at the front of its buffer.
-pub stands : (h : Lent) → sound (tableIn h) ≡ true → image_of (tableIn h) ≡ take h.bytes h.image → length (image_of (tableIn h)) ≡ h.bytes → (pools leases : ℕ)
-    → pools ≡ length (usedPools (tableIn h)) → leases ≡ length (usedLeases (tableIn h)) → Stands (tableIn h) h.image pools leases
+pub stands : (h : Lent) → sound (table_in h) ≡ true → image_of (table_in h) ≡ take h.bytes h.image → length (image_of (table_in h)) ≡ h.bytes → (pools leases : ℕ)
+    → pools ≡ length (used_pools (table_in h)) → leases ≡ length (used_leases (table_in h)) → Stands (table_in h) h.image pools leases
 stands h s image size pools leases p l = record { sound-table = s; image-is = image ∙ ap (λ (n : ℕ). take n h.image) (sym size); pools-are = p; leases-are = l }
 
 -- THE SUMMARY
@@ -47,60 +47,60 @@ stands h s image size pools leases p l = record { sound-table = s; image-is = im
 module _ (image : List ℕ) (bytes : ℕ) (counts : List (List ℕ)) (now : ℕ) (b : Bytes image) (summary : ImageSummary)
     (i : (figures : List ℕ) → SummaryIn (lent image bytes figures) now summary) where
   -- Of what is no image nothing is judged.
-  pub book-unsound : summary.sound ≡ false → (figures : List ℕ) → SummaryIn (lentIn (bookOf image bytes figures counts)) now summary
+  pub book-unsound : summary.sound ≡ false → (figures : List ℕ) → SummaryIn (lent_in (book_of image bytes figures counts)) now summary
   book-unsound e figures =
-      let nothing : loadImage (imageIn (lent image bytes figures)) ≡ none = none-loaded now (loadImage (imageIn (lent image bytes figures))) (sym (ap (λ (x : ImageSummary). x.sound) (i figures).is) ∙ e) in
+      let nothing : load_image (image_in (lent image bytes figures)) ≡ none = none-loaded now (load_image (image_in (lent image bytes figures))) (sym (ap (λ (x : ImageSummary). x.sound) (i figures).is) ∙ e) in
       ⊎_elim
-      (λ (c : counted? (bookOf image bytes figures counts) ≡ true). subst (λ (h : Lent). SummaryIn h now summary) (sym (lent-counted (bookOf image bytes figures counts) c)) (i figures))
-      (λ (c : counted? (bookOf image bytes figures counts) ≡ false).
-      subst (λ (h : Lent). SummaryIn h now summary) (sym (lent-differing (bookOf image bytes figures counts) c))
-      (summary-in (lent image 0 figures) now b summary ((i figures).is ∙ ap (summaryOf now) (nothing ∙ sym (no-image image figures)))))
-      (bool_cases (counted? (bookOf image bytes figures counts)))
+      (λ (c : counted? (book_of image bytes figures counts) ≡ true). subst (λ (h : Lent). SummaryIn h now summary) (sym (lent-counted (book_of image bytes figures counts) c)) (i figures))
+      (λ (c : counted? (book_of image bytes figures counts) ≡ false).
+      subst (λ (h : Lent). SummaryIn h now summary) (sym (lent-differing (book_of image bytes figures counts) c))
+      (summary-in (lent image 0 figures) now b summary ((i figures).is ∙ ap (summary_of now) (nothing ∙ sym (no-image image figures)))))
+      (bool_cases (counted? (book_of image bytes figures counts)))
 
   module _ (e : summary.sound ≡ true) where
-    table-sound : (figures : List ℕ) → sound (tableIn (lent image bytes figures)) ≡ true
+    table-sound : (figures : List ℕ) → sound (table_in (lent image bytes figures)) ≡ true
     table-sound figures = sym (i figures).sound ∙ e
 
-    pub summary-stands : (figures : List ℕ) → Stands (tableIn (lent image bytes figures)) image summary.pools summary.leases
+    pub summary-stands : (figures : List ℕ) → Stands (table_in (lent image bytes figures)) image summary.pools summary.leases
     summary-stands figures =
         let h : Lent = lent image bytes figures in
-        let whole : summary ≡ summaryOf now (some (tableIn h)) = (i figures).is ∙ ap (summaryOf now) (held-loads h (table-sound figures)) in
+        let whole : summary ≡ summary_of now (some (table_in h)) = (i figures).is ∙ ap (summary_of now) (held-loads h (table-sound figures)) in
         stands h (table-sound figures) (held-image h (table-sound figures) b) (held-length h (table-sound figures) b) summary.pools summary.leases (ap (λ (x : ImageSummary). x.pools) whole) (ap (λ (x : ImageSummary). x.leases) whole)
 
     pub summary-some : SomeTable image summary.pools summary.leases
-    summary-some = record { table = tableIn (lent image bytes []); stands = summary-stands [] }
+    summary-some = record { table = table_in (lent image bytes []); stands = summary-stands [] }
 
-    module _ (right : Bool) (r : (t : LeaseTable) → Stands t image summary.pools summary.leases → right ≡ sameCounts? counts (countsOf t)) where
-      judged : (figures : List ℕ) → counted? (bookOf image bytes figures counts) ≡ right
+    module _ (right : Bool) (r : (t : LeaseTable) → Stands t image summary.pools summary.leases → right ≡ same_counts? counts (counts_of t)) where
+      judged : (figures : List ℕ) → counted? (book_of image bytes figures counts) ≡ right
       unfolding counted?
-      judged figures = sym (r (tableIn (lent image bytes figures)) (summary-stands figures))
+      judged figures = sym (r (table_in (lent image bytes figures)) (summary-stands figures))
 
-      pub book-counted : right ≡ true → (figures : List ℕ) → SummaryIn (lentIn (bookOf image bytes figures counts)) now summary
-      book-counted c figures = subst (λ (h : Lent). SummaryIn h now summary) (sym (lent-counted (bookOf image bytes figures counts) (judged figures ∙ c))) (i figures)
+      pub book-counted : right ≡ true → (figures : List ℕ) → SummaryIn (lent_in (book_of image bytes figures counts)) now summary
+      book-counted c figures = subst (λ (h : Lent). SummaryIn h now summary) (sym (lent-counted (book_of image bytes figures counts) (judged figures ∙ c))) (i figures)
 
-      pub book-differing : right ≡ false → (nothing : ImageSummary) → nothing ≡ summaryOf now (loadImage (take 0 image)) → (figures : List ℕ)
-          → SummaryIn (lentIn (bookOf image bytes figures counts)) now nothing
+      pub book-differing : right ≡ false → (nothing : ImageSummary) → nothing ≡ summary_of now (load_image (take 0 image)) → (figures : List ℕ)
+          → SummaryIn (lent_in (book_of image bytes figures counts)) now nothing
       book-differing c nothing is figures =
-          subst (λ (h : Lent). SummaryIn h now nothing) (sym (lent-differing (bookOf image bytes figures counts) (judged figures ∙ c)))
-          (summary-in (lent image 0 figures) now b nothing (is ∙ ap (λ (n : ℕ). summaryOf now (loadImage (take n image))) (sym (cond_both (holds? (lent image 0 figures)) 0))))
+          subst (λ (h : Lent). SummaryIn h now nothing) (sym (lent-differing (book_of image bytes figures counts) (judged figures ∙ c)))
+          (summary-in (lent image 0 figures) now b nothing (is ∙ ap (λ (n : ℕ). summary_of now (load_image (take n image))) (sym (cond_both (holds? (lent image 0 figures)) 0))))
 
 -- COUNTED AGAIN
 
 module _ (g : Lent) (pools : ℕ) (left : LeftSound g pools) where
   abbrev from : ℕ
-  from = headSize + poolSize * pools
+  from = head_size + pool_size * pools
 
-  bytes-are : from + leaseSize * length (usedLeases (tableIn g)) ≡ g.bytes
-  bytes-are = omega (arith, left.pools-are, length-image (tableIn g), left.size)
+  bytes-are : from + lease_size * length (used_leases (table_in g)) ≡ g.bytes
+  bytes-are = omega (arith, left.pools-are, length-image (table_in g), left.size)
 
   pub left-from : from ≤ g.bytes
   left-from = omega (arith, bytes-are)
 
-  pub left-few : pools ≤ poolSlots
-  left-few = omega (arith, left.pools-are, (used-few (tableIn g) left.sound).0)
+  pub left-few : pools ≤ pool_slots
+  left-few = omega (arith, left.pools-are, (used-few (table_in g) left.sound).0)
 
-  pub left-stands : Stands (tableIn g) g.image pools ((g.bytes - from) / leaseSize)
-  left-stands = stands g left.sound left.image left.size pools ((g.bytes - from) / leaseSize) left.pools-are (omega (arith, bytes-are))
+  pub left-stands : Stands (table_in g) g.image pools ((g.bytes - from) / lease_size)
+  left-stands = stands g left.sound left.image left.size pools ((g.bytes - from) / lease_size) left.pools-are (omega (arith, bytes-are))
 
-  pub left-some : SomeTable g.image pools ((g.bytes - from) / leaseSize)
-  left-some = record { table = tableIn g; stands = left-stands }
+  pub left-some : SomeTable g.image pools ((g.bytes - from) / lease_size)
+  left-some = record { table = table_in g; stands = left-stands }

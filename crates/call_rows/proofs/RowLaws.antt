@@ -13,32 +13,32 @@ use borrow.Author.Tests.{eqb-false}
 use Rattle.lists.specs.Lists.{All}
 use Rattle.lists.proofs.Tests.{cond-true, cond-false, not-of, not-to}
 use Rattle.lists.proofs.ListLaws.{all_map}
-use Rattle.option.specs.Reading.{readSuboptions, readOption}
+use Rattle.option.specs.Reading.{read_suboptions, read_option}
 use Rattle.option.specs.Values.{SuboptionValue, Outcome}
 use Rattle.option.specs.Values as values
 use Rattle.option.specs.Contents.{refuses?, place_in, suboptions}
-use Rattle.option.specs.Answers.{checkedOf, place_of}
+use Rattle.option.specs.Answers.{checked_of, place_of}
 use Rattle.option.specs.declared.Fault.TheVariants.{Framing, Field}
 use Rattle.option.specs.declared.Checked.{Checked}
 use Rattle.option.specs.declared.Checked.TheVariants.{NotTheOption, BadSuboption}
-use Rattle.table.specs.Table.{poolsOf}
+use Rattle.table.specs.Table.{pools_of}
 use Rattle.ledger.specs.declared.Answer.{Answer}
-use Rattle.ledger.specs.Ledger.{State, Call, call, Result, result, refusal, Row, first_of, byRows, placed?, refusalPlace, nothing?, badSelection?, narrowed, optionRows, groundRows}
+use Rattle.ledger.specs.Ledger.{State, Call, call, Result, outcome, refusal, Row, first_of, by_rows, placed?, refusal_place, nothing?, bad_selection?, narrowed, option_rows, ground_rows}
 use Rattle.ledger.specs.Sizes.{Bytes}
-use Rattle.ledger.specs.Answers.{checkedAnswer, answered}
+use Rattle.ledger.specs.Answers.{checked_answer, answered}
 use Rattle.ledger.proofs.ReadLaws.{place_short}
 use Rattle.ledger.proofs.RowLaws.{Numbered, first-none, first-number, first-before, first-after, nothing-none, nothing-some}
 use Rattle.ledger.proofs.CommonRows.{option-rows, option-passed}
 use Rattle.option_scan.specs.declared.Contents.{Contents}
 use Rattle.option_scan.specs.Scanned.{Columns, ScannedOf, Reads}
-use Rattle.call_spec.specs.ImageCalls.{Lent, tableIn, stateIn, storedIn, settled}
+use Rattle.call_spec.specs.ImageCalls.{Lent, table_in, state_in, stored_in, settled}
 use Rattle.call_spec.proofs.StoreLaws.{settled-accepted, no_row}
 use Rattle.call_rows.specs.declared.Admission.{Admission}
-use Rattle.call_rows.specs.Admission.{admissionRows, number_of, Admits}
+use Rattle.call_rows.specs.Admission.{admission_rows, number_of, Admits}
 
 -- WHAT option_refusal REQUIRES: the place of a bad suboption is within the option.
 
-checked-place : (o : Outcome) → place_in o ≤ 257 → place_of (checkedOf o) ≤ 257
+checked-place : (o : Outcome) → place_in o ≤ 257 → place_of (checked_of o) ≤ 257
 checked-place (values.accepted subs) h = omega arith
 checked-place (values.refused number place) h = pick (eqb number 6)
   where
@@ -46,8 +46,8 @@ checked-place (values.refused number place) h = pick (eqb number 6)
     pick true = omega arith
     pick false = h
 
-pub place-small : (option : List ℕ) → Bytes option → (c : Checked) → c ≡ checkedOf (readOption option) → place_of c ≤ 257
-place-small option b c e = subst (λ (x : Checked). place_of x ≤ 257) (sym e) (checked-place (readOption option) (place_short option b 7))
+pub place-small : (option : List ℕ) → Bytes option → (c : Checked) → c ≡ checked_of (read_option option) → place_of c ≤ 257
+place-small option b c e = subst (λ (x : Checked). place_of x ≤ 257) (sym e) (checked-place (read_option option) (place_short option b 7))
 
 -- THE NUMBER OF THE FIRST ROW
 
@@ -70,13 +70,13 @@ module _ (rows : List Row) (numbered : Numbered rows) (n : ℕ) (e : n ≡ numbe
 
 -- None of them has number 0, or one that has a place.
 admission-numbers : (sheet short : Bool) (h : Lent) (now client : ℕ)
-    → All (λ (r : Row). (eqb r.0 0 ≡ false) × (placed? r.0 ≡ false)) (admissionRows sheet short h now client)
+    → All (λ (r : Row). (eqb r.0 0 ≡ false) × (placed? r.0 ≡ false)) (admission_rows sheet short h now client)
 admission-numbers true short h now client = ((refl, refl), ((refl, refl), ((refl, refl), ((refl, refl), ((refl, refl), ((refl, refl), tt))))))
 admission-numbers false short h now client = ((refl, refl), ((refl, refl), ((refl, refl), ((refl, refl), ((refl, refl), tt)))))
 
 module _ (sheet short : Bool) (h : Lent) (now client : ℕ) (a : Admission) (ad : Admits sheet short h now client a) (rest : List Row) where
   abbrev first : List Row
-  first = admissionRows sheet short h now client
+  first = admission_rows sheet short h now client
 
   numbered : Numbered first
   numbered = all_map (λ (r : Row) (k : (eqb r.0 0 ≡ false) × (placed? r.0 ≡ false)). k.0) first (admission-numbers sheet short h now client)
@@ -100,41 +100,41 @@ module _ (sheet short : Bool) (h : Lent) (now client : ℕ) (a : Admission) (ad 
   admitted-rows z = first-after first rest (none_of z)
 
 -- OPTION 118 that is not bad leaves rows 6, 7 and 16 as they are without it.
-pub rows-without : (c : Call) → badSelection? c.selection ≡ false → optionRows c ≡ optionRows (call 0 c.option [])
+pub rows-without : (c : Call) → bad_selection? c.selection ≡ false → option_rows c ≡ option_rows (call 0 c.option [])
 rows-without c e =
-    ap (λ (b : Bool). (6, refuses? 6 (readOption c.option) || b) ∷ (7, refuses? 7 (readOption c.option)) ∷ (16, refuses? 16 (readOption c.option)) ∷ []) e
+    ap (λ (b : Bool). (6, refuses? 6 (read_option c.option) || b) ∷ (7, refuses? 7 (read_option c.option)) ∷ (16, refuses? 16 (read_option c.option)) ∷ []) e
 
 -- ROWS 6, 7 AND 16, what follows them, and what is read of an option that passes them.
 
-module _ (c : Call) (selected : badSelection? c.selection ≡ false) (m : Contents) (k : Columns) (reads : Reads c.option m k) (ans : Answer) (g : ans ≡ checkedAnswer m.checked) where
-  answer-is : ans ≡ answered (first_of (optionRows c)) c.option
-  answer-is = g ∙ ap checkedAnswer reads.checked ∙ option-rows c selected
+module _ (c : Call) (selected : bad_selection? c.selection ≡ false) (m : Contents) (k : Columns) (reads : Reads c.option m k) (ans : Answer) (g : ans ≡ checked_answer m.checked) where
+  answer-is : ans ≡ answered (first_of (option_rows c)) c.option
+  answer-is = g ∙ ap checked_answer reads.checked ∙ option-rows c selected
 
   pub option-refuses : (own : List Row) → (ans.number ≡ 0 → ⊥)
-      → (first_of (optionRows c ++ own) ≡ some ans.number) × (ans ≡ refusal ans.number (refusalPlace c.option ans.number))
-  option-refuses own some-row = go (first_of (optionRows c)) refl
+      → (first_of (option_rows c ++ own) ≡ some ans.number) × (ans ≡ refusal ans.number (refusal_place c.option ans.number))
+  option-refuses own some-row = go (first_of (option_rows c)) refl
     where
-      go : (o : Option ℕ) → first_of (optionRows c) ≡ o → (first_of (optionRows c ++ own) ≡ some ans.number) × (ans ≡ refusal ans.number (refusalPlace c.option ans.number))
+      go : (o : Option ℕ) → first_of (option_rows c) ≡ o → (first_of (option_rows c ++ own) ≡ some ans.number) × (ans ≡ refusal ans.number (refusal_place c.option ans.number))
       go none f = absurd (some-row (ap (λ (x : Answer). x.number) (answer-is ∙ ap (λ (o : Option ℕ). answered o c.option) f)))
       go (some n) f =
-          let whole : ans ≡ refusal n (refusalPlace c.option n) = answer-is ∙ ap (λ (o : Option ℕ). answered o c.option) f in
+          let whole : ans ≡ refusal n (refusal_place c.option n) = answer-is ∙ ap (λ (o : Option ℕ). answered o c.option) f in
           let number : ans.number ≡ n = ap (λ (x : Answer). x.number) whole in
-          (first-before (optionRows c) own n f ∙ ap some (sym number), whole ∙ ap (λ (m : ℕ). refusal m (refusalPlace c.option m)) (sym number))
+          (first-before (option_rows c) own n f ∙ ap some (sym number), whole ∙ ap (λ (m : ℕ). refusal m (refusal_place c.option m)) (sym number))
 
   module _ (good : ans.number ≡ 0) where
-    pub option-none : first_of (optionRows c) ≡ none
-    option-none = go (first_of (optionRows c)) refl
+    pub option-none : first_of (option_rows c) ≡ none
+    option-none = go (first_of (option_rows c)) refl
       where
-        go : (o : Option ℕ) → first_of (optionRows c) ≡ o → first_of (optionRows c) ≡ none
+        go : (o : Option ℕ) → first_of (option_rows c) ≡ o → first_of (option_rows c) ≡ none
         go none f = f
         go (some n) f =
-            absurd (eqb-false n 0 (first-number (λ (m : ℕ). eqb m 0 ≡ false) (optionRows c) (refl, (refl, (refl, tt))) n f)
+            absurd (eqb-false n 0 (first-number (λ (m : ℕ). eqb m 0 ≡ false) (option_rows c) (refl, (refl, (refl, tt))) n f)
             (sym (ap (λ (x : Answer). x.number) (answer-is ∙ ap (λ (o : Option ℕ). answered o c.option) f)) ∙ good))
 
-    pub scanned : ScannedOf m k (suboptions (readOption c.option))
+    pub scanned : ScannedOf m k (suboptions (read_option c.option))
     scanned =
         let read = option-passed c option-none in
-        subst (λ (o : Outcome). ScannedOf m k (suboptions o)) (sym read) (reads.holds (readSuboptions c.option 3).0 read)
+        subst (λ (o : Outcome). ScannedOf m k (suboptions o)) (sym read) (reads.holds (read_suboptions c.option 3).0 read)
 
 -- A CALL WITH AN OPTION, at each of its steps. Its rows are those up to the option, rows 6, 7 and 16, row 8, which is about the option's suboptions, and its own.
 
@@ -143,84 +143,84 @@ pub record ReadCall (sheet short : Bool) (h : Lent) (now : ℕ) (c : Call) : Typ
   pub admission : Admission
   pub admits : Admits sheet short h now c.client admission
   pub admitted : admission.number ≡ 0
-  pub selected : badSelection? c.selection ≡ false
+  pub selected : bad_selection? c.selection ≡ false
   pub contents : Contents
   pub columns : Columns
   pub reads : Reads c.option contents columns
   pub answer : Answer
-  pub answer-is : answer ≡ checkedAnswer contents.checked
+  pub answer-is : answer ≡ checked_answer contents.checked
 
 pub scan-of : (sheet short : Bool) (h : Lent) (now : ℕ) (c : Call) (s : ReadCall sheet short h now c) → s.answer.number ≡ 0
-    → ScannedOf s.contents s.columns (suboptions (readOption c.option))
+    → ScannedOf s.contents s.columns (suboptions (read_option c.option))
 scan-of sheet short h now c s = scanned c s.selected s.contents s.columns s.reads s.answer s.answer-is
 
 -- The call gives `after`, whichever of these rows refuses it (`row-refuses`, `list-row-refuses` of crate `call_spec`).
 abbrev pub RefusedBy : List Row → Lent → Call → Result Lent → Type 0
-RefusedBy rows h c after = (n : ℕ) → (n ≡ 0 → ⊥) → first_of rows ≡ some n → result (refusal n (refusalPlace c.option n)) h c.reply ≡ after
+RefusedBy rows h c after = (n : ℕ) → (n ≡ 0 → ⊥) → first_of rows ≡ some n → outcome (refusal n (refusal_place c.option n)) h c.reply ≡ after
 
 or-second : (a b : Bool) → b ≡ true → (a || b) ≡ true
 or-second true b e = refl
 or-second false b e = e
 
-abbrev pub rowsWith8 : Bool → Bool → Lent → ℕ → Call → (List SuboptionValue → Bool) → List Row → List Row
-rowsWith8 sheet short h now c wanted own = admissionRows sheet short h now c.client ++ (optionRows c ++ ((8, not (wanted (suboptions (readOption c.option)))) ∷ own))
+abbrev pub rows_with8 : Bool → Bool → Lent → ℕ → Call → (List SuboptionValue → Bool) → List Row → List Row
+rows_with8 sheet short h now c wanted own = admission_rows sheet short h now c.client ++ (option_rows c ++ ((8, not (wanted (suboptions (read_option c.option)))) ∷ own))
 
 module _ (sheet short : Bool) (h : Lent) (now : ℕ) (c : Call) (wanted : List SuboptionValue → Bool) (own : List Row) (after : Result Lent)
-    (by_Row : RefusedBy (rowsWith8 sheet short h now c wanted own) h c after) where
+    (by_Row : RefusedBy (rows_with8 sheet short h now c wanted own) h c after) where
   abbrev row-8 : List Row
-  row-8 = (8, not (wanted (suboptions (readOption c.option)))) ∷ own
+  row-8 = (8, not (wanted (suboptions (read_option c.option)))) ∷ own
 
   abbrev rows : List Row
-  rows = rowsWith8 sheet short h now c wanted own
+  rows = rows_with8 sheet short h now c wanted own
 
   -- Rows 1, 5, 15, 2, 3 and 4: none of them has a place.
-  pub refused-admission : (a : Admission) → Admits sheet short h now c.client a → (a.number ≡ 0 → ⊥) → result (refusal a.number 0) h c.reply ≡ after
+  pub refused-admission : (a : Admission) → Admits sheet short h now c.client a → (a.number ≡ 0 → ⊥) → outcome (refusal a.number 0) h c.reply ≡ after
   refused-admission a ad k =
-      let r = not-admitted sheet short h now c.client a ad (optionRows c ++ row-8) k in
-      ap (λ (p : ℕ). result (refusal a.number p) h c.reply) (sym (cond-false (placed? a.number) (place_in (readOption c.option)) 0 r.1))
+      let r = not-admitted sheet short h now c.client a ad (option_rows c ++ row-8) k in
+      ap (λ (p : ℕ). outcome (refusal a.number p) h c.reply) (sym (cond-false (placed? a.number) (place_in (read_option c.option)) 0 r.1))
       ∙ by_Row a.number k r.0
 
   -- Row 6 of option 118, whatever option 220 is.
-  pub refused-selection : (a : Admission) → Admits sheet short h now c.client a → a.number ≡ 0 → badSelection? c.selection ≡ true → result (refusal 6 0) h c.reply ≡ after
+  pub refused-selection : (a : Admission) → Admits sheet short h now c.client a → a.number ≡ 0 → bad_selection? c.selection ≡ true → outcome (refusal 6 0) h c.reply ≡ after
   refused-selection a ad z bad =
       by_Row 6 (λ e. omega arith)
-      (admitted-rows sheet short h now c.client a ad (optionRows c ++ row-8) z
-      ∙ cond-true (refuses? 6 (readOption c.option) || badSelection? c.selection) (some 6) _ (or-second (refuses? 6 (readOption c.option)) (badSelection? c.selection) bad))
+      (admitted-rows sheet short h now c.client a ad (option_rows c ++ row-8) z
+      ∙ cond-true (refuses? 6 (read_option c.option) || bad_selection? c.selection) (some 6) _ (or-second (refuses? 6 (read_option c.option)) (bad_selection? c.selection) bad))
 
   module _ (s : ReadCall sheet short h now c) where
-    up-to-option : first_of rows ≡ first_of (optionRows c ++ row-8)
-    up-to-option = admitted-rows sheet short h now c.client s.admission s.admits (optionRows c ++ row-8) s.admitted
+    up-to-option : first_of rows ≡ first_of (option_rows c ++ row-8)
+    up-to-option = admitted-rows sheet short h now c.client s.admission s.admits (option_rows c ++ row-8) s.admitted
 
     -- Rows 6, 7 and 16.
-    pub refused-option : (s.answer.number ≡ 0 → ⊥) → result s.answer h c.reply ≡ after
+    pub refused-option : (s.answer.number ≡ 0 → ⊥) → outcome s.answer h c.reply ≡ after
     refused-option some-row =
         let r = option-refuses c s.selected s.contents s.columns s.reads s.answer s.answer-is row-8 some-row in
-        ap (λ (y : Answer). result y h c.reply) r.1 ∙ by_Row s.answer.number some-row (up-to-option ∙ r.0)
+        ap (λ (y : Answer). outcome y h c.reply) r.1 ∙ by_Row s.answer.number some-row (up-to-option ∙ r.0)
 
     module _ (good : s.answer.number ≡ 0) where
       up-to-8 : first_of rows ≡ first_of row-8
-      up-to-8 = up-to-option ∙ first-after (optionRows c) row-8 (option-none c s.selected s.contents s.columns s.reads s.answer s.answer-is good)
+      up-to-8 = up-to-option ∙ first-after (option_rows c) row-8 (option-none c s.selected s.contents s.columns s.reads s.answer s.answer-is good)
 
       -- Row 8.
-      pub refused-8 : wanted (suboptions (readOption c.option)) ≡ false → result (refusal 8 0) h c.reply ≡ after
-      refused-8 e = by_Row 8 (λ z. omega arith) (up-to-8 ∙ cond-true (not (wanted (suboptions (readOption c.option)))) (some 8) (first_of own) (not-of (wanted (suboptions (readOption c.option))) e))
+      pub refused-8 : wanted (suboptions (read_option c.option)) ≡ false → outcome (refusal 8 0) h c.reply ≡ after
+      refused-8 e = by_Row 8 (λ z. omega arith) (up-to-8 ∙ cond-true (not (wanted (suboptions (read_option c.option)))) (some 8) (first_of own) (not-of (wanted (suboptions (read_option c.option))) e))
 
-      pub own-left : wanted (suboptions (readOption c.option)) ≡ true → first_of rows ≡ first_of own
-      own-left e = up-to-8 ∙ cond-false (not (wanted (suboptions (readOption c.option)))) (some 8) (first_of own) (not-to (wanted (suboptions (readOption c.option))) e)
+      pub own-left : wanted (suboptions (read_option c.option)) ≡ true → first_of rows ≡ first_of own
+      own-left e = up-to-8 ∙ cond-false (not (wanted (suboptions (read_option c.option)))) (some 8) (first_of own) (not-to (wanted (suboptions (read_option c.option))) e)
 
 -- WHERE ROW 19 IS LEFT, of an ask or a take: the address of its option 118 lies in no pool, or it has its ground.
 
-module _ (h : Lent) (c : Call) (rows : List Row) (after : Result Lent) (by_Row : RefusedBy rows h c after) (own : List Row) (left : first_of rows ≡ first_of (groundRows (tableIn h) c ++ own)) where
-  pub no-ground : nothing? (poolsOf (narrowed (tableIn h) c)) ≡ true → result (refusal 19 0) h c.reply ≡ after
-  no-ground e = by_Row 19 (λ z. omega arith) (left ∙ cond-true (nothing? (poolsOf (narrowed (tableIn h) c))) (some 19) (first_of own) e)
+module _ (h : Lent) (c : Call) (rows : List Row) (after : Result Lent) (by_Row : RefusedBy rows h c after) (own : List Row) (left : first_of rows ≡ first_of (ground_rows (table_in h) c ++ own)) where
+  pub no-ground : nothing? (pools_of (narrowed (table_in h) c)) ≡ true → outcome (refusal 19 0) h c.reply ≡ after
+  no-ground e = by_Row 19 (λ z. omega arith) (left ∙ cond-true (nothing? (pools_of (narrowed (table_in h) c))) (some 19) (first_of own) e)
 
-  pub ground-left : nothing? (poolsOf (narrowed (tableIn h) c)) ≡ false → first_of rows ≡ first_of own
-  ground-left e = left ∙ cond-false (nothing? (poolsOf (narrowed (tableIn h) c))) (some 19) (first_of own) e
+  pub ground-left : nothing? (pools_of (narrowed (table_in h) c)) ≡ false → first_of rows ≡ first_of own
+  ground-left e = left ∙ cond-false (nothing? (pools_of (narrowed (table_in h) c))) (some 19) (first_of own) e
 
 -- WHERE ROW 11 IS LEFT: nothing is found, or something.
 
 module _ {A : Type 0} (h : Lent) (c : Call) (rows : List Row) (after : Result Lent) (by_Row : RefusedBy rows h c after) (found : List A) (left : first_of rows ≡ first_of ((11, nothing? found) ∷ [])) where
-  pub nothing-found : length found ≡ 0 → result (refusal 11 0) h c.reply ≡ after
+  pub nothing-found : length found ≡ 0 → outcome (refusal 11 0) h c.reply ≡ after
   nothing-found e = by_Row 11 (λ z. omega arith) (left ∙ cond-true (nothing? found) (some 11) none (nothing-none found e))
 
   pub none_left : (length found ≡ 0 → ⊥) → first_of rows ≡ none
@@ -229,10 +229,10 @@ module _ {A : Type 0} (h : Lent) (c : Call) (rows : List Row) (after : Result Le
 -- WHERE NO ROW IS LEFT: what is lent holds the table and the rows that the ledger leaves.
 
 pub accepts : (h : Lent) (rows : List Row) (place : ℕ → ℕ) (reply : List ℕ) (accepted : Result State) → first_of rows ≡ none
-    → (r : Result State) → r.answer.number ≡ 0 → r ≡ accepted → (g : Lent) → g ≡ storedIn r.state h.bytes h
-    → result r.answer g r.reply ≡ settled (byRows rows place (stateIn h) reply accepted) h
+    → (r : Result State) → r.answer.number ≡ 0 → r ≡ accepted → (g : Lent) → g ≡ stored_in r.state h.bytes h
+    → outcome r.answer g r.reply ≡ settled (by_rows rows place (state_in h) reply accepted) h
 accepts h rows place reply accepted none_of r number is g here =
-    ap (λ (w : Lent). result r.answer w r.reply) here
+    ap (λ (w : Lent). outcome r.answer w r.reply) here
     ∙ sym (settled-accepted r h number)
     ∙ ap (λ (w : Result State). settled w h) is
     ∙ no_row h rows place reply accepted none_of

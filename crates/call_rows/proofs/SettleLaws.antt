@@ -17,32 +17,32 @@ use Rattle.lists.proofs.FilterLaws.{filter-pass, filter-yes}
 use Rattle.table.specs.declared.Pool.{Pool}
 use Rattle.table.specs.declared.Lease.{Lease}
 use Rattle.table.specs.declared.LeaseTable.{LeaseTable}
-use Rattle.table.specs.Table.{leaseSlots, prefix_of, poolsOf, prefixesOf, present, store, sound}
+use Rattle.table.specs.Table.{lease_slots, prefix_of, pools_of, prefixes_of, present, store, sound}
 use Rattle.table.proofs.TableLaws.{sound-used, present-padded}
-use Rattle.image.specs.Image.{usedPools, usedLeases, image_of}
+use Rattle.image.specs.Image.{used_pools, used_leases, image_of}
 use Rattle.image_check.specs.declared.ImageSummary.{ImageSummary}
-use Rattle.counts.specs.Counts.{countsOf}
+use Rattle.counts.specs.Counts.{counts_of}
 use Rattle.counts.proofs.CountLaws.{counts-stay}
 use Rattle.ledger.specs.declared.Answer.{Answer}
-use Rattle.ledger.specs.Ledger.{State, Result, result}
+use Rattle.ledger.specs.Ledger.{State, Result, outcome}
 use Rattle.ledger.proofs.SoundKept.{SoundIfAccepted}
 use Rattle.ledger.proofs.Following.{Follows}
-use Rattle.call_spec.specs.ImageCalls.{Lent, lent, tableIn, stateIn, over, stored, storedIn, settled}
-use Rattle.call_spec.specs.Books.{Book, lentIn, kept}
+use Rattle.call_spec.specs.ImageCalls.{Lent, lent, table_in, state_in, over, stored, stored_in, settled}
+use Rattle.call_spec.specs.Books.{Book, lent_in, kept}
 use Rattle.call_spec.proofs.BookLaws.{counted-to, sound-counted, sound-lent, refuses-book, accepts-book}
 use Rattle.call_spec.proofs.PoolsKept.{SamePools, same-table, left-sound, left-pools}
 use Rattle.call_spec.proofs.StoreLaws.{settled-accepted}
 use Rattle.call_rows.specs.Admission.{Admitted, LeftIfAccepted}
 
 -- A BOOK THAT IS ADMITTED is what is lent, and its counts are its table's.
-module _ (sheet : Bool) (b : Book) (now client : ℕ) (summary : ImageSummary) (o : Admitted sheet (lentIn b) now client summary) where
-  pub admitted-lent : lentIn b ≡ b.lent
+module _ (sheet : Bool) (b : Book) (now client : ℕ) (summary : ImageSummary) (o : Admitted sheet (lent_in b) now client summary) where
+  pub admitted-lent : lent_in b ≡ b.lent
   admitted-lent = sound-lent b o.sound
 
   pub admitted-book : Admitted sheet b.lent now client summary
   admitted-book = subst (λ (h : Lent). Admitted sheet h now client summary) admitted-lent o
 
-  pub admitted-counts : b.counts ≡ countsOf (tableIn b.lent)
+  pub admitted-counts : b.counts ≡ counts_of (table_in b.lent)
   admitted-counts = counted-to b (sound-counted b o.sound)
 
 -- NO LEASE CAME OR WENT: each keeps its place.
@@ -64,16 +64,16 @@ module _ (now : ℕ) (f : Lease → Lease) (same : (x : Lease) → prefix_of (f 
 
     module _ (sheet : Bool) (h : Lent) (client : ℕ) (summary : ImageSummary) (o : Admitted sheet h now client summary) where
       abbrev t : LeaseTable
-      t = tableIn h
+      t = table_in h
 
       abbrev xs : List Lease
       xs = present now t.leases
 
-      pub unmoved : summary.expired ≡ 0 → countsOf (store t now (map f xs)) ≡ countsOf t
+      pub unmoved : summary.expired ≡ 0 → counts_of (store t now (map f xs)) ≡ counts_of t
       unfolding store
       unmoved none-gone =
           counts-stay (store t now (map f xs)) t refl
-          (ap (map prefix_of) (present-padded now (leaseSlots - length (map f xs)) (map f xs) ∙ map-present xs (present-all t.leases))
+          (ap (map prefix_of) (present-padded now (lease_slots - length (map f xs)) (map f xs) ∙ map-present xs (present-all t.leases))
           ∙ map-prefixes xs
           ∙ ap (map prefix_of) (o.present-used ∙ o.none-expired none-gone ∙ sound-used t o.sound))
 
@@ -87,15 +87,15 @@ stored-front t old l =
     ap (take (length xs)) (append_assoc xs zs rest) ∙ take_at xs (zs ++ rest) (length xs) refl
 
 -- WHAT IS LEFT CAN BE COUNTED, after an accepted call.
-module _ (h : Lent) (r : Result State) (follows : Follows stateIn h r (settled r h)) (s : SoundIfAccepted (stateIn h) r) (p : SamePools (stateIn h) r)
-    (a : Answer) (g : Lent) (reply : List ℕ) (is : result a g reply ≡ settled r h) (pools : ℕ) (many : pools ≡ length (usedPools (tableIn h))) where
+module _ (h : Lent) (r : Result State) (follows : Follows state_in h r (settled r h)) (s : SoundIfAccepted (state_in h) r) (p : SamePools (state_in h) r)
+    (a : Answer) (g : Lent) (reply : List ℕ) (is : outcome a g reply ≡ settled r h) (pools : ℕ) (many : pools ≡ length (used_pools (table_in h))) where
   pub countable : LeftIfAccepted a.number (lent g.image g.bytes []) pools
-  unfolding tableIn
+  unfolding table_in
   countable z =
       let zero : r.answer.number ≡ 0 = sym (ap (λ (w : Answer). w.number) (ap (λ (w : Result Lent). w.answer) is ∙ follows.answer)) ∙ z in
-      let there : g ≡ storedIn r.state h.bytes h = ap (λ (w : Result Lent). w.state) (is ∙ settled-accepted r h zero) in
-      let same : tableIn g ≡ r.state.table = same-table h r (settled r h) follows a g reply is z in
-      let size : length (image_of (tableIn g)) ≡ g.bytes = ap (λ (t : LeaseTable). length (image_of t)) same ∙ ap (λ (w : Lent). w.bytes) (sym there) in
+      let there : g ≡ stored_in r.state h.bytes h = ap (λ (w : Result Lent). w.state) (is ∙ settled-accepted r h zero) in
+      let same : table_in g ≡ r.state.table = same-table h r (settled r h) follows a g reply is z in
+      let size : length (image_of (table_in g)) ≡ g.bytes = ap (λ (t : LeaseTable). length (image_of t)) same ∙ ap (λ (w : Lent). w.bytes) (sym there) in
       record {
         sound = left-sound h r (settled r h) follows a g reply is z s;
         image =
@@ -103,7 +103,7 @@ module _ (h : Lent) (r : Result State) (follows : Follows stateIn h r (settled r
             ∙ sym (stored-front r.state.table h.bytes h.image)
             ∙ ap (λ (w : Lent). take w.bytes w.image) (sym there);
         size = size;
-        pools-are = many ∙ ap (λ (ps : List Pool). length (usedPools (record { pools = ps; leases = []; term = 0; default_length = 0; last = 0 }))) (sym (left-pools h r (settled r h) follows a g reply is z p));
+        pools-are = many ∙ ap (λ (ps : List Pool). length (used_pools (record { pools = ps; leases = []; term = 0; default_length = 0; last = 0 }))) (sym (left-pools h r (settled r h) follows a g reply is z p));
       }
 
 -- WHAT settle LEAVES
@@ -122,26 +122,26 @@ module _ (number : ℕ) (moved : Bool) (counts before : List (List ℕ)) where
   counted-again z e left is = is ∙ ap (λ (t : Bool). cond t counts before) (sym e) ∙ ap (λ (t : Bool). cond (t && moved) counts before) (sym (eq-eqb number 0 z))
 
 -- THE END OF A CALL
-module _ (b : Book) (same : lentIn b ≡ b.lent) (r : Result State) (f : Lent → Result Lent) (follows : Follows stateIn b.lent r (f b.lent))
-    (a : Answer) (g : Lent) (reply : List ℕ) (is : result a g reply ≡ f b.lent) (moved : Bool) (counts : List (List ℕ))
-    (left : counts ≡ cond (eqb a.number 0 && moved) (countsOf (tableIn (lent g.image g.bytes []))) b.counts)
-    (unmoved : a.number ≡ 0 → moved ≡ false → countsOf (tableIn g) ≡ b.counts) where
+module _ (b : Book) (same : lent_in b ≡ b.lent) (r : Result State) (f : Lent → Result Lent) (follows : Follows state_in b.lent r (f b.lent))
+    (a : Answer) (g : Lent) (reply : List ℕ) (is : outcome a g reply ≡ f b.lent) (moved : Bool) (counts : List (List ℕ))
+    (left : counts ≡ cond (eqb a.number 0 && moved) (counts_of (table_in (lent g.image g.bytes []))) b.counts)
+    (unmoved : a.number ≡ 0 → moved ≡ false → counts_of (table_in g) ≡ b.counts) where
   answered : a ≡ r.answer
   answered = ap (λ (w : Result Lent). w.answer) is ∙ follows.answer
 
-  accepted : (m : Bool) → a.number ≡ 0 → moved ≡ m → counts ≡ countsOf (tableIn g)
-  unfolding tableIn
-  accepted true z e = left ∙ ap (λ (t : Bool). cond (t && moved) (countsOf (tableIn g)) b.counts) (eq-eqb a.number 0 z) ∙ ap (λ (t : Bool). cond t (countsOf (tableIn g)) b.counts) e
+  accepted : (m : Bool) → a.number ≡ 0 → moved ≡ m → counts ≡ counts_of (table_in g)
+  unfolding table_in
+  accepted true z e = left ∙ ap (λ (t : Bool). cond (t && moved) (counts_of (table_in g)) b.counts) (eq-eqb a.number 0 z) ∙ ap (λ (t : Bool). cond t (counts_of (table_in g)) b.counts) e
   accepted false z e =
-      left ∙ ap (λ (t : Bool). cond (t && moved) (countsOf (tableIn g)) b.counts) (eq-eqb a.number 0 z) ∙ ap (λ (t : Bool). cond t (countsOf (tableIn g)) b.counts) e ∙ sym (unmoved z e)
+      left ∙ ap (λ (t : Bool). cond (t && moved) (counts_of (table_in g)) b.counts) (eq-eqb a.number 0 z) ∙ ap (λ (t : Bool). cond t (counts_of (table_in g)) b.counts) e ∙ sym (unmoved z e)
 
   refused : eqb a.number 0 ≡ false → (counts ≡ b.counts) × (g ≡ b.lent)
   refused e = (
-    left ∙ ap (λ (t : Bool). cond (t && moved) (countsOf (tableIn (lent g.image g.bytes []))) b.counts) e,
+    left ∙ ap (λ (t : Bool). cond (t && moved) (counts_of (table_in (lent g.image g.bytes []))) b.counts) e,
     ap (λ (w : Result Lent). w.state) is ∙ follows.refused (λ z. eqb-false a.number 0 e (ap (λ (w : Answer). w.number) answered ∙ z)),
   )
 
-  on-lent : result a (record { lent = g; counts = counts }) reply ≡ kept (f b.lent) b
+  on-lent : outcome a (record { lent = g; counts = counts }) reply ≡ kept (f b.lent) b
   on-lent =
       ⊎_elim
       (λ (e : eqb a.number 0 ≡ true).
@@ -149,8 +149,8 @@ module _ (b : Book) (same : lentIn b ≡ b.lent) (r : Result State) (f : Lent �
       accepts-book b (f b.lent) a g reply is z counts (accepted moved z refl))
       (λ (e : eqb a.number 0 ≡ false).
       let u = refused e in
-      (λ i. result a (record { lent = u.1 i; counts = u.0 i }) reply) ∙ refuses-book b (f b.lent) a g reply is (eqb-false a.number 0 e))
+      (λ i. outcome a (record { lent = u.1 i; counts = u.0 i }) reply) ∙ refuses-book b (f b.lent) a g reply is (eqb-false a.number 0 e))
       (bool_cases (eqb a.number 0))
 
-  pub settles : result a (record { lent = g; counts = counts }) reply ≡ kept (f (lentIn b)) b
+  pub settles : outcome a (record { lent = g; counts = counts }) reply ≡ kept (f (lent_in b)) b
   settles = on-lent ∙ ap (λ (h : Lent). kept (f h) b) (sym same)

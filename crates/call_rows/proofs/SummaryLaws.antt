@@ -17,21 +17,21 @@ use Rattle.lists.proofs.ListLaws.{all_map}
 use Rattle.lists.proofs.FilterLaws.{filter-yes, filter-no, filter-pass}
 use Rattle.table.specs.declared.Lease.{Lease}
 use Rattle.table.specs.declared.LeaseTable.{LeaseTable}
-use Rattle.table.specs.Table.{leaseSlots, latest, empty?, present, sound}
+use Rattle.table.specs.Table.{lease_slots, latest, empty?, present, sound}
 use Rattle.table.proofs.TableLaws.{present-yes}
-use Rattle.image.specs.Image.{fullImage, headSize, poolSize, leaseSize, usedPools, usedLeases, image_of, loadedTable}
-use Rattle.image.specs.Reading.{loadImage}
+use Rattle.image.specs.Image.{full_image, head_size, pool_size, lease_size, used_pools, used_leases, image_of, loaded_table}
+use Rattle.image.specs.Reading.{load_image}
 use Rattle.image.proofs.ImageLaws.{image-loaded, length-image, longest-image, table-whole}
 use Rattle.image_check.specs.declared.ImageSummary.{ImageSummary}
-use Rattle.image_check.specs.ImageSummary.{summaryOf}
+use Rattle.image_check.specs.ImageSummary.{summary_of}
 use Rattle.image_records.specs.Records.{Records}
 use Rattle.image_records.proofs.SoundLaws.{sound-ascending, present-used, used-few, image-records}
 use Rattle.figures.specs.Figures.{matches?}
 use Rattle.ledger.specs.Sizes.{Byte, Bytes}
-use Rattle.ledger.proofs.Counts.{upTo-all}
-use Rattle.call_spec.specs.ImageCalls.{Lent, holds?, imageIn, tableIn, stateIn}
+use Rattle.ledger.proofs.Counts.{up_to-all}
+use Rattle.call_spec.specs.ImageCalls.{Lent, holds?, image_in, table_in, state_in}
 use Rattle.call_spec.proofs.TableLaws.{holds_of, held-loads, held-room, held-within, held-image, blank-unsound}
-use Rattle.call_rows.specs.Admission.{leasesFrom, SheetIn, Admitted}
+use Rattle.call_rows.specs.Admission.{leases_from, SheetIn, Admitted}
 use Rattle.call_rows.specs.InnerSummary.{SummaryIn, Measured, SheetPasses}
 
 abbrev due? : ℕ → Lease → Bool
@@ -51,84 +51,84 @@ none-due now (x ∷ xs) z =
 
 -- WHETHER IT IS SOUND, AND THE LAST TIME
 
-summary-sound : (now : ℕ) (o : Option LeaseTable) → ((t : LeaseTable) → o ≡ some t → sound t ≡ true) → (summaryOf now o).sound ≡ sound (loadedTable o)
+summary-sound : (now : ℕ) (o : Option LeaseTable) → ((t : LeaseTable) → o ≡ some t → sound t ≡ true) → (summary_of now o).sound ≡ sound (loaded_table o)
 summary-sound now none s = sym blank-unsound
 summary-sound now (some t) s = sym (s t refl)
 
-summary-last : (now : ℕ) (o : Option LeaseTable) → (summaryOf now o).last ≡ (loadedTable o).last
+summary-last : (now : ℕ) (o : Option LeaseTable) → (summary_of now o).last ≡ (loaded_table o).last
 summary-last now none = refl
 summary-last now (some t) = refl
 
-module _ (h : Lent) (now : ℕ) (b : Bytes h.image) (summary : ImageSummary) (is : summary ≡ summaryOf now (loadImage (imageIn h))) where
-  in_bytes : Bytes (imageIn h)
-  in_bytes = upTo-all Byte (cond (holds? h) h.bytes 0) h.image b
+module _ (h : Lent) (now : ℕ) (b : Bytes h.image) (summary : ImageSummary) (is : summary ≡ summary_of now (load_image (image_in h))) where
+  in_bytes : Bytes (image_in h)
+  in_bytes = up_to-all Byte (cond (holds? h) h.bytes 0) h.image b
 
   pub summary-in : SummaryIn h now summary
-  unfolding tableIn
+  unfolding table_in
   summary-in = record {
     is = is;
-    sound = ap (λ (x : ImageSummary). x.sound) is ∙ summary-sound now (loadImage (imageIn h)) (λ t e. (image-loaded (imageIn h) t in_bytes e).0);
-    last = ap (λ (x : ImageSummary). x.last) is ∙ summary-last now (loadImage (imageIn h));
+    sound = ap (λ (x : ImageSummary). x.sound) is ∙ summary-sound now (load_image (image_in h)) (λ t e. (image-loaded (image_in h) t in_bytes e).0);
+    last = ap (λ (x : ImageSummary). x.last) is ∙ summary-last now (load_image (image_in h));
   }
 
 -- The two ways of a buffer.
 module _ (h : Lent) (now : ℕ) (b : Bytes h.image) (summary : ImageSummary) where
-  pub summary-of-nothing : holds? h ≡ false → summary ≡ summaryOf now (loadImage (take 0 h.image)) → SummaryIn h now summary
-  summary-of-nothing k e = summary-in h now b summary (e ∙ ap (λ (n : ℕ). summaryOf now (loadImage (take n h.image))) (sym (cond-false (holds? h) h.bytes 0 k)))
+  pub summary-of-nothing : holds? h ≡ false → summary ≡ summary_of now (load_image (take 0 h.image)) → SummaryIn h now summary
+  summary-of-nothing k e = summary-in h now b summary (e ∙ ap (λ (n : ℕ). summary_of now (load_image (take n h.image))) (sym (cond-false (holds? h) h.bytes 0 k)))
 
-  pub summary-of-image : fullImage ≤ length h.image → h.bytes ≤ length h.image → summary ≡ summaryOf now (loadImage (take h.bytes h.image)) → SummaryIn h now summary
+  pub summary-of-image : full_image ≤ length h.image → h.bytes ≤ length h.image → summary ≡ summary_of now (load_image (take h.bytes h.image)) → SummaryIn h now summary
   summary-of-image room within e =
-      summary-in h now b summary (e ∙ ap (λ (n : ℕ). summaryOf now (loadImage (take n h.image))) (sym (cond-true (holds? h) h.bytes 0 (holds_of h room within))))
+      summary-in h now b summary (e ∙ ap (λ (n : ℕ). summary_of now (load_image (take n h.image))) (sym (cond-true (holds? h) h.bytes 0 (holds_of h room within))))
 
-pub holds-not-full : (h : Lent) → length h.image < fullImage → holds? h ≡ false
-holds-not-full h short = ap (λ (x : Bool). x && leb h.bytes (length h.image)) (lt-leb fullImage (length h.image) short)
+pub holds-not-full : (h : Lent) → length h.image < full_image → holds? h ≡ false
+holds-not-full h short = ap (λ (x : Bool). x && leb h.bytes (length h.image)) (lt-leb full_image (length h.image) short)
 
-pub holds-not-within : (h : Lent) → fullImage ≤ length h.image → length h.image < h.bytes → holds? h ≡ false
+pub holds-not-within : (h : Lent) → full_image ≤ length h.image → length h.image < h.bytes → holds? h ≡ false
 holds-not-within h room short =
-    ap (λ (x : Bool). x && leb h.bytes (length h.image)) (le-leb fullImage (length h.image) room) ∙ lt-leb h.bytes (length h.image) short
+    ap (λ (x : Bool). x && leb h.bytes (length h.image)) (le-leb full_image (length h.image) room) ∙ lt-leb h.bytes (length h.image) short
 
 -- WHERE THE TABLE IS SOUND
 
-module _ (h : Lent) (now : ℕ) (b : Bytes h.image) (summary : ImageSummary) (i : SummaryIn h now summary) (s : sound (tableIn h) ≡ true) where
+module _ (h : Lent) (now : ℕ) (b : Bytes h.image) (summary : ImageSummary) (i : SummaryIn h now summary) (s : sound (table_in h) ≡ true) where
   abbrev t : LeaseTable
-  t = tableIn h
+  t = table_in h
 
-  summary-is : summary ≡ summaryOf now (some t)
-  summary-is = i.is ∙ ap (summaryOf now) (held-loads h s)
+  summary-is : summary ≡ summary_of now (some t)
+  summary-is = i.is ∙ ap (summary_of now) (held-loads h s)
 
-  pools-are : summary.pools ≡ length (usedPools t)
+  pools-are : summary.pools ≡ length (used_pools t)
   pools-are = ap (λ (x : ImageSummary). x.pools) summary-is
 
-  leases-are : summary.leases ≡ length (usedLeases t)
+  leases-are : summary.leases ≡ length (used_leases t)
   leases-are = ap (λ (x : ImageSummary). x.leases) summary-is
 
   long : length (image_of t) ≡ h.bytes
   long = ap length (held-image h s b) ∙ length-take-le h.bytes h.image (held-within h s)
 
-  size_is : leasesFrom summary + leaseSize * summary.leases ≡ h.bytes
+  size_is : leases_from summary + lease_size * summary.leases ≡ h.bytes
   size_is = omega (arith, pools-are, leases-are, long, length-image t)
 
-  few : summary.leases ≤ leaseSlots
+  few : summary.leases ≤ lease_slots
   few = omega (arith, leases-are, (used-few t s).1)
 
-  records-are : Records h.image (leasesFrom summary) (usedLeases t)
-  records-are = subst (λ (n : ℕ). Records h.image (headSize + poolSize * n) (usedLeases t)) (sym pools-are) (image-records t h.image h.bytes (held-image h s b))
+  records-are : Records h.image (leases_from summary) (used_leases t)
+  records-are = subst (λ (n : ℕ). Records h.image (head_size + pool_size * n) (used_leases t)) (sym pools-are) (image-records t h.image h.bytes (held-image h s b))
 
-  measured-sound : (summary.leases ≤ leaseSlots) × (leasesFrom summary + leaseSize * summary.leases ≤ length h.image)
+  measured-sound : (summary.leases ≤ lease_slots) × (leases_from summary + lease_size * summary.leases ≤ length h.image)
   measured-sound = (few, omega (arith, size_is, held-within h s))
 
   -- What row 15 says of the leases of the image it says of the table.
-  pub passes-is : (sheet passes : Bool) → SheetPasses sheet summary h.image h.figures passes → passes ≡ (not sheet || matches? t.leases (stateIn h).rows)
+  pub passes-is : (sheet passes : Bool) → SheetPasses sheet summary h.image h.figures passes → passes ≡ (not sheet || matches? t.leases (state_in h).rows)
   passes-is sheet passes p =
-      let used : All (λ x. empty? x ≡ false) (usedLeases t) =
-      all_map (λ (x : Lease) (e : not (empty? x) ≡ true). not-true (empty? x) e) (usedLeases t) (filter-pass (λ x. not (empty? x)) t.leases) in
-      p (usedLeases t) (i.sound ∙ s) records-are leases-are used
-      ∙ ap (λ (u : LeaseTable). not sheet || matches? u.leases (stateIn h).rows) (sym (table-whole t s))
+      let used : All (λ x. empty? x ≡ false) (used_leases t) =
+      all_map (λ (x : Lease) (e : not (empty? x) ≡ true). not-true (empty? x) e) (used_leases t) (filter-pass (λ x. not (empty? x)) t.leases) in
+      p (used_leases t) (i.sound ∙ s) records-are leases-are used
+      ∙ ap (λ (u : LeaseTable). not sheet || matches? u.leases (state_in h).rows) (sym (table-whole t s))
 
   -- It is admitted, where the time, the client and the sheet are good.
   pub admits : (sheet : Bool) (client : ℕ) → eqb client 0 ≡ false → t.last ≤ now → now ≤ latest → (sheet ≡ true → SheetIn h) → Admitted sheet h now client summary
   admits sheet client named since early sheet-in =
-      let gone : summary.expired ≡ length (filter (due? now) (usedLeases t)) = ap (λ (x : ImageSummary). x.expired) summary-is in
+      let gone : summary.expired ≡ length (filter (due? now) (used_leases t)) = ap (λ (x : ImageSummary). x.expired) summary-is in
       record {
         sound = s;
         some-client = named;
@@ -149,7 +149,7 @@ module _ (h : Lent) (now : ℕ) (b : Bytes h.image) (summary : ImageSummary) (i 
         records = records-are;
         ascending = sound-ascending t s;
         present-used = present-used t s now;
-        none-expired = λ z. none-due now (usedLeases t) (sym gone ∙ z);
+        none-expired = λ z. none-due now (used_leases t) (sym gone ∙ z);
         sheet-in = sheet-in;
       }
 

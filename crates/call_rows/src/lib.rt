@@ -3,19 +3,19 @@
 ghost use Rattle.std.specs.Prelude.{◌≡◌, not, cond, ◌&&◌, List, [], ◌∷◌, ℕ, ◌+◌, ◌*◌, ◌≤◌, length, ltb, eqb};
 ghost use Rattle.table.specs.declared.Lease.{Lease};
 ghost use Rattle.table.specs.Table.{latest, present};
-ghost use Rattle.image.specs.Image.{headSize, leaseSize};
-ghost use Rattle.option.specs.Values.{longestOption};
+ghost use Rattle.image.specs.Image.{head_size, lease_size};
+ghost use Rattle.option.specs.Values.{longest_option};
 ghost use Rattle.option.specs.Answers.{place_of};
 ghost use Rattle.image_records.specs.Records.{Records, ExpiredIn};
 ghost use Rattle.figures.specs.declared.FigureRow.{FigureRow};
-ghost use Rattle.image_figures.specs.Sheets.{rowSize, sheetOf};
-ghost use Rattle.ledger.specs.Ledger.{first_of, leastFor};
-ghost use Rattle.ledger.specs.Answers.{checkedAnswer};
-ghost use Rattle.counts.specs.Counts.{countsOf};
-ghost use Rattle.call_spec.specs.ImageCalls.{lent, tableIn, carriedIf};
-ghost use Rattle.call_spec.specs.Books.{bookOf, lentIn};
+ghost use Rattle.image_figures.specs.Sheets.{row_size, sheet_of};
+ghost use Rattle.ledger.specs.Ledger.{first_of, least_for};
+ghost use Rattle.ledger.specs.Answers.{checked_answer};
+ghost use Rattle.counts.specs.Counts.{counts_of};
+ghost use Rattle.call_spec.specs.ImageCalls.{lent, table_in, carried_if};
+ghost use Rattle.call_spec.specs.Books.{book_of, lent_in};
 ghost use Rattle.call_rows.specs.Admission.{number_of, ReadsSelection, Admits, Finished, LeftIfAccepted};
-ghost use Rattle.call_rows.specs.StruckRows.{struckIf};
+ghost use Rattle.call_rows.specs.StruckRows.{struck_if};
 ghost use Rattle.call_rows.specs.InnerSummary.{SummaryIn, Measured, SheetPasses};
 
 use counts::Counts;
@@ -34,7 +34,7 @@ pub const SELECTION: usize = 6;
 
 // Row 1: whether so many bytes are too few for the reply of a call that carries an enabled option 118, or does not.
 pub fn too_short(room: usize, carried: bool) -> bool
-    ensures { (s : List ℕ) → result ≡ ltb room (leastFor (carriedIf carried s)) }
+    ensures { (s : List ℕ) → result ≡ ltb room (least_for (carried_if carried s)) }
 {
     if carried {
         return room < SHORTEST_REPLY + SELECTION;
@@ -93,7 +93,7 @@ fn image_summary(image: &[u8], bytes: usize, time: u32) -> ImageSummary
 
 // What it says of the open book: where the counts are not the table's, as if there were no bytes.
 pub fn summary_in(image: &[u8], bytes: usize, counts: &Counts, time: u32) -> ImageSummary
-    ensures { (figures : List ℕ) → SummaryIn (lentIn (bookOf image.now bytes figures counts.now)) time result }
+    ensures { (figures : List ℕ) → SummaryIn (lent_in (book_of image.now bytes figures counts.now)) time result }
 {
     let summary = image_summary(image, bytes, time);
     if !summary.sound {
@@ -155,7 +155,7 @@ pub fn admit(
     client: u32,
     time: u32,
 ) -> Admission
-    ensures { Admits has_sheet short (lentIn (bookOf image.now image_bytes figures.now counts.now)) time client result }
+    ensures { Admits has_sheet short (lent_in (book_of image.now image_bytes figures.now counts.now)) time client result }
 {
     if short {
         let summary = image_check::check(&image[..0], time);
@@ -169,8 +169,8 @@ pub fn admit(
 
 // Rows 6, 7 and 16, as the reader found them; number 0 where the option is good.
 pub fn option_refusal(c: Checked) -> Answer
-    requires { place_of c ≤ longestOption }
-    ensures { result ≡ checkedAnswer c }
+    requires { place_of c ≤ longest_option }
+    ensures { result ≡ checked_answer c }
 {
     match c {
         Checked::Good => call_spec::refused(0, 0),
@@ -191,7 +191,7 @@ pub fn remove_expired_between(
     last: usize,
     time: u32,
 ) -> usize
-    requires { (headSize ≤ from) × (first ≤ last) × (last ≤ n) × (from + leaseSize * n ≤ length image.old) }
+    requires { (head_size ≤ from) × (first ≤ last) × (last ≤ n) × (from + lease_size * n ≤ length image.old) }
     ensures { (xs : List Lease) → Records image.old from xs → n ≡ length xs → ExpiredIn time first last xs
         → Finished image.old from xs time image.new result }
 {
@@ -202,7 +202,7 @@ pub fn remove_expired_between(
 
 // The same where they can stand anywhere, if there are any.
 pub fn remove_expired(image: &mut [u8], from: usize, n: usize, expired: usize, time: u32) -> usize
-    requires { (headSize ≤ from) × (from + leaseSize * n ≤ length image.old) }
+    requires { (head_size ≤ from) × (from + lease_size * n ≤ length image.old) }
     ensures { (xs : List Lease) → Records image.old from xs → n ≡ length xs → (expired ≡ 0 → present time xs ≡ xs)
         → Finished image.old from xs time image.new result }
 {
@@ -222,9 +222,9 @@ pub fn strike_expired(
     expired: usize,
     time: u32,
 )
-    requires { (rowSize * n ≤ length figures.old) × (from + leaseSize * n ≤ length image.now) }
-    ensures { (rows : List FigureRow) (xs : List Lease) → figures.old ≡ sheetOf rows → Records image.now from xs → n ≡ length xs
-        → figures.new ≡ sheetOf (struckIf expired time xs rows) }
+    requires { (row_size * n ≤ length figures.old) × (from + lease_size * n ≤ length image.now) }
+    ensures { (rows : List FigureRow) (xs : List Lease) → figures.old ≡ sheet_of rows → Records image.now from xs → n ≡ length xs
+        → figures.new ≡ sheet_of (struck_if expired time xs rows) }
 {
     if expired == 0 {
         return;
@@ -243,7 +243,7 @@ pub fn settle(
     counts: &mut Counts,
 )
     requires { LeftIfAccepted number (lent image.now image_bytes []) pools }
-    ensures { counts.new ≡ cond (eqb number 0 && moved) (countsOf (tableIn (lent image.now image_bytes []))) counts.old }
+    ensures { counts.new ≡ cond (eqb number 0 && moved) (counts_of (table_in (lent image.now image_bytes []))) counts.old }
 {
     if number != 0 {
         return;

@@ -1,12 +1,12 @@
 // Save as a call: the image of an open book that is sound, in one of the two saved forms, into a lent buffer.
 ghost use Rattle.std.specs.Prelude.{◌≡◌, ◌&&◌, [], ℕ, ◌+◌, ◌*◌, ◌≤◌, length, take, ltb};
 ghost use Rattle.table.specs.declared.LeaseTable.{LeaseTable};
-ghost use Rattle.table.specs.Table.{poolSlots, leaseSlots, olderSlots};
+ghost use Rattle.table.specs.Table.{pool_slots, lease_slots, older_slots};
 ghost use Rattle.image.specs.declared.Form.TheVariants.{First, Second};
-ghost use Rattle.image.specs.Image.{fullImage, headSize, poolSize, leaseSize, usedPools, usedLeases, image_of};
-ghost use Rattle.ledger.specs.Ledger.{result};
-ghost use Rattle.call_spec.specs.Books.{bookOf, saveBook};
-ghost use Rattle.call_save.specs.InnerSaving.{savedTo};
+ghost use Rattle.image.specs.Image.{full_image, head_size, pool_size, lease_size, used_pools, used_leases, image_of};
+ghost use Rattle.ledger.specs.Ledger.{outcome};
+ghost use Rattle.call_spec.specs.Books.{book_of, save_book};
+ghost use Rattle.call_save.specs.InnerSaving.{saved_to};
 
 use counts::Counts;
 use image::{FIRST_LEASE, Form, HEAD, POOL};
@@ -15,7 +15,7 @@ use table::OLDER_LEASES;
 
 // "Older desks read only 256 lines": row 20.
 fn too_many(leases: usize, older: bool) -> bool
-    ensures* { λ r. ⌜ r ≡ older && ltb olderSlots leases ⌝ }
+    ensures { result ≡ older && ltb older_slots leases }
 {
     if !older {
         return false;
@@ -25,9 +25,9 @@ fn too_many(leases: usize, older: bool) -> bool
 
 // The first form has no place for a name: row 18.
 fn save_first(image: &[u8], pools: usize, leases: usize, buffer: &mut [u8]) -> Answer
-    requires { (pools ≤ poolSlots) × (leases ≤ leaseSlots) × (headSize + poolSize * pools + leaseSize * leases ≤ length image.now) }
-    ensures* { λ r. ⌜ ((t : LeaseTable) (bytes : ℕ) → image_of t ≡ take bytes image.now → pools ≡ length (usedPools t) → leases ≡ length (usedLeases t)
-        → (r, buffer.new) ≡ savedTo First t buffer.old) ⌝ }
+    requires { (pools ≤ pool_slots) × (leases ≤ lease_slots) × (head_size + pool_size * pools + lease_size * leases ≤ length image.now) }
+    ensures { ((t : LeaseTable) (bytes : ℕ) → image_of t ≡ take bytes image.now → pools ≡ length (used_pools t) → leases ≡ length (used_leases t)
+        → (result, buffer.new) ≡ saved_to First t buffer.old) }
 {
     let from = HEAD + POOL * pools;
     if image_forms::any_named(image, from, leases) {
@@ -42,8 +42,8 @@ fn save_first(image: &[u8], pools: usize, leases: usize, buffer: &mut [u8]) -> A
 
 // The image is in the second form as it stands.
 fn save_second(image: &[u8], buffer: &mut [u8]) -> Answer
-    requires { length image.now ≤ fullImage }
-    ensures* { λ r. ⌜ ((t : LeaseTable) → image_of t ≡ image.now → (r, buffer.new) ≡ savedTo Second t buffer.old) ⌝ }
+    requires { length image.now ≤ full_image }
+    ensures { ((t : LeaseTable) → image_of t ≡ image.now → (result, buffer.new) ≡ saved_to Second t buffer.old) }
 {
     if buffer.len() < image.len() {
         return call_spec::refused(14, 0);
@@ -61,8 +61,8 @@ pub fn save(
     older: bool,
     buffer: &mut [u8],
 ) -> Answer
-    ensures* { λ r. ⌜ result r (bookOf image.now image_bytes [] counts.now) buffer.new
-        ≡ saveBook (bookOf image.now image_bytes [] counts.now) form older buffer.old ⌝ }
+    ensures { outcome result (book_of image.now image_bytes [] counts.now) buffer.new
+        ≡ save_book (book_of image.now image_bytes [] counts.now) form older buffer.old }
 {
     let summary = call_rows::summary_in(image, image_bytes, counts, 0);
     if !summary.sound {

@@ -1,12 +1,12 @@
 // Sheet as a call on saved bytes, in either form.
 ghost use Rattle.std.specs.Prelude.{◌≡◌};
-ghost use Rattle.call_sheet.specs.SheetImage.{sheetImage};
+ghost use Rattle.call_sheet.specs.SheetImage.{sheet_image};
 
 use ledger::Answer;
 use sheet_text::SheetAnswer;
 
 pub fn sheet(saved: &[u8], text: &mut [u8]) -> Answer
-    ensures { (result, text.new) ≡ sheetImage saved.now text.old }
+    ensures { (result, text.new) ≡ sheet_image saved.now text.old }
 {
     let written = sheet_text::sheet_of_image(saved, text);
     match written {

@@ -12,13 +12,13 @@ use Rattle.table.specs.declared.LeaseTable.{LeaseTable}
 use Rattle.table.specs.Table.{sound}
 use Rattle.table.proofs.TableLaws.{sound-slots}
 use Rattle.figures.proofs.RowsMatch.{matches-length}
-use Rattle.image.specs.Image.{fullImage, image_of, loadedTable}
-use Rattle.image.specs.Reading.{loadImage}
+use Rattle.image.specs.Image.{full_image, image_of, loaded_table}
+use Rattle.image.specs.Reading.{load_image}
 use Rattle.image.proofs.ImageLaws.{load-image}
 use Rattle.image_figures.proofs.SheetLaws.{rows-read-back}
 use Rattle.ledger.specs.Ledger.{State, state}
 use Rattle.ledger.specs.FiguresKept.{Matched}
-use Rattle.call_spec.specs.ImageCalls.{Lent, tableIn, stateIn, over, stored, storedIn}
+use Rattle.call_spec.specs.ImageCalls.{Lent, table_in, state_in, over, stored, stored_in}
 use Rattle.call_spec.proofs.StoreLaws.{stored-room}
 use Rattle.call_spec.proofs.TableLaws.{its-table}
 
@@ -31,22 +31,22 @@ module _ (s : State) (so : sound s.table ≡ true) (old : ℕ) (h : Lent) where
   unfolding stored
   front = append_assoc (image_of t) (replicate (old - length (image_of t)) 0) (drop (length (over (image_of t) old)) h.image)
 
-  table-again : fullImage ≤ length h.image → tableIn (storedIn s old h) ≡ t
+  table-again : full_image ≤ length h.image → table_in (stored_in s old h) ≡ t
   table-again room =
       let xs : List ℕ = image_of t in
       let rest : List ℕ = replicate (old - length xs) 0 ++ drop (length (over xs old)) h.image in
       let within : length xs ≤ length (stored t old h.image) = omega (arith, ap length front, length-append xs rest) in
-      sym (its-table (storedIn s old h) (stored-room t old h.image fullImage room) within)
-      ∙ ap (λ (l : List ℕ). loadedTable (loadImage (up_to (length xs) l))) front
-      ∙ ap (λ (l : List ℕ). loadedTable (loadImage l)) (take_at xs rest (length xs) refl)
-      ∙ ap loadedTable (load-image t so)
+      sym (its-table (stored_in s old h) (stored-room t old h.image full_image room) within)
+      ∙ ap (λ (l : List ℕ). loaded_table (load_image (up_to (length xs) l))) front
+      ∙ ap (λ (l : List ℕ). loaded_table (load_image l)) (take_at xs rest (length xs) refl)
+      ∙ ap loaded_table (load-image t so)
 
   -- What is lent then holds the table and the rows, for the next call to find. So a history of calls on what is lent is the ledger's history.
-  pub found-again : fullImage ≤ length h.image → Matched s → stateIn (storedIn s old h) ≡ s
+  pub found-again : full_image ≤ length h.image → Matched s → state_in (stored_in s old h) ≡ s
   found-again room m = ap₂ state (table-again room) (rows-read-back s.rows (matches-length t.leases s.rows m ∙ sound-slots t so))
 
   -- "so that a removed lease leaves nothing behind"
-  pub nothing-behind : (i : ℕ) → length (image_of t) ≤ i → i < old → get_or (storedIn s old h).image i 0 ≡ 0
+  pub nothing-behind : (i : ℕ) → length (image_of t) ≤ i → i < old → get_or (stored_in s old h).image i 0 ≡ 0
   nothing-behind i a b =
       let xs : List ℕ = image_of t in
       let zs : List ℕ = replicate (old - length xs) 0 in

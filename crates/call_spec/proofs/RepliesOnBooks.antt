@@ -12,10 +12,10 @@ use Rattle.table.specs.declared.LeaseTable.{LeaseTable}
 use Rattle.table.specs.Table.{sound}
 use Rattle.table_open.specs.Open.{given, fresh}
 use Rattle.image.specs.declared.Form.{Form}
-use Rattle.image.specs.Image.{imageAs, image_of, loadedTable}
-use Rattle.image.specs.Reading.{loadSaved}
-use Rattle.image_figures.specs.Sheets.{sheetOf, sheetRows}
-use Rattle.ledger.specs.Ledger.{Call, Result, result, refuse, accept, first_of, or_else, open_rows}
+use Rattle.image.specs.Image.{image_as, image_of, loaded_table}
+use Rattle.image.specs.Reading.{load_saved}
+use Rattle.image_figures.specs.Sheets.{sheet_of, sheet_rows}
+use Rattle.ledger.specs.Ledger.{Call, Result, outcome, refuse, accept, first_of, or_else, open_rows}
 use Rattle.ledger.specs.Demand3.{none?}
 use Rattle.ledger.specs.Sizes.{Bytes}
 use Rattle.ledger.specs.ReadBack.{TakesReadBack, SelectionReturned, ListsReadBack}
@@ -29,31 +29,31 @@ use Rattle.ledger.proofs.SoundKept.{refused-by}
 use Rattle.ledger.proofs.ListDependsHolds.{list-without-rows}
 use Rattle.ledger.proofs.FiguresHold.{filled-untold}
 use Rattle.ledger.proofs.FollowingReplies.{takes-read-back-followed, selection-returned-followed, on-ground-followed, lists-read-back-followed, refusals-leave-followed, ended-forgotten-followed, clears-followed, figures-kept-followed, names-kept-followed, always-matched-followed, resumes-followed}
-use Rattle.call_spec.specs.ImageCalls.{Lent, lent, tableIn, stateIn, listImage, openImage, loadInto, roomRows, saveRows, saveFrom}
-use Rattle.call_spec.specs.Books.{Book, bookOf, counted?, lentIn, kept, bookCalls}
+use Rattle.call_spec.specs.ImageCalls.{Lent, lent, table_in, state_in, list_image, open_image, load_into, room_rows, save_rows, save_from}
+use Rattle.call_spec.specs.Books.{Book, book_of, counted?, lent_in, kept, book_calls}
 use Rattle.call_spec.specs.OnBooks.{Begins, opened, loaded, StartsUntold, RefusalsLeaveBook, WithoutSheet}
 use Rattle.call_spec.proofs.TableLaws.{held-image, held-length, held-sheet}
 use Rattle.call_spec.proofs.BookLaws.{kept-refused}
 use Rattle.call_spec.proofs.OnBooks.{books-follow, opened-book-holds, loaded-book-holds}
 
 -- WHAT TAKE AND LIST WRITE reads back.
-pub take-reads-back-on-books : TakesReadBack bookCalls
-take-reads-back-on-books = takes-read-back-followed bookCalls books-follow
+pub take-reads-back-on-books : TakesReadBack book_calls
+take-reads-back-on-books = takes-read-back-followed book_calls books-follow
 
 -- Option 118 follows it, unaltered.
-pub selection-returned-on-books : SelectionReturned bookCalls
-selection-returned-on-books = selection-returned-followed bookCalls books-follow
+pub selection-returned-on-books : SelectionReturned book_calls
+selection-returned-on-books = selection-returned-followed book_calls books-follow
 
 -- And every entry before it lies on the ground that it names.
-pub on-ground-on-books : OnGround bookCalls
-on-ground-on-books = on-ground-followed bookCalls books-follow
+pub on-ground-on-books : OnGround book_calls
+on-ground-on-books = on-ground-followed book_calls books-follow
 
-pub list-reads-back-on-books : ListsReadBack bookCalls
-list-reads-back-on-books = lists-read-back-followed bookCalls books-follow
+pub list-reads-back-on-books : ListsReadBack book_calls
+list-reads-back-on-books = lists-read-back-followed book_calls books-follow
 
 -- A REFUSAL LEAVES EVERY BYTE of image, length, sheet and reply buffer.
-pub refusals-leave-on-books : RefusalsLeave bookCalls
-refusals-leave-on-books = refusals-leave-followed bookCalls books-follow
+pub refusals-leave-on-books : RefusalsLeave book_calls
+refusals-leave-on-books = refusals-leave-followed book_calls books-follow
 
 -- Of the book, where the call on what is lent leaves that as it was.
 book-unchanged : (b : Book) (r : Result Lent) → UnchangedIfRefused b.lent [] r → UnchangedIfRefused b [] (kept r b)
@@ -64,98 +64,98 @@ book-unchanged b r u k =
     record { stays = ap (λ (q : Result Book). q.state) same; reply-stays = w.reply-stays; bytes = w.bytes; count = w.count }
 
 pub refusals-leave-book : RefusalsLeaveBook
-unfolding openImage loadInto saveFrom
+unfolding open_image load_into save_from
 refusals-leave-book = record {
   opens =
-      λ b networks lengths term defaultLength start. book-unchanged b (openImage b.lent networks lengths term defaultLength start)
-      (refused-by (open_rows networks lengths term defaultLength start ++ roomRows b.lent) (λ n. 0) b.lent [] _ refl);
-  loads = λ b saved. book-unchanged b (loadInto b.lent saved) (refused-by ((5, none? (loadSaved saved)) ∷ roomRows b.lent) (λ n. 0) b.lent [] _ refl);
+      λ b networks lengths term default_length start. book-unchanged b (open_image b.lent networks lengths term default_length start)
+      (refused-by (open_rows networks lengths term default_length start ++ room_rows b.lent) (λ n. 0) b.lent [] _ refl);
+  loads = λ b saved. book-unchanged b (load_into b.lent saved) (refused-by ((5, none? (load_saved saved)) ∷ room_rows b.lent) (λ n. 0) b.lent [] _ refl);
   saves =
-      λ b form older buffer k. let h : Lent = lentIn b in
-      let w = refused-by (saveRows (tableIn h) form older buffer) (λ n. 0) h buffer (accept h (imageAs form (tableIn h)) 0 buffer) refl k in
+      λ b form older buffer k. let h : Lent = lent_in b in
+      let w = refused-by (save_rows (table_in h) form older buffer) (λ n. 0) h buffer (accept h (image_as form (table_in h)) 0 buffer) refl k in
       record { stays = refl; reply-stays = w.reply-stays; bytes = w.bytes; count = w.count };
 }
 
 -- LIST AND SAVE HAVE NO SHEET.
-abbrev servedOn : Lent → List ℕ → List ℕ → Option ℕ → Result Lent
-servedOn h written buffer o = or_else o (λ number. refuse number 0 h buffer) (accept h written 0 buffer)
+abbrev served_on : Lent → List ℕ → List ℕ → Option ℕ → Result Lent
+served_on h written buffer o = or_else o (λ number. refuse number 0 h buffer) (accept h written 0 buffer)
 
 -- The same answer and reply.
 abbrev Alike : Result Lent → Result Lent → Type 0
 Alike r q = (r.answer ≡ q.answer) × (r.reply ≡ q.reply)
 
-served-alike : (h g : Lent) (written buffer : List ℕ) (o : Option ℕ) → Alike (servedOn h written buffer o) (servedOn g written buffer o)
+served-alike : (h g : Lent) (written buffer : List ℕ) (o : Option ℕ) → Alike (served_on h written buffer o) (served_on g written buffer o)
 served-alike h g written buffer none = (refl, refl)
 served-alike h g written buffer (some n) = (refl, refl)
 
 module _ (image : List ℕ) (bytes : ℕ) (figures : List ℕ) where
-  lists-alike : (now : ℕ) (c : Call) → Alike (listImage (lent image bytes figures) now c) (listImage (lent image bytes []) now c)
-  unfolding tableIn
-  lists-alike now c = list-without-rows (tableIn (lent image bytes [])) (sheetRows figures) (sheetRows []) now c
+  lists-alike : (now : ℕ) (c : Call) → Alike (list_image (lent image bytes figures) now c) (list_image (lent image bytes []) now c)
+  unfolding table_in
+  lists-alike now c = list-without-rows (table_in (lent image bytes [])) (sheet_rows figures) (sheet_rows []) now c
 
-  saves-alike : (form : Form) (older : Bool) (buffer : List ℕ) → Alike (saveFrom (lent image bytes figures) form older buffer) (saveFrom (lent image bytes []) form older buffer)
-  unfolding tableIn saveFrom
+  saves-alike : (form : Form) (older : Bool) (buffer : List ℕ) → Alike (save_from (lent image bytes figures) form older buffer) (save_from (lent image bytes []) form older buffer)
+  unfolding table_in save_from
   saves-alike form older buffer =
-      let t : LeaseTable = tableIn (lent image bytes []) in
-      served-alike (lent image bytes figures) (lent image bytes []) (imageAs form t) buffer (first_of (saveRows t form older buffer))
+      let t : LeaseTable = table_in (lent image bytes []) in
+      served-alike (lent image bytes figures) (lent image bytes []) (image_as form t) buffer (first_of (save_rows t form older buffer))
 
 -- Whether or not the counts are right, which no sheet decides.
 module _ (image : List ℕ) (bytes : ℕ) (figures : List ℕ) (counts : List (List ℕ)) (f : Lent → Result Lent) (alike : (n : ℕ) → Alike (f (lent image n figures)) (f (lent image n []))) where
-  judged-alike : Alike (f (lentIn (bookOf image bytes figures counts))) (f (lentIn (bookOf image bytes [] counts)))
-  unfolding lentIn counted? tableIn
-  judged-alike = go (counted? (bookOf image bytes [] counts))
+  judged-alike : Alike (f (lent_in (book_of image bytes figures counts))) (f (lent_in (book_of image bytes [] counts)))
+  unfolding lent_in counted? table_in
+  judged-alike = go (counted? (book_of image bytes [] counts))
     where
       go : (right : Bool) → Alike (f (cond right (lent image bytes figures) (lent image 0 figures))) (f (cond right (lent image bytes []) (lent image 0 [])))
       go true = alike bytes
       go false = alike 0
 
-  without : result (f (lentIn (bookOf image bytes figures counts))).answer (bookOf image bytes figures counts) (f (lentIn (bookOf image bytes figures counts))).reply
-      ≡ result (f (lentIn (bookOf image bytes [] counts))).answer (bookOf image bytes figures counts) (f (lentIn (bookOf image bytes [] counts))).reply
-  without = let same = judged-alike in (λ i. record { answer = same.0 i; state = bookOf image bytes figures counts; reply = same.1 i })
+  without : outcome (f (lent_in (book_of image bytes figures counts))).answer (book_of image bytes figures counts) (f (lent_in (book_of image bytes figures counts))).reply
+      ≡ outcome (f (lent_in (book_of image bytes [] counts))).answer (book_of image bytes figures counts) (f (lent_in (book_of image bytes [] counts))).reply
+  without = let same = judged-alike in (λ i. record { answer = same.0 i; state = book_of image bytes figures counts; reply = same.1 i })
 
 pub without-sheet : WithoutSheet
 without-sheet = record {
-  lists = λ image bytes figures counts now c. without image bytes figures counts (λ h. listImage h now c) (λ n. lists-alike image n figures now c);
+  lists = λ image bytes figures counts now c. without image bytes figures counts (λ h. list_image h now c) (λ n. lists-alike image n figures now c);
   saves = λ image bytes figures counts form older buffer.
-      without image bytes figures counts (λ h. saveFrom h form older buffer) (λ n. saves-alike image n figures form older buffer);
+      without image bytes figures counts (λ h. save_from h form older buffer) (λ n. saves-alike image n figures form older buffer);
 }
 
 -- A STRUCK LEASE LEAVES NOTHING BEHIND: two images that differ only in ended leases get the same answers and replies, and accepted calls leave the same table.
-pub ended-forgotten-on-books : EndedForgotten bookCalls
-ended-forgotten-on-books = ended-forgotten-followed bookCalls books-follow
+pub ended-forgotten-on-books : EndedForgotten book_calls
+ended-forgotten-on-books = ended-forgotten-followed book_calls books-follow
 
 -- Then they leave the same image: bytes that hold the same sound table are the same, as far as the image goes. (Past it are zeros: `nothing-behind` in Images.)
-pub same-image : (h g : Lent) → Bytes h.image → Bytes g.image → sound (tableIn h) ≡ true → sound (tableIn g) ≡ true → tableIn h ≡ tableIn g
+pub same-image : (h g : Lent) → Bytes h.image → Bytes g.image → sound (table_in h) ≡ true → sound (table_in g) ≡ true → table_in h ≡ table_in g
     → (h.bytes ≡ g.bytes) × (up_to h.bytes h.image ≡ up_to g.bytes g.image)
 same-image h g b c s u e =
-    let same : image_of (tableIn h) ≡ image_of (tableIn g) = ap image_of e in
+    let same : image_of (table_in h) ≡ image_of (table_in g) = ap image_of e in
     (sym (held-length h s b) ∙ ap length same ∙ held-length g u c, sym (held-image h s b) ∙ same ∙ held-image g u c)
 
 -- And the same sheet.
-pub same-sheet : (h g : Lent) → Bytes h.figures → Bytes g.figures → sound (tableIn h) ≡ true → sound (tableIn g) ≡ true → Matched (stateIn h) → Matched (stateIn g)
-    → (stateIn h).rows ≡ (stateIn g).rows → h.figures ≡ g.figures
-same-sheet h g b c s u m n e = held-sheet h s m b ∙ ap sheetOf e ∙ sym (held-sheet g u n c)
+pub same-sheet : (h g : Lent) → Bytes h.figures → Bytes g.figures → sound (table_in h) ≡ true → sound (table_in g) ≡ true → Matched (state_in h) → Matched (state_in g)
+    → (state_in h).rows ≡ (state_in g).rows → h.figures ≡ g.figures
+same-sheet h g b c s u m n e = held-sheet h s m b ∙ ap sheet_of e ∙ sym (held-sheet g u n c)
 
 -- No accepted call leaves a lease that ended at or before now, and every slot that it frees is zero.
-pub clears-on-books : (b : Book) (now : ℕ) → Clears bookCalls b now
-clears-on-books = clears-followed bookCalls books-follow
+pub clears-on-books : (b : Book) (now : ℕ) → Clears book_calls b now
+clears-on-books = clears-followed book_calls books-follow
 
 -- USAGE FIGURES ARE KEPT: after every accepted call that has the sheet its rows match the leases, and a lease's figures are what a take told last.
-pub figures-kept-on-books : FiguresKept bookCalls
-figures-kept-on-books = figures-kept-followed bookCalls books-follow
+pub figures-kept-on-books : FiguresKept book_calls
+figures-kept-on-books = figures-kept-followed book_calls books-follow
 
 -- NAMES: the leases that an ask newly makes get the name of its message, and every other keeps its own.
-pub names-kept-on-books : NamesKept bookCalls
-names-kept-on-books = names-kept-followed bookCalls books-follow
+pub names-kept-on-books : NamesKept book_calls
+names-kept-on-books = names-kept-followed book_calls books-follow
 
 pub starts-untold : StartsUntold
-starts-untold b (opened g networks lengths term defaultLength start z) = subst AllUntold (sym (opened-book-holds g networks lengths term defaultLength start z)) (filled-untold (fresh (given networks lengths) term defaultLength start))
-starts-untold b (loaded g saved bytes z) = subst AllUntold (sym (loaded-book-holds g saved bytes z)) (filled-untold (loadedTable (loadSaved saved)))
+starts-untold b (opened g networks lengths term default_length start z) = subst AllUntold (sym (opened-book-holds g networks lengths term default_length start z)) (filled-untold (fresh (given networks lengths) term default_length start))
+starts-untold b (loaded g saved bytes z) = subst AllUntold (sym (loaded-book-holds g saved bytes z)) (filled-untold (loaded_table (load_saved saved)))
 
 -- From an open or a load on, no call is refused with 15.
-pub always-matched-on-books : AlwaysMatched bookCalls Begins
-always-matched-on-books = always-matched-followed bookCalls books-follow Begins (λ h b. (starts-untold h b).0)
+pub always-matched-on-books : AlwaysMatched book_calls Begins
+always-matched-on-books = always-matched-followed book_calls books-follow Begins (λ h b. (starts-untold h b).0)
 
 -- RESUMING A LIST, whatever was returned in between.
-pub resumed-on-books : Resumes bookCalls
-resumed-on-books = resumes-followed bookCalls books-follow
+pub resumed-on-books : Resumes book_calls
+resumed-on-books = resumes-followed book_calls books-follow

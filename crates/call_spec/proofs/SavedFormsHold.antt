@@ -13,52 +13,52 @@ use lib.Seq.{take_at}
 use lib.Dec.{ltb}
 use borrow.Author.Tests.{ltb-true, ltb-false, lt-ltb, le-ltb, eq-eqb, not-false}
 use Rattle.table.specs.declared.LeaseTable.{LeaseTable}
-use Rattle.table.specs.Table.{olderSlots, sound, cut}
+use Rattle.table.specs.Table.{older_slots, sound, cut}
 use Rattle.image.specs.declared.Form.{Form}
 use Rattle.image.specs.declared.Form.TheVariants.{First, Second}
-use Rattle.image.specs.Image.{fullImage, usedLeases, imageAs, fitsForm, loadedTable}
-use Rattle.image.specs.Reading.{loadSaved, loadSavedFor}
+use Rattle.image.specs.Image.{full_image, used_leases, image_as, fits_form, loaded_table}
+use Rattle.image.specs.Reading.{load_saved, load_saved_for}
 use Rattle.image.proofs.FormLaws.{loads⇔saved}
 use Rattle.image.proofs.OlderLaws.{older-loads-saved}
-use Rattle.image_figures.specs.Sheets.{figuresSize}
+use Rattle.image_figures.specs.Sheets.{figures_size}
 use Rattle.ledger.specs.Ledger.{filled, first_of, or_else, refuse, accept}
 use Rattle.ledger.specs.Sizes.{Bytes}
 use Rattle.ledger.proofs.RowLaws.{first-none, accepted-none}
-use Rattle.call_spec.specs.ImageCalls.{Lent, tableIn, loadInto, tooMany?, saveRows, saveFrom}
-use Rattle.call_spec.specs.Books.{Book, lentIn, stateInBook, kept, loadBook}
+use Rattle.call_spec.specs.ImageCalls.{Lent, table_in, load_into, too_many?, save_rows, save_from}
+use Rattle.call_spec.specs.Books.{Book, lent_in, state_in_book, kept, load_book}
 use Rattle.call_spec.specs.SavedForms.{SavedAs, HasRoom, SavedForms}
 use Rattle.call_spec.proofs.OnBooks.{loaded-book-holds}
 
 -- LOAD
 
-load-taken : (h : Lent) (saved : List ℕ) (t : LeaseTable) → loadSaved saved ≡ some t → fullImage ≤ length h.image → length h.figures ≡ figuresSize
-    → (loadInto h saved).answer.number ≡ 0
-unfolding loadInto
-load-taken h saved t e room size = rw (e, le-ltb (length h.image) fullImage room, eq-eqb (length h.figures) figuresSize size)
+load-taken : (h : Lent) (saved : List ℕ) (t : LeaseTable) → load_saved saved ≡ some t → full_image ≤ length h.image → length h.figures ≡ figures_size
+    → (load_into h saved).answer.number ≡ 0
+unfolding load_into
+load-taken h saved t e room size = rw (e, le-ltb (length h.image) full_image room, eq-eqb (length h.figures) figures_size size)
 
-load-not : (h : Lent) (saved : List ℕ) → loadSaved saved ≡ none → (loadInto h saved).answer.number ≡ 5
-unfolding loadInto
+load-not : (h : Lent) (saved : List ℕ) → load_saved saved ≡ none → (load_into h saved).answer.number ≡ 5
+unfolding load_into
 load-not h saved e = rw e
 
 load-accepts : (b : Book) (saved : List ℕ) (t : LeaseTable) → Bytes saved → HasRoom b → SavedAs t saved
-    → ((loadBook b saved).answer.number ≡ 0) × (stateInBook (loadBook b saved).state ≡ filled t)
+    → ((load_book b saved).answer.number ≡ 0) × (state_in_book (load_book b saved).state ≡ filled t)
 unfolding kept
 load-accepts b saved t bytes room is =
-    let e : loadSaved saved ≡ some t = (loads⇔saved saved t bytes).1 is in
-    let z : (loadBook b saved).answer.number ≡ 0 = load-taken b.lent saved t e room.image room.figures in
-    (z, loaded-book-holds b saved bytes z ∙ ap (λ (o : Option LeaseTable). filled (loadedTable o)) e)
+    let e : load_saved saved ≡ some t = (loads⇔saved saved t bytes).1 is in
+    let z : (load_book b saved).answer.number ≡ 0 = load-taken b.lent saved t e room.image room.figures in
+    (z, loaded-book-holds b saved bytes z ∙ ap (λ (o : Option LeaseTable). filled (loaded_table o)) e)
 
-load-refuses : (b : Book) (saved : List ℕ) → Bytes saved → ((t : LeaseTable) → SavedAs t saved → ⊥) → (loadBook b saved).answer.number ≡ 5
+load-refuses : (b : Book) (saved : List ℕ) → Bytes saved → ((t : LeaseTable) → SavedAs t saved → ⊥) → (load_book b saved).answer.number ≡ 5
 unfolding kept
-load-refuses b saved bytes never = go (loadSaved saved) refl
+load-refuses b saved bytes never = go (load_saved saved) refl
   where
-    go : (o : Option LeaseTable) → loadSaved saved ≡ o → (loadBook b saved).answer.number ≡ 5
+    go : (o : Option LeaseTable) → load_saved saved ≡ o → (load_book b saved).answer.number ≡ 5
     go none e = load-not b.lent saved e
     go (some t) e = absurd (never t ((loads⇔saved saved t bytes).0 e))
 
 -- SAVE
 
-saved-as : (form : Form) (t : LeaseTable) (saved : List ℕ) → sound t ≡ true → fitsForm form t ≡ true → imageAs form t ≡ saved → SavedAs t saved
+saved-as : (form : Form) (t : LeaseTable) (saved : List ℕ) → sound t ≡ true → fits_form form t ≡ true → image_as form t ≡ saved → SavedAs t saved
 saved-as First t saved s fits e = (s, inr (fits, e))
 saved-as Second t saved s fits e = (s, inl e)
 
@@ -93,70 +93,70 @@ many-of false m f w a b = absurd (true≢false (sym a))
 
 module _ (h : Lent) (form : Form) (older : Bool) (buffer : List ℕ) where
   abbrev image : List ℕ
-  image = imageAs form (tableIn h)
+  image = image_as form (table_in h)
 
-  save-number : (saveFrom h form older buffer).answer.number ≡ told (sound (tableIn h)) (tooMany? (tableIn h) older) (fitsForm form (tableIn h)) (ltb (length buffer) (length image))
-  unfolding saveFrom
-  save-number = go (first_of (saveRows (tableIn h) form older buffer))
+  save-number : (save_from h form older buffer).answer.number ≡ told (sound (table_in h)) (too_many? (table_in h) older) (fits_form form (table_in h)) (ltb (length buffer) (length image))
+  unfolding save_from
+  save-number = go (first_of (save_rows (table_in h) form older buffer))
     where
       go : (o : Option ℕ) → (or_else o (λ number. refuse number 0 h buffer) (accept h image 0 buffer)).answer.number ≡ or_else o (λ n. n) 0
       go none = refl
       go (some n) = refl
 
-  module _ (z : (saveFrom h form older buffer).answer.number ≡ 0) where
-    none-applies : first_of (saveRows (tableIn h) form older buffer) ≡ none
-    unfolding saveFrom
-    none-applies = accepted-none (saveRows (tableIn h) form older buffer) (λ n. 0) h buffer _ (refl, (refl, (refl, (refl, tt)))) z
+  module _ (z : (save_from h form older buffer).answer.number ≡ 0) where
+    none-applies : first_of (save_rows (table_in h) form older buffer) ≡ none
+    unfolding save_from
+    none-applies = accepted-none (save_rows (table_in h) form older buffer) (λ n. 0) h buffer _ (refl, (refl, (refl, (refl, tt)))) z
 
-    save-written : take (saveFrom h form older buffer).answer.bytes (saveFrom h form older buffer).reply ≡ image
-    unfolding saveFrom
+    save-written : take (save_from h form older buffer).answer.bytes (save_from h form older buffer).reply ≡ image
+    unfolding save_from
     save-written =
         ap (λ (o : Option ℕ). let r = or_else o (λ number. refuse number 0 h buffer) (accept h image 0 buffer) in take r.answer.bytes r.reply) none-applies
         ∙ take_at image (drop (length image) buffer) (length image) refl
 
-    save-saved : SavedAs (tableIn h) (take (saveFrom h form older buffer).answer.bytes (saveFrom h form older buffer).reply)
+    save-saved : SavedAs (table_in h) (take (save_from h form older buffer).answer.bytes (save_from h form older buffer).reply)
     save-saved =
-        let a = first-none (saveRows (tableIn h) form older buffer) none-applies in
-        saved-as form (tableIn h) _ (not-false (sound (tableIn h)) a.0) (not-false (fitsForm form (tableIn h)) a.1.1.0) (sym save-written)
+        let a = first-none (save_rows (table_in h) form older buffer) none-applies in
+        saved-as form (table_in h) _ (not-false (sound (table_in h)) a.0) (not-false (fits_form form (table_in h)) a.1.1.0) (sym save-written)
 
 -- FOR AN OLDER DESK
 
-module _ (h : Lent) (form : Form) (buffer : List ℕ) (z : (saveFrom h form true buffer).answer.number ≡ 0) where
-  save-older : loadSavedFor olderSlots (take (saveFrom h form true buffer).answer.bytes (saveFrom h form true buffer).reply) ≡ some (cut olderSlots (tableIn h))
+module _ (h : Lent) (form : Form) (buffer : List ℕ) (z : (save_from h form true buffer).answer.number ≡ 0) where
+  save-older : load_saved_for older_slots (take (save_from h form true buffer).answer.bytes (save_from h form true buffer).reply) ≡ some (cut older_slots (table_in h))
   save-older =
-      let t : LeaseTable = tableIn h in
-      let a = first-none (saveRows t form true buffer) (none-applies h form true buffer z) in
-      ap (loadSavedFor olderSlots) (save-written h form true buffer z)
-      ∙ older-loads-saved olderSlots t (not-false (sound t) a.0) (ltb-false olderSlots (length (usedLeases t)) a.1.0) (omega arith) form (not-false (fitsForm form t) a.1.1.0)
+      let t : LeaseTable = table_in h in
+      let a = first-none (save_rows t form true buffer) (none-applies h form true buffer z) in
+      ap (load_saved_for older_slots) (save-written h form true buffer z)
+      ∙ older-loads-saved older_slots t (not-false (sound t) a.0) (ltb-false older_slots (length (used_leases t)) a.1.0) (omega arith) form (not-false (fits_form form t) a.1.1.0)
 
 pub saved-forms : SavedForms
 saved-forms = record {
   accepts = load-accepts;
   refuses = load-refuses;
-  writes = λ b form older buffer z. (save-written (lentIn b) form older buffer z, save-saved (lentIn b) form older buffer z);
+  writes = λ b form older buffer z. (save-written (lent_in b) form older buffer z, save-saved (lent_in b) form older buffer z);
   goes_back = λ b older buffer s not-many.
-      let h : Lent = lentIn b in
-      let many : Bool = tooMany? (tableIn h) older in
-      let fits : Bool = fitsForm First (tableIn h) in
-      let short : Bool = ltb (length buffer) (length (imageAs First (tableIn h))) in
+      let h : Lent = lent_in b in
+      let many : Bool = too_many? (table_in h) older in
+      let fits : Bool = fits_form First (table_in h) in
+      let short : Bool = ltb (length buffer) (length (image_as First (table_in h))) in
       let number = save-number h First older buffer in (
-        λ e. lost-to (sound (tableIn h)) many fits short (sym number ∙ e),
-        λ e. number ∙ lost-of (sound (tableIn h)) many fits short s (λ e₁. not-many (number ∙ e₁)) e,
+        λ e. lost-to (sound (table_in h)) many fits short (sym number ∙ e),
+        λ e. number ∙ lost-of (sound (table_in h)) many fits short s (λ e₁. not-many (number ∙ e₁)) e,
       );
   keeps-names = λ b older buffer e.
-      let h : Lent = lentIn b in
-      true≢false (lost-to (sound (tableIn h)) (tooMany? (tableIn h) older) true (ltb (length buffer) (length (imageAs Second (tableIn h)))) (sym (save-number h Second older buffer) ∙ e));
-  older-reads = λ b form buffer z. save-older (lentIn b) form buffer z;
+      let h : Lent = lent_in b in
+      true≢false (lost-to (sound (table_in h)) (too_many? (table_in h) older) true (ltb (length buffer) (length (image_as Second (table_in h)))) (sym (save-number h Second older buffer) ∙ e));
+  older-reads = λ b form buffer z. save-older (lent_in b) form buffer z;
   older-refused = λ b form buffer s.
-      let h : Lent = lentIn b in
-      let n : ℕ = length (usedLeases (tableIn h)) in
-      let fits : Bool = fitsForm form (tableIn h) in
-      let short : Bool = ltb (length buffer) (length (imageAs form (tableIn h))) in
+      let h : Lent = lent_in b in
+      let n : ℕ = length (used_leases (table_in h)) in
+      let fits : Bool = fits_form form (table_in h) in
+      let short : Bool = ltb (length buffer) (length (image_as form (table_in h))) in
       let number = save-number h form true buffer in (
-        λ e. ltb-true olderSlots n (many-to (sound (tableIn h)) (ltb olderSlots n) fits short (sym number ∙ e)),
-        λ e. number ∙ many-of (sound (tableIn h)) (ltb olderSlots n) fits short s (lt-ltb olderSlots n e),
+        λ e. ltb-true older_slots n (many-to (sound (table_in h)) (ltb older_slots n) fits short (sym number ∙ e)),
+        λ e. number ∙ many-of (sound (table_in h)) (ltb older_slots n) fits short s (lt-ltb older_slots n e),
       );
   not_chosen = λ b form buffer e.
-      let h : Lent = lentIn b in
-      true≢false (sym (many-to (sound (tableIn h)) false (fitsForm form (tableIn h)) (ltb (length buffer) (length (imageAs form (tableIn h)))) (sym (save-number h form false buffer) ∙ e)));
+      let h : Lent = lent_in b in
+      true≢false (sym (many-to (sound (table_in h)) false (fits_form form (table_in h)) (ltb (length buffer) (length (image_as form (table_in h)))) (sym (save-number h form false buffer) ∙ e)));
 }

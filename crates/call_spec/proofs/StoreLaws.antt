@@ -12,14 +12,14 @@ use Rattle.lists.specs.Put.{put}
 use Rattle.lists.proofs.PutLaws.{put-append, put_front}
 use Rattle.table.specs.declared.LeaseTable.{LeaseTable}
 use Rattle.table.specs.Table.{sound}
-use Rattle.image.specs.Image.{fullImage, image_of}
+use Rattle.image.specs.Image.{full_image, image_of}
 use Rattle.image.proofs.ImageLaws.{longest-image}
-use Rattle.ledger.specs.Ledger.{State, Result, result, refusal, Row, first_of, or_else, byRows, refuse}
-use Rattle.call_spec.specs.ImageCalls.{Lent, stateIn, over, stored, storedIn, settled}
+use Rattle.ledger.specs.Ledger.{State, Result, outcome, refusal, Row, first_of, or_else, by_rows, refuse}
+use Rattle.call_spec.specs.ImageCalls.{Lent, state_in, over, stored, stored_in, settled}
 
 -- AN IMAGE, AND ZEROS AFTER IT
 
-module _ (t : LeaseTable) (s : sound t ≡ true) (l : List ℕ) (room : fullImage ≤ length l) where
+module _ (t : LeaseTable) (s : sound t ≡ true) (l : List ℕ) (room : full_image ≤ length l) where
   fits : length (image_of t) ≤ length l
   fits = omega (arith, longest-image t s)
 
@@ -48,32 +48,32 @@ stored-room t old l n h =
 -- WHAT A CALL LEAVES
 
 module _ (r : Result State) (h : Lent) where
-  pub settled-refused : (r.answer.number ≡ 0 → ⊥) → settled r h ≡ result r.answer h r.reply
+  pub settled-refused : (r.answer.number ≡ 0 → ⊥) → settled r h ≡ outcome r.answer h r.reply
   unfolding settled
   settled-refused k = rw (ne_eqb r.answer.number 0 k)
 
-  pub settled-accepted : r.answer.number ≡ 0 → settled r h ≡ result r.answer (storedIn r.state h.bytes h) r.reply
+  pub settled-accepted : r.answer.number ≡ 0 → settled r h ≡ outcome r.answer (stored_in r.state h.bytes h) r.reply
   unfolding settled
   settled-accepted e = rw (eq-eqb r.answer.number 0 e)
 
 -- A call that goes by its rows, on what is lent.
 module _ (h : Lent) (rows : List Row) (place : ℕ → ℕ) (reply : List ℕ) (accepted : Result State) where
-  pub row-refuses : (n : ℕ) → (n ≡ 0 → ⊥) → first_of rows ≡ some n → result (refusal n (place n)) h reply ≡ settled (byRows rows place (stateIn h) reply accepted) h
+  pub row-refuses : (n : ℕ) → (n ≡ 0 → ⊥) → first_of rows ≡ some n → outcome (refusal n (place n)) h reply ≡ settled (by_rows rows place (state_in h) reply accepted) h
   row-refuses n k e =
-      sym (settled-refused (refuse n (place n) (stateIn h) reply) h k)
-      ∙ ap (λ (o : Option ℕ). settled (or_else o (λ number. refuse number (place number) (stateIn h) reply) accepted) h) (sym e)
+      sym (settled-refused (refuse n (place n) (state_in h) reply) h k)
+      ∙ ap (λ (o : Option ℕ). settled (or_else o (λ number. refuse number (place number) (state_in h) reply) accepted) h) (sym e)
 
-  pub no_row : first_of rows ≡ none → settled accepted h ≡ settled (byRows rows place (stateIn h) reply accepted) h
-  no_row e = ap (λ (o : Option ℕ). settled (or_else o (λ number. refuse number (place number) (stateIn h) reply) accepted) h) (sym e)
+  pub no_row : first_of rows ≡ none → settled accepted h ≡ settled (by_rows rows place (state_in h) reply accepted) h
+  no_row e = ap (λ (o : Option ℕ). settled (or_else o (λ number. refuse number (place number) (state_in h) reply) accepted) h) (sym e)
 
   -- The same of a list, which leaves what is lent as it was.
   abbrev pub listed : Result Lent
-  listed = let r = byRows rows place (stateIn h) reply accepted in result r.answer h r.reply
+  listed = let r = by_rows rows place (state_in h) reply accepted in outcome r.answer h r.reply
 
-  pub list-row-refuses : (n : ℕ) → (n ≡ 0 → ⊥) → first_of rows ≡ some n → result (refusal n (place n)) h reply ≡ listed
+  pub list-row-refuses : (n : ℕ) → (n ≡ 0 → ⊥) → first_of rows ≡ some n → outcome (refusal n (place n)) h reply ≡ listed
   list-row-refuses n k e =
-      ap (λ (o : Option ℕ). let r = or_else o (λ number. refuse number (place number) (stateIn h) reply) accepted in result r.answer h r.reply) (sym e)
+      ap (λ (o : Option ℕ). let r = or_else o (λ number. refuse number (place number) (state_in h) reply) accepted in outcome r.answer h r.reply) (sym e)
 
-  pub list-no-row : first_of rows ≡ none → result accepted.answer h accepted.reply ≡ listed
+  pub list-no-row : first_of rows ≡ none → outcome accepted.answer h accepted.reply ≡ listed
   list-no-row e =
-      ap (λ (o : Option ℕ). let r = or_else o (λ number. refuse number (place number) (stateIn h) reply) accepted in result r.answer h r.reply) (sym e)
+      ap (λ (o : Option ℕ). let r = or_else o (λ number. refuse number (place number) (state_in h) reply) accepted in outcome r.answer h r.reply) (sym e)

@@ -2,73 +2,73 @@
 -- root and each length 8 to 30, eight rows of twenty-three, in the open book". Each call is the one on what is lent (`ImageCalls`), and counts again.
 use Rattle.lists.specs.Basics.{ℕ, Bool, cond, List, [], eqb}
 use Rattle.image.specs.declared.Form.{Form}
-use Rattle.counts.specs.Counts.{countsOf, sameCounts?, sum_at}
+use Rattle.counts.specs.Counts.{counts_of, same_counts?, sum_at}
 use Rattle.ledger.specs.declared.Answer.{Answer}
-use Rattle.ledger.specs.Ledger.{State, Call, Result, result, first_of, or_else, refusal, acceptance, tableRows, Calls}
-use Rattle.call_spec.specs.ImageCalls.{Lent, lent, tableIn, stateIn, askImage, takeImage, listImage, releaseImage, markImage, openImage, loadInto, saveFrom}
+use Rattle.ledger.specs.Ledger.{State, Call, Result, outcome, first_of, or_else, refusal, acceptance, table_rows, Calls}
+use Rattle.call_spec.specs.ImageCalls.{Lent, lent, table_in, state_in, ask_image, take_image, list_image, release_image, mark_image, open_image, load_into, save_from}
 
 pub record Book : Type 0 where
   pub lent : Lent
   pub counts : List (List ℕ)
 
-abbrev pub bookOf : List ℕ → ℕ → List ℕ → List (List ℕ) → Book
-bookOf image bytes figures counts = record { lent = lent image bytes figures; counts = counts }
+abbrev pub book_of : List ℕ → ℕ → List ℕ → List (List ℕ) → Book
+book_of image bytes figures counts = record { lent = lent image bytes figures; counts = counts }
 
 -- WHAT A CALL IS GIVEN
 
 -- The counts are those of the table, rows of unused pools included.
 unfoldable pub counted? : Book → Bool
-counted? b = sameCounts? b.counts (countsOf (tableIn b.lent))
+counted? b = same_counts? b.counts (counts_of (table_in b.lent))
 
 -- "a book whose counts differ is unsound": it is given as one that has no image, which the ledger refuses with 5, in the place that row 5 has.
-unfoldable pub lentIn : Book → Lent
-lentIn b = cond (counted? b) b.lent (lent b.lent.image 0 b.lent.figures)
+unfoldable pub lent_in : Book → Lent
+lent_in b = cond (counted? b) b.lent (lent b.lent.image 0 b.lent.figures)
 
-abbrev pub stateInBook : Book → State
-stateInBook b = stateIn (lentIn b)
+abbrev pub state_in_book : Book → State
+state_in_book b = state_in (lent_in b)
 
 -- WHAT A CALL LEAVES
 
 -- "equal to what a fresh walk would find"
 abbrev pub counted : Lent → Book
-counted h = record { lent = h; counts = countsOf (tableIn h) }
+counted h = record { lent = h; counts = counts_of (table_in h) }
 
 -- "Every call that changes lines keeps it"; a refusal leaves it.
 unfoldable pub kept : Result Lent → Book → Result Book
-kept r b = result r.answer (cond (eqb r.answer.number 0) (counted r.state) b) r.reply
+kept r b = outcome r.answer (cond (eqb r.answer.number 0) (counted r.state) b) r.reply
 
 -- THE CALLS
 
-abbrev pub askBook : Book → ℕ → Call → Result Book
-askBook b now c = kept (askImage (lentIn b) now c) b
+abbrev pub ask_book : Book → ℕ → Call → Result Book
+ask_book b now c = kept (ask_image (lent_in b) now c) b
 
-abbrev pub takeBook : Book → ℕ → Call → Result Book
-takeBook b now c = kept (takeImage (lentIn b) now c) b
+abbrev pub take_book : Book → ℕ → Call → Result Book
+take_book b now c = kept (take_image (lent_in b) now c) b
 
-abbrev pub releaseBook : Book → ℕ → Call → Result Book
-releaseBook b now c = kept (releaseImage (lentIn b) now c) b
+abbrev pub release_book : Book → ℕ → Call → Result Book
+release_book b now c = kept (release_image (lent_in b) now c) b
 
-abbrev pub markBook : Book → ℕ → ℕ → ℕ → Bool → Result Book
-markBook b now network len d = kept (markImage (lentIn b) now network len d) b
+abbrev pub mark_book : Book → ℕ → ℕ → ℕ → Bool → Result Book
+mark_book b now network len d = kept (mark_image (lent_in b) now network len d) b
 
 -- List and save change nothing.
-abbrev pub listBook : Book → ℕ → Call → Result Book
-listBook b now c = let r = listImage (lentIn b) now c in result r.answer b r.reply
+abbrev pub list_book : Book → ℕ → Call → Result Book
+list_book b now c = let r = list_image (lent_in b) now c in outcome r.answer b r.reply
 
-abbrev pub saveBook : Book → Form → Bool → List ℕ → Result Book
-saveBook b form older buffer = let r = saveFrom (lentIn b) form older buffer in result r.answer b r.reply
+abbrev pub save_book : Book → Form → Bool → List ℕ → Result Book
+save_book b form older buffer = let r = save_from (lent_in b) form older buffer in outcome r.answer b r.reply
 
-abbrev pub bookCalls : Calls Book
-bookCalls = record { state_of = stateInBook; asks = askBook; takes = takeBook; lists = listBook; releases = releaseBook; marks = markBook }
+abbrev pub book_calls : Calls Book
+book_calls = record { state_of = state_in_book; asks = ask_book; takes = take_book; lists = list_book; releases = release_book; marks = mark_book }
 
 -- Open and load judge no book: they make one. "Load works the counts out."
-abbrev pub openBook : Book → List ℕ → List ℕ → ℕ → ℕ → ℕ → Result Book
-openBook b networks lengths term defaultLength start = kept (openImage b.lent networks lengths term defaultLength start) b
+abbrev pub open_book : Book → List ℕ → List ℕ → ℕ → ℕ → ℕ → Result Book
+open_book b networks lengths term default_length start = kept (open_image b.lent networks lengths term default_length start) b
 
-abbrev pub loadBook : Book → List ℕ → Result Book
-loadBook b saved = kept (loadInto b.lent saved) b
+abbrev pub load_book : Book → List ℕ → Result Book
+load_book b saved = kept (load_into b.lent saved) b
 
 -- THE QUERY: "A query for a length sums over the roots, strikes nothing, speaks of the book as last written, and answers 0 outside 8 to 30; its only
 -- refusal is 5."
-unfoldable pub wholeBook : Book → ℕ → Answer
-wholeBook b len = or_else (first_of (tableRows (stateInBook b))) (λ number. refusal number 0) (acceptance 0 (sum_at b.counts len))
+unfoldable pub whole_book : Book → ℕ → Answer
+whole_book b len = or_else (first_of (table_rows (state_in_book b))) (λ number. refusal number 0) (acceptance 0 (sum_at b.counts len))

@@ -4,7 +4,7 @@ use Rattle.lists.specs.Lists.{All}
 use Rattle.ledger.specs.Sizes.{Bytes}
 use Rattle.ledger.specs.InRange.{Word, Figure, ResultInRange, OpenInRange}
 use Rattle.call_spec.specs.ImageCalls.{Lent}
-use Rattle.call_spec.specs.Books.{Book, openBook, loadBook}
+use Rattle.call_spec.specs.Books.{Book, open_book, load_book}
 
 pub record LentInRange (h : Lent) : Type 0 where
   pub image : Bytes h.image
@@ -18,8 +18,8 @@ pub record BookInRange (b : Book) : Type 0 where
 
 -- Open and load, which fill it.
 abbrev pub OpensInRange : Type 0
-OpensInRange = (b : Book) (networks lengths : List ℕ) (term defaultLength start : ℕ) → BookInRange b → OpenInRange networks lengths term defaultLength start
-    → ResultInRange BookInRange (openBook b networks lengths term defaultLength start)
+OpensInRange = (b : Book) (networks lengths : List ℕ) (term default_length start : ℕ) → BookInRange b → OpenInRange networks lengths term default_length start
+    → ResultInRange BookInRange (open_book b networks lengths term default_length start)
 
 abbrev pub LoadsInRange : Type 0
-LoadsInRange = (b : Book) (saved : List ℕ) → BookInRange b → Bytes saved → ResultInRange BookInRange (loadBook b saved)
+LoadsInRange = (b : Book) (saved : List ℕ) → BookInRange b → Bytes saved → ResultInRange BookInRange (load_book b saved)

@@ -13,9 +13,9 @@ use Rattle.lists.proofs.FilterLaws.{filter-pass, filter-yes, filter-no, none_of}
 use Rattle.lists.proofs.IndexLaws.{all-at}
 use Rattle.option.specs.Values.{Entry}
 use Rattle.table.specs.declared.Lease.{Lease}
-use Rattle.table.specs.Table.{noLease}
+use Rattle.table.specs.Table.{no_lease}
 use Rattle.call_entries.specs.EntryLeases.{named?, FoundAt}
-use Rattle.call_entries.proofs.EntriesLaws.{noEntry}
+use Rattle.call_entries.proofs.EntriesLaws.{no_entry}
 use Rattle.call_take.specs.InnerPlaces.{place_of, places_of}
 
 contrary : {b : Bool} → b ≡ true → b ≡ false → ⊥
@@ -29,11 +29,11 @@ module _ (g : Lease → Bool) where
   place-later x xs f = ap (λ (b : Bool). cond b 0 (suc (place_of g xs))) f
 
   -- The lease there passes,
-  pub place-passes : (xs : List Lease) → place_of g xs < length xs → g (get_or xs (place_of g xs) noLease) ≡ true
+  pub place-passes : (xs : List Lease) → place_of g xs < length xs → g (get_or xs (place_of g xs) no_lease) ≡ true
   place-passes [] h = absurd (omega arith)
   place-passes (x ∷ xs) h = go (g x) refl (place-passes xs)
     where
-      go : (b : Bool) → g x ≡ b → (place_of g xs < length xs → g (get_or xs (place_of g xs) noLease) ≡ true) → g (get_or (x ∷ xs) (place_of g (x ∷ xs)) noLease) ≡ true
+      go : (b : Bool) → g x ≡ b → (place_of g xs < length xs → g (get_or xs (place_of g xs) no_lease) ≡ true) → g (get_or (x ∷ xs) (place_of g (x ∷ xs)) no_lease) ≡ true
       go true t rest = rw (place-first x xs t) t
       go false f rest = rw (place-later x xs f) (rest (omega (arith, place-later x xs f)))
 
@@ -51,7 +51,7 @@ module _ (g : Lease → Bool) where
   no_place (x ∷ xs) a = place-later x xs a.0 ∙ ap suc (no_place xs a.1)
 
   -- Where only one passes it is the place of that.
-  only-place : (xs : List Lease) (r : ℕ) → length (filter g xs) ≡ 1 → r < length xs → g (get_or xs r noLease) ≡ true → r ≡ place_of g xs
+  only-place : (xs : List Lease) (r : ℕ) → length (filter g xs) ≡ 1 → r < length xs → g (get_or xs r no_lease) ≡ true → r ≡ place_of g xs
   only-place [] r one h here = absurd (omega arith)
   only-place (x ∷ xs) zero one h here = sym (place-first x xs here)
   only-place (x ∷ xs) (suc r) one h here = go (g x) refl (λ e. only-place xs r e (omega arith) here)
@@ -59,7 +59,7 @@ module _ (g : Lease → Bool) where
       go : (b : Bool) → g x ≡ b → (length (filter g xs) ≡ 1 → r ≡ place_of g xs) → suc r ≡ place_of g (x ∷ xs)
       go true t rest =
           let others : All (λ y. g y ≡ false) xs = none_of g xs (omega (arith, one, ap length (filter-yes g x xs t))) in
-          absurd (contrary here (all-at (λ y. g y ≡ false) xs others r noLease (omega arith)))
+          absurd (contrary here (all-at (λ y. g y ≡ false) xs others r no_lease (omega arith)))
       go false f rest = ap suc (rest (sym (ap length (filter-no g x xs f)) ∙ one)) ∙ sym (place-later x xs f)
 
   pub found-place : (xs : List Lease) (r : ℕ) → FoundAt g xs r → r ≤ length xs → r ≡ place_of g xs
@@ -81,7 +81,7 @@ module _ (g : Lease → Bool) where
 
 -- The place of the lease that one of the entries names.
 pub places-at : (now client : ℕ) (xs : List Lease) (es : List Entry) (k : ℕ) → k < length es
-    → get_or (places_of now client xs es) k 0 ≡ place_of (named? now client (get_or es k noEntry).network (get_or es k noEntry).length) xs
+    → get_or (places_of now client xs es) k 0 ≡ place_of (named? now client (get_or es k no_entry).network (get_or es k no_entry).length) xs
 places-at now client xs [] k h = absurd (omega arith)
 places-at now client xs (e ∷ es) zero h = refl
 places-at now client xs (e ∷ es) (suc k) h = places-at now client xs es k (omega arith)

@@ -13,19 +13,19 @@ use Rattle.lists.specs.Put.{put}
 use Rattle.lists.proofs.PutLaws.{put-more}
 use Rattle.lists.proofs.MapLaws.{map-append}
 use Rattle.option.specs.Values.{Entry}
-use Rattle.option.specs.Writing.{entriesBytes}
+use Rattle.option.specs.Writing.{entries_bytes}
 use Rattle.table.specs.declared.Lease.{Lease}
 use Rattle.table.specs.Table.{present}
-use Rattle.image.specs.Image.{leaseSize}
-use Rattle.image.specs.Reading.{leaseIn}
+use Rattle.image.specs.Image.{lease_size}
+use Rattle.image.specs.Reading.{lease_in}
 use Rattle.image_records.specs.Records.{Records, Ascending}
 use Rattle.option_reply.specs.Reply.{entry_of}
 use Rattle.ledger.specs.Ledger.{found}
-use Rattle.option_reply.proofs.ReplyLaws.{leaseBytes, entries-length, entries_none, entries-and-one}
-use Rattle.call_entries.specs.EntryLeases.{named?, Hold, changedBy, changedIn, ExpirySet}
+use Rattle.option_reply.proofs.ReplyLaws.{lease_bytes, entries-length, entries_none, entries-and-one}
+use Rattle.call_entries.specs.EntryLeases.{named?, Hold, changed_by, changed_in, ExpirySet}
 use Rattle.call_entries.proofs.NamedLaws.{set-expiry-lease}
 use Rattle.call_entries.proofs.ManyLaws.{named-same, shown-same, found-more}
-use Rattle.call_entries.proofs.EntriesLaws.{noEntry, hold-long, next-entry, found-no, changed-by-none, changed-holds, turn-changed, turn-after}
+use Rattle.call_entries.proofs.EntriesLaws.{no_entry, hold-long, next-entry, found-no, changed-by-none, changed-holds, turn-changed, turn-after}
 use Rattle.call_take.specs.InnerPlaces.{place_of, places_of}
 use Rattle.call_take.specs.InnerRenewed.{Renewed}
 use Rattle.call_take.proofs.PlaceLaws.{found-place, place_same}
@@ -50,17 +50,17 @@ module _ (l : List ℕ) (from n now client expires : ℕ) (networks lengths repl
     replied-is = sym (entries_none [] reply refl);
   }
 
-  module _ (room : from + leaseSize * n ≤ length l) (later : now < expires) (image places replied : List ℕ) (shown k : ℕ) (s : Renewing l from n now client expires networks lengths reply image places replied shown k)
+  module _ (room : from + lease_size * n ≤ length l) (later : now < expires) (image places replied : List ℕ) (shown k : ℕ) (s : Renewing l from n now client expires networks lengths reply image places replied shown k)
       (lt : k < length networks) (fits : k < length places) (after : List ℕ) (r : ℕ) (most : r ≤ n)
       (expiry-set : (ys : List Lease) → Records image from ys → n ≡ length ys → Ascending ys → ExpirySet (named? now client (get_or networks k 0) (get_or lengths k 0)) expires image from ys after r)
       (places₁ : List ℕ) (kept : places₁ ≡ set places k r) where
     module _ (xs : List Lease) (held : Records l from xs) (counted : n ≡ length xs) (ascending : Ascending xs) (es : List Entry) (p : Hold networks lengths es) where
       -- The test of the next entry, and the leases as the entries before left them.
       test : Lease → Bool
-      test = named? now client (get_or es k noEntry).network (get_or es k noEntry).length
+      test = named? now client (get_or es k no_entry).network (get_or es k no_entry).length
 
       ys : List Lease
-      ys = map (changedBy now client expires (take k es)) xs
+      ys = map (changed_by now client expires (take k es)) xs
 
       -- The leases shown so far.
       fs : List Lease
@@ -70,7 +70,7 @@ module _ (l : List ℕ) (from n now client expires : ℕ) (networks lengths repl
       unfolding Renewing
       before = s xs held counted ascending es p
 
-      next-taken : take (k + 1) es ≡ take k es ++ (get_or es k noEntry ∷ [])
+      next-taken : take (k + 1) es ≡ take k es ++ (get_or es k no_entry ∷ [])
       next-taken = next-entry es k (omega (arith, hold-long networks lengths es p))
 
       changed : ExpirySet test expires image from ys after r
@@ -78,16 +78,16 @@ module _ (l : List ℕ) (from n now client expires : ℕ) (networks lengths repl
       changed =
           turn-changed now client expires l from xs held (omega arith) ascending networks lengths es p k lt image before.after_is after r (λ zs h c a. expiry-set zs h (counted ∙ c) a)
 
-      after_is : after ≡ changedIn now client expires (take (k + 1) es) l from xs
+      after_is : after ≡ changed_in now client expires (take (k + 1) es) l from xs
       after_is = turn-after now client expires l from xs held (omega arith) ascending networks lengths es p k lt image before.after_is after r (λ zs h c a. expiry-set zs h (counted ∙ c) a)
 
       found-next : found client (present now xs) (take (k + 1) es) ≡ fs ++ filter test xs
       unfolding fs test
-      found-next = ap (found client (present now xs)) next-taken ∙ found-more now client xs (take k es) (get_or es k noEntry)
+      found-next = ap (found client (present now xs)) next-taken ∙ found-more now client xs (take k es) (get_or es k no_entry)
 
       shows : map entry_of (filter test ys) ≡ map entry_of (filter test xs)
       unfolding test ys
-      shows = shown-same now client expires later (take k es) xs (get_or es k noEntry)
+      shows = shown-same now client expires later (take k es) xs (get_or es k no_entry)
 
       stand : Records image from ys
       unfolding ys
@@ -95,16 +95,16 @@ module _ (l : List ℕ) (from n now client expires : ℕ) (networks lengths repl
 
       long : length ys ≡ length xs
       unfolding ys
-      long = length-map xs (changedBy now client expires (take k es))
+      long = length-map xs (changed_by now client expires (take k es))
 
       -- Renewing keeps what entries name, so it is the place of the lease before the call too.
       place : r ≡ place_of test xs
       unfolding test ys
-      place = found-place test ys r changed.found (omega (arith, long)) ∙ place_same test (changedBy now client expires (take k es)) (named-same now client expires later (take k es) (get_or es k noEntry)) xs
+      place = found-place test ys r changed.found (omega (arith, long)) ∙ place_same test (changed_by now client expires (take k es)) (named-same now client expires later (take k es) (get_or es k no_entry)) xs
 
       places-next : places_of now client xs (take (k + 1) es) ≡ places_of now client xs (take k es) ++ (place_of test xs ∷ [])
       unfolding test
-      places-next = ap (places_of now client xs) next-taken ∙ map-append (λ e. place_of (named? now client e.network e.length) xs) (take k es) (get_or es k noEntry ∷ [])
+      places-next = ap (places_of now client xs) next-taken ∙ map-append (λ e. place_of (named? now client e.network e.length) xs) (take k es) (get_or es k no_entry ∷ [])
 
       places-are : take (k + 1) places₁ ≡ places_of now client xs (take (k + 1) es)
       places-are =
@@ -126,11 +126,11 @@ module _ (l : List ℕ) (from n now client expires : ℕ) (networks lengths repl
           counted = same₁ ∙ b.counted ∙ ap length (sym all);
           after_is = after_is xs held counted ascending es p;
           places-are = places-are xs held counted ascending es p;
-          replied-is = same ∙ b.replied-is ∙ ap (λ (q : List Lease). put reply 6 (entriesBytes (map entry_of q))) (sym all);
+          replied-is = same ∙ b.replied-is ∙ ap (λ (q : List Lease). put reply 6 (entries_bytes (map entry_of q))) (sym all);
         }
 
     -- One is renewed and shown.
-    pub renewing-more : (replied₁ : List ℕ) (shown₁ : ℕ) (x : Lease) → x ≡ leaseIn (drop (from + leaseSize * r) after) → replied₁ ≡ put replied (6 + 7 * shown) (leaseBytes x) → shown₁ ≡ shown + 1 → r < n
+    pub renewing-more : (replied₁ : List ℕ) (shown₁ : ℕ) (x : Lease) → x ≡ lease_in (drop (from + lease_size * r) after) → replied₁ ≡ put replied (6 + 7 * shown) (lease_bytes x) → shown₁ ≡ shown + 1 → r < n
         → Renewing l from n now client expires networks lengths reply after places₁ replied₁ shown₁ (k + 1)
     unfolding Renewing fs
     renewing-more replied₁ shown₁ x read put-it one h xs held counted ascending es p =
@@ -153,8 +153,8 @@ module _ (l : List ℕ) (from n now client expires : ℕ) (networks lengths repl
           after_is = after_is xs held counted ascending es p;
           places-are = places-are xs held counted ascending es p;
           replied-is =
-              put-more reply replied replied₁ 6 (entriesBytes (map entry_of gs)) (6 + 7 * shown) (leaseBytes x) b.replied-is (omega (arith, entries-length gs, b.counted)) put-it
-              ∙ ap (put reply 6) (sym (ap entriesBytes all ∙ entries-and-one (map entry_of gs) x));
+              put-more reply replied replied₁ 6 (entries_bytes (map entry_of gs)) (6 + 7 * shown) (lease_bytes x) b.replied-is (omega (arith, entries-length gs, b.counted)) put-it
+              ∙ ap (put reply 6) (sym (ap entries_bytes all ∙ entries-and-one (map entry_of gs) x));
         }
 
   pub renewing-all : (image places replied : List ℕ) (shown k : ℕ) → Renewing l from n now client expires networks lengths reply image places replied shown k → k ≡ length networks

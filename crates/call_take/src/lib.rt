@@ -1,24 +1,24 @@
 // Take as a call on an open book, in place.
 ghost use Rattle.std.specs.Prelude.{◌≡◌, List, ◌++◌, ℕ, ◌+◌, ◌*◌, ◌≤◌, ◌<◌, length, take as up_to};
 ghost use Rattle.std.proofs.Math.Option.{Option};
-ghost use Rattle.option.specs.Values.{longestOption, Entry};
+ghost use Rattle.option.specs.Values.{longest_option, Entry};
 ghost use Rattle.table.specs.declared.Lease.{Lease};
-ghost use Rattle.table.specs.Table.{addresses, poolSlots, leaseSlots};
+ghost use Rattle.table.specs.Table.{addresses, pool_slots, lease_slots};
 ghost use Rattle.image_check.specs.declared.ImageSummary.{ImageSummary};
 ghost use Rattle.image_records.specs.Records.{Records, Ascending};
-ghost use Rattle.image.specs.Image.{leaseSize};
+ghost use Rattle.image.specs.Image.{lease_size};
 ghost use Rattle.figures.specs.declared.FigureRow.{FigureRow};
-ghost use Rattle.figures.specs.Inner.{withEach, filing};
-ghost use Rattle.image_figures.specs.Sheets.{rowSize, sheetOf};
-ghost use Rattle.ledger.specs.Ledger.{callWith, result};
+ghost use Rattle.figures.specs.Inner.{with_each, filing};
+ghost use Rattle.image_figures.specs.Sheets.{row_size, sheet_of};
+ghost use Rattle.ledger.specs.Ledger.{call_with, outcome};
 ghost use Rattle.call_entries.specs.EntryLeases.{Hold};
 ghost use Rattle.call_ground.specs.declared.Ground.{Ground};
 ghost use Rattle.call_ground.specs.Ground.{returning};
-ghost use Rattle.call_spec.specs.ImageCalls.{lent, takeImage, carriedIf};
-ghost use Rattle.call_spec.specs.Books.{bookOf, takeBook};
-ghost use Rattle.call_take.specs.InnerTaking.{renewalOf, TakeSized, Taking};
+ghost use Rattle.call_spec.specs.ImageCalls.{lent, take_image, carried_if};
+ghost use Rattle.call_spec.specs.Books.{book_of, take_book};
+ghost use Rattle.call_take.specs.InnerTaking.{renewal_of, TakeSized, Taking};
 ghost use Rattle.call_take.specs.InnerRenewed.{Renewed};
-ghost use Rattle.call_take.specs.InnerPlaces.{filedAt, ToFile};
+ghost use Rattle.call_take.specs.InnerPlaces.{filed_at, ToFile};
 
 use call_entries::Expiry;
 use call_ground::Ground;
@@ -42,8 +42,8 @@ struct Renewal {
 }
 
 fn renewal_of(summary: ImageSummary, ground: Ground, client: u32, time: u32) -> Renewal
-    requires { (summary.pools ≤ poolSlots) × (time + summary.term < addresses) }
-    ensures* { λ r. ⌜ r ≡ renewalOf client time summary ground ⌝ }
+    requires { (summary.pools ≤ pool_slots) × (time + summary.term < addresses) }
+    ensures { result ≡ renewal_of client time summary ground }
 {
     Renewal {
         from: HEAD + POOL * summary.pools,
@@ -70,12 +70,12 @@ fn renew_named(
     places: &mut [u16],
     reply: &mut [u8],
 ) -> usize
-    requires { (renewal.from + leaseSize * renewal.n ≤ length image.old) × (renewal.n ≤ leaseSlots) × (renewal.first + renewal.leases ≤ renewal.n) × (length networks.now ≡ length lengths.now) × (length networks.now ≤ length places.old) × (6 + 7 * length networks.now ≤ length reply.old) × (renewal.expiry.time < renewal.expiry.expires) }
-    ensures* r_in_bounds { λ r. ⌜ r ≤ length networks.now ⌝ }
-    ensures* fact { λ r. ⌜ ((xs : List Lease) → Records image.old (renewal.from + leaseSize * renewal.first) xs → renewal.leases ≡ length xs → Ascending xs
+    requires { (renewal.from + lease_size * renewal.n ≤ length image.old) × (renewal.n ≤ lease_slots) × (renewal.first + renewal.leases ≤ renewal.n) × (length networks.now ≡ length lengths.now) × (length networks.now ≤ length places.old) × (6 + 7 * length networks.now ≤ length reply.old) × (renewal.expiry.time < renewal.expiry.expires) }
+    ensures in_bounds { result ≤ length networks.now }
+    ensures equation { ((xs : List Lease) → Records image.old (renewal.from + lease_size * renewal.first) xs → renewal.leases ≡ length xs → Ascending xs
         → (es : List Entry) → Hold networks.now lengths.now es
-        → Renewed image.old (renewal.from + leaseSize * renewal.first) xs renewal.expiry.time renewal.expiry.client renewal.expiry.expires es reply.old
-        image.new (up_to (length networks.now) places.new) reply.new r) ⌝ }
+        → Renewed image.old (renewal.from + lease_size * renewal.first) xs renewal.expiry.time renewal.expiry.client renewal.expiry.expires es reply.old
+        image.new (up_to (length networks.now) places.new) reply.new result) }
 {
     let from = renewal.from + LEASE * renewal.first;
     let n = renewal.leases;
@@ -95,15 +95,15 @@ fn renew_named(
 }
 
 fn wide(x: u16) -> usize
-    ensures* { λ r. ⌜ r ≡ x ⌝ }
+    ensures { result ≡ x }
 {
     x as usize
 }
 
 // Files figures in the row at a place below n, counted from the row `first` on. Where there are none the row is as it was.
 fn file_at(sheet: &mut [u8], first: usize, n: usize, place: usize, f: Figures)
-    requires { rowSize * (first + n) ≤ length sheet.old }
-    ensures* { λ _. ⌜ ((rows : List FigureRow) → sheet.old ≡ sheetOf rows → sheet.new ≡ sheetOf (filedAt first n place f rows)) ⌝ }
+    requires { row_size * (first + n) ≤ length sheet.old }
+    ensures { ((rows : List FigureRow) → sheet.old ≡ sheet_of rows → sheet.new ≡ sheet_of (filed_at first n place f rows)) }
 {
     if f.count == 0 {
         return;
@@ -117,10 +117,10 @@ fn file_at(sheet: &mut [u8], first: usize, n: usize, place: usize, f: Figures)
 // Files the figures of each entry in the row of the lease that it names: the places are those of the leases, or n, counted from
 // the row `first` on. The option is read once more, as only an accepted take has a use for figures.
 fn file_named(figures: &mut [u8], option: &[u8], places: &[u16], first: usize, n: usize)
-    requires { rowSize * (first + n) ≤ length figures.old }
-    ensures* { λ _. ⌜ ((time client : ℕ) (xs : List Lease) (es : List Entry) (before rs : List FigureRow)
+    requires { row_size * (first + n) ≤ length figures.old }
+    ensures { ((time client : ℕ) (xs : List Lease) (es : List Entry) (before rs : List FigureRow)
         → ToFile option.now places.now figures.old first n time client xs es before rs
-        → figures.new ≡ sheetOf (before ++ withEach (filing time client es) xs rs)) ⌝ }
+        → figures.new ≡ sheet_of (before ++ with_each (filing time client es) xs rs)) }
 {
     let mut entries = call_entries::first_entries();
     let mut k: usize = 0;
@@ -146,12 +146,12 @@ fn renew_found(
     reply: &mut [u8],
 ) -> Answer
     requires { TakeSized (lent image.old image_bytes.old figures.old) renewal reply.old networks.now lengths.now }
-    ensures* bytes_bound { λ r. ⌜ r.bytes ≤ longestOption ⌝ }
-    ensures* fact { λ r. ⌜ ((client time : ℕ) (summary : ImageSummary) (ground : Ground) (selection : Option (List ℕ)) → renewal ≡ renewalOf client time summary ground
-        → Taking (lent image.old image_bytes.old figures.old) time (callWith client option.now selection reply.old)
+    ensures bytes_bound { result.bytes ≤ longest_option }
+    ensures equation { ((client time : ℕ) (summary : ImageSummary) (ground : Ground) (selection : Option (List ℕ)) → renewal ≡ renewal_of client time summary ground
+        → Taking (lent image.old image_bytes.old figures.old) time (call_with client option.now selection reply.old)
         summary ground networks.now lengths.now
-        → returning selection (result r (lent image.new image_bytes.new figures.new) reply.new)
-        ≡ takeImage (lent image.old image_bytes.old figures.old) time (callWith client option.now selection reply.old)) ⌝ }
+        → returning selection (outcome result (lent image.new image_bytes.new figures.new) reply.new)
+        ≡ take_image (lent image.old image_bytes.old figures.old) time (call_with client option.now selection reply.old)) }
 {
     let mut places = [0u16; option_scan::MOST_ENTRIES];
     let shown = renew_named(image, renewal, networks, lengths, &mut places, reply);
@@ -186,9 +186,9 @@ pub fn take(
     selection: &[u8],
     reply: &mut [u8],
 ) -> Answer
-    ensures* { λ r. ⌜ result r (bookOf image.new image_bytes.new figures.new counts.new) reply.new
-        ≡ takeBook (bookOf image.old image_bytes.old figures.old counts.old) message.time
-        (callWith message.client option.now (carriedIf message.selected selection.now) reply.old) ⌝ }
+    ensures { outcome result (book_of image.new image_bytes.new figures.new counts.new) reply.new
+        ≡ take_book (book_of image.old image_bytes.old figures.old counts.old) message.time
+        (call_with message.client option.now (carried_if message.selected selection.now) reply.old) }
 {
     let bytes = *image_bytes;
     let client = message.client;

@@ -18,18 +18,18 @@ use Rattle.lists.proofs.PutLaws.{put-nothing, put-fits}
 use Rattle.text.specs.Ascii.{ascii}
 use Rattle.text.specs.Wrote.{Wrote}
 use Rattle.call_spec.specs.Books.{Book}
-use Rattle.console_words.specs.Prefixes.{Columns, prefixesOf}
+use Rattle.console_words.specs.Prefixes.{Columns, prefixes_of}
 use Rattle.console_script.specs.declared.BufferLine.{BufferLine}
 use Rattle.console_script.specs.declared.SelectionLine.{SelectionLine}
 use Rattle.console_script.specs.declared.Command.{Command}
 use Rattle.console_script.specs.declared.Command.TheVariants as command
-use Rattle.console_script.specs.Commands.{CommandValue, «open», Within, longestReply, mostPrefixes, withPrefixes, valueIn}
-use Rattle.console_script.specs.Parsing.{parseLine}
+use Rattle.console_script.specs.Commands.{CommandValue, «open», Within, longest_reply, most_prefixes, with_prefixes, value_in}
+use Rattle.console_script.specs.Parsing.{parse_line}
 use Rattle.console_session.specs.declared.State.{State}
-use Rattle.console_session.specs.States.{nextLine, Unchanged}
+use Rattle.console_session.specs.States.{next_line, Unchanged}
 use Rattle.console_commands.specs.Commands.{given, Appended, Ran}
 use Rattle.console_commands.proofs.CommandLaws.{appended}
-use Rattle.console.specs.Runs.{replyAfter, selectedAfter, passedOver?, echoText, echoOf, RanLine}
+use Rattle.console.specs.Runs.{reply_after, selected_after, passed_over?, echo_text, echo_of, RanLine}
 use Rattle.console.specs.InnerRuns.{Echoed, Set}
 
 -- COMMANDS
@@ -40,22 +40,22 @@ other c this tags away one e = miss tags (tag_of the_type this) away (subst (λ 
 
 -- An open is not passed over, nor does it set anything, whatever its words are.
 module _ (term len start : ℕ) where
-  open-passed : (o : Option Columns) → passedOver? (withPrefixes o («open» term len start)) ≡ false
+  open-passed : (o : Option Columns) → passed_over? (with_prefixes o («open» term len start)) ≡ false
   open-passed none = refl
   open-passed (some p) = refl
 
-  open-reply : (o : Option Columns) (old : ℕ) → old ≡ replyAfter (withPrefixes o («open» term len start)) old
+  open-reply : (o : Option Columns) (old : ℕ) → old ≡ reply_after (with_prefixes o («open» term len start)) old
   open-reply none old = refl
   open-reply (some p) old = refl
 
-  open-selected : (o : Option Columns) (old : Bool) → old ≡ selectedAfter (withPrefixes o («open» term len start)) old
+  open-selected : (o : Option Columns) (old : Bool) → old ≡ selected_after (with_prefixes o («open» term len start)) old
   open-selected none old = refl
   open-selected (some p) old = refl
 
-not-passed : (c : Command) (words : List ℕ) → (c ≡ command.Nothing → ⊥) → passedOver? (valueIn words c) ≡ false
+not-passed : (c : Command) (words : List ℕ) → (c ≡ command.Nothing → ⊥) → passed_over? (value_in words c) ≡ false
 not-passed (command.Call x) words k = refl
 not-passed (command.Mark x) words k = refl
-not-passed (command.Open x) words k = open-passed x.term x.default_length x.start (prefixesOf mostPrefixes (drop x.from words))
+not-passed (command.Open x) words k = open-passed x.term x.default_length x.start (prefixes_of most_prefixes (drop x.from words))
 not-passed (command.Load x) words k = refl
 not-passed (command.Save x) words k = refl
 not-passed command.Sheet words k = refl
@@ -75,7 +75,7 @@ not-passed command.Bad words k = refl
 pub set-nothing : (c : Command) (s : State) → ((x : BufferLine) → c ≡ command.Buffer x → ⊥) → ((x : SelectionLine) → c ≡ command.Selection x → ⊥) → Set c s s
 set-nothing (command.Call x) s j k words = (refl, refl)
 set-nothing (command.Mark x) s j k words = (refl, refl)
-set-nothing (command.Open x) s j k words = (open-reply x.term x.default_length x.start (prefixesOf mostPrefixes (drop x.from words)) s.reply_length, open-selected x.term x.default_length x.start (prefixesOf mostPrefixes (drop x.from words)) s.selected)
+set-nothing (command.Open x) s j k words = (open-reply x.term x.default_length x.start (prefixes_of most_prefixes (drop x.from words)) s.reply_length, open-selected x.term x.default_length x.start (prefixes_of most_prefixes (drop x.from words)) s.selected)
 set-nothing (command.Load x) s j k words = (refl, refl)
 set-nothing (command.Save x) s j k words = (refl, refl)
 set-nothing command.Sheet s j k words = (refl, refl)
@@ -93,7 +93,7 @@ set-nothing command.Bad s j k words = (refl, refl)
 
 -- From what a state has, that a line sets it.
 set-as : (c this : Command) (s r : State) → c ≡ this → Set this s r → Set c s r
-set-as c this s r e set words = subst (λ (x : Command). (r.reply_length ≡ replyAfter (valueIn words x) s.reply_length) × (r.selected ≡ selectedAfter (valueIn words x) s.selected)) (sym e) (set words)
+set-as c this s r e set words = subst (λ (x : Command). (r.reply_length ≡ reply_after (value_in words x) s.reply_length) × (r.selected ≡ selected_after (value_in words x) s.selected)) (sym e) (set words)
 
 pub set-length : (c : Command) (x : BufferLine) (s r : State) → c ≡ command.Buffer x → r.reply_length ≡ x.length → r.selected ≡ s.selected → Set c s r
 set-length c x s r e len same = set-as c (command.Buffer x) s r e (λ words. (len, same))
@@ -103,13 +103,13 @@ set-selected c x s r e same on = set-as c (command.Selection x) s r e (λ words.
 
 -- Set from a state that has the same.
 pub set-from : (c : Command) (s s₁ r : State) → s₁.reply_length ≡ s.reply_length → s₁.selected ≡ s.selected → Set c s₁ r → Set c s r
-set-from c s s₁ r len same set words = ((set words).0 ∙ ap (replyAfter (valueIn words c)) len, (set words).1 ∙ ap (selectedAfter (valueIn words c)) same)
+set-from c s s₁ r len same set words = ((set words).0 ∙ ap (reply_after (value_in words c)) len, (set words).1 ∙ ap (selected_after (value_in words c)) same)
 
 -- No line asks for a longer reply buffer than there is.
-short : (c : Command) (words : List ℕ) (n old : ℕ) → Within n c → old ≤ longestReply → replyAfter (valueIn words c) old ≤ longestReply
+short : (c : Command) (words : List ℕ) (n old : ℕ) → Within n c → old ≤ longest_reply → reply_after (value_in words c) old ≤ longest_reply
 short (command.Call x) words n old w le = le
 short (command.Mark x) words n old w le = le
-short (command.Open x) words n old w le = subst (λ (k : ℕ). k ≤ longestReply) (open-reply x.term x.default_length x.start (prefixesOf mostPrefixes (drop x.from words)) old) le
+short (command.Open x) words n old w le = subst (λ (k : ℕ). k ≤ longest_reply) (open-reply x.term x.default_length x.start (prefixes_of most_prefixes (drop x.from words)) old) le
 short (command.Load x) words n old w le = le
 short (command.Save x) words n old w le = le
 short command.Sheet words n old w le = le
@@ -129,7 +129,7 @@ short command.Bad words n old w le = le
 
 module _ (echo : Bool) (c : Command) (line old : List ℕ) (at : ℕ) where
   abbrev text_of : Bool → List ℕ
-  text_of b = echoText b line
+  text_of b = echo_text b line
 
   nothing_written : Wrote old at [] old at
   nothing_written = record { bytes = sym (put-nothing old at); place = omega arith }
@@ -142,20 +142,20 @@ module _ (echo : Bool) (c : Command) (line old : List ℕ) (at : ℕ) where
   pub not-asked : not echo ≡ true → Echoed echo c line old at old at
   not-asked e words = by echo e
     where
-      by : (b : Bool) → not b ≡ true → Wrote old at (text_of (b && not (passedOver? (valueIn words c)))) old at
+      by : (b : Bool) → not b ≡ true → Wrote old at (text_of (b && not (passed_over? (value_in words c)))) old at
       by true h = absurd (false≢true h)
       by false h = nothing_written
 
   -- The line is passed over.
   pub passed_over : c ≡ command.Nothing → Echoed echo c line old at old at
   passed_over e words =
-      subst (λ (b : Bool). Wrote old at (text_of b) old at) (sym (ap (λ (x : Command). echo && not (passedOver? (valueIn words x))) e ∙ never echo)) nothing_written
+      subst (λ (b : Bool). Wrote old at (text_of b) old at) (sym (ap (λ (x : Command). echo && not (passed_over? (value_in words x))) e ∙ never echo)) nothing_written
 
   -- The line is written.
   pub echoed : (new : List ℕ) (next : ℕ) → not echo ≡ false → (c ≡ command.Nothing → ⊥) → Wrote old at (ascii "> " ++ (line ++ ascii "\n")) new next → Echoed echo c line old at new next
   echoed new next e k w words = by echo e
     where
-      by : (b : Bool) → not b ≡ false → Wrote old at (text_of (b && not (passedOver? (valueIn words c)))) new next
+      by : (b : Bool) → not b ≡ false → Wrote old at (text_of (b && not (passed_over? (value_in words c)))) new next
       by true h = subst (λ (x : Bool). Wrote old at (text_of (not x)) new next) (sym (not-passed c words k)) w
       by false h = absurd (false≢true (sym h))
 
@@ -181,10 +181,10 @@ behind old at first second mid new p next a b =
     }
 
 -- The echo and then the command's answer, from what each part leaves: the next line's state, that with the echo, the command's end in the output.
-module _ (s next begun r : State) (line kept words : List ℕ) (c : Command) (end : ℕ) (book book₁ : Book) (old mid new : List ℕ) (same : kept ≡ line) (parsed : valueIn words c ≡ parseLine line)
-    (counts : (next.reply_length ≡ s.reply_length) × (next.selected ≡ s.selected) × (next.lines ≡ nextLine s.lines) × (next.at ≡ s.at) × (next.echo ≡ s.echo)) (begins : Unchanged next begun) (inside : begun.at ≤ length old)
+module _ (s next begun r : State) (line kept words : List ℕ) (c : Command) (end : ℕ) (book book₁ : Book) (old mid new : List ℕ) (same : kept ≡ line) (parsed : value_in words c ≡ parse_line line)
+    (counts : (next.reply_length ≡ s.reply_length) × (next.selected ≡ s.selected) × (next.lines ≡ next_line s.lines) × (next.at ≡ s.at) × (next.echo ≡ s.echo)) (begins : Unchanged next begun) (inside : begun.at ≤ length old)
     (echo : Echoed next.echo c kept old next.at mid begun.at)
-    (ran : Ran (valueIn words c) (given book begun.reply_length begun.selected begun.lines (drop begun.at mid)) book₁ mid begun.at new end)
+    (ran : Ran (value_in words c) (given book begun.reply_length begun.selected begun.lines (drop begun.at mid)) book₁ mid begun.at new end)
     (ends : (r.at ≡ end) × (r.lines ≡ begun.lines) × (r.echo ≡ begun.echo) × Set c begun r) where
   reply-kept : begun.reply_length ≡ s.reply_length
   reply-kept = begins.0 ∙ counts.0
@@ -192,32 +192,32 @@ module _ (s next begun r : State) (line kept words : List ℕ) (c : Command) (en
   selected-kept : begun.selected ≡ s.selected
   selected-kept = begins.1 ∙ counts.1
 
-  wrote-echo : Wrote old s.at (echoOf s line) mid begun.at
+  wrote-echo : Wrote old s.at (echo_of s line) mid begun.at
   wrote-echo =
-      subst (λ (v : CommandValue). Wrote old s.at (echoText (s.echo && not (passedOver? v)) line) mid begun.at) parsed
-      (subst (λ (b : Bool). Wrote old s.at (echoText (b && not (passedOver? (valueIn words c))) line) mid begun.at) counts.4
-      (subst (λ (n : ℕ). Wrote old n (echoText (next.echo && not (passedOver? (valueIn words c))) line) mid begun.at) counts.3
-      (subst (λ (l : List ℕ). Wrote old next.at (echoText (next.echo && not (passedOver? (valueIn words c))) l) mid begun.at) same (echo words))))
+      subst (λ (v : CommandValue). Wrote old s.at (echo_text (s.echo && not (passed_over? v)) line) mid begun.at) parsed
+      (subst (λ (b : Bool). Wrote old s.at (echo_text (b && not (passed_over? (value_in words c))) line) mid begun.at) counts.4
+      (subst (λ (n : ℕ). Wrote old n (echo_text (next.echo && not (passed_over? (value_in words c))) line) mid begun.at) counts.3
+      (subst (λ (l : List ℕ). Wrote old next.at (echo_text (next.echo && not (passed_over? (value_in words c))) l) mid begun.at) same (echo words))))
 
-  ran-command : Ran (parseLine line) (given book s.reply_length s.selected (nextLine s.lines) (drop (s.at + length (echoOf s line)) old)) book₁ mid begun.at new r.at
+  ran-command : Ran (parse_line line) (given book s.reply_length s.selected (next_line s.lines) (drop (s.at + length (echo_of s line)) old)) book₁ mid begun.at new r.at
   ran-command =
-      subst (λ (v : CommandValue). Ran v (given book s.reply_length s.selected (nextLine s.lines) (drop (s.at + length (echoOf s line)) old)) book₁ mid begun.at new r.at) parsed
-      (subst (λ (l : List ℕ). Ran (valueIn words c) (given book s.reply_length s.selected (nextLine s.lines) l) book₁ mid begun.at new r.at) (room old s.at (echoOf s line) mid begun.at inside wrote-echo)
-      (subst (λ (n : ℕ). Ran (valueIn words c) (given book s.reply_length s.selected n (drop begun.at mid)) book₁ mid begun.at new r.at) (begins.2 ∙ counts.2)
-      (subst (λ (b : Bool). Ran (valueIn words c) (given book s.reply_length b begun.lines (drop begun.at mid)) book₁ mid begun.at new r.at) selected-kept
-      (subst (λ (n : ℕ). Ran (valueIn words c) (given book n begun.selected begun.lines (drop begun.at mid)) book₁ mid begun.at new r.at) reply-kept
-      (subst (λ (n : ℕ). Ran (valueIn words c) (given book begun.reply_length begun.selected begun.lines (drop begun.at mid)) book₁ mid begun.at new n) (sym ends.0) ran)))))
+      subst (λ (v : CommandValue). Ran v (given book s.reply_length s.selected (next_line s.lines) (drop (s.at + length (echo_of s line)) old)) book₁ mid begun.at new r.at) parsed
+      (subst (λ (l : List ℕ). Ran (value_in words c) (given book s.reply_length s.selected (next_line s.lines) l) book₁ mid begun.at new r.at) (room old s.at (echo_of s line) mid begun.at inside wrote-echo)
+      (subst (λ (n : ℕ). Ran (value_in words c) (given book s.reply_length s.selected n (drop begun.at mid)) book₁ mid begun.at new r.at) (begins.2 ∙ counts.2)
+      (subst (λ (b : Bool). Ran (value_in words c) (given book s.reply_length b begun.lines (drop begun.at mid)) book₁ mid begun.at new r.at) selected-kept
+      (subst (λ (n : ℕ). Ran (value_in words c) (given book n begun.selected begun.lines (drop begun.at mid)) book₁ mid begun.at new r.at) reply-kept
+      (subst (λ (n : ℕ). Ran (value_in words c) (given book begun.reply_length begun.selected begun.lines (drop begun.at mid)) book₁ mid begun.at new n) (sym ends.0) ran)))))
 
-  pub ran_line : (n : ℕ) → Within n c → s.reply_length ≤ longestReply → (r.reply_length ≤ longestReply) × RanLine s line book old r book₁ new
+  pub ran_line : (n : ℕ) → Within n c → s.reply_length ≤ longest_reply → (r.reply_length ≤ longest_reply) × RanLine s line book old r book₁ new
   ran_line n w le = (
     omega (arith, (ends.3 words).0, short c words n begun.reply_length w (omega (arith, reply-kept))),
     record {
       text = ran-command.text;
       does = ran-command.does;
-      wrote = behind old s.at (echoOf s line) ran-command.text mid new begun.at r.at (appended old s.at (echoOf s line) mid begun.at inside wrote-echo) ran-command.wrote;
+      wrote = behind old s.at (echo_of s line) ran-command.text mid new begun.at r.at (appended old s.at (echo_of s line) mid begun.at inside wrote-echo) ran-command.wrote;
       counted = ends.1 ∙ begins.2 ∙ counts.2;
-      reply = (ends.3 words).0 ∙ ap (replyAfter (valueIn words c)) reply-kept ∙ ap (λ (v : CommandValue). replyAfter v s.reply_length) parsed;
-      selects = (ends.3 words).1 ∙ ap (selectedAfter (valueIn words c)) selected-kept ∙ ap (λ (v : CommandValue). selectedAfter v s.selected) parsed;
+      reply = (ends.3 words).0 ∙ ap (reply_after (value_in words c)) reply-kept ∙ ap (λ (v : CommandValue). reply_after v s.reply_length) parsed;
+      selects = (ends.3 words).1 ∙ ap (selected_after (value_in words c)) selected-kept ∙ ap (λ (v : CommandValue). selected_after v s.selected) parsed;
       echoes = ends.2 ∙ begins.3 ∙ counts.4;
     },
   )

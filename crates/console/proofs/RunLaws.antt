@@ -8,40 +8,40 @@ use native.Mathlib.Omega.{arith}
 use lib.ListN.{length, take, drop}
 use Rattle.text.specs.Wrote.{Wrote}
 use Rattle.call_spec.specs.Books.{Book}
-use Rattle.console_words.specs.Prefixes.{prefixesOf}
+use Rattle.console_words.specs.Prefixes.{prefixes_of}
 use Rattle.console_script.specs.declared.Command.{Command}
-use Rattle.console_script.specs.Commands.{CommandValue, mostPrefixes, withPrefixes, valueIn, read, write, buffer, selection, nothing, bad}
-use Rattle.console_lines.specs.Lines.{okLine, errorLine}
+use Rattle.console_script.specs.Commands.{CommandValue, most_prefixes, with_prefixes, value_in, read, write, buffer, selection, nothing, bad}
+use Rattle.console_lines.specs.Lines.{ok_line, error_line}
 use Rattle.console_commands.specs.Commands.{Given, Ran, Read, WroteOption}
 use Rattle.console_commands.proofs.CommandLaws.{appended, rest_of}
 
 -- The command that the line has is this one.
 pub ran-as : (line : List ℕ) (k this : Command) → k ≡ this → {g : Given} {book : Book} {old : List ℕ} {at : ℕ} {new : List ℕ} {next : ℕ}
-    → Ran (valueIn line this) g book old at new next → Ran (valueIn line k) g book old at new next
-ran-as line k this e {g} {book} {old} {at} {new} {next} ran = subst (λ (x : Command). Ran (valueIn line x) g book old at new next) (sym e) ran
+    → Ran (value_in line this) g book old at new next → Ran (value_in line k) g book old at new next
+ran-as line k this e {g} {book} {old} {at} {new} {next} ran = subst (λ (x : Command). Ran (value_in line x) g book old at new next) (sym e) ran
 
 -- An open is lent the rest of its line.
 pub open-as : (line : List ℕ) (from : ℕ) (f : List ℕ → List ℕ → CommandValue) {g : Given} {book : Book} {old : List ℕ} {at : ℕ} {new : List ℕ} {next : ℕ}
-    → Ran (withPrefixes (prefixesOf mostPrefixes (take (length line - from) (drop from line))) f) g book old at new next
-    → Ran (withPrefixes (prefixesOf mostPrefixes (drop from line)) f) g book old at new next
+    → Ran (with_prefixes (prefixes_of most_prefixes (take (length line - from) (drop from line))) f) g book old at new next
+    → Ran (with_prefixes (prefixes_of most_prefixes (drop from line)) f) g book old at new next
 open-as line from f {g} {book} {old} {at} {new} {next} ran =
-    subst (λ (ws : List ℕ). Ran (withPrefixes (prefixesOf mostPrefixes ws) f) g book old at new next) (rest_of line from) ran
+    subst (λ (ws : List ℕ). Ran (with_prefixes (prefixes_of most_prefixes ws) f) g book old at new next) (rest_of line from) ran
 
 module _ (g : Given) (old : List ℕ) (at : ℕ) where
   pub read-ran : (octets new : List ℕ) (next : ℕ) → Read old at new next → Ran (read octets) g g.book old at new next
   read-ran octets new next r = record { text = r.text; does = refl; wrote = r.wrote }
 
-  pub write-ran : (words new : List ℕ) (next : ℕ) → WroteOption g.line g.replyLength old at new next → Ran (write words) g g.book old at new next
+  pub write-ran : (words new : List ℕ) (next : ℕ) → WroteOption g.line g.reply_length old at new next → Ran (write words) g g.book old at new next
   write-ran words new next r = record { text = r.text; does = (refl, r.says); wrote = r.wrote }
 
-  pub ok-ran : (n : ℕ) (new : List ℕ) (next : ℕ) → next ≤ length old → Wrote old at okLine new next → Ran (buffer n) g g.book old at new next
-  ok-ran n new next within w = record { text = okLine; does = (refl, refl); wrote = appended old at okLine new next within w }
+  pub ok-ran : (n : ℕ) (new : List ℕ) (next : ℕ) → next ≤ length old → Wrote old at ok_line new next → Ran (buffer n) g g.book old at new next
+  ok-ran n new next within w = record { text = ok_line; does = (refl, refl); wrote = appended old at ok_line new next within w }
 
-  pub selection-ran : (on : Bool) (new : List ℕ) (next : ℕ) → next ≤ length old → Wrote old at okLine new next → Ran (selection on) g g.book old at new next
-  selection-ran on new next within w = record { text = okLine; does = (refl, refl); wrote = appended old at okLine new next within w }
+  pub selection-ran : (on : Bool) (new : List ℕ) (next : ℕ) → next ≤ length old → Wrote old at ok_line new next → Ran (selection on) g g.book old at new next
+  selection-ran on new next within w = record { text = ok_line; does = (refl, refl); wrote = appended old at ok_line new next within w }
 
   pub nothing-ran : Ran nothing g g.book old at old at
   nothing-ran = record { text = []; does = (refl, refl); wrote = record { output = sym (append-nil (take at old)); place = omega arith } }
 
-  pub bad-ran : (new : List ℕ) (next : ℕ) → next ≤ length old → Wrote old at (errorLine g.line) new next → Ran bad g g.book old at new next
-  bad-ran new next within w = record { text = errorLine g.line; does = (refl, refl); wrote = appended old at (errorLine g.line) new next within w }
+  pub bad-ran : (new : List ℕ) (next : ℕ) → next ≤ length old → Wrote old at (error_line g.line) new next → Ran bad g g.book old at new next
+  bad-ran new next within w = record { text = error_line g.line; does = (refl, refl); wrote = appended old at (error_line g.line) new next within w }

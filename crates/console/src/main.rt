@@ -1,11 +1,11 @@
 // Runs a script of calls, and writes what each call answers to standard output. Everything that matters is in the proved libraries.
 // Memory is constant: a chunk of the input, one line and a copy of it, the book, the figures sheet, the counts, the reply buffer and the output, each of a fixed size.
 ghost use Rattle.std.specs.Prelude.{◌≡◌, ◌≤◌, ◌<◌, length, drop};
-ghost use Rattle.image_figures.specs.Sheets.{figuresSize};
-ghost use Rattle.call_spec.specs.Books.{bookOf};
-ghost use Rattle.console_input.specs.Lines.{lineSpace};
+ghost use Rattle.image_figures.specs.Sheets.{figures_size};
+ghost use Rattle.call_spec.specs.Books.{book_of};
+ghost use Rattle.console_input.specs.Lines.{line_space};
 ghost use Rattle.console_session.specs.States.{AnswerFits, LineFits, OutputHolds, Unchanged};
-ghost use Rattle.console_script.specs.Commands.{Within, valueIn, longestReply};
+ghost use Rattle.console_script.specs.Commands.{Within, value_in, longest_reply};
 ghost use Rattle.console_commands.specs.Commands.{given, Ran};
 ghost use Rattle.console.specs.Runs.{RanLine};
 ghost use Rattle.console.specs.InnerRuns.{Echoed, Set};
@@ -57,12 +57,12 @@ fn run(
     counts: &mut Counts,
     out: &mut [u8],
 ) -> usize
-    requires answer_fits { AnswerFits s.at out.old × (s.reply_length ≤ longestReply) × Within (length line.old) command }
-    requires figures_len { length figures.old ≡ figuresSize }
+    requires answer_fits { AnswerFits s.at out.old × (s.reply_length ≤ longest_reply) × Within (length line.old) command }
+    requires figures_len { length figures.old ≡ figures_size }
     ensures upper_bound { result ≤ length out.old }
-    ensures ran { Ran (valueIn line.old command)
-        (given (bookOf image.old image_bytes.old figures.old counts.old) s.reply_length s.selected s.lines (drop s.at out.old))
-        (bookOf image.new image_bytes.new figures.new counts.new) out.old s.at out.new result }
+    ensures ran { Ran (value_in line.old command)
+        (given (book_of image.old image_bytes.old figures.old counts.old) s.reply_length s.selected s.lines (drop s.at out.old))
+        (book_of image.new image_bytes.new figures.new counts.new) out.old s.at out.new result }
 {
     match command {
         Command::Call(c) => {
@@ -151,7 +151,7 @@ fn set(s: State, command: Command) -> State
 
 // Writes the line of a command before its answer, where that is asked for. A line that is passed over is not written.
 fn echo(s: State, command: Command, line: &[u8], out: &mut [u8]) -> State
-    requires { LineFits s.at out.old × (length line.now ≤ lineSpace) }
+    requires { LineFits s.at out.old × (length line.now ≤ line_space) }
     ensures answer_fits { AnswerFits result.at out.old × Unchanged s result }
     ensures echoed { Echoed s.echo command line.now out.old s.at out.new result.at }
 {
@@ -192,11 +192,11 @@ fn run_line(
     out: &mut [u8],
 ) -> State
     requires line_fits { LineFits s.at out.old }
-    requires kept_value { (kept.now ≡ line.old) × (length kept.now ≤ lineSpace) }
-    requires reply_length_bound { (s.reply_length ≤ longestReply) × (length figures.old ≡ figuresSize) }
-    ensures at_in_bounds { (result.at ≤ length out.old) × (result.reply_length ≤ longestReply) }
-    ensures ran_line { RanLine s line.old (bookOf image.old image_bytes.old figures.old counts.old) out.old
-        result (bookOf image.new image_bytes.new figures.new counts.new) out.new }
+    requires kept_value { (kept.now ≡ line.old) × (length kept.now ≤ line_space) }
+    requires reply_length_bound { (s.reply_length ≤ longest_reply) × (length figures.old ≡ figures_size) }
+    ensures at_in_bounds { (result.at ≤ length out.old) × (result.reply_length ≤ longest_reply) }
+    ensures ran_line { RanLine s line.old (book_of image.old image_bytes.old figures.old counts.old) out.old
+        result (book_of image.new image_bytes.new figures.new counts.new) out.new }
 {
     let command = console_script::read_command(line);
     let begun = echo(console_session::next_line(s), command, kept, out);
@@ -227,9 +227,9 @@ fn end_line(
 ) -> State
     requires pending_in_bounds { t.r.pending ≤ length line.old }
     requires line_fits { LineFits t.s.at out.old }
-    requires line_space_value { (lineSpace ≡ length line.old) × (lineSpace ≡ length kept.old) }
-    requires reply_length_bound { (t.s.reply_length ≤ longestReply) × (length figures.old ≡ figuresSize) }
-    ensures { (result.at ≤ length out.old) × (result.reply_length ≤ longestReply) }
+    requires line_space_value { (line_space ≡ length line.old) × (line_space ≡ length kept.old) }
+    requires reply_length_bound { (t.s.reply_length ≤ longest_reply) × (length figures.old ≡ figures_size) }
+    ensures { (result.at ≤ length out.old) × (result.reply_length ≤ longest_reply) }
 {
     let s = t.s;
     if s.failed {
@@ -279,8 +279,8 @@ fn run_script(
     figures: &mut [u8],
     out: &mut [u8],
 )
-    requires line_space_value { (lineSpace ≡ length line.old) × (lineSpace ≡ length kept.old) }
-    requires figures_len { length figures.old ≡ figuresSize }
+    requires line_space_value { (line_space ≡ length line.old) × (line_space ≡ length kept.old) }
+    requires figures_len { length figures.old ≡ figures_size }
     requires output_holds { OutputHolds out.old }
 {
     let mut s = console_session::first_state(echo);

@@ -14,25 +14,25 @@ use Rattle.lists.proofs.PutLaws.{put-fits}
 use Rattle.lists.proofs.DropLaws.{drop-end}
 use Rattle.text.specs.Wrote.{Wrote}
 use Rattle.ledger.specs.declared.Answer.{Answer}
-use Rattle.ledger.specs.Ledger.{Call, Result, result, callWith as messageWith}
+use Rattle.ledger.specs.Ledger.{Call, Result, outcome, call_with as message_with}
 use Rattle.table.specs.Table.{sound}
-use Rattle.image.specs.Image.{fullImage, formNumbered}
-use Rattle.call_spec.specs.ImageCalls.{tableIn, carriedIf}
-use Rattle.call_spec.specs.Books.{Book, bookOf, lentIn, openBook, saveBook}
+use Rattle.image.specs.Image.{full_image, form_numbered}
+use Rattle.call_spec.specs.ImageCalls.{table_in, carried_if}
+use Rattle.call_spec.specs.Books.{Book, book_of, lent_in, open_book, save_book}
 use Rattle.call_spec.specs.OnBooks.{GivenAlike}
-use Rattle.call_sheet.specs.SheetImage.{sheetImage}
-use Rattle.console_words.specs.Prefixes.{Columns, prefixesIn}
+use Rattle.call_sheet.specs.SheetImage.{sheet_image}
+use Rattle.console_words.specs.Prefixes.{Columns, prefixes_in}
 use Rattle.console_words.specs.declared.Prefixes.{Prefixes}
 use Rattle.console_script.specs.declared.OptionCall.{OptionCall}
-use Rattle.console_script.specs.Commands.{CommandValue, call, «open», save, sheet, longestReply, withPrefixes}
+use Rattle.console_script.specs.Commands.{CommandValue, call, «open», save, sheet, longest_reply, with_prefixes}
 use Rattle.console_lines.proofs.TextLaws.{first-bytes}
-use Rattle.console_lines.specs.Sizes.{octetsMost}
+use Rattle.console_lines.specs.Sizes.{octets_most}
 use Rattle.console_session.specs.States.{AnswerFits}
-use Rattle.console_lines.specs.Lines.{errorLine, refusedLine, doneLine, writtenLine}
+use Rattle.console_lines.specs.Lines.{error_line, refused_line, done_line, written_line}
 use Rattle.console_write.specs.declared.Outcome.{Outcome}
 use Rattle.console_write.specs.declared.Outcome.TheVariants as outcome
 use Rattle.console_write.specs.Writes.{Writes, WroteOne}
-use Rattle.console_commands.specs.Commands.{Given, enabled, callOn, callLine, savedLine, With, Done, Appended, Ran, WroteOption, sheetText, ofSound}
+use Rattle.console_commands.specs.Commands.{Given, enabled, call_on, call_line, saved_line, With, Done, Appended, Ran, WroteOption, sheet_text, of_sound}
 use Rattle.console_commands.proofs.QueryLaws.{shown-text}
 
 -- OUTPUT
@@ -64,72 +64,72 @@ front-appended old at part post text new next le inside w =
 
 -- What a call that has no figures sheet gives, with the sheet beside it.
 pub beside : (image : List ℕ) (bytes : ℕ) (figures : List ℕ) (counts : List (List ℕ)) (f : Book → Result Book) → GivenAlike image bytes figures counts f → (a : Answer) (after : List ℕ)
-    → result a (bookOf image bytes [] counts) after ≡ f (bookOf image bytes [] counts) → result a (bookOf image bytes figures counts) after ≡ f (bookOf image bytes figures counts)
-beside image bytes figures counts f alike a after same = ap (λ (q : Result Book). result q.answer (bookOf image bytes figures counts) q.reply) same ∙ sym alike
+    → outcome a (book_of image bytes [] counts) after ≡ f (book_of image bytes [] counts) → outcome a (book_of image bytes figures counts) after ≡ f (book_of image bytes figures counts)
+beside image bytes figures counts f alike a after same = ap (λ (q : Result Book). outcome q.answer (book_of image bytes figures counts) q.reply) same ∙ sym alike
 
-pub done-does : (a : Answer) (h : Book) (q : Result Book) → result a h [] ≡ q → Done q h (doneLine a)
-done-does a h q same = record { leaves = ap (λ (r : Result Book). r.state) same; says = ap (λ (r : Result Book). doneLine r.answer) same }
+pub done-does : (a : Answer) (h : Book) (q : Result Book) → outcome a h [] ≡ q → Done q h (done_line a)
+done-does a h q same = record { leaves = ap (λ (r : Result Book). r.state) same; says = ap (λ (r : Result Book). done_line r.answer) same }
 
 -- The option 118 of a line is that of its call where it is enabled.
-both-tests : (selected has : Bool) (bytes : List ℕ) → carriedIf (selected && has) bytes ≡ enabled selected (carriedIf has bytes)
+both-tests : (selected has : Bool) (bytes : List ℕ) → carried_if (selected && has) bytes ≡ enabled selected (carried_if has bytes)
 both-tests true has bytes = refl
 both-tests false has bytes = refl
 
 pub with-selection : (f : Call → Result Book) (client : ℕ) (option bytes reply : List ℕ) (b selected has : Bool) → b ≡ (selected && has)
-    → f (messageWith client option (carriedIf b bytes) reply) ≡ f (messageWith client option (enabled selected (carriedIf has bytes)) reply)
-with-selection f client option bytes reply b selected has e = ap (λ (o : Option (List ℕ)). f (messageWith client option o reply)) (ap (λ (x : Bool). carriedIf x bytes) e ∙ both-tests selected has bytes)
+    → f (message_with client option (carried_if b bytes) reply) ≡ f (message_with client option (enabled selected (carried_if has bytes)) reply)
+with-selection f client option bytes reply b selected has e = ap (λ (o : Option (List ℕ)). f (message_with client option o reply)) (ap (λ (x : Bool). carried_if x bytes) e ∙ both-tests selected has bytes)
 
 module _ (g : Given) (a : Answer) (h : Book) (old : List ℕ) (at : ℕ) (new : List ℕ) (next : ℕ) (inside : next ≤ length old) where
-  pub call-ran : (x y : OptionCall) (client time : ℕ) (option : List ℕ) (carried : Option (List ℕ)) (reply after : List ℕ) → x ≡ y → length reply ≡ g.replyLength
-      → result a h after ≡ callOn y g.book g.selected client time option carried reply
-      → Wrote old at (callLine y (result a h after)) new next → Ran (call x client time option carried) g h old at new next
+  pub call-ran : (x y : OptionCall) (client time : ℕ) (option : List ℕ) (carried : Option (List ℕ)) (reply after : List ℕ) → x ≡ y → length reply ≡ g.reply_length
+      → outcome a h after ≡ call_on y g.book g.selected client time option carried reply
+      → Wrote old at (call_line y (outcome a h after)) new next → Ran (call x client time option carried) g h old at new next
   call-ran x y client time option carried reply after e size same w =
       record {
-        text = callLine y (result a h after);
-        does = subst (λ (z : OptionCall). With g.replyLength (callOn z g.book g.selected client time option carried) (callLine z) h (callLine y (result a h after))) (sym e)
-            (record { buffer = reply; size = size; leaves = ap (λ (q : Result Book). q.state) same; says = ap (callLine y) same });
+        text = call_line y (outcome a h after);
+        does = subst (λ (z : OptionCall). With g.reply_length (call_on z g.book g.selected client time option carried) (call_line z) h (call_line y (outcome a h after))) (sym e)
+            (record { buffer = reply; size = size; leaves = ap (λ (q : Result Book). q.state) same; says = ap (call_line y) same });
         wrote = appended old at _ new next inside w;
       }
 
-  pub save-ran : (form : ℕ) (older : Bool) (buffer after : List ℕ) → length buffer ≡ fullImage → result a h after ≡ saveBook g.book (formNumbered form) older buffer → Wrote old at (savedLine (result a h after)) new next → Ran (save form older) g h old at new next
+  pub save-ran : (form : ℕ) (older : Bool) (buffer after : List ℕ) → length buffer ≡ full_image → outcome a h after ≡ save_book g.book (form_numbered form) older buffer → Wrote old at (saved_line (outcome a h after)) new next → Ran (save form older) g h old at new next
   save-ran form older buffer after size same w =
       record {
-        text = savedLine (result a h after);
-        does = record { buffer = buffer; size = size; leaves = ap (λ (q : Result Book). q.state) same; says = ap savedLine same };
+        text = saved_line (outcome a h after);
+        does = record { buffer = buffer; size = size; leaves = ap (λ (q : Result Book). q.state) same; says = ap saved_line same };
         wrote = appended old at _ new next inside w;
       }
 
-  pub open-ran : (o : Option Columns) (p : Prefixes) (networks lengths networks₁ lengths₁ : List ℕ) (term len start : ℕ) → prefixesIn p networks lengths ≡ o → p.good ≡ true
+  pub open-ran : (o : Option Columns) (p : Prefixes) (networks lengths networks₁ lengths₁ : List ℕ) (term len start : ℕ) → prefixes_in p networks lengths ≡ o → p.good ≡ true
       → networks₁ ≡ take p.count networks → lengths₁ ≡ take p.count lengths
-      → result a h [] ≡ openBook g.book networks₁ lengths₁ term len start → Wrote old at (doneLine a) new next → Ran (withPrefixes o («open» term len start)) g h old at new next
+      → outcome a h [] ≡ open_book g.book networks₁ lengths₁ term len start → Wrote old at (done_line a) new next → Ran (with_prefixes o («open» term len start)) g h old at new next
   open-ran o p networks lengths networks₁ lengths₁ term len start is good first second same w =
-      subst (λ (x : Option Columns). Ran (withPrefixes x («open» term len start)) g h old at new next)
+      subst (λ (x : Option Columns). Ran (with_prefixes x («open» term len start)) g h old at new next)
       (sym (ap (λ (b : Bool). cond b (some (take p.count networks, take p.count lengths)) none) good) ∙ is)
       (record {
-        text = doneLine a;
-        does = done-does a h (openBook g.book (take p.count networks) (take p.count lengths) term len start) (same ∙ ap₂ (λ (x y : List ℕ). openBook g.book x y term len start) first second);
+        text = done_line a;
+        does = done-does a h (open_book g.book (take p.count networks) (take p.count lengths) term len start) (same ∙ ap₂ (λ (x y : List ℕ). open_book g.book x y term len start) first second);
         wrote = appended old at _ new next inside w;
       })
 
 pub open-bad : (g : Given) (old : List ℕ) (at : ℕ) (new : List ℕ) (next : ℕ) (o : Option Columns) (p : Prefixes) (networks lengths : List ℕ) (f : List ℕ → List ℕ → CommandValue)
-    → next ≤ length old → prefixesIn p networks lengths ≡ o → p.good ≡ false → Wrote old at (errorLine g.line) new next → Ran (withPrefixes o f) g g.book old at new next
+    → next ≤ length old → prefixes_in p networks lengths ≡ o → p.good ≡ false → Wrote old at (error_line g.line) new next → Ran (with_prefixes o f) g g.book old at new next
 open-bad g old at new next o p networks lengths f inside is bad w =
-    subst (λ (x : Option Columns). Ran (withPrefixes x f) g g.book old at new next)
+    subst (λ (x : Option Columns). Ran (with_prefixes x f) g g.book old at new next)
     (sym (ap (λ (b : Bool). cond b (some (take p.count networks, take p.count lengths)) none) bad) ∙ is)
-    (record { text = errorLine g.line; does = (refl, refl); wrote = appended old at _ new next inside w })
+    (record { text = error_line g.line; does = (refl, refl); wrote = appended old at _ new next inside w })
 
 -- WRITE
 
-pub write-bad : (line n : ℕ) (old : List ℕ) (at : ℕ) (new : List ℕ) (next : ℕ) → next ≤ length old → Wrote old at (errorLine line) new next → WroteOption line n old at new next
-write-bad line n old at new next inside w = record { text = errorLine line; says = inl refl; wrote = appended old at _ new next inside w }
+pub write-bad : (line n : ℕ) (old : List ℕ) (at : ℕ) (new : List ℕ) (next : ℕ) → next ≤ length old → Wrote old at (error_line line) new next → WroteOption line n old at new next
+write-bad line n old at new next inside w = record { text = error_line line; says = inl refl; wrote = appended old at _ new next inside w }
 
 pub write-of : (line n : ℕ) (o : Outcome) (a : Answer) (buffer after old : List ℕ) (at : ℕ) (new : List ℕ) (next : ℕ) → next ≤ length old → length buffer ≡ n → o ≡ outcome.Of a → Writes o buffer after
-    → Wrote old at (writtenLine a after) new next → WroteOption line n old at new next
+    → Wrote old at (written_line a after) new next → WroteOption line n old at new next
 write-of line n o a buffer after old at new next inside size e h w =
     let one : WroteOne a buffer after = subst (λ (x : Outcome). Writes x buffer after) e h in
     record {
-      text = writtenLine a after;
-      says = inr (record { option = one.option; buffer = buffer; size = size; says = ap (λ (p : Answer × List ℕ). writtenLine p.0 p.1) one.same });
+      text = written_line a after;
+      says = inr (record { option = one.option; buffer = buffer; size = size; says = ap (λ (p : Answer × List ℕ). written_line p.0 p.1) one.same });
       wrote = appended old at _ new next inside w;
     }
 
@@ -143,21 +143,21 @@ rest_of l at = take_all (length l - at) (drop at l) (omega (arith, length-drop a
 pub column : (n : ℕ) (l : List ℕ) → take (n - 0) l ≡ take n l
 column n l = let z : n - 0 ≡ n = omega arith in ap (λ (k : ℕ). take k l) z
 
-pub sheet-refused : (p : Answer × List ℕ) → (p.0.number ≡ 0 → ⊥) → refusedLine p.0.number p.0.place ≡ sheetText p
-sheet-refused p k = sym (ap (λ (b : Bool). cond b (take p.0.bytes p.1) (refusedLine p.0.number p.0.place)) (ne_eqb p.0.number 0 k))
+pub sheet-refused : (p : Answer × List ℕ) → (p.0.number ≡ 0 → ⊥) → refused_line p.0.number p.0.place ≡ sheet_text p
+sheet-refused p k = sym (ap (λ (b : Bool). cond b (take p.0.bytes p.1) (refused_line p.0.number p.0.place)) (ne_eqb p.0.number 0 k))
 
-pub sheet-shown : (p : Answer × List ℕ) → p.0.number ≡ 0 → take p.0.bytes p.1 ≡ sheetText p
-sheet-shown p e = sym (ap (λ (b : Bool). cond b (take p.0.bytes p.1) (refusedLine p.0.number p.0.place)) (eq-eqb p.0.number 0 e))
+pub sheet-shown : (p : Answer × List ℕ) → p.0.number ≡ 0 → take p.0.bytes p.1 ≡ sheet_text p
+sheet-shown p e = sym (ap (λ (b : Bool). cond b (take p.0.bytes p.1) (refused_line p.0.number p.0.place)) (eq-eqb p.0.number 0 e))
 
 -- The book is sound.
-module _ (g : Given) (s : sound (tableIn (lentIn g.book)) ≡ true) (a : Answer) (part : List ℕ) (x y : List ℕ) (first : x ≡ take g.book.lent.bytes g.book.lent.image) (second : y ≡ g.room) (same : ◌≡◌ {A = Answer × List ℕ} (a, part) (sheetImage x y))
+module _ (g : Given) (s : sound (table_in (lent_in g.book)) ≡ true) (a : Answer) (part : List ℕ) (x y : List ℕ) (first : x ≡ take g.book.lent.bytes g.book.lent.image) (second : y ≡ g.room) (same : ◌≡◌ {A = Answer × List ℕ} (a, part) (sheet_image x y))
     (old : List ℕ) (at : ℕ) (le : at ≤ length old) (post : List ℕ) where
-  here : sheetText (a, part) ≡ ofSound g.book (sheetText (sheetImage (take g.book.lent.bytes g.book.lent.image) g.room))
-  here = ap sheetText (same ∙ ap₂ (λ (l m : List ℕ). sheetImage l m) first second) ∙ shown-text g.book _ s
+  here : sheet_text (a, part) ≡ of_sound g.book (sheet_text (sheet_image (take g.book.lent.bytes g.book.lent.image) g.room))
+  here = ap sheet_text (same ∙ ap₂ (λ (l m : List ℕ). sheet_image l m) first second) ∙ shown-text g.book _ s
 
-  pub sheet-refuses : (new : List ℕ) (next : ℕ) → (a.number ≡ 0 → ⊥) → next ≤ length (take at old ++ (part ++ post)) → Wrote (take at old ++ (part ++ post)) at (refusedLine a.number a.place) new next → Ran sheet g g.book old at new next
+  pub sheet-refuses : (new : List ℕ) (next : ℕ) → (a.number ≡ 0 → ⊥) → next ≤ length (take at old ++ (part ++ post)) → Wrote (take at old ++ (part ++ post)) at (refused_line a.number a.place) new next → Ran sheet g g.book old at new next
   sheet-refuses new next k inside w =
-      record { text = refusedLine a.number a.place; does = (refl, sheet-refused (a, part) k ∙ here); wrote = front-appended old at part post _ new next le inside w }
+      record { text = refused_line a.number a.place; does = (refl, sheet-refused (a, part) k ∙ here); wrote = front-appended old at part post _ new next le inside w }
 
   pub sheet-shows : (n : ℕ) → a.number ≡ 0 → n ≤ length part → (length part < a.bytes → n ≡ length part) → (a.bytes ≤ length part → n ≡ a.bytes) → Ran sheet g g.book old at (take at old ++ (part ++ post)) (at + n)
   sheet-shows n e few over under =
@@ -165,8 +165,8 @@ module _ (g : Given) (s : sound (tableIn (lentIn g.book)) ≡ true) (a : Answer)
 
 -- THE REPLY BUFFER: the front of the space for it, and what a call left of that.
 
-pub reply-size : (n : ℕ) → n ≤ longestReply → length (take (n - 0) (replicate {A = ℕ} longestReply 0)) ≡ n
-reply-size n le = length-take-le (n - 0) (replicate {A = ℕ} longestReply 0) (omega (arith, length-replicate {A = ℕ} longestReply 0)) ∙ omega arith
+pub reply-size : (n : ℕ) → n ≤ longest_reply → length (take (n - 0) (replicate {A = ℕ} longest_reply 0)) ≡ n
+reply-size n le = length-take-le (n - 0) (replicate {A = ℕ} longest_reply 0) (omega (arith, length-replicate {A = ℕ} longest_reply 0)) ∙ omega arith
 
 pub reply-left : (n : ℕ) (after post : List ℕ) → length after ≡ n → take (n - 0) (after ++ post) ≡ after
 reply-left n after post size = take_at after post (n - 0) (omega arith)
@@ -175,14 +175,14 @@ pub part-fits : (n : ℕ) (after post : List ℕ) → length after ≡ n → n �
 part-fits n after post size = omega (arith, length-append after post)
 
 -- Its answer fits into the output.
-module _ (at n : ℕ) (l out : List ℕ) (fits : AnswerFits at out) (le : n ≤ longestReply) where
+module _ (at n : ℕ) (l out : List ℕ) (fits : AnswerFits at out) (le : n ≤ longest_reply) where
   few : length (take (n - 0) l) ≤ n
   few = omega (arith, length-take (n - 0) l)
 
-  pub reply-fits : at + octetsMost (length (take (n - 0) l)) ≤ length out
+  pub reply-fits : at + octets_most (length (take (n - 0) l)) ≤ length out
   reply-fits = omega (arith, few)
 
-  pub reply-inside : (r : ℕ) → r ≤ at + octetsMost (length (take (n - 0) l)) → r ≤ length out
+  pub reply-inside : (r : ℕ) → r ≤ at + octets_most (length (take (n - 0) l)) → r ≤ length out
   reply-inside r h = omega (arith, few)
 
 -- FIGURES

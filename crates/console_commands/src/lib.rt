@@ -1,26 +1,26 @@
 // The commands of a script: each is its call with the arguments of its line, and the line of its answer in the output.
 ghost use Rattle.std.specs.Prelude.{◌≡◌, ◌&&◌, ℕ, ◌≤◌, length, drop, List};
-ghost use Rattle.image_figures.specs.Sheets.{figuresSize};
-ghost use Rattle.call_spec.specs.ImageCalls.{carriedIf};
-ghost use Rattle.call_spec.specs.Books.{bookOf};
+ghost use Rattle.image_figures.specs.Sheets.{figures_size};
+ghost use Rattle.call_spec.specs.ImageCalls.{carried_if};
+ghost use Rattle.call_spec.specs.Books.{book_of};
 ghost use Rattle.console_script.specs.Commands.{
-  call as callValue,
-  mark as markValue,
-  «open» as openValue,
-  load as loadValue,
-  save as saveValue,
-  sheet as sheetValue,
-  figures as figuresValue,
-  setFigures as setFiguresValue,
-  counts as countsValue,
-  setCounts as setCountsValue,
-  whole as wholeValue,
-  longestReply,
-  countsSize,
-  mostPrefixes,
-  withPrefixes,
+  call as call_value,
+  mark as mark_value,
+  «open» as open_value,
+  load as load_value,
+  save as save_value,
+  sheet as sheet_value,
+  figures as figures_value,
+  set_figures as set_figures_value,
+  counts as counts_value,
+  set_counts as set_counts_value,
+  whole as whole_value,
+  longest_reply,
+  counts_size,
+  most_prefixes,
+  with_prefixes,
 };
-ghost use Rattle.console_words.specs.Prefixes.{prefixesOf};
+ghost use Rattle.console_words.specs.Prefixes.{prefixes_of};
 ghost use Rattle.console_session.specs.States.{AnswerFits};
 ghost use Rattle.console_commands.specs.Commands.{given, Ran, Read, WroteOption};
 
@@ -60,11 +60,11 @@ pub fn call(
     counts: &mut Counts,
     out: &mut [u8],
 ) -> usize
-    requires { AnswerFits s.at out.old × (s.reply_length ≤ longestReply) }
+    requires { AnswerFits s.at out.old × (s.reply_length ≤ longest_reply) }
     ensures upper_bound { result ≤ length out.old }
-    ensures ran { Ran (callValue c.call c.client c.time option.now (carriedIf c.message.carries selection.now))
-        (given (bookOf image.old image_bytes.old figures.old counts.old) s.reply_length s.selected s.lines (drop s.at out.old))
-        (bookOf image.new image_bytes.new figures.new counts.new) out.old s.at out.new result }
+    ensures ran { Ran (call_value c.call c.client c.time option.now (carried_if c.message.carries selection.now))
+        (given (book_of image.old image_bytes.old figures.old counts.old) s.reply_length s.selected s.lines (drop s.at out.old))
+        (book_of image.new image_bytes.new figures.new counts.new) out.old s.at out.new result }
 {
     let mut reply = [0u8; REPLY];
     let n = s.reply_length;
@@ -142,9 +142,9 @@ pub fn mark(
 ) -> usize
     requires { AnswerFits s.at out.old }
     ensures upper_bound { result ≤ length out.old }
-    ensures ran { Ran (markValue c.time c.network c.length c.deprecated)
-        (given (bookOf image.old image_bytes.old figures.old counts.old) s.reply_length s.selected s.lines (drop s.at out.old))
-        (bookOf image.new image_bytes.new figures.new counts.new) out.old s.at out.new result }
+    ensures ran { Ran (mark_value c.time c.network c.length c.deprecated)
+        (given (book_of image.old image_bytes.old figures.old counts.old) s.reply_length s.selected s.lines (drop s.at out.old))
+        (book_of image.new image_bytes.new figures.new counts.new) out.old s.at out.new result }
 {
     let a = call_mark::mark(
         image,
@@ -172,9 +172,9 @@ pub fn open(
 ) -> usize
     requires { AnswerFits s.at out.old }
     ensures upper_bound { result ≤ length out.old }
-    ensures ran { Ran (withPrefixes (prefixesOf mostPrefixes words.now) (openValue c.term c.default_length c.start))
-        (given (bookOf image.old image_bytes.old figures.old counts.old) s.reply_length s.selected s.lines (drop s.at out.old))
-        (bookOf image.new image_bytes.new figures.new counts.new) out.old s.at out.new result }
+    ensures ran { Ran (with_prefixes (prefixes_of most_prefixes words.now) (open_value c.term c.default_length c.start))
+        (given (book_of image.old image_bytes.old figures.old counts.old) s.reply_length s.selected s.lines (drop s.at out.old))
+        (book_of image.new image_bytes.new figures.new counts.new) out.old s.at out.new result }
 {
     let mut networks = [0u32; PREFIXES];
     let mut lengths = [0u8; PREFIXES];
@@ -212,9 +212,9 @@ pub fn load(
 ) -> usize
     requires { AnswerFits s.at out.old }
     ensures upper_bound { result ≤ length out.old }
-    ensures ran { Ran (loadValue saved.now)
-        (given (bookOf image.old image_bytes.old figures.old counts.old) s.reply_length s.selected s.lines (drop s.at out.old))
-        (bookOf image.new image_bytes.new figures.new counts.new) out.old s.at out.new result }
+    ensures ran { Ran (load_value saved.now)
+        (given (book_of image.old image_bytes.old figures.old counts.old) s.reply_length s.selected s.lines (drop s.at out.old))
+        (book_of image.new image_bytes.new figures.new counts.new) out.old s.at out.new result }
 {
     let a = call_load::load(image, image_bytes, figures, counts, saved);
     console_lines::done(out, s.at, a)
@@ -232,9 +232,9 @@ pub fn save(
 ) -> usize
     requires { AnswerFits s.at out.old }
     ensures upper_bound { result ≤ length out.old }
-    ensures by_index { (figures : List ℕ) → Ran (saveValue form older)
-        (given (bookOf image.now image_bytes figures counts.now) s.reply_length s.selected s.lines (drop s.at out.old))
-        (bookOf image.now image_bytes figures counts.now) out.old s.at out.new result }
+    ensures by_index { (figures : List ℕ) → Ran (save_value form older)
+        (given (book_of image.now image_bytes figures counts.now) s.reply_length s.selected s.lines (drop s.at out.old))
+        (book_of image.now image_bytes figures counts.now) out.old s.at out.new result }
 {
     let mut buffer = [0u8; FULL_IMAGE];
     let a = call_save::save(
@@ -252,9 +252,9 @@ pub fn save(
 pub fn sheet(s: State, image: &[u8], image_bytes: usize, counts: &Counts, out: &mut [u8]) -> usize
     requires { AnswerFits s.at out.old }
     ensures upper_bound { result ≤ length out.old }
-    ensures by_index { (figures : List ℕ) → Ran sheetValue
-        (given (bookOf image.now image_bytes figures counts.now) s.reply_length s.selected s.lines (drop s.at out.old))
-        (bookOf image.now image_bytes figures counts.now) out.old s.at out.new result }
+    ensures by_index { (figures : List ℕ) → Ran sheet_value
+        (given (book_of image.now image_bytes figures counts.now) s.reply_length s.selected s.lines (drop s.at out.old))
+        (book_of image.now image_bytes figures counts.now) out.old s.at out.new result }
 {
     let at = s.at;
     let sound = call_query::check(image, image_bytes, counts);
@@ -274,9 +274,9 @@ pub fn sheet(s: State, image: &[u8], image_bytes: usize, counts: &Counts, out: &
 pub fn counts(s: State, image: &[u8], image_bytes: usize, counts: &Counts, out: &mut [u8]) -> usize
     requires { AnswerFits s.at out.old }
     ensures upper_bound { result ≤ length out.old }
-    ensures by_index { (figures : List ℕ) → Ran countsValue
-        (given (bookOf image.now image_bytes figures counts.now) s.reply_length s.selected s.lines (drop s.at out.old))
-        (bookOf image.now image_bytes figures counts.now) out.old s.at out.new result }
+    ensures by_index { (figures : List ℕ) → Ran counts_value
+        (given (book_of image.now image_bytes figures counts.now) s.reply_length s.selected s.lines (drop s.at out.old))
+        (book_of image.now image_bytes figures counts.now) out.old s.at out.new result }
 {
     let a = call_query::check(image, image_bytes, counts);
     if a.number != 0 {
@@ -296,9 +296,9 @@ pub fn whole(
 ) -> usize
     requires { AnswerFits s.at out.old }
     ensures upper_bound { result ≤ length out.old }
-    ensures by_index { (figures : List ℕ) → Ran (wholeValue len)
-        (given (bookOf image.now image_bytes figures counts.now) s.reply_length s.selected s.lines (drop s.at out.old))
-        (bookOf image.now image_bytes figures counts.now) out.old s.at out.new result }
+    ensures by_index { (figures : List ℕ) → Ran (whole_value len)
+        (given (book_of image.now image_bytes figures counts.now) s.reply_length s.selected s.lines (drop s.at out.old))
+        (book_of image.now image_bytes figures counts.now) out.old s.at out.new result }
 {
     let a = call_query::whole(image, image_bytes, counts, len);
     console_lines::counted(out, s.at, a)
@@ -317,7 +317,7 @@ pub fn read(s: State, octets: &[u8], out: &mut [u8]) -> usize
 
 // The words that `read` prints, made into an option.
 pub fn write(s: State, words: &mut [u8], out: &mut [u8]) -> usize
-    requires { AnswerFits s.at out.old × (s.reply_length ≤ longestReply) }
+    requires { AnswerFits s.at out.old × (s.reply_length ≤ longest_reply) }
     ensures upper_bound { result ≤ length out.old }
     ensures wrote_option { WroteOption s.lines s.reply_length out.old s.at out.new result }
 {
@@ -331,22 +331,22 @@ pub fn write(s: State, words: &mut [u8], out: &mut [u8]) -> usize
 
 // The figures sheet, which is no part of the image.
 pub fn figures(s: State, sheet: &[u8], out: &mut [u8]) -> usize
-    requires { AnswerFits s.at out.old × (length sheet.now ≡ figuresSize) }
+    requires { AnswerFits s.at out.old × (length sheet.now ≡ figures_size) }
     ensures upper_bound { result ≤ length out.old }
-    ensures by_index { (image : List ℕ) (bytes : ℕ) (counts : List (List ℕ)) → Ran figuresValue
-        (given (bookOf image bytes sheet.now counts) s.reply_length s.selected s.lines (drop s.at out.old))
-        (bookOf image bytes sheet.now counts) out.old s.at out.new result }
+    ensures by_index { (image : List ℕ) (bytes : ℕ) (counts : List (List ℕ)) → Ran figures_value
+        (given (book_of image bytes sheet.now counts) s.reply_length s.selected s.lines (drop s.at out.old))
+        (book_of image bytes sheet.now counts) out.old s.at out.new result }
 {
     console_lines::figures_sheet(out, s.at, sheet)
 }
 
 // SHEET: as many bytes as a figures sheet has, which become the sheet.
 pub fn set_figures(s: State, octets: &[u8], sheet: &mut [u8], out: &mut [u8]) -> usize
-    requires { AnswerFits s.at out.old × (length octets.now ≡ figuresSize) × (length sheet.old ≡ figuresSize) }
+    requires { AnswerFits s.at out.old × (length octets.now ≡ figures_size) × (length sheet.old ≡ figures_size) }
     ensures upper_bound { result ≤ length out.old }
-    ensures by_index { (image : List ℕ) (bytes : ℕ) (counts : List (List ℕ)) → Ran (setFiguresValue octets.now)
-        (given (bookOf image bytes sheet.old counts) s.reply_length s.selected s.lines (drop s.at out.old))
-        (bookOf image bytes sheet.new counts) out.old s.at out.new result }
+    ensures by_index { (image : List ℕ) (bytes : ℕ) (counts : List (List ℕ)) → Ran (set_figures_value octets.now)
+        (given (book_of image bytes sheet.old counts) s.reply_length s.selected s.lines (drop s.at out.old))
+        (book_of image bytes sheet.new counts) out.old s.at out.new result }
 {
     bytes::copy(octets, sheet);
     console_lines::ok(out, s.at)
@@ -354,11 +354,11 @@ pub fn set_figures(s: State, octets: &[u8], sheet: &mut [u8], out: &mut [u8]) ->
 
 // COUNTS: as many bytes as counts have, which become the counts.
 pub fn set_counts(s: State, octets: &[u8], counts: &mut Counts, out: &mut [u8]) -> usize
-    requires { AnswerFits s.at out.old × (length octets.now ≡ countsSize) }
+    requires { AnswerFits s.at out.old × (length octets.now ≡ counts_size) }
     ensures upper_bound { result ≤ length out.old }
-    ensures by_index { (image : List ℕ) (bytes : ℕ) (figures : List ℕ) → Ran (setCountsValue octets.now)
-        (given (bookOf image bytes figures counts.old) s.reply_length s.selected s.lines (drop s.at out.old))
-        (bookOf image bytes figures counts.new) out.old s.at out.new result }
+    ensures by_index { (image : List ℕ) (bytes : ℕ) (figures : List ℕ) → Ran (set_counts_value octets.now)
+        (given (book_of image bytes figures counts.old) s.reply_length s.selected s.lines (drop s.at out.old))
+        (book_of image bytes figures counts.new) out.old s.at out.new result }
 {
     *counts = console_script::counts_in(octets);
     console_lines::ok(out, s.at)

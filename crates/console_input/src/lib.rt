@@ -1,6 +1,6 @@
 // Lines from an input, in two lent buffers: a chunk of the input, and the line that is being read.
 ghost use Rattle.std.specs.Prelude.{◌≡◌, ◌≤◌, ◌<◌, length};
-ghost use Rattle.console_input.specs.Lines.{lineSpace};
+ghost use Rattle.console_input.specs.Lines.{line_space};
 
 use console_script::LONGEST;
 use program::Input;
@@ -23,7 +23,7 @@ pub const NAME: [u8; 7] = *b"console";
 pub const LINE: usize = LONGEST + 2;
 
 pub fn line() -> [u8; LINE]
-    ensures { lineSpace ≡ length result }
+    ensures { line_space ≡ length result }
 {
     [0; LINE]
 }

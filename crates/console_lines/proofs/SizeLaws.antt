@@ -7,8 +7,8 @@ use mathlib.Core.List.{List}
 use lib.ListN.{length}
 use Rattle.lists.specs.Walk.{more}
 use Rattle.option.specs.Values.{Entry, SuboptionValue, request, information, name, unknown}
-use Rattle.option.specs.Reading.{read_entry, readSuboption}
-use Rattle.option.specs.Answers.{entryStepOf, step_of, suboptionOf}
+use Rattle.option.specs.Reading.{read_entry, read_suboption}
+use Rattle.option.specs.Answers.{entry_step_of, step_of, suboption_of}
 use Rattle.option_entry.specs.declared.EntryFields.{EntryFields}
 use Rattle.option_entry.specs.declared.EntryCursor.{EntryCursor}
 use Rattle.option.specs.declared.Cursor.{Cursor}
@@ -25,7 +25,7 @@ pub record EntryTaken (end at : ℕ) (c : EntryCursor) : Type 0 where
   pub whole : c.at ≤ end
   pub same : c.end ≡ end
 
-pub entry-taken : (s : List ℕ) (end at : ℕ) (f : EntryFields) (c : EntryCursor) → entry-step.Entry f c ≡ entryStepOf end (read_entry s end at) → EntryTaken end at c
+pub entry-taken : (s : List ℕ) (end at : ℕ) (f : EntryFields) (c : EntryCursor) → entry-step.Entry f c ≡ entry_step_of end (read_entry s end at) → EntryTaken end at c
 entry-taken s end at f c h =
     let t = told-entry end (read_entry s end at) f c h in
     let r = entry_read s end at t.0 c.at t.1 in
@@ -38,21 +38,21 @@ pub record Taken (s : List ℕ) (at : ℕ) (x : Suboption) (c : Cursor) : Type 0
   pub room : most x ≤ 28 * (c.at - at)
   pub within : Within s x
 
-room_of : (x : SuboptionValue) (at next : ℕ) → at + 2 ≤ next → most (suboptionOf x at next) ≤ 28 * (next - at)
+room_of : (x : SuboptionValue) (at next : ℕ) → at + 2 ≤ next → most (suboption_of x at next) ≤ 28 * (next - at)
 room_of (request h i len) at next le = omega arith
 room_of (information c d es) at next le = omega arith
 room_of (name octets) at next le = omega arith
 room_of unknown at next le = omega arith
 
-within_of : (s : List ℕ) (x : SuboptionValue) (at next : ℕ) → at + 2 ≤ next → next ≤ length s → Within s (suboptionOf x at next)
+within_of : (s : List ℕ) (x : SuboptionValue) (at next : ℕ) → at + 2 ≤ next → next ≤ length s → Within s (suboption_of x at next)
 within_of s (request h i len) at next le inside = tt
 within_of s (information c d es) at next le inside = tt
 within_of s (name octets) at next le inside = (le, inside)
 within_of s unknown at next le inside = tt
 
-pub taken : (s : List ℕ) (at : ℕ) (x : Suboption) (c : Cursor) → step.Piece x c ≡ step_of at (readSuboption s at) → Taken s at x c
+pub taken : (s : List ℕ) (at : ℕ) (x : Suboption) (c : Cursor) → step.Piece x c ≡ step_of at (read_suboption s at) → Taken s at x c
 taken s at x c h =
-    let t = told-piece at (readSuboption s at) x c h in
+    let t = told-piece at (read_suboption s at) x c h in
     let ends = suboption-ends s at t.0 c.at t.1 in
     let two : at + 2 ≤ c.at = omega (arith, ends) in
     let inside : c.at ≤ length s = omega (arith, ends, (suboption-read s at t.0 c.at t.1).fits) in

@@ -10,13 +10,13 @@ use lib.ListN.{length, take, length-append}
 use lib.Seq.{take_all}
 use lib.Dec.{ltb, leb, eqb}
 use borrow.Author.Tests.{lt-ltb, ltb-true, ltb-false, leb-true, leb-false}
-use Rattle.lists.specs.Lists.{All, concatMap}
-use Rattle.lists.proofs.ConcatMapLaws.{length-concatMap}
+use Rattle.lists.specs.Lists.{All, concat_map}
+use Rattle.lists.proofs.ConcatMapLaws.{length-concat_map}
 use Rattle.lists.specs.Put.{put}
 use Rattle.lists.proofs.PutLaws.{put-more}
 use Rattle.io.specs.Digits.{hex_digit_ascii, last_digits, IsDigitCount}
-use Rattle.console_text.specs.Text.{hexOf, Decimal, Piece, Spells, Filled}
-use Rattle.text.specs.Decimal.{digits as digitsOf}
+use Rattle.console_text.specs.Text.{hex_of, Decimal, Piece, Spells, Filled}
+use Rattle.text.specs.Decimal.{digits as digits_of}
 use Rattle.text.specs.Wrote.{Wrote}
 use Rattle.console_lines.specs.Lines.{decimal}
 
@@ -63,23 +63,23 @@ module _ (n j : ℕ) (f : IsDigitCount 10 1 n (suc j)) where
       )
 
 abbrev Spelled : ℕ → Type 0
-Spelled more = (j n : ℕ) → j ≤ more → IsDigitCount 10 1 n (suc j) → last_digits 10 (suc j) n ≡ digitsOf more n
+Spelled more = (j n : ℕ) → j ≤ more → IsDigitCount 10 1 n (suc j) → last_digits 10 (suc j) n ≡ digits_of more n
 
-one_more : (more j n : ℕ) → j ≤ suc more → IsDigitCount 10 1 n (suc j) → Spelled more → (b : Bool) → ltb n 10 ≡ b → last_digits 10 (suc j) n ≡ digitsOf (suc more) n
-unfolding digitsOf
+one_more : (more j n : ℕ) → j ≤ suc more → IsDigitCount 10 1 n (suc j) → Spelled more → (b : Bool) → ltb n 10 ≡ b → last_digits 10 (suc j) n ≡ digits_of (suc more) n
+unfolding digits_of
 one_more more j n le f fewer-spelled true e =
     ap (λ (k : ℕ). last_digits 10 (suc k) n) (alone n j f (ltb-true n 10 e)) ∙ one-digit n
-    ∙ sym (ap (λ (b : Bool). cond b ((48 + n % 10) ∷ []) (digitsOf more (n / 10) ++ ((48 + n % 10) ∷ []))) e)
+    ∙ sym (ap (λ (b : Bool). cond b ((48 + n % 10) ∷ []) (digits_of more (n / 10) ++ ((48 + n % 10) ∷ []))) e)
 one_more more j n le f fewer-spelled false e =
     let large : 10 ≤ n = ltb-false n 10 e in
     let back : j ≡ suc (j - 1) = omega (arith, not-alone n j f large) in
     ap₂ (λ (l : List ℕ) (x : ℕ). l ++ (x ∷ []))
     (ap (λ (k : ℕ). last_digits 10 k (n / 10)) back ∙ fewer-spelled (j - 1) (n / 10) (omega arith) (subst (IsDigitCount 10 1 (n / 10)) back (fewer n j f large)))
     (last_glyph n)
-    ∙ sym (ap (λ (b : Bool). cond b ((48 + n % 10) ∷ []) (digitsOf more (n / 10) ++ ((48 + n % 10) ∷ []))) e)
+    ∙ sym (ap (λ (b : Bool). cond b ((48 + n % 10) ∷ []) (digits_of more (n / 10) ++ ((48 + n % 10) ∷ []))) e)
 
 spelt-digits : (more : ℕ) → Spelled more
-unfolding digitsOf
+unfolding digits_of
 spelt-digits zero zero n le f = one-digit n
 spelt-digits zero (suc j) n le f = absurd (omega arith)
 spelt-digits (suc more) j n le f = one_more more j n le f (spelt-digits more) (ltb n 10) refl
@@ -129,10 +129,10 @@ filled-wrote pattern ns old at new r small f =
 pub text-wrote : (old : List ℕ) (at : ℕ) (text new : List ℕ) (r : ℕ) → r ≡ at + length text → new ≡ put old at text → Wrote old at text new r
 text-wrote old at text new r place bytes = record { bytes = bytes; place = place }
 
-pub octets-wrote : (old : List ℕ) (at : ℕ) (octets new : List ℕ) (r : ℕ) → r ≡ at + 2 * length octets → new ≡ put old at (concatMap hexOf octets) → Wrote old at (concatMap hexOf octets) new r
-octets-wrote old at octets new r place bytes = record { bytes = bytes; place = omega (arith, length-concatMap hexOf 2 octets (sized octets)) }
+pub octets-wrote : (old : List ℕ) (at : ℕ) (octets new : List ℕ) (r : ℕ) → r ≡ at + 2 * length octets → new ≡ put old at (concat_map hex_of octets) → Wrote old at (concat_map hex_of octets) new r
+octets-wrote old at octets new r place bytes = record { bytes = bytes; place = omega (arith, length-concat_map hex_of 2 octets (sized octets)) }
   where
-    sized : (l : List ℕ) → All (λ x. length (hexOf x) ≡ 2) l
+    sized : (l : List ℕ) → All (λ x. length (hex_of x) ≡ 2) l
     sized [] = tt
     sized (x ∷ xs) = (refl, sized xs)
 

@@ -2,63 +2,63 @@
 ghost use Rattle.std.specs.Prelude.{◌≡◌, ◌+◌, ◌-◌, ◌*◌, ◌≤◌, ◌<◌, ◌++◌, length, take};
 ghost use Rattle.text.specs.Ascii.{ascii};
 ghost use Rattle.option.specs.declared.Suboption.TheVariants as Suboption;
-ghost use Rattle.table.specs.Table.{poolSlots, shortestPool, noLease};
-ghost use Rattle.image.specs.Image.{poolSize};
-ghost use Rattle.figures.specs.Figures.{ofLease?};
-ghost use Rattle.image_figures.specs.Sheets.{figuresSize, sheetRows};
+ghost use Rattle.table.specs.Table.{pool_slots, shortest_pool, no_lease};
+ghost use Rattle.image.specs.Image.{pool_size};
+ghost use Rattle.figures.specs.Figures.{of_lease?};
+ghost use Rattle.image_figures.specs.Sheets.{figures_size, sheet_rows};
 ghost use Rattle.ledger.specs.Ledger.{placed?};
 ghost use Rattle.console_lines.specs.Sizes.{
-  errorMost,
-  lineMost,
-  octetsMost,
-  readMost,
-  rowMost,
-  rowsMost,
-  poolMost,
-  countsMost,
+  error_most,
+  line_most,
+  octets_most,
+  read_most,
+  row_most,
+  rows_most,
+  pool_most,
+  counts_most,
 };
 ghost use Rattle.console_lines.specs.InnerSizes.{
-  headMost,
-  figuresMost,
-  entryMost,
-  requestMost,
-  addressMost,
-  prefixMost,
-  rowHeadMost,
-  figureNameMost,
-  figureMost,
-  countMost,
-  rowCountsMost,
+  head_most,
+  figures_most,
+  entry_most,
+  request_most,
+  address_most,
+  prefix_most,
+  row_head_most,
+  figure_name_most,
+  figure_most,
+  count_most,
+  row_counts_most,
   most,
   Within,
 };
 ghost use Rattle.text.specs.Wrote.{Wrote};
 ghost use Rattle.console_lines.specs.Lines.{
-  okLine,
-  refusedLine,
-  errorLine,
-  octetText,
-  doneLine,
-  countedLine,
-  repliedLine,
-  writtenLine,
+  ok_line,
+  refused_line,
+  error_line,
+  octet_text,
+  done_line,
+  counted_line,
+  replied_line,
+  written_line,
 };
 ghost use Rattle.console_lines.specs.FigureLines.{
-  figureText,
-  highWaterText,
-  inUseText,
-  unusableText,
-  prefixText,
-  rowText,
-  figuresText,
+  figure_text,
+  high_water_text,
+  in_use_text,
+  unusable_text,
+  prefix_text,
+  row_text,
+  figures_text,
 };
 ghost use Rattle.console_lines.specs.CountLines.{
-  countText,
-  rowCounts,
-  noneIn?,
-  poolText,
-  countsText,
-  poolsAt,
+  count_text,
+  row_counts,
+  none_in?,
+  pool_text,
+  counts_text,
+  pools_at,
 };
 
 use counts::{Counts, LENGTHS};
@@ -80,16 +80,16 @@ const FIRST: usize = SHORTEST_POOL as usize;
 
 pub fn ok(out: &mut [u8], at: usize) -> usize
     requires { at + 3 ≤ length out.old }
-    ensures { Wrote out.old at okLine out.new result }
+    ensures { Wrote out.old at ok_line out.new result }
 {
     console_text::text(out, at, b"ok\n")
 }
 
 // A line that is no command.
 pub fn error(out: &mut [u8], at: usize, line: u64) -> usize
-    requires { at + errorMost ≤ length out.old }
-    ensures upper_bound { result ≤ at + errorMost }
-    ensures wrote { Wrote out.old at (errorLine line) out.new result }
+    requires { at + error_most ≤ length out.old }
+    ensures upper_bound { result ≤ at + error_most }
+    ensures wrote { Wrote out.old at (error_line line) out.new result }
 {
     let a = console_text::text(out, at, b"error line ");
     let b = console_text::number(out, a, line);
@@ -108,9 +108,9 @@ fn has_place(number: u32) -> bool
 
 // A refusal by its number, with its place if it has one.
 pub fn refusal(out: &mut [u8], at: usize, number: u32, place: u32) -> usize
-    requires { at + lineMost ≤ length out.old }
-    ensures upper_bound { result ≤ at + lineMost }
-    ensures wrote { Wrote out.old at (refusedLine number place) out.new result }
+    requires { at + line_most ≤ length out.old }
+    ensures upper_bound { result ≤ at + line_most }
+    ensures wrote { Wrote out.old at (refused_line number place) out.new result }
 {
     if has_place(number) {
         return console_text::fill(out, at, b"refused % place=%\n", &[number, place]);
@@ -129,7 +129,7 @@ pub fn least(a: usize, b: usize) -> usize
 fn octets(out: &mut [u8], at: usize, word: &[u8], s: &[u8]) -> usize
     requires { at + length word.now + 2 * length s.now + 1 ≤ length out.old }
     ensures upper_bound { result ≤ at + length word.now + 2 * length s.now + 1 }
-    ensures wrote { Wrote out.old at (word.now ++ (octetText s.now ++ ascii "\n")) out.new result }
+    ensures wrote { Wrote out.old at (word.now ++ (octet_text s.now ++ ascii "\n")) out.new result }
 {
     let a = console_text::text(out, at, word);
     let b = console_text::octets(out, a, s);
@@ -138,9 +138,9 @@ fn octets(out: &mut [u8], at: usize, word: &[u8], s: &[u8]) -> usize
 
 // The answer of an open, a load or a mark.
 pub fn done(out: &mut [u8], at: usize, a: Answer) -> usize
-    requires { at + lineMost ≤ length out.old }
-    ensures upper_bound { result ≤ at + lineMost }
-    ensures wrote { Wrote out.old at (doneLine a) out.new result }
+    requires { at + line_most ≤ length out.old }
+    ensures upper_bound { result ≤ at + line_most }
+    ensures wrote { Wrote out.old at (done_line a) out.new result }
 {
     if a.number != 0 {
         return refusal(out, at, a.number, a.place);
@@ -150,9 +150,9 @@ pub fn done(out: &mut [u8], at: usize, a: Answer) -> usize
 
 // The answer of a return.
 pub fn counted(out: &mut [u8], at: usize, a: Answer) -> usize
-    requires { at + lineMost ≤ length out.old }
-    ensures upper_bound { result ≤ at + lineMost }
-    ensures wrote { Wrote out.old at (countedLine a) out.new result }
+    requires { at + line_most ≤ length out.old }
+    ensures upper_bound { result ≤ at + line_most }
+    ensures wrote { Wrote out.old at (counted_line a) out.new result }
 {
     if a.number != 0 {
         return refusal(out, at, a.number, a.place);
@@ -162,9 +162,9 @@ pub fn counted(out: &mut [u8], at: usize, a: Answer) -> usize
 
 // The answer of an ask, a take or a list, with the bytes that it wrote to its reply buffer.
 pub fn replied(out: &mut [u8], at: usize, a: Answer, reply: &[u8]) -> usize
-    requires { at + octetsMost (length reply.now) ≤ length out.old }
-    ensures upper_bound { result ≤ at + octetsMost (length reply.now) }
-    ensures wrote { Wrote out.old at (repliedLine a reply.now) out.new result }
+    requires { at + octets_most (length reply.now) ≤ length out.old }
+    ensures upper_bound { result ≤ at + octets_most (length reply.now) }
+    ensures wrote { Wrote out.old at (replied_line a reply.now) out.new result }
 {
     if a.number != 0 {
         return refusal(out, at, a.number, a.place);
@@ -176,9 +176,9 @@ pub fn replied(out: &mut [u8], at: usize, a: Answer, reply: &[u8]) -> usize
 
 // The answer of a save or a write, with the bytes that it wrote to its buffer.
 pub fn written(out: &mut [u8], at: usize, a: Answer, buffer: &[u8]) -> usize
-    requires { at + octetsMost (length buffer.now) ≤ length out.old }
-    ensures upper_bound { result ≤ at + octetsMost (length buffer.now) }
-    ensures wrote { Wrote out.old at (writtenLine a buffer.now) out.new result }
+    requires { at + octets_most (length buffer.now) ≤ length out.old }
+    ensures upper_bound { result ≤ at + octets_most (length buffer.now) }
+    ensures wrote { Wrote out.old at (written_line a buffer.now) out.new result }
 {
     if a.number != 0 {
         return refusal(out, at, a.number, a.place);
@@ -192,8 +192,8 @@ pub fn written(out: &mut [u8], at: usize, a: Answer, buffer: &[u8]) -> usize
 
 // The figures that an entry has, to the end of its line.
 fn figures(out: &mut [u8], at: usize, count: usize, numbers: &[u32]) -> usize
-    requires { (length numbers.now ≤ 3) × (at + figuresMost ≤ length out.old) }
-    ensures { result ≤ at + figuresMost }
+    requires { (length numbers.now ≤ 3) × (at + figures_most ≤ length out.old) }
+    ensures { result ≤ at + figures_most }
 {
     if count == 0 {
         return console_text::text(out, at, b"-\n");
@@ -209,8 +209,8 @@ fn figures(out: &mut [u8], at: usize, count: usize, numbers: &[u32]) -> usize
 
 // An entry's line up to its figures.
 fn entry_head(out: &mut [u8], at: usize, e: EntryFields) -> usize
-    requires { at + headMost ≤ length out.old }
-    ensures { result ≤ at + headMost }
+    requires { at + head_most ≤ length out.old }
+    ensures { result ≤ at + head_most }
 {
     let n = e.network;
     let numbers = [
@@ -226,8 +226,8 @@ fn entry_head(out: &mut [u8], at: usize, e: EntryFields) -> usize
 }
 
 fn entry(out: &mut [u8], at: usize, e: EntryFields) -> usize
-    requires { at + entryMost ≤ length out.old }
-    ensures { result ≤ at + entryMost }
+    requires { at + entry_most ≤ length out.old }
+    ensures { result ≤ at + entry_most }
 {
     let f = e.figures;
     let a = entry_head(out, at, e);
@@ -263,8 +263,8 @@ fn entries(out: &mut [u8], at: usize, s: &[u8], first: EntryCursor) -> usize
 }
 
 fn request(out: &mut [u8], at: usize, r: RequestFields) -> usize
-    requires { at + requestMost ≤ length out.old }
-    ensures { result ≤ at + requestMost }
+    requires { at + request_most ≤ length out.old }
+    ensures { result ≤ at + request_most }
 {
     let numbers = [r.h as u32, r.i as u32, r.length as u32];
     console_text::fill(out, at, b"request h=% i=% prefix=%\n", &numbers)
@@ -327,8 +327,8 @@ fn suboptions(out: &mut [u8], at: usize, s: &[u8]) -> usize
 
 // What the reader of option 220 finds.
 fn option(out: &mut [u8], at: usize, s: &[u8]) -> usize
-    requires { at + readMost ≤ length out.old }
-    ensures { result ≤ at + readMost }
+    requires { at + read_most ≤ length out.old }
+    ensures { result ≤ at + read_most }
 {
     if LONGEST_OPTION < s.len() {
         return refusal(out, at, 6, 0);
@@ -344,8 +344,8 @@ fn option(out: &mut [u8], at: usize, s: &[u8]) -> usize
 }
 
 fn address(out: &mut [u8], at: usize, n: u32) -> usize
-    requires { at + addressMost ≤ length out.old }
-    ensures { result ≤ at + addressMost }
+    requires { at + address_most ≤ length out.old }
+    ensures { result ≤ at + address_most }
 {
     let numbers = [n / 16777216, n / 65536 % 256, n / 256 % 256, n % 256];
     console_text::fill(out, at, b"address %.%.%.%\nok\n", &numbers)
@@ -353,8 +353,8 @@ fn address(out: &mut [u8], at: usize, n: u32) -> usize
 
 // What the reader of option 118 finds.
 fn selection(out: &mut [u8], at: usize, s: &[u8]) -> usize
-    requires { at + addressMost ≤ length out.old }
-    ensures { result ≤ at + addressMost }
+    requires { at + address_most ≤ length out.old }
+    ensures { result ≤ at + address_most }
 {
     match option::read_selection(s) {
         Selection::Address(n) => address(out, at, n),
@@ -364,8 +364,8 @@ fn selection(out: &mut [u8], at: usize, s: &[u8]) -> usize
 
 // What the reader finds: of option 118 if the first byte is 118, otherwise of option 220.
 pub fn read(out: &mut [u8], at: usize, s: &[u8]) -> usize
-    requires { at + readMost ≤ length out.old }
-    ensures { result ≤ at + readMost }
+    requires { at + read_most ≤ length out.old }
+    ensures { result ≤ at + read_most }
 {
     if 0 < s.len() {
         if s[0] == 118 {
@@ -379,9 +379,9 @@ pub fn read(out: &mut [u8], at: usize, s: &[u8]) -> usize
 
 // A figure behind its name; `-` where nothing was told.
 fn figure(out: &mut [u8], at: usize, name: &[u8], n: u16) -> usize
-    requires { (length name.now ≤ figureNameMost) × (at + figureMost ≤ length out.old) }
-    ensures upper_bound { result ≤ at + figureMost }
-    ensures wrote { Wrote out.old at (name.now ++ figureText n) out.new result }
+    requires { (length name.now ≤ figure_name_most) × (at + figure_most ≤ length out.old) }
+    ensures upper_bound { result ≤ at + figure_most }
+    ensures wrote { Wrote out.old at (name.now ++ figure_text n) out.new result }
 {
     let a = console_text::text(out, at, name);
     if n == UNTOLD {
@@ -392,33 +392,33 @@ fn figure(out: &mut [u8], at: usize, name: &[u8], n: u16) -> usize
 
 // Each figure as what it is.
 fn high_water(out: &mut [u8], at: usize, f: HighWater) -> usize
-    requires { at + figureMost ≤ length out.old }
-    ensures upper_bound { result ≤ at + figureMost }
-    ensures wrote { Wrote out.old at (highWaterText f) out.new result }
+    requires { at + figure_most ≤ length out.old }
+    ensures upper_bound { result ≤ at + figure_most }
+    ensures wrote { Wrote out.old at (high_water_text f) out.new result }
 {
     figure(out, at, b" high-water=", f.0)
 }
 
 fn in_use(out: &mut [u8], at: usize, f: InUse) -> usize
-    requires { at + figureMost ≤ length out.old }
-    ensures upper_bound { result ≤ at + figureMost }
-    ensures wrote { Wrote out.old at (inUseText f) out.new result }
+    requires { at + figure_most ≤ length out.old }
+    ensures upper_bound { result ≤ at + figure_most }
+    ensures wrote { Wrote out.old at (in_use_text f) out.new result }
 {
     figure(out, at, b" in-use=", f.0)
 }
 
 fn unusable(out: &mut [u8], at: usize, f: Unusable) -> usize
-    requires { at + figureMost ≤ length out.old }
-    ensures upper_bound { result ≤ at + figureMost }
-    ensures wrote { Wrote out.old at (unusableText f) out.new result }
+    requires { at + figure_most ≤ length out.old }
+    ensures upper_bound { result ≤ at + figure_most }
+    ensures wrote { Wrote out.old at (unusable_text f) out.new result }
 {
     figure(out, at, b" unusable=", f.0)
 }
 
 fn prefix(out: &mut [u8], at: usize, network: u32, len: u8) -> usize
-    requires { at + prefixMost ≤ length out.old }
-    ensures upper_bound { result ≤ at + prefixMost }
-    ensures wrote { Wrote out.old at (prefixText network len) out.new result }
+    requires { at + prefix_most ≤ length out.old }
+    ensures upper_bound { result ≤ at + prefix_most }
+    ensures wrote { Wrote out.old at (prefix_text network len) out.new result }
 {
     let numbers = [
         network / 16777216,
@@ -432,9 +432,9 @@ fn prefix(out: &mut [u8], at: usize, network: u32, len: u8) -> usize
 
 // A row's line up to its figures.
 fn row_head(out: &mut [u8], at: usize, r: FigureRow) -> usize
-    requires { at + rowHeadMost ≤ length out.old }
-    ensures upper_bound { result ≤ at + rowHeadMost }
-    ensures wrote { Wrote out.old at (ascii "figures " ++ prefixText r.network r.length) out.new result }
+    requires { at + row_head_most ≤ length out.old }
+    ensures upper_bound { result ≤ at + row_head_most }
+    ensures wrote { Wrote out.old at (ascii "figures " ++ prefix_text r.network r.length) out.new result }
 {
     let a = console_text::text(out, at, b"figures ");
     prefix(out, a, r.network, r.length)
@@ -442,7 +442,7 @@ fn row_head(out: &mut [u8], at: usize, r: FigureRow) -> usize
 
 // Whether a row is that of an empty slot, whatever its figures are.
 fn is_empty_slot(r: FigureRow) -> bool
-    ensures { result ≡ ofLease? noLease r }
+    ensures { result ≡ of_lease? no_lease r }
 {
     if r.network != 0 {
         return false;
@@ -452,9 +452,9 @@ fn is_empty_slot(r: FigureRow) -> bool
 
 // The line of a row; that of an empty slot has none.
 fn row(out: &mut [u8], at: usize, r: FigureRow) -> usize
-    requires { at + rowMost ≤ length out.old }
-    ensures upper_bound { result ≤ at + rowMost }
-    ensures wrote { Wrote out.old at (rowText r) out.new result }
+    requires { at + row_most ≤ length out.old }
+    ensures upper_bound { result ≤ at + row_most }
+    ensures wrote { Wrote out.old at (row_text r) out.new result }
 {
     if is_empty_slot(r) {
         return at;
@@ -468,9 +468,9 @@ fn row(out: &mut [u8], at: usize, r: FigureRow) -> usize
 
 // The rows of a figures sheet, and then ok.
 pub fn figures_sheet(out: &mut [u8], at: usize, sheet: &[u8]) -> usize
-    requires { (length sheet.now ≡ figuresSize) × (at + rowsMost ≤ length out.old) }
-    ensures upper_bound { result ≤ at + rowsMost }
-    ensures wrote { Wrote out.old at (figuresText (sheetRows sheet.now)) out.new result }
+    requires { (length sheet.now ≡ figures_size) × (at + rows_most ≤ length out.old) }
+    ensures upper_bound { result ≤ at + rows_most }
+    ensures wrote { Wrote out.old at (figures_text (sheet_rows sheet.now)) out.new result }
 {
     let mut end = at;
     let mut i: usize = 0;
@@ -485,9 +485,9 @@ pub fn figures_sheet(out: &mut [u8], at: usize, sheet: &[u8]) -> usize
 
 // A length and its count; nothing of a count that is 0.
 fn count(out: &mut [u8], at: usize, len: u32, n: u16) -> usize
-    requires { at + countMost ≤ length out.old }
-    ensures upper_bound { result ≤ at + countMost }
-    ensures wrote { Wrote out.old at (countText len n) out.new result }
+    requires { at + count_most ≤ length out.old }
+    ensures upper_bound { result ≤ at + count_most }
+    ensures wrote { Wrote out.old at (count_text len n) out.new result }
 {
     if n == 0 {
         return at;
@@ -497,7 +497,7 @@ fn count(out: &mut [u8], at: usize, len: u32, n: u16) -> usize
 
 // Whether a row has no whole free block.
 fn none_in(row: [u16; LENGTHS]) -> bool
-    ensures { result ≡ noneIn? row }
+    ensures { result ≡ none_in? row }
 {
     let mut j: usize = 0;
     while j < LENGTHS {
@@ -511,9 +511,9 @@ fn none_in(row: [u16; LENGTHS]) -> bool
 
 // The counts of a row, by their lengths.
 fn row_counts(out: &mut [u8], at: usize, row: [u16; LENGTHS]) -> usize
-    requires { at + rowCountsMost ≤ length out.old }
-    ensures upper_bound { result ≤ at + rowCountsMost }
-    ensures wrote { Wrote out.old at (rowCounts shortestPool row) out.new result }
+    requires { at + row_counts_most ≤ length out.old }
+    ensures upper_bound { result ≤ at + row_counts_most }
+    ensures wrote { Wrote out.old at (row_counts shortest_pool row) out.new result }
 {
     let mut end = at;
     let mut j: usize = 0;
@@ -526,9 +526,9 @@ fn row_counts(out: &mut [u8], at: usize, row: [u16; LENGTHS]) -> usize
 
 // The line of a pool; one that has no whole free block has none.
 fn pool(out: &mut [u8], at: usize, p: Pool, row: [u16; LENGTHS]) -> usize
-    requires { at + poolMost ≤ length out.old }
-    ensures upper_bound { result ≤ at + poolMost }
-    ensures wrote { Wrote out.old at (poolText p row) out.new result }
+    requires { at + pool_most ≤ length out.old }
+    ensures upper_bound { result ≤ at + pool_most }
+    ensures wrote { Wrote out.old at (pool_text p row) out.new result }
 {
     if none_in(row) {
         return at;
@@ -541,9 +541,9 @@ fn pool(out: &mut [u8], at: usize, p: Pool, row: [u16; LENGTHS]) -> usize
 
 // The pools whose records these are, each with its row, and then ok.
 pub fn counts(out: &mut [u8], at: usize, pools: &[u8], counts: Counts) -> usize
-    requires { (poolSize * poolSlots ≤ length pools.now) × (at + countsMost ≤ length out.old) }
-    ensures upper_bound { result ≤ at + countsMost }
-    ensures wrote { Wrote out.old at (countsText (poolsAt poolSlots pools.now) counts) out.new result }
+    requires { (pool_size * pool_slots ≤ length pools.now) × (at + counts_most ≤ length out.old) }
+    ensures upper_bound { result ≤ at + counts_most }
+    ensures wrote { Wrote out.old at (counts_text (pools_at pool_slots pools.now) counts) out.new result }
 {
     let mut end = at;
     let mut k: usize = 0;

@@ -12,18 +12,18 @@ Within from n (fault.Surplus start end) = (start ≤ end) × (end ≤ n)
 Within from n fault.TooMany = Unit {0}
 
 -- 40 bytes of a word are shown, each as four at most, and the mark of a cut.
-abbrev pub wordMost : ℕ
-wordMost = 4 * 40 + 2
+abbrev pub word_most : ℕ
+word_most = 4 * 40 + 2
 
 -- What a word should be; what is wrong; how a command is written; a whole reason.
-abbrev pub kindMost : ℕ
-kindMost = 80
+abbrev pub kind_most : ℕ
+kind_most = 80
 
-abbrev pub faultMost : ℕ
-faultMost = wordMost + kindMost + 20
+abbrev pub fault_most : ℕ
+fault_most = word_most + kind_most + 20
 
-abbrev pub formMost : ℕ
-formMost = 48
+abbrev pub form_most : ℕ
+form_most = 48
 
-abbrev pub reasonMost : ℕ
-reasonMost = 1024
+abbrev pub reason_most : ℕ
+reason_most = 1024

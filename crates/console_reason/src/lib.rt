@@ -2,11 +2,11 @@
 ghost use Rattle.std.specs.Prelude.{◌+◌, ◌*◌, ◌≤◌, length};
 ghost use Rattle.console_reason.specs.InnerFaults.{
   Within,
-  wordMost,
-  kindMost,
-  faultMost,
-  formMost,
-  reasonMost,
+  word_most,
+  kind_most,
+  fault_most,
+  form_most,
+  reason_most,
 };
 
 use console_script::{COUNTS, LONGEST, LONGEST_REPLY, Name, OptionCall, Switch};
@@ -330,8 +330,8 @@ fn put_bytes(out: &mut [u8], at: usize, word: &[u8]) -> usize
 
 // A word, cut after its first bytes.
 fn put_word(out: &mut [u8], at: usize, word: &[u8]) -> usize
-    requires { at + wordMost ≤ length out.old }
-    ensures { result ≤ at + wordMost }
+    requires { at + word_most ≤ length out.old }
+    ensures { result ≤ at + word_most }
 {
     if word.len() <= SHOWN {
         return put_bytes(out, at, word);
@@ -341,8 +341,8 @@ fn put_word(out: &mut [u8], at: usize, word: &[u8]) -> usize
 }
 
 fn put_bit(out: &mut [u8], at: usize, key: u8) -> usize
-    requires { at + kindMost ≤ length out.old }
-    ensures { result ≤ at + kindMost }
+    requires { at + kind_most ≤ length out.old }
+    ensures { result ≤ at + kind_most }
 {
     let a = console_text::text(out, at, &[key]);
     let b = console_text::text(out, a, b"=0 or ");
@@ -351,8 +351,8 @@ fn put_bit(out: &mut [u8], at: usize, key: u8) -> usize
 }
 
 fn put_octets_of(out: &mut [u8], at: usize, size: u32) -> usize
-    requires { at + kindMost ≤ length out.old }
-    ensures { result ≤ at + kindMost }
+    requires { at + kind_most ≤ length out.old }
+    ensures { result ≤ at + kind_most }
 {
     console_text::fill(
         out,
@@ -363,8 +363,8 @@ fn put_octets_of(out: &mut [u8], at: usize, size: u32) -> usize
 }
 
 fn put_kind(out: &mut [u8], at: usize, kind: u8) -> usize
-    requires { at + kindMost ≤ length out.old }
-    ensures { result ≤ at + kindMost }
+    requires { at + kind_most ≤ length out.old }
+    ensures { result ≤ at + kind_most }
 {
     match kind {
         b'n' => console_text::text(out, at, b"a number below 4294967296"),
@@ -393,8 +393,8 @@ fn put_kind(out: &mut [u8], at: usize, kind: u8) -> usize
 
 // A word in quotes, and what is told of it.
 fn put_quoted(out: &mut [u8], at: usize, word: &[u8], told: &[u8]) -> usize
-    requires { at + wordMost + 2 + length told.now ≤ length out.old }
-    ensures { result ≤ at + wordMost + 2 + length told.now }
+    requires { at + word_most + 2 + length told.now ≤ length out.old }
+    ensures { result ≤ at + word_most + 2 + length told.now }
 {
     let a = console_text::text(out, at, b"'");
     let b = put_word(out, a, word);
@@ -403,8 +403,8 @@ fn put_quoted(out: &mut [u8], at: usize, word: &[u8], told: &[u8]) -> usize
 }
 
 fn put_fault(out: &mut [u8], at: usize, s: &[u8], f: Fault) -> usize
-    requires { (at + faultMost ≤ length out.old) × Within 0 (length s.now) f }
-    ensures { result ≤ at + faultMost }
+    requires { (at + fault_most ≤ length out.old) × Within 0 (length s.now) f }
+    ensures { result ≤ at + fault_most }
 {
     match f {
         Fault::None(_) => console_text::text(out, at, b"this is no command"),
@@ -428,8 +428,8 @@ fn put_fault(out: &mut [u8], at: usize, s: &[u8], f: Fault) -> usize
 }
 
 fn put_call_form(out: &mut [u8], at: usize, call: OptionCall) -> usize
-    requires { at + formMost ≤ length out.old }
-    ensures { result ≤ at + formMost }
+    requires { at + form_most ≤ length out.old }
+    ensures { result ≤ at + form_most }
 {
     if console_script::carries(call) {
         return console_text::text(out, at, b" STATION NOW OPTION [HEX])\n");
@@ -439,8 +439,8 @@ fn put_call_form(out: &mut [u8], at: usize, call: OptionCall) -> usize
 
 // What follows the name of a command.
 fn put_form(out: &mut [u8], at: usize, name: Name) -> usize
-    requires { at + formMost ≤ length out.old }
-    ensures { result ≤ at + formMost }
+    requires { at + form_most ≤ length out.old }
+    ensures { result ≤ at + form_most }
 {
     match name {
         Name::Call(c) => put_call_form(out, at, c),
@@ -462,9 +462,9 @@ fn put_form(out: &mut [u8], at: usize, name: Name) -> usize
 
 // The reason of a line with a name: its fault, and how its command is written.
 fn put_command(out: &mut [u8], at: usize, s: &[u8], name: Name, start: usize, end: usize) -> usize
-    requires form_most_in_bounds { at + faultMost + 2 + wordMost + formMost ≤ length out.old }
+    requires form_most_in_bounds { at + fault_most + 2 + word_most + form_most ≤ length out.old }
     requires start_le_end { (start ≤ end) × (end ≤ length s.now) }
-    ensures { result ≤ at + faultMost + 2 + wordMost + formMost }
+    ensures { result ≤ at + fault_most + 2 + word_most + form_most }
 {
     let f = command_fault(name, s, end);
     let a = put_fault(out, at, s, f);
@@ -474,8 +474,8 @@ fn put_command(out: &mut [u8], at: usize, s: &[u8], name: Name, start: usize, en
 }
 
 fn put_reason(out: &mut [u8], at: usize, s: &[u8]) -> usize
-    requires { at + faultMost + 2 + wordMost + formMost ≤ length out.old }
-    ensures { result ≤ at + faultMost + 2 + wordMost + formMost }
+    requires { at + fault_most + 2 + word_most + form_most ≤ length out.old }
+    ensures { result ≤ at + fault_most + 2 + word_most + form_most }
 {
     if LONGEST < s.len() {
         return console_text::fill(
@@ -497,7 +497,7 @@ fn put_reason(out: &mut [u8], at: usize, s: &[u8]) -> usize
 
 // Why the line of this number, which has these bytes, is no command: a line of text from the buffer's start on.
 pub fn reason(out: &mut [u8], number: u64, s: &[u8]) -> usize
-    requires { reasonMost ≤ length out.old }
+    requires { reason_most ≤ length out.old }
     ensures { result ≤ length out.old }
 {
     let a = console_text::text(out, 0, b"line ");

@@ -1,12 +1,12 @@
 -- Commands as values, and what a command of the code stands for: the octets and words at its places in the line.
 use Rattle.std.specs.Prelude.{ℕ, ◌-◌, ◌*◌, ◌≤◌, ◌≡◌, Bool, cond, List, drop}
 use Rattle.std.proofs.Math.Option.{Option, none, some}
-use Rattle.table.specs.Table.{poolSlots}
-use Rattle.image_figures.specs.Sheets.{figuresSize}
-use Rattle.counts.specs.Counts.{countedLengths}
+use Rattle.table.specs.Table.{pool_slots}
+use Rattle.image_figures.specs.Sheets.{figures_size}
+use Rattle.counts.specs.Counts.{counted_lengths}
 use Rattle.console_words.specs.Words.{between}
-use Rattle.console_words.specs.Prefixes.{Columns, prefixesOf}
-use Rattle.console_words.specs.Octets.{octetsIn}
+use Rattle.console_words.specs.Prefixes.{Columns, prefixes_of}
+use Rattle.console_words.specs.Octets.{octets_in}
 use Rattle.console_script.specs.declared.{OptionCall.OptionCall, Command.Command, MessageWords.MessageWords}
 use Rattle.console_script.specs.declared.Command.TheVariants as command
 
@@ -28,10 +28,10 @@ pub data CommandValue : Type 0 where
   write : List ℕ → CommandValue
   -- the figures sheet written out, and one set: its octets
   figures : CommandValue
-  setFigures : List ℕ → CommandValue
+  set_figures : List ℕ → CommandValue
   -- the counts written out, and others set: their octets
   counts : CommandValue
-  setCounts : List ℕ → CommandValue
+  set_counts : List ℕ → CommandValue
   -- the length that is asked for
   whole : ℕ → CommandValue
   -- the reply buffer's length
@@ -44,57 +44,57 @@ pub data CommandValue : Type 0 where
   bad : CommandValue
 
 -- "Longest line: 100,000 bytes."
-abbrev pub longestLine : ℕ
-longestLine = 100000
+abbrev pub longest_line : ℕ
+longest_line = 100000
 
 -- "the reply buffer's length from now on, 0 to 1,024"
-abbrev pub longestReply : ℕ
-longestReply = 1024
+abbrev pub longest_reply : ℕ
+longest_reply = 1024
 
 -- "these 368 bytes (8 rows of 23 numbers, 2 bytes each, little-endian)"
-abbrev pub countsSize : ℕ
-countsSize = 2 * countedLengths * poolSlots
+abbrev pub counts_size : ℕ
+counts_size = 2 * counted_lengths * pool_slots
 
 -- The most prefixes: "open takes 0 to 16 prefixes as arguments (more than 16: an error)".
-abbrev pub mostPrefixes : ℕ
-mostPrefixes = 16
+abbrev pub most_prefixes : ℕ
+most_prefixes = 16
 
-abbrev pub withPrefixes : Option Columns → (List ℕ → List ℕ → CommandValue) → CommandValue
-withPrefixes none f = bad
-withPrefixes (some p) f = f p.0 p.1
+abbrev pub with_prefixes : Option Columns → (List ℕ → List ℕ → CommandValue) → CommandValue
+with_prefixes none f = bad
+with_prefixes (some p) f = f p.0 p.1
 
 -- The octets of an option 118 at their places in a line, if it has one.
-abbrev pub carriedIn : List ℕ → MessageWords → Option (List ℕ)
-carriedIn s m = octetsIn m.carries s m.selection_from m.selection_to
+abbrev pub carried_in : List ℕ → MessageWords → Option (List ℕ)
+carried_in s m = octets_in m.carries s m.selection_from m.selection_to
 
 -- An option, and an option 118 if it comes with one.
 abbrev pub Message : Type 0
 Message = List ℕ × Option (List ℕ)
 
-abbrev pub messageIn : List ℕ → MessageWords → Option Message
-messageIn s m = cond m.good (some (between m.from m.to s, carriedIn s m)) none
+abbrev pub message_in : List ℕ → MessageWords → Option Message
+message_in s m = cond m.good (some (between m.from m.to s, carried_in s m)) none
 
 abbrev pub MessageWithin : ℕ → MessageWords → Type 0
 MessageWithin n m = (m.from ≤ m.to) × (m.to ≤ n) × (m.selection_from ≤ m.selection_to) × (m.selection_to ≤ n)
 
-abbrev pub valueIn : List ℕ → Command → CommandValue
-valueIn s (command.Call c) = call c.call c.client c.time (between c.message.from c.message.to s) (carriedIn s c.message)
-valueIn s (command.Mark c) = mark c.time c.network c.length c.deprecated
-valueIn s (command.Open c) = withPrefixes (prefixesOf mostPrefixes (drop c.from s)) («open» c.term c.default_length c.start)
-valueIn s (command.Load c) = load (between c.from c.to s)
-valueIn s (command.Save c) = save c.form c.older
-valueIn s command.Sheet = sheet
-valueIn s (command.Read c) = read (between c.from c.to s)
-valueIn s (command.Write c) = write (drop c.from s)
-valueIn s command.Figures = figures
-valueIn s (command.SetFigures c) = setFigures (between c.from c.to s)
-valueIn s command.Counts = counts
-valueIn s (command.SetCounts c) = setCounts (between c.from c.to s)
-valueIn s (command.Whole c) = whole c.length
-valueIn s (command.Buffer c) = buffer c.length
-valueIn s (command.Selection c) = selection c.on
-valueIn s command.Nothing = nothing
-valueIn s command.Bad = bad
+abbrev pub value_in : List ℕ → Command → CommandValue
+value_in s (command.Call c) = call c.call c.client c.time (between c.message.from c.message.to s) (carried_in s c.message)
+value_in s (command.Mark c) = mark c.time c.network c.length c.deprecated
+value_in s (command.Open c) = with_prefixes (prefixes_of most_prefixes (drop c.from s)) («open» c.term c.default_length c.start)
+value_in s (command.Load c) = load (between c.from c.to s)
+value_in s (command.Save c) = save c.form c.older
+value_in s command.Sheet = sheet
+value_in s (command.Read c) = read (between c.from c.to s)
+value_in s (command.Write c) = write (drop c.from s)
+value_in s command.Figures = figures
+value_in s (command.SetFigures c) = set_figures (between c.from c.to s)
+value_in s command.Counts = counts
+value_in s (command.SetCounts c) = set_counts (between c.from c.to s)
+value_in s (command.Whole c) = whole c.length
+value_in s (command.Buffer c) = buffer c.length
+value_in s (command.Selection c) = selection c.on
+value_in s command.Nothing = nothing
+value_in s command.Bad = bad
 
 -- The places of a command are within a line of n bytes; a sheet has its size, and so have counts.
 abbrev pub Within : ℕ → Command → Type 0
@@ -107,11 +107,11 @@ Within n command.Sheet = Unit {0}
 Within n (command.Read c) = (c.from ≤ c.to) × (c.to ≤ n)
 Within n (command.Write c) = c.from ≤ n
 Within n command.Figures = Unit {0}
-Within n (command.SetFigures c) = (c.from ≤ c.to) × (c.to ≤ n) × (c.to - c.from ≡ figuresSize)
+Within n (command.SetFigures c) = (c.from ≤ c.to) × (c.to ≤ n) × (c.to - c.from ≡ figures_size)
 Within n command.Counts = Unit {0}
-Within n (command.SetCounts c) = (c.from ≤ c.to) × (c.to ≤ n) × (c.to - c.from ≡ countsSize)
+Within n (command.SetCounts c) = (c.from ≤ c.to) × (c.to ≤ n) × (c.to - c.from ≡ counts_size)
 Within n (command.Whole c) = Unit {0}
-Within n (command.Buffer c) = c.length ≤ longestReply
+Within n (command.Buffer c) = c.length ≤ longest_reply
 Within n (command.Selection c) = Unit {0}
 Within n command.Nothing = Unit {0}
 Within n command.Bad = Unit {0}

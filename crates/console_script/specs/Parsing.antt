@@ -5,16 +5,16 @@ use Rattle.console_words.specs.declared.{Number.Number, PrefixWord.PrefixWord}
 use Rattle.console_words.specs.declared.Number.TheVariants as number
 use Rattle.console_words.specs.declared.PrefixWord.TheVariants as prefix
 use Rattle.text.specs.Ascii.{ascii}
-use Rattle.image_figures.specs.Sheets.{figuresSize}
-use Rattle.console_words.specs.Words.{first_word, afterWord, empty?, last?}
-use Rattle.console_words.specs.Numbers.{number_of, flagOf}
-use Rattle.console_words.specs.Prefixes.{prefix_of, prefixesOf}
-use Rattle.console_words.specs.Octets.{octetsOf, lastOctets}
+use Rattle.image_figures.specs.Sheets.{figures_size}
+use Rattle.console_words.specs.Words.{first_word, after_word, empty?, last?}
+use Rattle.console_words.specs.Numbers.{number_of, flag_of}
+use Rattle.console_words.specs.Prefixes.{prefix_of, prefixes_of}
+use Rattle.console_words.specs.Octets.{octets_of, last_octets}
 use Rattle.console_script.specs.declared.{OptionCall.OptionCall, Name.Name, Switch.Switch}
 use Rattle.console_script.specs.declared.OptionCall.TheVariants.{Ask, Take, List as ListCall, Return}
 use Rattle.console_script.specs.declared.Name.TheVariants as name
 use Rattle.console_script.specs.declared.Switch.TheVariants as switch
-use Rattle.console_script.specs.Commands.{CommandValue, call, mark, «open», load, save, sheet, read, write, figures, setFigures, counts, setCounts, whole, buffer, selection, nothing, bad, Message, longestLine, longestReply, countsSize, mostPrefixes, withPrefixes}
+use Rattle.console_script.specs.Commands.{CommandValue, call, mark, «open», load, save, sheet, read, write, figures, set_figures, counts, set_counts, whole, buffer, selection, nothing, bad, Message, longest_line, longest_reply, counts_size, most_prefixes, with_prefixes}
 
 -- NAMES
 
@@ -26,8 +26,8 @@ same? (x ∷ xs) [] = false
 same? (x ∷ xs) (y ∷ ys) = eqb x y && same? xs ys
 
 -- The command that a word names: a call, or another.
-unfoldable pub otherName : List ℕ → Name
-otherName w =
+unfoldable pub other_name : List ℕ → Name
+other_name w =
     cond (same? w (ascii "read")) name.Read
     (cond (same? w (ascii "write")) name.Write
     (cond (same? w (ascii "figures")) name.Figures
@@ -46,7 +46,7 @@ name_of w =
     (cond (same? w (ascii "open")) name.Open
     (cond (same? w (ascii "load")) name.Load
     (cond (same? w (ascii "save")) name.Save
-    (cond (same? w (ascii "sheet")) name.Sheet (otherName w)))))))))
+    (cond (same? w (ascii "sheet")) name.Sheet (other_name w)))))))))
 
 -- ARGUMENTS: each of xs, what is left of a line behind the name.
 
@@ -54,21 +54,21 @@ abbrev pub with_number : Number → (ℕ → CommandValue) → CommandValue
 with_number (number.Of n) f = f n
 with_number number.Bad f = bad
 
-abbrev pub withPrefix : PrefixWord → (ℕ → ℕ → CommandValue) → CommandValue
-withPrefix (prefix.Of n l) f = f n l
-withPrefix prefix.Bad f = bad
+abbrev pub with_prefix : PrefixWord → (ℕ → ℕ → CommandValue) → CommandValue
+with_prefix (prefix.Of n l) f = f n l
+with_prefix prefix.Bad f = bad
 
-abbrev pub withOctets : Option (List ℕ) → (List ℕ → CommandValue) → CommandValue
-withOctets none f = bad
-withOctets (some octets) f = f octets
+abbrev pub with_octets : Option (List ℕ) → (List ℕ → CommandValue) → CommandValue
+with_octets none f = bad
+with_octets (some octets) f = f octets
 
 -- A command whose last word has been read.
-abbrev pub atEnd : List ℕ → CommandValue → CommandValue
-atEnd xs v = cond (last? xs) v bad
+abbrev pub at_end : List ℕ → CommandValue → CommandValue
+at_end xs v = cond (last? xs) v bad
 
-abbrev pub withMessage : Option Message → (List ℕ → Option (List ℕ) → CommandValue) → CommandValue
-withMessage none f = bad
-withMessage (some m) f = f m.0 m.1
+abbrev pub with_message : Option Message → (List ℕ → Option (List ℕ) → CommandValue) → CommandValue
+with_message none f = bad
+with_message (some m) f = f m.0 m.1
 
 -- "`list` and `return` never have it."
 abbrev pub carries? : OptionCall → Bool
@@ -82,119 +82,119 @@ abbrev pub alone : Option (List ℕ) → Option Message
 alone none = none
 alone (some option) = some (option, none)
 
-abbrev pub bothOctets : Option (List ℕ) → Option (List ℕ) → Option Message
-bothOctets (some option) (some carried) = some (option, some carried)
-bothOctets (some option) none = none
-bothOctets none o = none
+abbrev pub both_octets : Option (List ℕ) → Option (List ℕ) → Option Message
+both_octets (some option) (some carried) = some (option, some carried)
+both_octets (some option) none = none
+both_octets none o = none
 
 -- OPTION [HEX]
-unfoldable pub messageOf : OptionCall → List ℕ → Option Message
-messageOf c xs =
-    cond (last? (afterWord xs)) (alone (octetsOf (first_word xs)))
-    (cond (carries? c) (bothOctets (octetsOf (first_word xs)) (lastOctets (afterWord xs))) none)
+unfoldable pub message_of : OptionCall → List ℕ → Option Message
+message_of c xs =
+    cond (last? (after_word xs)) (alone (octets_of (first_word xs)))
+    (cond (carries? c) (both_octets (octets_of (first_word xs)) (last_octets (after_word xs))) none)
 
 -- STATION NOW OPTION [HEX]
-unfoldable pub parseCall : OptionCall → List ℕ → CommandValue
-parseCall c xs =
+unfoldable pub parse_call : OptionCall → List ℕ → CommandValue
+parse_call c xs =
     with_number (number_of (first_word xs)) (λ client.
-    with_number (number_of (first_word (afterWord xs))) (λ time.
-    withMessage (messageOf c (afterWord (afterWord xs))) (λ option carried. call c client time option carried)))
+    with_number (number_of (first_word (after_word xs))) (λ time.
+    with_message (message_of c (after_word (after_word xs))) (λ option carried. call c client time option carried)))
 
 -- NOW PREFIX D
-unfoldable pub parseMark : List ℕ → CommandValue
-parseMark xs =
+unfoldable pub parse_mark : List ℕ → CommandValue
+parse_mark xs =
     with_number (number_of (first_word xs)) (λ time.
-    withPrefix (prefix_of (first_word (afterWord xs))) (λ network len.
-    with_number (flagOf (first_word (afterWord (afterWord xs)))) (λ d.
-    atEnd (afterWord (afterWord (afterWord xs))) (mark time network len d))))
+    with_prefix (prefix_of (first_word (after_word xs))) (λ network len.
+    with_number (flag_of (first_word (after_word (after_word xs)))) (λ d.
+    at_end (after_word (after_word (after_word xs))) (mark time network len d))))
 
 -- TERM DEFAULT START PREFIX.., "DEFAULT below 256"
-unfoldable pub parseOpen : List ℕ → CommandValue
-parseOpen xs =
+unfoldable pub parse_open : List ℕ → CommandValue
+parse_open xs =
     with_number (number_of (first_word xs)) (λ term.
-    with_number (number_of (first_word (afterWord xs))) (λ len.
+    with_number (number_of (first_word (after_word xs))) (λ len.
     cond (ltb 255 len) bad
-    (with_number (number_of (first_word (afterWord (afterWord xs)))) (λ start.
-    withPrefixes (prefixesOf mostPrefixes (afterWord (afterWord (afterWord xs)))) («open» term len start)))))
+    (with_number (number_of (first_word (after_word (after_word xs)))) (λ start.
+    with_prefixes (prefixes_of most_prefixes (after_word (after_word (after_word xs)))) («open» term len start)))))
 
 -- IMAGE
-unfoldable pub parseLoad : List ℕ → CommandValue
-parseLoad xs = withOctets (lastOctets xs) load
+unfoldable pub parse_load : List ℕ → CommandValue
+parse_load xs = with_octets (last_octets xs) load
 
 -- FORM: the word 1 or the word 2.
 unfoldable pub form_of : List ℕ → Number
 form_of w = cond (same? w (ascii "1")) (number.Of 1) (cond (same? w (ascii "2")) (number.Of 2) number.Bad)
 
 -- The word older, and no further one.
-unfoldable pub olderAlone? : List ℕ → Bool
-olderAlone? xs = same? (first_word xs) (ascii "older") && last? (afterWord xs)
+unfoldable pub older_alone? : List ℕ → Bool
+older_alone? xs = same? (first_word xs) (ascii "older") && last? (after_word xs)
 
 -- Nothing more, FORM, or FORM older: "`save` and `save 2` write the second form, `save 1` the first"; "`save 1 older`, `save 2 older`: saved for an older desk
 -- (`save older` is an error)".
-abbrev pub saveAs : List ℕ → ℕ → CommandValue
-saveAs xs form = cond (last? xs) (save form false) (cond (olderAlone? xs) (save form true) bad)
+abbrev pub save_as : List ℕ → ℕ → CommandValue
+save_as xs form = cond (last? xs) (save form false) (cond (older_alone? xs) (save form true) bad)
 
-unfoldable pub parseSave : List ℕ → CommandValue
-parseSave xs = cond (last? xs) (save 2 false) (with_number (form_of (first_word xs)) (saveAs (afterWord xs)))
+unfoldable pub parse_save : List ℕ → CommandValue
+parse_save xs = cond (last? xs) (save 2 false) (with_number (form_of (first_word xs)) (save_as (after_word xs)))
 
 -- OPTION
-unfoldable pub parseRead : List ℕ → CommandValue
-parseRead xs = withOctets (lastOctets xs) read
+unfoldable pub parse_read : List ℕ → CommandValue
+parse_read xs = with_octets (last_octets xs) read
 
 -- Nothing more, or so many octets.
-abbrev pub ofSize : ℕ → (List ℕ → CommandValue) → List ℕ → CommandValue
-ofSize n f octets = cond (eqb (length octets) n) (f octets) bad
+abbrev pub of_size : ℕ → (List ℕ → CommandValue) → List ℕ → CommandValue
+of_size n f octets = cond (eqb (length octets) n) (f octets) bad
 
-unfoldable pub aloneOr : CommandValue → ℕ → (List ℕ → CommandValue) → List ℕ → CommandValue
-aloneOr alone n f xs = cond (last? xs) alone (withOctets (lastOctets xs) (ofSize n f))
+unfoldable pub alone_or : CommandValue → ℕ → (List ℕ → CommandValue) → List ℕ → CommandValue
+alone_or alone n f xs = cond (last? xs) alone (with_octets (last_octets xs) (of_size n f))
 
 -- Nothing more, or SHEET: "an error if they are not exactly as many as the sheet has"
-abbrev pub parseFigures : List ℕ → CommandValue
-parseFigures xs = aloneOr figures figuresSize setFigures xs
+abbrev pub parse_figures : List ℕ → CommandValue
+parse_figures xs = alone_or figures figures_size set_figures xs
 
 -- Nothing more, or COUNTS: "an error if they are not 368"
-abbrev pub parseCounts : List ℕ → CommandValue
-parseCounts xs = aloneOr counts countsSize setCounts xs
+abbrev pub parse_counts : List ℕ → CommandValue
+parse_counts xs = alone_or counts counts_size set_counts xs
 
 -- LENGTH, "any number below 2^32"
-unfoldable pub parseWhole : List ℕ → CommandValue
-parseWhole xs = with_number (number_of (first_word xs)) (λ n. atEnd (afterWord xs) (whole n))
+unfoldable pub parse_whole : List ℕ → CommandValue
+parse_whole xs = with_number (number_of (first_word xs)) (λ n. at_end (after_word xs) (whole n))
 
 -- N, "0 to 1,024"
-unfoldable pub parseBuffer : List ℕ → CommandValue
-parseBuffer xs = with_number (number_of (first_word xs)) (λ n. cond (ltb longestReply n) bad (atEnd (afterWord xs) (buffer n)))
+unfoldable pub parse_buffer : List ℕ → CommandValue
+parse_buffer xs = with_number (number_of (first_word xs)) (λ n. cond (ltb longest_reply n) bad (at_end (after_word xs) (buffer n)))
 
 -- The word on or the word off.
-unfoldable pub switchOf : List ℕ → Switch
-switchOf w = cond (same? w (ascii "on")) (switch.Of true) (cond (same? w (ascii "off")) (switch.Of false) switch.Bad)
+unfoldable pub switch_of : List ℕ → Switch
+switch_of w = cond (same? w (ascii "on")) (switch.Of true) (cond (same? w (ascii "off")) (switch.Of false) switch.Bad)
 
-abbrev pub withSwitch : Switch → (Bool → CommandValue) → CommandValue
-withSwitch (switch.Of on) f = f on
-withSwitch switch.Bad f = bad
+abbrev pub with_switch : Switch → (Bool → CommandValue) → CommandValue
+with_switch (switch.Of on) f = f on
+with_switch switch.Bad f = bad
 
 -- "`selection on`, `selection off`"
-unfoldable pub parseSelection : List ℕ → CommandValue
-parseSelection xs = withSwitch (switchOf (first_word xs)) (λ on. atEnd (afterWord xs) (selection on))
+unfoldable pub parse_selection : List ℕ → CommandValue
+parse_selection xs = with_switch (switch_of (first_word xs)) (λ on. at_end (after_word xs) (selection on))
 
 -- Nothing more.
-unfoldable pub parseSheet : List ℕ → CommandValue
-parseSheet xs = atEnd xs sheet
+unfoldable pub parse_sheet : List ℕ → CommandValue
+parse_sheet xs = at_end xs sheet
 
-abbrev pub parseWords : Name → List ℕ → CommandValue
-parseWords (name.Call c) xs = parseCall c xs
-parseWords name.Mark xs = parseMark xs
-parseWords name.Open xs = parseOpen xs
-parseWords name.Load xs = parseLoad xs
-parseWords name.Save xs = parseSave xs
-parseWords name.Sheet xs = parseSheet xs
-parseWords name.Read xs = parseRead xs
-parseWords name.Write xs = write xs
-parseWords name.Figures xs = parseFigures xs
-parseWords name.Counts xs = parseCounts xs
-parseWords name.Whole xs = parseWhole xs
-parseWords name.Buffer xs = parseBuffer xs
-parseWords name.Selection xs = parseSelection xs
-parseWords name.Other xs = bad
+abbrev pub parse_words : Name → List ℕ → CommandValue
+parse_words (name.Call c) xs = parse_call c xs
+parse_words name.Mark xs = parse_mark xs
+parse_words name.Open xs = parse_open xs
+parse_words name.Load xs = parse_load xs
+parse_words name.Save xs = parse_save xs
+parse_words name.Sheet xs = parse_sheet xs
+parse_words name.Read xs = parse_read xs
+parse_words name.Write xs = write xs
+parse_words name.Figures xs = parse_figures xs
+parse_words name.Counts xs = parse_counts xs
+parse_words name.Whole xs = parse_whole xs
+parse_words name.Buffer xs = parse_buffer xs
+parse_words name.Selection xs = parse_selection xs
+parse_words name.Other xs = bad
 
 -- LINES
 
@@ -203,9 +203,9 @@ unfoldable pub unreturned : List ℕ → ℕ
 unreturned s = cond (eqb (get_or s (length s - 1) 0) 13) (length s - 1) (length s)
 
 -- "A line with no word, or whose first word begins with #, is passed over"; "Longest line: 100,000 bytes."
-unfoldable pub parseLine : List ℕ → CommandValue
-parseLine s =
-    cond (ltb longestLine (length s)) bad
+unfoldable pub parse_line : List ℕ → CommandValue
+parse_line s =
+    cond (ltb longest_line (length s)) bad
     (cond (empty? (first_word s)) nothing
     (cond (eqb (get_or (first_word s) 0 0) 35) nothing
-    (parseWords (name_of (first_word s)) (afterWord s))))
+    (parse_words (name_of (first_word s)) (after_word s))))

@@ -1,36 +1,36 @@
 // The lines of a script: the command of each, with the numbers that its words spell and the places where its octets and other words stand.
 ghost use Rattle.std.specs.Prelude.{◌≡◌, false, ◌+◌, ◌*◌, ◌≤◌, length, drop};
-ghost use Rattle.counts.specs.Counts.{countedLengths};
-ghost use Rattle.console_script.specs.Commands.{valueIn, messageIn, Within, MessageWithin, countsSize};
-ghost use Rattle.console_script.specs.CountOctets.{numbersIn, countsIn};
+ghost use Rattle.counts.specs.Counts.{counted_lengths};
+ghost use Rattle.console_script.specs.Commands.{value_in, message_in, Within, MessageWithin, counts_size};
+ghost use Rattle.console_script.specs.CountOctets.{numbers_in, counts_in};
 ghost use Rattle.console_script.specs.Parsing.{
   same?,
-  otherName,
+  other_name,
   name_of,
   form_of,
-  switchOf,
+  switch_of,
   carries?,
-  messageOf,
-  bothOctets,
-  parseCall,
-  parseMark,
-  parseOpen,
-  parseLoad,
-  parseRead,
-  parseFigures,
-  parseCounts,
-  parseWhole,
-  parseBuffer,
-  parseSelection,
-  olderAlone?,
-  parseSave,
-  parseSheet,
-  parseWords,
-  parseLine,
+  message_of,
+  both_octets,
+  parse_call,
+  parse_mark,
+  parse_open,
+  parse_load,
+  parse_read,
+  parse_figures,
+  parse_counts,
+  parse_whole,
+  parse_buffer,
+  parse_selection,
+  older_alone?,
+  parse_save,
+  parse_sheet,
+  parse_words,
+  parse_line,
   unreturned,
 };
 ghost use Rattle.console_words.specs.Words.{between};
-ghost use Rattle.console_words.specs.Octets.{octetsOf, lastOctets};
+ghost use Rattle.console_words.specs.Octets.{octets_of, last_octets};
 
 use console_words::{Number, PrefixWord};
 use counts::{Counts, LENGTHS};
@@ -189,7 +189,7 @@ fn is(word: &[u8], name: &[u8]) -> bool
 
 // The command that a word names where it is none of a call.
 fn other_name(word: &[u8]) -> Name
-    ensures { result ≡ otherName word.now }
+    ensures { result ≡ other_name word.now }
 {
     if is(word, b"read") {
         return Name::Read;
@@ -279,7 +279,7 @@ fn no_message() -> MessageWords
 fn both_octets(s: &mut [u8], begin: usize, end: usize) -> MessageWords
     requires { (begin ≤ end) × (end ≤ length s.old) }
     ensures message_within { MessageWithin (length s.old) result }
-    ensures result_after { messageIn s.new result ≡ bothOctets (octetsOf (between begin end s.old)) (lastOctets (drop end s.old)) }
+    ensures result_after { message_in s.new result ≡ both_octets (octets_of (between begin end s.old)) (last_octets (drop end s.old)) }
 {
     let second = console_words::last_octets(&mut s[end..], 0);
     if !second.good {
@@ -300,7 +300,7 @@ fn both_octets(s: &mut [u8], begin: usize, end: usize) -> MessageWords
 fn message_words(call: OptionCall, s: &mut [u8], from: usize) -> MessageWords
     requires { from ≤ length s.old }
     ensures message_within { MessageWithin (length s.old) result }
-    ensures result_after { messageIn s.new result ≡ messageOf call (drop from s.old) }
+    ensures result_after { message_in s.new result ≡ message_of call (drop from s.old) }
 {
     let w = console_words::next_word(s, from);
     let begin = w.start;
@@ -326,7 +326,7 @@ fn message_words(call: OptionCall, s: &mut [u8], from: usize) -> MessageWords
 fn call_line(call: OptionCall, s: &mut [u8], from: usize) -> Command
     requires { from ≤ length s.old }
     ensures within { Within (length s.old) result }
-    ensures result_after { valueIn s.new result ≡ parseCall call (drop from s.old) }
+    ensures result_after { value_in s.new result ≡ parse_call call (drop from s.old) }
 {
     let a = console_words::next_number(s, from);
     let station = a.number;
@@ -354,7 +354,7 @@ fn call_line(call: OptionCall, s: &mut [u8], from: usize) -> Command
 fn mark_line(s: &[u8], from: usize) -> Command
     requires { from ≤ length s.now }
     ensures within { Within (length s.now) result }
-    ensures result_value { valueIn s.now result ≡ parseMark (drop from s.now) }
+    ensures result_value { value_in s.now result ≡ parse_mark (drop from s.now) }
 {
     let a = console_words::next_number(s, from);
     let now = a.number;
@@ -386,7 +386,7 @@ fn mark_line(s: &[u8], from: usize) -> Command
 fn open_line(s: &[u8], from: usize) -> Command
     requires { from ≤ length s.now }
     ensures within { Within (length s.now) result }
-    ensures result_value { valueIn s.now result ≡ parseOpen (drop from s.now) }
+    ensures result_value { value_in s.now result ≡ parse_open (drop from s.now) }
 {
     let a = console_words::next_number(s, from);
     let first = a.number;
@@ -418,7 +418,7 @@ fn open_line(s: &[u8], from: usize) -> Command
 fn load_line(s: &mut [u8], from: usize) -> Command
     requires { from ≤ length s.old }
     ensures within { Within (length s.old) result }
-    ensures result_after { valueIn s.new result ≡ parseLoad (drop from s.old) }
+    ensures result_after { value_in s.new result ≡ parse_load (drop from s.old) }
 {
     let octets = console_words::last_octets(s, from);
     if !octets.good {
@@ -446,7 +446,7 @@ pub fn read_form(word: &[u8]) -> Number
 // The word older, and no further one.
 fn older_alone(s: &[u8], from: usize) -> bool
     requires { from ≤ length s.now }
-    ensures { result ≡ olderAlone? (drop from s.now) }
+    ensures { result ≡ older_alone? (drop from s.now) }
 {
     let w = console_words::next_word(s, from);
     let start = w.start;
@@ -461,7 +461,7 @@ fn older_alone(s: &[u8], from: usize) -> bool
 fn save_line(s: &[u8], from: usize) -> Command
     requires { from ≤ length s.now }
     ensures within { Within (length s.now) result }
-    ensures result_value { valueIn s.now result ≡ parseSave (drop from s.now) }
+    ensures result_value { value_in s.now result ≡ parse_save (drop from s.now) }
 {
     if console_words::ends(s, from) {
         return Command::Save(SaveLine {
@@ -489,7 +489,7 @@ fn save_line(s: &[u8], from: usize) -> Command
 fn read_line(s: &mut [u8], from: usize) -> Command
     requires { from ≤ length s.old }
     ensures within { Within (length s.old) result }
-    ensures result_after { valueIn s.new result ≡ parseRead (drop from s.old) }
+    ensures result_after { value_in s.new result ≡ parse_read (drop from s.old) }
 {
     let octets = console_words::last_octets(s, from);
     if !octets.good {
@@ -505,7 +505,7 @@ fn read_line(s: &mut [u8], from: usize) -> Command
 fn figures_line(s: &mut [u8], from: usize) -> Command
     requires { from ≤ length s.old }
     ensures within { Within (length s.old) result }
-    ensures result_after { valueIn s.new result ≡ parseFigures (drop from s.old) }
+    ensures result_after { value_in s.new result ≡ parse_figures (drop from s.old) }
 {
     if console_words::ends(s, from) {
         return Command::Figures;
@@ -527,7 +527,7 @@ fn figures_line(s: &mut [u8], from: usize) -> Command
 fn counts_line(s: &mut [u8], from: usize) -> Command
     requires { from ≤ length s.old }
     ensures within { Within (length s.old) result }
-    ensures result_after { valueIn s.new result ≡ parseCounts (drop from s.old) }
+    ensures result_after { value_in s.new result ≡ parse_counts (drop from s.old) }
 {
     if console_words::ends(s, from) {
         return Command::Counts;
@@ -549,7 +549,7 @@ fn counts_line(s: &mut [u8], from: usize) -> Command
 fn whole_line(s: &[u8], from: usize) -> Command
     requires { from ≤ length s.now }
     ensures within { Within (length s.now) result }
-    ensures result_value { valueIn s.now result ≡ parseWhole (drop from s.now) }
+    ensures result_value { value_in s.now result ≡ parse_whole (drop from s.now) }
 {
     let a = console_words::next_number(s, from);
     let number = a.number;
@@ -566,7 +566,7 @@ fn whole_line(s: &[u8], from: usize) -> Command
 fn buffer_line(s: &[u8], from: usize) -> Command
     requires { from ≤ length s.now }
     ensures within { Within (length s.now) result }
-    ensures result_value { valueIn s.now result ≡ parseBuffer (drop from s.now) }
+    ensures result_value { value_in s.now result ≡ parse_buffer (drop from s.now) }
 {
     let a = console_words::next_number(s, from);
     let number = a.number;
@@ -584,7 +584,7 @@ fn buffer_line(s: &[u8], from: usize) -> Command
 
 // The word on or the word off.
 pub fn read_switch(word: &[u8]) -> Switch
-    ensures { result ≡ switchOf word.now }
+    ensures { result ≡ switch_of word.now }
 {
     if is(word, b"on") {
         return Switch::Of(true);
@@ -599,7 +599,7 @@ pub fn read_switch(word: &[u8]) -> Switch
 fn selection_line(s: &[u8], from: usize) -> Command
     requires { from ≤ length s.now }
     ensures within { Within (length s.now) result }
-    ensures result_value { valueIn s.now result ≡ parseSelection (drop from s.now) }
+    ensures result_value { value_in s.now result ≡ parse_selection (drop from s.now) }
 {
     let w = console_words::next_word(s, from);
     let begin = w.start;
@@ -618,7 +618,7 @@ fn selection_line(s: &[u8], from: usize) -> Command
 fn sheet_line(s: &[u8], from: usize) -> Command
     requires { from ≤ length s.now }
     ensures within { Within (length s.now) result }
-    ensures result_value { valueIn s.now result ≡ parseSheet (drop from s.now) }
+    ensures result_value { value_in s.now result ≡ parse_sheet (drop from s.now) }
 {
     if !console_words::ends(s, from) {
         return Command::Bad;
@@ -630,7 +630,7 @@ fn sheet_line(s: &[u8], from: usize) -> Command
 fn read_words(name: Name, s: &mut [u8], from: usize) -> Command
     requires { from ≤ length s.old }
     ensures within { Within (length s.old) result }
-    ensures result_after { valueIn s.new result ≡ parseWords name (drop from s.old) }
+    ensures result_after { value_in s.new result ≡ parse_words name (drop from s.old) }
 {
     match name {
         Name::Call(c) => call_line(c, s, from),
@@ -666,7 +666,7 @@ pub fn without_return(line: &[u8]) -> usize
 // Reads a line without its newline and a carriage return before that. Octets are written over the words that spell them.
 pub fn read_command(s: &mut [u8]) -> Command
     ensures within { Within (length s.old) result }
-    ensures result_after { valueIn s.new result ≡ parseLine s.old }
+    ensures result_after { value_in s.new result ≡ parse_line s.old }
 {
     if LONGEST < s.len() {
         return Command::Bad;
@@ -694,8 +694,8 @@ fn wide(x: u8) -> u16
 
 // The row that the octets from a place on spell, low bytes first.
 fn row_in(octets: &[u8], at: usize) -> [u16; LENGTHS]
-    requires { at + 2 * countedLengths ≤ length octets.now }
-    ensures { result ≡ numbersIn countedLengths (drop at octets.now) }
+    requires { at + 2 * counted_lengths ≤ length octets.now }
+    ensures { result ≡ numbers_in counted_lengths (drop at octets.now) }
 {
     let mut row = [0u16; LENGTHS];
     let mut j: usize = 0;
@@ -710,8 +710,8 @@ fn row_in(octets: &[u8], at: usize) -> [u16; LENGTHS]
 
 // The counts that the octets of a `counts` line spell.
 pub fn counts_in(octets: &[u8]) -> Counts
-    requires { length octets.now ≡ countsSize }
-    ensures { result ≡ countsIn octets.now }
+    requires { length octets.now ≡ counts_size }
+    ensures { result ≡ counts_in octets.now }
 {
     let none = [0u16; LENGTHS];
     let mut rows = [none; POOLS];

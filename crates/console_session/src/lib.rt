@@ -2,12 +2,12 @@
 ghost use Rattle.std.specs.Prelude.{◌≡◌, ◌≤◌, length};
 ghost use Rattle.console_session.specs.States.{
   Unchanged,
-  nextLine,
-  firstReply,
-  firstSelected,
-  firstSheet,
-  firstCounts,
-  outputSpace,
+  next_line,
+  first_reply,
+  first_selected,
+  first_sheet,
+  first_counts,
+  output_space,
   LineFits,
   OutputHolds,
 };
@@ -47,7 +47,7 @@ pub struct State {
 }
 
 pub fn first_state(echo: bool) -> State
-    ensures { (result.reply_length ≡ firstReply) × (result.selected ≡ firstSelected) × (result.lines ≡ 0) × (result.at ≡ 0) × (result.echo ≡ echo) }
+    ensures { (result.reply_length ≡ first_reply) × (result.selected ≡ first_selected) × (result.lines ≡ 0) × (result.at ≡ 0) × (result.echo ≡ echo) }
 {
     State {
         reply_length: REPLY_AT_FIRST,
@@ -61,7 +61,7 @@ pub fn first_state(echo: bool) -> State
 
 // The state at the next line.
 pub fn next_line(s: State) -> State
-    ensures { (result.reply_length ≡ s.reply_length) × (result.selected ≡ s.selected) × (result.lines ≡ nextLine s.lines) × (result.at ≡ s.at) × (result.echo ≡ s.echo) }
+    ensures { (result.reply_length ≡ s.reply_length) × (result.selected ≡ s.selected) × (result.lines ≡ next_line s.lines) × (result.at ≡ s.at) × (result.echo ≡ s.echo) }
 {
     let mut next = s;
     if s.lines < u64::MAX {
@@ -100,7 +100,7 @@ pub fn with_selected(s: State, selected: bool) -> State
 
 // The figures sheet at first: each row is that of an empty slot.
 pub fn first_figures() -> [u8; FIGURES]
-    ensures { result ≡ firstSheet }
+    ensures { result ≡ first_sheet }
 {
     let mut sheet = [0u8; FIGURES];
     image_figures::fill(&mut sheet, b"", 0, 0);
@@ -109,7 +109,7 @@ pub fn first_figures() -> [u8; FIGURES]
 
 // The counts at first: all 0.
 pub fn first_counts() -> Counts
-    ensures { result ≡ firstCounts }
+    ensures { result ≡ first_counts }
 {
     let none = [0u16; LENGTHS];
     [none; POOLS]
@@ -119,7 +119,7 @@ pub fn first_counts() -> Counts
 
 // Space for the output: what may wait, and one command with its answer more.
 pub fn output() -> [u8; OUTPUT]
-    ensures { outputSpace ≡ length result }
+    ensures { output_space ≡ length result }
 {
     [0; OUTPUT]
 }

@@ -10,28 +10,28 @@ use lib.ListN.{length, take, drop, get_or, set, length-append}
 use lib.Seq.{length-take-le, take-suc}
 use lib.Dec.{eqb}
 use borrow.Author.Tests.{lt-ltb, eqb-true, eq-eqb}
-use Rattle.lists.specs.Lists.{All, concatMap}
+use Rattle.lists.specs.Lists.{All, concat_map}
 use Rattle.lists.specs.Put.{put}
 use Rattle.lists.proofs.PutLaws.{put-more, set_more}
 use Rattle.lists.proofs.DropLaws.{drop_at, drop-end}
-use Rattle.lists.proofs.ConcatMapLaws.{concatMap-append, length-concatMap}
+use Rattle.lists.proofs.ConcatMapLaws.{concat_map-append, length-concat_map}
 use Rattle.text.specs.Decimal.{digit}
-use Rattle.text.specs.Wrote.{lastDigits, WroteNumber}
+use Rattle.text.specs.Wrote.{lowest_digits, WroteNumber}
 use Rattle.text.proofs.TextLaws.{length_last}
 use Rattle.io.specs.Digits.{hex_digit_ascii, last_digits}
-use Rattle.console_text.specs.Text.{hexOf, Decimal, Spelt, Piece, Spells, Filled}
+use Rattle.console_text.specs.Text.{hex_of, Decimal, Spelt, Piece, Spells, Filled}
 
-sized : (s : List ℕ) → All (λ x. length (hexOf x) ≡ 2) s
+sized : (s : List ℕ) → All (λ x. length (hex_of x) ≡ 2) s
 sized [] = tt
 sized (x ∷ xs) = (refl, sized xs)
 
 -- One octet more, as two digits.
-pub octets-more : (l l₁ : List ℕ) (at i : ℕ) (s : List ℕ) (high low : ℕ) → i < length s → (high ∷ low ∷ [] ≡ hexOf (get_or s i 0)) → l₁ ≡ put l at (concatMap hexOf (take i s)) → set (set l₁ (at + 2 * i) high) (at + 2 * i + 1) low ≡ put l at (concatMap hexOf (take (i + 1) s))
+pub octets-more : (l l₁ : List ℕ) (at i : ℕ) (s : List ℕ) (high low : ℕ) → i < length s → (high ∷ low ∷ [] ≡ hex_of (get_or s i 0)) → l₁ ≡ put l at (concat_map hex_of (take i s)) → set (set l₁ (at + 2 * i) high) (at + 2 * i + 1) low ≡ put l at (concat_map hex_of (take (i + 1) s))
 unfolding put
 octets-more l l₁ at i s high low lt last_digits e =
-    let done : List ℕ = concatMap hexOf (take i s) in
-    let more : concatMap hexOf (take (i + 1) s) ≡ done ++ hexOf (get_or s i 0) = ap (λ (k : ℕ). concatMap hexOf (take k s)) (add-one i) ∙ ap (concatMap hexOf) (take-suc s i 0 lt) ∙ concatMap-append hexOf (take i s) (get_or s i 0 ∷ []) in
-    let size : at + 2 * i ≡ at + length done = omega (arith, length-concatMap hexOf 2 (take i s) (sized (take i s)), length-take-le i s (omega arith)) in
+    let done : List ℕ = concat_map hex_of (take i s) in
+    let more : concat_map hex_of (take (i + 1) s) ≡ done ++ hex_of (get_or s i 0) = ap (λ (k : ℕ). concat_map hex_of (take k s)) (add-one i) ∙ ap (concat_map hex_of) (take-suc s i 0 lt) ∙ concat_map-append hex_of (take i s) (get_or s i 0 ∷ []) in
+    let size : at + 2 * i ≡ at + length done = omega (arith, length-concat_map hex_of 2 (take i s) (sized (take i s)), length-take-le i s (omega arith)) in
     put-more l l₁ _ at done (at + 2 * i) (high ∷ low ∷ []) e size refl ∙ ap (λ (r : List ℕ). put l at (done ++ r)) last_digits ∙ ap (put l at) (sym more)
 
 length_digits : (b k n : ℕ) → length (last_digits b k n) ≡ k
@@ -39,7 +39,7 @@ length_digits b zero n = refl
 length_digits b (suc k) n = omega (arith, length-append (last_digits b k (n / b)) (hex_digit_ascii (n % b) ∷ []), length_digits b k (n / b))
 
 -- The digits of a number, as they are spelled elsewhere.
-spelled : (k n : ℕ) → lastDigits k n ≡ last_digits 10 k n
+spelled : (k n : ℕ) → lowest_digits k n ≡ last_digits 10 k n
 spelled zero n = refl
 spelled (suc k) n = rw (lt-ltb (n % 10) 10 (omega arith)) (ap (λ (front : List ℕ). front ++ (digit n ∷ [])) (spelled k (n / 10)))
 

@@ -4,8 +4,8 @@ use Rattle.lists.specs.Put.{put}
 use Rattle.io.specs.Digits.{hex_digit_ascii, last_digits, IsDigitCount}
 
 -- An octet as two hexadecimal digits, in lower case.
-abbrev pub hexOf : ℕ → List ℕ
-hexOf x = hex_digit_ascii (x / 16) ∷ hex_digit_ascii (x % 16) ∷ []
+abbrev pub hex_of : ℕ → List ℕ
+hex_of x = hex_digit_ascii (x / 16) ∷ hex_digit_ascii (x % 16) ∷ []
 
 -- After a number was written in decimal from a place on: k digits, the fewest that hold it, and all other bytes as before.
 pub record Decimal (n : ℕ) (before : List ℕ) (at : ℕ) (after : List ℕ) (k : ℕ) : Type 0 where

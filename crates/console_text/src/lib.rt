@@ -1,9 +1,9 @@
 // Text into a lent buffer, from a place on: each function answers the place after what it wrote, and leaves all other bytes.
 ghost use Rattle.std.specs.Prelude.{◌≡◌, ◌+◌, ◌-◌, ◌*◌, ◌^◌, ◌≤◌, ◌<◌, length};
-ghost use Rattle.lists.specs.Lists.{concatMap};
+ghost use Rattle.lists.specs.Lists.{concat_map};
 ghost use Rattle.lists.specs.Put.{put};
-ghost use Rattle.io.specs.Digits.{hex_digit_ascii as glyphOf, last_digits};
-ghost use Rattle.console_text.specs.Text.{hexOf, Decimal, Filled};
+ghost use Rattle.io.specs.Digits.{hex_digit_ascii as glyph_of, last_digits};
+ghost use Rattle.console_text.specs.Text.{hex_of, Decimal, Filled};
 
 pub fn text(out: &mut [u8], at: usize, s: &[u8]) -> usize
     requires { at + length s.now ≤ length out.old }
@@ -66,7 +66,7 @@ pub fn fill(out: &mut [u8], at: usize, pattern: &[u8], numbers: &[u32]) -> usize
 // A hexadecimal digit, in lower case.
 fn glyph(d: u8) -> u8
     requires { d < 16 }
-    ensures { result ≡ glyphOf d }
+    ensures { result ≡ glyph_of d }
 {
     if d < 10 { b'0' + d } else { 87 + d }
 }
@@ -75,7 +75,7 @@ fn glyph(d: u8) -> u8
 pub fn octets(out: &mut [u8], at: usize, s: &[u8]) -> usize
     requires { at + 2 * length s.now ≤ length out.old }
     ensures value { result ≡ at + 2 * length s.now }
-    ensures out_after { out.new ≡ put out.old at (concatMap hexOf s.now) }
+    ensures out_after { out.new ≡ put out.old at (concat_map hex_of s.now) }
 {
     let mut i: usize = 0;
     while i < s.len() {

@@ -12,19 +12,19 @@ use lib.Dec.{eqb, ltb}
 use borrow.Author.Tests.{eq-eqb, ne_eqb, ltb-true, ltb-false}
 use Rattle.bytes.specs.Bytes.{index_of, slice}
 use Rattle.lists.proofs.DropLaws.{drop_at, drop-end}
-use Rattle.console_words.specs.Words.{up_to, fromOn, skipSpaces, empty?, between, NextWord}
+use Rattle.console_words.specs.Words.{up_to, from_on, skip_spaces, empty?, between, NextWord}
 
-pub skip-space : (s : List ℕ) (i : ℕ) → i < length s → get_or s i 0 ≡ 32 → skipSpaces (drop i s) ≡ skipSpaces (drop (i + 1) s)
-unfolding skipSpaces
-skip-space s i lt e = ap skipSpaces (drop_at s i 0 lt) ∙ ap (λ (b : Bool). cond b (skipSpaces (drop (i + 1) s)) (get_or s i 0 ∷ drop (i + 1) s)) (eq-eqb (get_or s i 0) 32 e)
+pub skip-space : (s : List ℕ) (i : ℕ) → i < length s → get_or s i 0 ≡ 32 → skip_spaces (drop i s) ≡ skip_spaces (drop (i + 1) s)
+unfolding skip_spaces
+skip-space s i lt e = ap skip_spaces (drop_at s i 0 lt) ∙ ap (λ (b : Bool). cond b (skip_spaces (drop (i + 1) s)) (get_or s i 0 ∷ drop (i + 1) s)) (eq-eqb (get_or s i 0) 32 e)
 
-pub skip-none : (s : List ℕ) (i : ℕ) → i < length s → (get_or s i 0 ≡ 32 → ⊥) → drop i s ≡ skipSpaces (drop i s)
-unfolding skipSpaces
-skip-none s i lt k = drop_at s i 0 lt ∙ sym (ap skipSpaces (drop_at s i 0 lt) ∙ ap (λ (b : Bool). cond b (skipSpaces (drop (i + 1) s)) (get_or s i 0 ∷ drop (i + 1) s)) (ne_eqb (get_or s i 0) 32 k))
+pub skip-none : (s : List ℕ) (i : ℕ) → i < length s → (get_or s i 0 ≡ 32 → ⊥) → drop i s ≡ skip_spaces (drop i s)
+unfolding skip_spaces
+skip-none s i lt k = drop_at s i 0 lt ∙ sym (ap skip_spaces (drop_at s i 0 lt) ∙ ap (λ (b : Bool). cond b (skip_spaces (drop (i + 1) s)) (get_or s i 0 ∷ drop (i + 1) s)) (ne_eqb (get_or s i 0) 32 k))
 
-pub skip-end : (s : List ℕ) (i : ℕ) → length s ≤ i → drop i s ≡ skipSpaces (drop i s)
-unfolding skipSpaces
-skip-end s i past = drop-end s i past ∙ sym (ap skipSpaces (drop-end s i past))
+pub skip-end : (s : List ℕ) (i : ℕ) → length s ≤ i → drop i s ≡ skip_spaces (drop i s)
+unfolding skip_spaces
+skip-end s i past = drop-end s i past ∙ sym (ap skip_spaces (drop-end s i past))
 
 -- Where the first b stands, from a place on.
 module _ (s : List ℕ) (from b r : ℕ) (h : r ≡ from + index_of b (slice from (length s) s)) where
@@ -36,18 +36,18 @@ module _ (s : List ℕ) (from b r : ℕ) (h : r ≡ from + index_of b (slice fro
   unfolding up_to
   found_before = let e : r - from ≡ index_of b (drop from s) = omega (arith, place) in ap (λ (k : ℕ). take k (drop from s)) e
 
-  pub found-rest : drop r s ≡ fromOn b (drop from s)
-  unfolding fromOn
+  pub found-rest : drop r s ≡ from_on b (drop from s)
+  unfolding from_on
   found-rest = ap (λ (k : ℕ). drop k s) place ∙ sym (drop-drop (index_of b (drop from s)) from s)
 
-pub word_at : (s : List ℕ) (from start end : ℕ) → from ≤ start → drop start s ≡ skipSpaces (drop from s) → end ≡ start + index_of 32 (slice start (length s) s) → end ≤ length s → NextWord s from (record { start = start; end = end })
+pub word_at : (s : List ℕ) (from start end : ℕ) → from ≤ start → drop start s ≡ skip_spaces (drop from s) → end ≡ start + index_of 32 (slice start (length s) s) → end ≤ length s → NextWord s from (record { start = start; end = end })
 word_at s from start end later skipped found inside =
     record {
       later = later;
       ordered = omega arith;
       inside = inside;
       word = found_before s start 32 end found ∙ ap (up_to 32) skipped;
-      rest = found-rest s start 32 end found ∙ ap (fromOn 32) skipped;
+      rest = found-rest s start 32 end found ∙ ap (from_on 32) skipped;
     }
 
 pub ends_at : (s : List ℕ) (p : ℕ) (xs : List ℕ) → p ≤ length s → drop p s ≡ xs → eqb p (length s) ≡ empty? xs

@@ -1,7 +1,7 @@
 -- What the parts of the reader of prefixes leave.
 use Rattle.std.specs.Prelude.{ℕ, ◌≤◌, ◌≡◌, Bool, true, false, List, length, drop, set}
-use Rattle.console_words.specs.Words.{up_to, fromOn}
-use Rattle.console_words.specs.Numbers.{number_of, octetOf}
+use Rattle.console_words.specs.Words.{up_to, from_on}
+use Rattle.console_words.specs.Numbers.{number_of, octet_of}
 use Rattle.console_words.specs.declared.{OctetAt.OctetAt, PrefixWord.PrefixWord}
 use Rattle.console_words.specs.declared.PrefixWord.TheVariants as prefix
 
@@ -9,8 +9,8 @@ use Rattle.console_words.specs.declared.PrefixWord.TheVariants as prefix
 pub record NextOctet (s : List ℕ) (from : ℕ) (r : OctetAt) : Type 0 where
   pub later : from ≤ r.end
   pub inside : r.end ≤ length s
-  pub spelt : r.octet ≡ octetOf (number_of (up_to 46 (drop from s)))
-  pub rest : drop r.end s ≡ fromOn 46 (drop from s)
+  pub spelt : r.octet ≡ octet_of (number_of (up_to 46 (drop from s)))
+  pub rest : drop r.end s ≡ from_on 46 (drop from s)
 
 -- After a prefix was put at a place of two columns, if it is one.
 abbrev pub PrefixPut : PrefixWord → ℕ → Bool → List ℕ → List ℕ → List ℕ → List ℕ → Type 0

@@ -1,7 +1,7 @@
 -- What a word spells as a number.
 use Rattle.std.specs.Prelude.{ℕ, ◌+◌, ◌-◌, ◌*◌, ◌^◌, ◌≤◌, ◌≡◌, Bool, cond, ◌&&◌, List, [], ◌∷◌, length, drop, ltb, leb, eqb}
 use Rattle.lists.specs.Lists.{all?}
-use Rattle.console_words.specs.Words.{first_word, afterWord}
+use Rattle.console_words.specs.Words.{first_word, after_word}
 use Rattle.console_words.specs.declared.{NumberAt.NumberAt, Number.Number, Octet.Octet}
 use Rattle.console_words.specs.declared.Number.TheVariants.{Of, Bad}
 use Rattle.console_words.specs.declared.Octet.TheVariants as octet
@@ -11,28 +11,28 @@ abbrev pub digit? : ℕ → Bool
 digit? c = leb 48 c && leb c 57
 
 -- The value of decimal digits, the high one first, behind those that made n.
-abbrev pub valueFrom : ℕ → List ℕ → ℕ
-valueFrom n [] = n
-valueFrom n (c ∷ cs) = valueFrom (10 * n + (c - 48)) cs
+abbrev pub value_from : ℕ → List ℕ → ℕ
+value_from n [] = n
+value_from n (c ∷ cs) = value_from (10 * n + (c - 48)) cs
 
 -- "Numbers .. are decimal digits with a value below 2^32", at least one.
 unfoldable pub number_of : List ℕ → Number
 number_of [] = Bad
-number_of (c ∷ cs) = cond (ltb (valueFrom 0 (c ∷ cs)) 4294967296) (cond (all? digit? (c ∷ cs)) (Of (valueFrom 0 (c ∷ cs))) Bad) Bad
+number_of (c ∷ cs) = cond (ltb (value_from 0 (c ∷ cs)) 4294967296) (cond (all? digit? (c ∷ cs)) (Of (value_from 0 (c ∷ cs))) Bad) Bad
 
 -- "A to D 0 to 255 and L below 256", "DEFAULT below 256".
-abbrev pub octetOf : Number → Octet
-octetOf (Of n) = cond (ltb n 256) (octet.Of n) octet.Bad
-octetOf Bad = octet.Bad
+abbrev pub octet_of : Number → Octet
+octet_of (Of n) = cond (ltb n 256) (octet.Of n) octet.Bad
+octet_of Bad = octet.Bad
 
 -- "D is 0 or 1".
-abbrev pub flagOf : List ℕ → Number
-flagOf [] = Bad
-flagOf (c ∷ []) = cond (eqb c 48) (Of 0) (cond (eqb c 49) (Of 1) Bad)
-flagOf (c ∷ b ∷ cs) = Bad
+abbrev pub flag_of : List ℕ → Number
+flag_of [] = Bad
+flag_of (c ∷ []) = cond (eqb c 48) (Of 0) (cond (eqb c 49) (Of 1) Bad)
+flag_of (c ∷ b ∷ cs) = Bad
 
 -- The number that the next word spells, and the place behind it.
 pub record NextNumber (spelt : List ℕ → Number) (s : List ℕ) (from : ℕ) (r : NumberAt) : Type 0 where
   pub inside : r.end ≤ length s
   pub number : r.number ≡ spelt (first_word (drop from s))
-  pub rest : drop r.end s ≡ afterWord (drop from s)
+  pub rest : drop r.end s ≡ after_word (drop from s)

@@ -1,16 +1,16 @@
 // The words of a line, and the numbers, prefixes and octets that words spell.
 ghost use Rattle.std.specs.Prelude.{◌≡◌, false, ◌≤◌, ◌<◌, ◌/◌, ◌%◌, length, drop};
-ghost use Rattle.console_words.specs.Words.{skipSpaces, NextWord, between, last?};
-ghost use Rattle.console_words.specs.Numbers.{number_of, octetOf, flagOf, NextNumber};
+ghost use Rattle.console_words.specs.Words.{skip_spaces, NextWord, between, last?};
+ghost use Rattle.console_words.specs.Numbers.{number_of, octet_of, flag_of, NextNumber};
 ghost use Rattle.console_words.specs.Prefixes.{
-  networkOf,
+  network_of,
   prefix_of,
-  prefixesOf,
+  prefixes_of,
   NextPrefix,
-  prefixesIn,
+  prefixes_in,
 };
 ghost use Rattle.console_words.specs.InnerPrefixes.{NextOctet, PrefixPut};
-ghost use Rattle.console_words.specs.Octets.{digitOf, pairsOf, octetsOf, lastOctets, octetsIn};
+ghost use Rattle.console_words.specs.Octets.{digit_of, pairs_of, octets_of, last_octets, octets_in};
 
 // A word stands from `start` to before `end`; where no further word is there, it is empty.
 #[derive(Drop)]
@@ -78,7 +78,7 @@ pub struct Prefixes {
 // The first place at or after `from` that has no space, or the end.
 fn skip_spaces(s: &[u8], from: usize) -> usize
     requires { from ≤ length s.now }
-    ensures { (from ≤ result) × (result ≤ length s.now) × (drop result s.now ≡ skipSpaces (drop from s.now)) }
+    ensures { (from ≤ result) × (result ≤ length s.now) × (drop result s.now ≡ skip_spaces (drop from s.now)) }
 {
     let mut i = from;
     while i < s.len() {
@@ -176,7 +176,7 @@ pub fn next_number(s: &[u8], from: usize) -> NumberAt
 
 // A number below 256.
 fn read_octet(s: &[u8]) -> Octet
-    ensures { result ≡ octetOf (number_of s.now) }
+    ensures { result ≡ octet_of (number_of s.now) }
 {
     match read_number(s) {
         Number::Of(n) => {
@@ -192,7 +192,7 @@ fn read_octet(s: &[u8]) -> Octet
 
 // The word 0 or the word 1.
 pub fn read_flag(s: &[u8]) -> Number
-    ensures { result ≡ flagOf s.now }
+    ensures { result ≡ flag_of s.now }
 {
     if s.len() != 1 {
         return Number::Bad;
@@ -219,7 +219,7 @@ fn octet_at(s: &[u8], from: usize) -> OctetAt
 
 // A.B.C.D, each a number below 256.
 pub fn read_network(s: &[u8]) -> Number
-    ensures { result ≡ networkOf s.now }
+    ensures { result ≡ network_of s.now }
 {
     let mut at: usize = 0;
     let mut n: u32 = 0;
@@ -276,7 +276,7 @@ pub fn next_prefix(s: &[u8], from: usize) -> PrefixAt
 // The next word as 0 or 1.
 pub fn next_flag(s: &[u8], from: usize) -> NumberAt
     requires { from ≤ length s.now }
-    ensures { NextNumber flagOf s.now from result }
+    ensures { NextNumber flag_of s.now from result }
 {
     let w = next_word(s, from);
     let start = w.start;
@@ -329,7 +329,7 @@ pub fn next_bit(s: &[u8], from: usize, key: &[u8]) -> NumberAt
 
 // The value of a hexadecimal digit in either case; 16 where it is none.
 pub fn digit(c: u8) -> u8
-    ensures { (result ≡ digitOf c) × (result ≤ 16) }
+    ensures { (result ≡ digit_of c) × (result ≤ 16) }
 {
     if c < b'0' {
         return 16;
@@ -365,7 +365,7 @@ fn bad_octets() -> Octets
 // Pairs of hexadecimal digits, each as an octet, over the front of the same bytes; whether all are digits.
 fn pairs(s: &mut [u8]) -> bool
     requires { length s.old % 2 ≡ 0 }
-    ensures { octetsIn result s.new 0 (length s.old / 2) ≡ pairsOf s.old }
+    ensures { octets_in result s.new 0 (length s.old / 2) ≡ pairs_of s.old }
 {
     let n = s.len() / 2;
     let mut i: usize = 0;
@@ -388,7 +388,7 @@ fn pairs(s: &mut [u8]) -> bool
 pub fn read_octets(s: &mut [u8], start: usize, end: usize) -> Octets
     requires { (start ≤ end) × (end ≤ length s.old) }
     ensures start_le_end { (result.start ≤ result.end) × (result.end ≤ length s.old) }
-    ensures end_after { octetsIn result.good s.new result.start result.end ≡ octetsOf (between start end s.old) }
+    ensures end_after { octets_in result.good s.new result.start result.end ≡ octets_of (between start end s.old) }
 {
     let n = end - start;
     if n == 0 {
@@ -435,7 +435,7 @@ pub fn read_prefixes(s: &[u8], from: usize, networks: &mut [u32], lengths: &mut 
     requires from_in_bounds { from ≤ length s.now }
     requires networks_len { length networks.old ≡ length lengths.old }
     ensures count_in_bounds { result.count ≤ length networks.old }
-    ensures lengths_after { prefixesIn result networks.new lengths.new ≡ prefixesOf (length networks.old) (drop from s.now) }
+    ensures lengths_after { prefixes_in result networks.new lengths.new ≡ prefixes_of (length networks.old) (drop from s.now) }
 {
     let mut at = from;
     let mut n: usize = 0;
@@ -470,7 +470,7 @@ pub fn read_prefixes(s: &[u8], from: usize, networks: &mut [u32], lengths: &mut 
 pub fn last_octets(s: &mut [u8], from: usize) -> Octets
     requires { from ≤ length s.old }
     ensures start_le_end { (result.start ≤ result.end) × (result.end ≤ length s.old) }
-    ensures end_after { octetsIn result.good s.new result.start result.end ≡ lastOctets (drop from s.old) }
+    ensures end_after { octets_in result.good s.new result.start result.end ≡ last_octets (drop from s.old) }
 {
     let w = next_word(s, from);
     let start = w.start;

@@ -18,13 +18,13 @@ bytes_of TooLong = 0
 abbrev pub answer_of : Written → Answer
 answer_of w = record { number = number_of w; place = 0; bytes = bytes_of w; count = 0 }
 
-abbrev pub writtenAs : Writing → List ℕ → Answer × List ℕ
-writtenAs w buffer = (answer_of (into w buffer).0, (into w buffer).1)
+abbrev pub written_as : Writing → List ℕ → Answer × List ℕ
+written_as w buffer = (answer_of (into w buffer).0, (into w buffer).1)
 
 -- A line of words that are not these changes nothing; of any other the answer and the buffer are those of one option's writing.
 pub record WroteOne (a : Answer) (old new : List ℕ) : Type 0 where
   pub option : Writing
-  pub same : (a, new) ≡ writtenAs option old
+  pub same : (a, new) ≡ written_as option old
 
 abbrev pub Writes : Outcome → List ℕ → List ℕ → Type 0
 Writes outcome.Bad old new = new ≡ old

@@ -1,10 +1,10 @@
 // The words of `write`, which are those that `read` prints: a list of suboptions or an address, and the option that they make.
 ghost use Rattle.std.specs.Prelude.{◌≡◌, ◌+◌, ◌≤◌, ◌<◌, length};
-ghost use Rattle.option.specs.Selection.{writeSelection};
-ghost use Rattle.option.specs.Writer.{writeOption};
-ghost use Rattle.option_measure.specs.Lists.{suboptionsOf};
-ghost use Rattle.console_script.specs.Commands.{longestReply};
-ghost use Rattle.console_write.specs.Writes.{writtenAs, Writes};
+ghost use Rattle.option.specs.Selection.{write_selection};
+ghost use Rattle.option.specs.Writer.{write_option};
+ghost use Rattle.option_measure.specs.Lists.{suboptions_of};
+ghost use Rattle.console_script.specs.Commands.{longest_reply};
+ghost use Rattle.console_write.specs.Writes.{written_as, Writes};
 ghost use Rattle.console_write.specs.Inner.{Small, Within, Behind, Fits};
 
 use console_words::{Number, PrefixWord};
@@ -488,8 +488,8 @@ fn read_list(s: &mut [u8]) -> Listing
 
 // The option of a list.
 fn write_list(list: SuboptionList, buffer: &mut [u8]) -> Answer
-    requires { length buffer.old ≤ longestReply }
-    ensures { (result, buffer.new) ≡ writtenAs (writeOption (length buffer.old) (suboptionsOf list)) buffer.old }
+    requires { length buffer.old ≤ longest_reply }
+    ensures { (result, buffer.new) ≡ written_as (write_option (length buffer.old) (suboptions_of list)) buffer.old }
 {
     match option_write::write_option(list, buffer) {
         Written::Bytes(n) => call_spec::accepted(n as u32, 0),
@@ -500,8 +500,8 @@ fn write_list(list: SuboptionList, buffer: &mut [u8]) -> Answer
 
 // Option 118.
 fn write_address(address: u32, buffer: &mut [u8]) -> Answer
-    requires { length buffer.old ≤ longestReply }
-    ensures { (result, buffer.new) ≡ writtenAs (writeSelection (length buffer.old) address) buffer.old }
+    requires { length buffer.old ≤ longest_reply }
+    ensures { (result, buffer.new) ≡ written_as (write_selection (length buffer.old) address) buffer.old }
 {
     match option_reply::write_selection(address, buffer) {
         Written::Bytes(n) => call_spec::accepted(n as u32, 0),
@@ -524,7 +524,7 @@ fn read_address(s: &[u8], from: usize) -> Number
 }
 
 fn write_words(s: &mut [u8], buffer: &mut [u8]) -> Outcome
-    requires { length buffer.old ≤ longestReply }
+    requires { length buffer.old ≤ longest_reply }
     ensures { Writes result buffer.old buffer.new }
 {
     let b = read_list(s);
@@ -545,7 +545,7 @@ fn write_words(s: &mut [u8], buffer: &mut [u8]) -> Outcome
 
 // The option that words make, into a buffer.
 pub fn write(s: &mut [u8], buffer: &mut [u8]) -> Outcome
-    requires { length buffer.old ≤ longestReply }
+    requires { length buffer.old ≤ longest_reply }
     ensures { Writes result buffer.old buffer.new }
 {
     let w = console_words::next_word(s, 0);

@@ -12,7 +12,7 @@ use Rattle.prefix.proofs.Nesting.{inside-order}
 use Rattle.free_space.specs.Grant.{walk}
 use Rattle.free_space.specs.Serving.{number, Before}
 use Rattle.free_space.proofs.WalkLaws.{Listed, walk-listed}
-use Rattle.counts.specs.InnerLevels.{Lies, up_to, openingsAfter, openings, lengths}
+use Rattle.counts.specs.InnerLevels.{Lies, up_to, openings_after, openings, lengths}
 use Rattle.counts.proofs.OneLaws.{one-not, one-gt, one-over, up_next}
 use Rattle.counts.proofs.LevelRow.{counted}
 
@@ -39,7 +39,7 @@ module _ (p : Prefix) (some : 1 ≤ p.length) (long : p.length ≤ 32) (aligned 
         up_none l (lengths us)
         (all-image (λ x. x.length) (λ k. l < k) us (all_map (λ x (i : Lies p x). omega (arith, inside-longer x p long i.long i.inside)) us lie))
 
-    after-some : (network : ℕ) (xs : List Prefix) → All (λ k. 0 < k) (openingsAfter network xs)
+    after-some : (network : ℕ) (xs : List Prefix) → All (λ k. 0 < k) (openings_after network xs)
     after-some network [] = tt
     after-some network (x ∷ xs) = (omega arith, after-some x.network xs)
 

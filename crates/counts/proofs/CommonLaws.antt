@@ -8,7 +8,7 @@ use lib.Bits.{bit_xor, differ, xor_step, xor_self, xor_block, xor_lt}
 use lib.Count.{leading_unique}
 use Rattle.prefix.specs.declared.Prefix.{Prefix}
 use Rattle.prefix.specs.Prefixes.{Aligned, In, lower, upper}
-use Rattle.counts.specs.InnerLevels.{commonBits}
+use Rattle.counts.specs.InnerLevels.{common_bits}
 
 odd_even : (q : ℕ) → bit_xor (q * 2) (q * 2 + 1) ≡ 1
 odd_even q =
@@ -35,8 +35,8 @@ halves-differ k n a b e la ha lb hb =
     let low : bit_xor (a - n) (b - (n + 2 ^ k)) < 2 ^ k = xor_lt k (a - n) (b - (n + 2 ^ k)) r s in
     (omega (arith, x), omega (arith, x, low, two))
 
-pub common-halves : (p : Prefix) (a b : ℕ) → p.length < 32 → Aligned p → In a (lower p) → In b (upper p) → commonBits a b ≡ p.length
-unfolding commonBits
+pub common-halves : (p : Prefix) (a b : ℕ) → p.length < 32 → Aligned p → In a (lower p) → In b (upper p) → common_bits a b ≡ p.length
+unfolding common_bits
 common-halves p a b short aligned la lb =
     let k : ℕ = 32 - (p.length + 1) in
     let e : 32 - p.length ≡ suc k = omega arith in

@@ -6,8 +6,8 @@ use Prim.Native.Nat.{ℕ}
 use lib.Count.{count_leading_zeros}
 use Rattle.prefix.specs.declared.Prefix.{Prefix}
 use Rattle.prefix.specs.Prefixes.{prefix}
-use Rattle.counts.specs.Counts.{lengths_from, countRow}
-use Rattle.counts.specs.InnerLevels.{commonBits, levelRow, freesAfter}
+use Rattle.counts.specs.Counts.{lengths_from, count_row}
+use Rattle.counts.specs.InnerLevels.{common_bits, level_row, frees_after}
 
 abbrev pool : Prefix
 pool = prefix 0x0a000000 24
@@ -22,10 +22,10 @@ rows =
     ∷ (0 ∷ 0 ∷ 0 ∷ 0 ∷ 0 ∷ 0 ∷ 0 ∷ 0 ∷ 0 ∷ 0 ∷ 0 ∷ 0 ∷ 0 ∷ 0 ∷ 0 ∷ 0 ∷ 0 ∷ 0 ∷ 2 ∷ 1 ∷ 1 ∷ 1 ∷ 1 ∷ [])
     ∷ []
 
-by-walk : map (λ ls. countRow ls pool) leased ≡ rows
-unfolding countRow lengths_from
+by-walk : map (λ ls. count_row ls pool) leased ≡ rows
+unfolding count_row lengths_from
 by-walk = refl
 
-by-levels : map (λ ls. levelRow ls pool) leased ≡ rows
-unfolding freesAfter commonBits count_leading_zeros
+by-levels : map (λ ls. level_row ls pool) leased ≡ rows
+unfolding frees_after common_bits count_leading_zeros
 by-levels = refl

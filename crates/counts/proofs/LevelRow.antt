@@ -22,9 +22,9 @@ use Rattle.free_space.specs.Serving.{one?, number, Before}
 use Rattle.free_space.proofs.Permuted.{covered_of}
 use Rattle.free_space.proofs.WalkLaws.{Level, short, unused-to, unused-of, covered-to, walk-unused, walk-covered, walk-halves, walk-skip}
 use Rattle.counts.proofs.CommonLaws.{common-halves}
-use Rattle.table.specs.Table.{shortestPool}
-use Rattle.counts.specs.Counts.{lengths_from, countRow, countedLengths}
-use Rattle.counts.specs.InnerLevels.{Lies, commonBits, equalTo, up_to, openingsAfter, openings, lengths, freeAfter, freesAfter, levelRow}
+use Rattle.table.specs.Table.{shortest_pool}
+use Rattle.counts.specs.Counts.{lengths_from, count_row, counted_lengths}
+use Rattle.counts.specs.InnerLevels.{Lies, common_bits, equal_to, up_to, openings_after, openings, lengths, free_after, frees_after, level_row}
 use Rattle.counts.proofs.OneLaws.{one-step, one-next, one_shift, equal-append, up-append, lengths-append, number_append}
 
 -- LEASES APART FROM A PREFIX CHANGE NOTHING IN IT
@@ -78,8 +78,8 @@ module _ (p : Prefix) (s : p.length < 32) (aligned : Aligned p) where
     pub all : us ≡ low ++ high
     pub lows : All (Lies (lower p)) low
     pub highs : All (Lies (upper p)) high
-    pub ascendLow : Pairwise Before low
-    pub ascendHigh : Pairwise Before high
+    pub ascend_low : Pairwise Before low
+    pub ascend_high : Pairwise Before high
 
   all_upper : (x : Prefix) (us : List Prefix) → Lies (upper p) x → All (Before x) us → All (λ y. Lies (lower p) y ⊎ Lies (upper p) y) us → All (Lies (upper p)) us
   all_upper x us lx =
@@ -89,7 +89,7 @@ module _ (p : Prefix) (s : p.length < 32) (aligned : Aligned p) where
   before-left x low high us e a = all_left (Before x) low high (subst (All (Before x)) e a)
 
   pub parts : (us : List Prefix) → All (λ x. Lies (lower p) x ⊎ Lies (upper p) x) us → Pairwise Before us → Parts us
-  parts [] a w = record { low = []; high = []; all = refl; lows = tt; highs = tt; ascendLow = tt; ascendHigh = tt }
+  parts [] a w = record { low = []; high = []; all = refl; lows = tt; highs = tt; ascend_low = tt; ascend_high = tt }
   parts (x ∷ us) a w =
       ⊎_elim
       (λ (l : Lies (lower p) x).
@@ -100,28 +100,28 @@ module _ (p : Prefix) (s : p.length < 32) (aligned : Aligned p) where
         all = ap (λ (ys : List Prefix). x ∷ ys) r.all;
         lows = (l, r.lows);
         highs = r.highs;
-        ascendLow = (before-left x r.low r.high us r.all w.0, r.ascendLow);
-        ascendHigh = r.ascendHigh;
+        ascend_low = (before-left x r.low r.high us r.all w.0, r.ascend_low);
+        ascend_high = r.ascend_high;
       })
       (λ (u : Lies (upper p) x).
-      record { low = []; high = x ∷ us; all = refl; lows = tt; highs = (u, all_upper x us u w.0 a.1); ascendLow = tt; ascendHigh = w })
+      record { low = []; high = x ∷ us; all = refl; lows = tt; highs = (u, all_upper x us u w.0 a.1); ascend_low = tt; ascend_high = w })
       a.0
 
   -- OPENINGS IN HALVES
 
-  abbrev common : (a b : Prefix) → Lies (lower p) a → Lies (upper p) b → commonBits a.network b.network ≡ p.length
+  abbrev common : (a b : Prefix) → Lies (lower p) a → Lies (upper p) b → common_bits a.network b.network ≡ p.length
   common a b la lb = common-halves p a.network b.network s aligned (lies_in (lower p) a la) (lies_in (upper p) b lb)
 
   -- The first lease of the upper half opens there, after those of the lower half.
   pub opened-later : (m : Prefix) (xs : List Prefix) (y : Prefix) (ys : List Prefix) → Lies (lower p) m → All (Lies (lower p)) xs → Lies (upper p) y
-      → openingsAfter m.network (xs ++ (y ∷ ys)) ≡ openingsAfter m.network xs ++ ((p.length + 1) ∷ openingsAfter y.network ys)
-  opened-later m [] y ys lm a ly = ap (λ (k : ℕ). (k + 1) ∷ openingsAfter y.network ys) (common m y lm ly)
-  opened-later m (x ∷ xs) y ys lm a ly = ap (λ (ks : List ℕ). (commonBits m.network x.network + 1) ∷ ks) (opened-later x xs y ys a.0 a.1 ly)
+      → openings_after m.network (xs ++ (y ∷ ys)) ≡ openings_after m.network xs ++ ((p.length + 1) ∷ openings_after y.network ys)
+  opened-later m [] y ys lm a ly = ap (λ (k : ℕ). (k + 1) ∷ openings_after y.network ys) (common m y lm ly)
+  opened-later m (x ∷ xs) y ys lm a ly = ap (λ (ks : List ℕ). (common_bits m.network x.network + 1) ∷ ks) (opened-later x xs y ys a.0 a.1 ly)
 
   -- Beside what opens in the halves, one opens at p, and one of those that open at a half does not.
   pub record Opened (low high us : List Prefix) (l : ℕ) : Type 0 where
-    pub here : equalTo (suc l) (openings p us) + one? (eqb p.length l)
-        ≡ equalTo (suc l) (openings (lower p) low) + equalTo (suc l) (openings (upper p) high) + one? (eqb p.length (suc l))
+    pub here : equal_to (suc l) (openings p us) + one? (eqb p.length l)
+        ≡ equal_to (suc l) (openings (lower p) low) + equal_to (suc l) (openings (upper p) high) + one? (eqb p.length (suc l))
     pub up : up_to l (openings p us) ≡ up_to l (openings (lower p) low) + up_to l (openings (upper p) high) + one? (eqb p.length l)
 
   pub opened-halves : (low high : List Prefix) → All (Lies (lower p)) low → All (Lies (upper p)) high → 1 ≤ length (low ++ high) → (l : ℕ) → Opened low high (low ++ high) l
@@ -138,21 +138,21 @@ module _ (p : Prefix) (s : p.length < 32) (aligned : Aligned p) where
       })
   opened-halves (x ∷ xs) (y ∷ ys) a b some l =
       let e = opened-later x xs y ys a.0 a.1 b.0 in
-      let rest : List ℕ = (p.length + 1) ∷ openingsAfter y.network ys in
+      let rest : List ℕ = (p.length + 1) ∷ openings_after y.network ys in
       record {
         here =
             omega (
               arith,
               one_shift p.length l,
-              ap (equalTo (suc l)) e,
-              equal-append (suc l) (openingsAfter x.network xs) rest,
+              ap (equal_to (suc l)) e,
+              equal-append (suc l) (openings_after x.network xs) rest,
             );
         up =
             omega (
               arith,
               one-step p.length l,
               ap (up_to l) e,
-              up-append l (openingsAfter x.network xs) rest,
+              up-append l (openings_after x.network xs) rest,
             );
       }
 
@@ -160,7 +160,7 @@ module _ (p : Prefix) (s : p.length < 32) (aligned : Aligned p) where
 
 abbrev Counted : List Prefix → ℕ → Prefix → ℕ → Type 0
 Counted us h p l =
-    number (suc l) (walk us h p) + (equalTo (suc l) (openings p us) + up_to l (lengths us)) ≡ one? (eqb p.length (suc l)) + up_to l (openings p us)
+    number (suc l) (walk us h p) + (equal_to (suc l) (openings p us) + up_to l (lengths us)) ≡ one? (eqb p.length (suc l)) + up_to l (openings p us)
 
 counted-unused : (h : ℕ) (p : Prefix) (l : ℕ) → Counted [] h p l
 counted-unused h p l = omega (arith, ap (number (suc l)) (walk-unused [] h p tt))
@@ -230,15 +230,15 @@ counted-more h less p v aligned (x ∷ us) lie w l =
     let s : p.length < 32 = short h p v in
     let small : All (λ y. order y < order p) (x ∷ us) = (omega arith, all_small x us p lie.0 lie.1 w.0) in
     let r : Parts p s aligned (x ∷ us) = halves h p v aligned (x ∷ us) lie small w in
-    let apartLow : All (Apart (lower p)) r.high = all_map (λ y (k : Lies (upper p) y). inl k.inside.0) r.high r.highs in
-    let apartHigh : All (Apart (upper p)) r.low = all_map (λ y (k : Lies (lower p) y). inr k.inside.1) r.low r.lows in
-    let first : Counted r.low h (lower p) l = less (lower p) (omega arith) (aligned-lower p aligned) r.low r.lows r.ascendLow l in
-    let second : Counted r.high h (upper p) l = less (upper p) (omega arith) (aligned-upper p aligned) r.high r.highs r.ascendHigh l in
+    let apart_low : All (Apart (lower p)) r.high = all_map (λ y (k : Lies (upper p) y). inl k.inside.0) r.high r.highs in
+    let apart_high : All (Apart (upper p)) r.low = all_map (λ y (k : Lies (lower p) y). inr k.inside.1) r.low r.lows in
+    let first : Counted r.low h (lower p) l = less (lower p) (omega arith) (aligned-lower p aligned) r.low r.lows r.ascend_low l in
+    let second : Counted r.high h (upper p) l = less (upper p) (omega arith) (aligned-upper p aligned) r.high r.highs r.ascend_high l in
     let walked : walk (x ∷ us) (suc h) p ≡ walk r.low h (lower p) ++ walk r.high h (upper p) =
     walk-halves (x ∷ us) h p (not-unused x us p lie.0) (not_covered h p v aligned (x ∷ us) lie small)
     ∙ ap₂ (λ (a b : List Prefix). a ++ b)
-    (ap (λ (zs : List Prefix). walk zs h (lower p)) r.all ∙ walk_after r.low r.high h (lower p) (omega arith) apartLow)
-    (ap (λ (zs : List Prefix). walk zs h (upper p)) r.all ∙ walk_before r.low r.high h (upper p) (omega arith) apartHigh) in
+    (ap (λ (zs : List Prefix). walk zs h (lower p)) r.all ∙ walk_after r.low r.high h (lower p) (omega arith) apart_low)
+    (ap (λ (zs : List Prefix). walk zs h (upper p)) r.all ∙ walk_before r.low r.high h (upper p) (omega arith) apart_high) in
     let n : number (suc l) (walk (x ∷ us) (suc h) p) ≡ number (suc l) (walk r.low h (lower p)) + number (suc l) (walk r.high h (upper p)) =
     ap (number (suc l)) walked ∙ number_append (suc l) (walk r.low h (lower p)) (walk r.high h (upper p)) in
     let opened : Opened p s aligned r.low r.high (x ∷ us) l =
@@ -248,7 +248,7 @@ counted-more h less p v aligned (x ∷ us) lie w l =
     ap (λ (zs : List Prefix). up_to l (lengths zs)) r.all ∙ lengths-append l r.low r.high in
     sums l
     (number (suc l) (walk (x ∷ us) (suc h) p)) _ _ n
-    (equalTo (suc l) (openings p (x ∷ us))) _ _
+    (equal_to (suc l) (openings p (x ∷ us))) _ _
     (up_to l (lengths (x ∷ us))) _ _ closed
     (up_to l (openings p (x ∷ us))) _ _
     (one? (eqb p.length l)) (one? (eqb p.length (suc l)))
@@ -267,19 +267,19 @@ counted (suc h) = counted-more h (counted h)
 -- THE ROW
 
 pub counted-free : (p : Prefix) → p.length ≤ 32 → Aligned p → (us : List Prefix) → All (Lies p) us → Pairwise Before us → (l : ℕ)
-    → number (suc l) (walk us (32 - p.length) p) ≡ freeAfter p.length (openings p us) (lengths us) l
+    → number (suc l) (walk us (32 - p.length) p) ≡ free_after p.length (openings p us) (lengths us) l
 counted-free p long aligned us lie w l = omega (arith, counted (32 - p.length) p (omega arith) aligned us lie w l)
 
 -- By levels as by the fresh walk, over leases of which `before` and `after` lie beside p.
 pub row-by-levels : (p : Prefix) → p.length ≤ 32 → Aligned p → (before us after : List Prefix) → All (Apart p) before → All (Apart p) after
-    → All (Lies p) us → Pairwise Before us → countRow (before ++ (us ++ after)) p ≡ levelRow us p
-unfolding countRow lengths_from freesAfter
-row-by-levels p long aligned before us after ab aa lie w = go (shortestPool - 1) countedLengths
+    → All (Lies p) us → Pairwise Before us → count_row (before ++ (us ++ after)) p ≡ level_row us p
+unfolding count_row lengths_from frees_after
+row-by-levels p long aligned before us after ab aa lie w = go (shortest_pool - 1) counted_lengths
   where
     same : walk (before ++ (us ++ after)) (32 - p.length) p ≡ walk us (32 - p.length) p
     same = walk_before before (us ++ after) (32 - p.length) p (omega arith) ab ∙ walk_after us after (32 - p.length) p (omega arith) aa
 
-    go : (l k : ℕ) → map (λ m. number m (walk (before ++ (us ++ after)) (32 - p.length) p)) (lengths_from (suc l) k) ≡ freesAfter p.length (openings p us) (lengths us) l k
+    go : (l k : ℕ) → map (λ m. number m (walk (before ++ (us ++ after)) (32 - p.length) p)) (lengths_from (suc l) k) ≡ frees_after p.length (openings p us) (lengths us) l k
     go l zero = refl
     go l (suc k) =
         ap₂ (λ (m : ℕ) (ms : List ℕ). m ∷ ms)

@@ -11,7 +11,7 @@ use lib.Dec.{leb, eqb}
 use borrow.Author.Tests.{le-leb, lt-leb, eq-eqb, ne_eqb}
 use Rattle.prefix.specs.declared.Prefix.{Prefix}
 use Rattle.free_space.specs.Serving.{one?, number}
-use Rattle.counts.specs.InnerLevels.{equalTo, up_to, lengths}
+use Rattle.counts.specs.InnerLevels.{equal_to, up_to, lengths}
 
 pub one-few : (b : Bool) → one? b ≤ 1
 one-few true = omega arith
@@ -63,7 +63,7 @@ one_shift a l =
 
 -- lists
 
-pub equal-append : (l : ℕ) (xs ys : List ℕ) → equalTo l (xs ++ ys) ≡ equalTo l xs + equalTo l ys
+pub equal-append : (l : ℕ) (xs ys : List ℕ) → equal_to l (xs ++ ys) ≡ equal_to l xs + equal_to l ys
 equal-append l [] ys = omega arith
 equal-append l (x ∷ xs) ys = omega (arith, equal-append l xs ys)
 
@@ -71,7 +71,7 @@ pub up-append : (l : ℕ) (xs ys : List ℕ) → up_to l (xs ++ ys) ≡ up_to l 
 up-append l [] ys = omega arith
 up-append l (x ∷ xs) ys = omega (arith, up-append l xs ys)
 
-pub up_next : (l : ℕ) (xs : List ℕ) → up_to (suc l) xs ≡ up_to l xs + equalTo (suc l) xs
+pub up_next : (l : ℕ) (xs : List ℕ) → up_to (suc l) xs ≡ up_to l xs + equal_to (suc l) xs
 up_next l [] = refl
 up_next l (x ∷ xs) = omega (arith, one-next x l, up_next l xs)
 

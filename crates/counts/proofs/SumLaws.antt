@@ -23,10 +23,10 @@ use Rattle.free_space.specs.Serving.{one?, number, Pools}
 use Rattle.free_space.proofs.Rules.{wholes-whole, wholes-exactly, wholes-apart, whole_length, whole-block}
 use Rattle.table.specs.declared.Lease.{Lease}
 use Rattle.table.specs.declared.LeaseTable.{LeaseTable}
-use Rattle.table.specs.Table.{poolSlots, shortestPool, prefix_of, poolsOf, present, sound}
+use Rattle.table.specs.Table.{pool_slots, shortest_pool, prefix_of, pools_of, present, sound}
 use Rattle.table.proofs.Ascending.{ascending-apart}
 use Rattle.table.proofs.TableLaws.{Good, sound-fine}
-use Rattle.counts.specs.Counts.{countedLengths, lengths_from, countRow, countsOf, summed, sum_at}
+use Rattle.counts.specs.Counts.{counted_lengths, lengths_from, count_row, counts_of, summed, sum_at}
 use Rattle.counts.specs.Meaning.{CountsWholes}
 use Rattle.counts.specs.InnerLevels.{Laid}
 use Rattle.counts.proofs.OneLaws.{number_append}
@@ -47,34 +47,34 @@ zero-at zero j = refl
 zero-at (suc n) zero = refl
 zero-at (suc n) (suc j) = zero-at n j
 
-module _ (leases : List Prefix) (j : ℕ) (h : j < countedLengths) where
-  row-place : (p : Prefix) → get_or (countRow leases p) j 0 ≡ number (shortestPool + j) (walk leases (32 - p.length) p)
-  unfolding countRow
-  row-place p = length_at (λ l. number l (walk leases (32 - p.length) p)) shortestPool countedLengths j h
+module _ (leases : List Prefix) (j : ℕ) (h : j < counted_lengths) where
+  row-place : (p : Prefix) → get_or (count_row leases p) j 0 ≡ number (shortest_pool + j) (walk leases (32 - p.length) p)
+  unfolding count_row
+  row-place p = length_at (λ l. number l (walk leases (32 - p.length) p)) shortest_pool counted_lengths j h
 
-  none-summed : (m : ℕ) → summed j (replicate m (replicate countedLengths 0)) ≡ 0
+  none-summed : (m : ℕ) → summed j (replicate m (replicate counted_lengths 0)) ≡ 0
   none-summed zero = refl
-  none-summed (suc m) = omega (arith, zero-at countedLengths j, none-summed m)
+  none-summed (suc m) = omega (arith, zero-at counted_lengths j, none-summed m)
 
-  rows-summed : (ps : List Prefix) (m : ℕ) → summed j (map (countRow leases) ps ++ replicate m (replicate countedLengths 0)) ≡ number (shortestPool + j) (wholes ps leases)
+  rows-summed : (ps : List Prefix) (m : ℕ) → summed j (map (count_row leases) ps ++ replicate m (replicate counted_lengths 0)) ≡ number (shortest_pool + j) (wholes ps leases)
   rows-summed [] m = none-summed m
   rows-summed (p ∷ ps) m =
       omega (
         arith,
         row-place p,
         rows-summed ps m,
-        number_append (shortestPool + j) (walk leases (32 - p.length) p) (wholes ps leases),
+        number_append (shortest_pool + j) (walk leases (32 - p.length) p) (wholes ps leases),
       )
 
-pub sum-is-wholes : (t : LeaseTable) (len : ℕ) → shortestPool ≤ len → len ≤ longest
-    → sum_at (countsOf t) len ≡ number len (wholes (poolsOf t) (map prefix_of (present t.last t.leases)))
-unfolding countsOf
+pub sum-is-wholes : (t : LeaseTable) (len : ℕ) → shortest_pool ≤ len → len ≤ longest
+    → sum_at (counts_of t) len ≡ number len (wholes (pools_of t) (map prefix_of (present t.last t.leases)))
+unfolding counts_of
 sum-is-wholes t len l h =
     let leases : List Prefix = map prefix_of (present t.last t.leases) in
-    let place : shortestPool + (len - shortestPool) ≡ len = omega arith in
-    sym (sum-within (countsOf t) len l h (summed (len - shortestPool) (countsOf t)) refl)
-    ∙ rows-summed leases (len - shortestPool) (omega arith) (poolsOf t) (poolSlots - length (poolsOf t))
-    ∙ ap (λ (m : ℕ). number m (wholes (poolsOf t) leases)) place
+    let place : shortest_pool + (len - shortest_pool) ≡ len = omega arith in
+    sym (sum-within (counts_of t) len l h (summed (len - shortest_pool) (counts_of t)) refl)
+    ∙ rows-summed leases (len - shortest_pool) (omega arith) (pools_of t) (pool_slots - length (pools_of t))
+    ∙ ap (λ (m : ℕ). number m (wholes (pools_of t) leases)) place
 
 -- OF ANY LENGTH
 
@@ -114,59 +114,59 @@ module _ (t : LeaseTable) (e : sound t ≡ true) where
   abbrev leases : List Prefix
   leases = map prefix_of (present t.last t.leases)
 
-  abbrev laid : Laid 0 (poolsOf t) leases
+  abbrev laid : Laid 0 (pools_of t) leases
   laid = sound-laid t e
 
-  pub pools-good : Pools (poolsOf t)
+  pub pools-good : Pools (pools_of t)
   pools-good = record {
-    lengths = all_map (λ p (h : (shortestPool ≤ p.length) × (p.length ≤ longest)). (omega arith, h.1)) (poolsOf t) laid.lengths;
+    lengths = all_map (λ p (h : (shortest_pool ≤ p.length) × (p.length ≤ longest)). (omega arith, h.1)) (pools_of t) laid.lengths;
     aligned = laid.aligned;
-    disjoint = ascending-apart (λ p. p) 0 (poolsOf t) laid.pools-ascend;
+    disjoint = ascending-apart (λ p. p) 0 (pools_of t) laid.pools-ascend;
   }
 
   blocks-good : All (λ l. (l.length ≤ longest) × Aligned l) leases
   blocks-good =
       let xs : List Lease = present t.last t.leases in
-      all-image prefix_of (λ l. (l.length ≤ longest) × Aligned l) xs (all_map (λ x (g : Good (poolsOf t) t.last x). (g.long, g.aligned)) xs (sound-fine t e t.last).0)
+      all-image prefix_of (λ l. (l.length ≤ longest) × Aligned l) xs (all_map (λ x (g : Good (pools_of t) t.last x). (g.long, g.aligned)) xs (sound-fine t e t.last).0)
 
   -- A whole free block has a length 8 to 30.
-  pub whole-counted : (w : Prefix) → Whole (poolsOf t) leases w → (shortestPool ≤ w.length) × (w.length ≤ longest)
+  pub whole-counted : (w : Prefix) → Whole (pools_of t) leases w → (shortest_pool ≤ w.length) × (w.length ≤ longest)
   whole-counted w k =
-      let p = any-all (poolsOf t) k.free.pooled laid.lengths in (
-        omega (arith, p.2, inside-longer w p.0 (omega (arith, p.2)) (whole_length (poolsOf t) pools-good leases w k) p.1),
-        (whole-block (poolsOf t) leases pools-good blocks-good w k).1,
+      let p = any-all (pools_of t) k.free.pooled laid.lengths in (
+        omega (arith, p.2, inside-longer w p.0 (omega (arith, p.2)) (whole_length (pools_of t) pools-good leases w k) p.1),
+        (whole-block (pools_of t) leases pools-good blocks-good w k).1,
       )
 
-  not-counted : (len : ℕ) → ((shortestPool ≤ len) × (len ≤ longest) → ⊥) → number len (wholes (poolsOf t) leases) ≡ 0
+  not-counted : (len : ℕ) → ((shortest_pool ≤ len) × (len ≤ longest) → ⊥) → number len (wholes (pools_of t) leases) ≡ 0
   not-counted len out =
-      number-none len (wholes (poolsOf t) leases) (all_map other (wholes (poolsOf t) leases) (wholes-whole (poolsOf t) leases pools-good))
+      number-none len (wholes (pools_of t) leases) (all_map other (wholes (pools_of t) leases) (wholes-whole (pools_of t) leases pools-good))
     where
-      other : (w : Prefix) → Whole (poolsOf t) leases w → w.length ≡ len → ⊥
+      other : (w : Prefix) → Whole (pools_of t) leases w → w.length ≡ len → ⊥
       other w k q = let c = whole-counted w k in out (omega (arith, c), omega (arith, c))
 
-  sum-is-number : (len : ℕ) → sum_at (countsOf t) len ≡ number len (wholes (poolsOf t) leases)
+  sum-is-number : (len : ℕ) → sum_at (counts_of t) len ≡ number len (wholes (pools_of t) leases)
   sum-is-number len =
-      by_cases (dec_le shortestPool len)
+      by_cases (dec_le shortest_pool len)
       (λ l. by_cases (dec_le len longest)
       (λ h. sum-is-wholes t len l h)
-      (λ h. sym (sum-above (countsOf t) len l (omega arith)) ∙ sym (not-counted len (λ c. h c.1))))
-      (λ l. sym (sum_below (countsOf t) len (omega arith)) ∙ sym (not-counted len (λ c. l c.0)))
+      (λ h. sym (sum-above (counts_of t) len l (omega arith)) ∙ sym (not-counted len (λ c. h c.1))))
+      (λ l. sym (sum_below (counts_of t) len (omega arith)) ∙ sym (not-counted len (λ c. l c.0)))
 
   -- THE QUERY'S ANSWER: the number of whole free blocks of the length, for every length.
-  pub sum-counts-wholes : (len : ℕ) → CountsWholes (poolsOf t) leases len (sum_at (countsOf t) len)
+  pub sum-counts-wholes : (len : ℕ) → CountsWholes (pools_of t) leases len (sum_at (counts_of t) len)
   sum-counts-wholes len =
-      let ws : List Prefix = wholes (poolsOf t) leases in
+      let ws : List Prefix = wholes (pools_of t) leases in
       let f : Prefix → Bool = λ w. eqb w.length len in
       record {
         blocks = those ws len;
-        different = pairwise_map apart-different (those ws len) (filter-pairwise Apart f ws (wholes-apart (poolsOf t) leases pools-good));
-        whole = all-map₂ long-and-whole (those ws len) (filter-all f (Whole (poolsOf t) leases) ws (wholes-whole (poolsOf t) leases pools-good)) (filter-pass f ws);
-        every = λ w k q. filter-keeps f w (eq-eqb w.length len q) ws ((wholes-exactly (poolsOf t) pools-good leases w).1 k);
+        different = pairwise_map apart-different (those ws len) (filter-pairwise Apart f ws (wholes-apart (pools_of t) leases pools-good));
+        whole = all-map₂ long-and-whole (those ws len) (filter-all f (Whole (pools_of t) leases) ws (wholes-whole (pools_of t) leases pools-good)) (filter-pass f ws);
+        every = λ w k q. filter-keeps f w (eq-eqb w.length len q) ws ((wholes-exactly (pools_of t) pools-good leases w).1 k);
         counted = sum-is-number len ∙ number-those ws len;
       }
     where
       apart-different : (v w : Prefix) → Apart v w → v ≡ w → ⊥
       apart-different v w a q = apart-absurd v w (subst (Inside v) q (inside-refl v)) a
 
-      long-and-whole : (w : Prefix) → Whole (poolsOf t) leases w → eqb w.length len ≡ true → Whole (poolsOf t) leases w × (w.length ≡ len)
+      long-and-whole : (w : Prefix) → Whole (pools_of t) leases w → eqb w.length len ≡ true → Whole (pools_of t) leases w × (w.length ≡ len)
       long-and-whole w k q = (k, eqb-true w.length len q)

@@ -18,20 +18,20 @@ use Rattle.free_space.specs.Grant.{walk, wholes}
 use Rattle.free_space.specs.Serving.{one?, number}
 use Rattle.free_space.proofs.Rules.{wholes-whole}
 use Rattle.table.specs.declared.LeaseTable.{LeaseTable}
-use Rattle.table.specs.Table.{poolSlots, shortestPool, prefix_of, poolsOf, present, sound}
-use Rattle.counts.specs.Counts.{countedLengths, lengths_from, countRow, countsOf, rowTotal, total}
+use Rattle.table.specs.Table.{pool_slots, shortest_pool, prefix_of, pools_of, present, sound}
+use Rattle.counts.specs.Counts.{counted_lengths, lengths_from, count_row, counts_of, row_total, total}
 use Rattle.counts.proofs.OneLaws.{one-eq, one-lt, one-gt}
 use Rattle.counts.proofs.SumLaws.{pools-good, whole-counted}
 
 -- FROM ONE PLACE ON
 
-pub row-total-more : (row : List ℕ) (j n v : ℕ) → j < length row → v ≡ get_or row j 0 → n + rowTotal (drop j row) ≡ rowTotal row → n + v + rowTotal (drop (j + 1) row) ≡ rowTotal row
-row-total-more row j n v h ev e = omega (arith, e, ev, ap rowTotal (drop_at row j 0 h))
+pub row-total-more : (row : List ℕ) (j n v : ℕ) → j < length row → v ≡ get_or row j 0 → n + row_total (drop j row) ≡ row_total row → n + v + row_total (drop (j + 1) row) ≡ row_total row
+row-total-more row j n v h ev e = omega (arith, e, ev, ap row_total (drop_at row j 0 h))
 
-pub row-total-all : (row : List ℕ) (j n : ℕ) → length row ≤ j → n + rowTotal (drop j row) ≡ rowTotal row → n ≡ rowTotal row
-row-total-all row j n h e = omega (arith, e, ap rowTotal (drop-end row j h))
+pub row-total-all : (row : List ℕ) (j n : ℕ) → length row ≤ j → n + row_total (drop j row) ≡ row_total row → n ≡ row_total row
+row-total-all row j n h e = omega (arith, e, ap row_total (drop-end row j h))
 
-pub total-more : (c : List (List ℕ)) (k n v : ℕ) → k < length c → v ≡ rowTotal (get_or c k []) → n + total (drop k c) ≡ total c → n + v + total (drop (k + 1) c) ≡ total c
+pub total-more : (c : List (List ℕ)) (k n v : ℕ) → k < length c → v ≡ row_total (get_or c k []) → n + total (drop k c) ≡ total c → n + v + total (drop (k + 1) c) ≡ total c
 total-more c k n v h ev e = omega (arith, e, ev, ap total (drop_at c k [] h))
 
 pub total-all : (c : List (List ℕ)) (k n : ℕ) → length c ≤ k → n + total (drop k c) ≡ total c → n ≡ total c
@@ -40,7 +40,7 @@ total-all c k n h e = omega (arith, e, ap total (drop-end c k h))
 -- OF A TABLE
 
 -- One length among k from l on.
-one-among : (a l k : ℕ) → l ≤ a → a < l + k → rowTotal (map (λ m. one? (eqb a m)) (lengths_from l k)) ≡ 1
+one-among : (a l k : ℕ) → l ≤ a → a < l + k → row_total (map (λ m. one? (eqb a m)) (lengths_from l k)) ≡ 1
 unfolding lengths_from
 one-among a l zero h g = absurd (omega arith)
 one-among a l (suc k) h g =
@@ -48,55 +48,55 @@ one-among a l (suc k) h g =
     (λ e. omega (arith, one-eq a l (omega arith), none-among a (suc l) k (omega arith)))
     (λ e. omega (arith, one-gt a l (omega arith), one-among a (suc l) k (omega arith) (omega arith)))
   where
-    none-among : (a l k : ℕ) → a < l → rowTotal (map (λ m. one? (eqb a m)) (lengths_from l k)) ≡ 0
+    none-among : (a l k : ℕ) → a < l → row_total (map (λ m. one? (eqb a m)) (lengths_from l k)) ≡ 0
     none-among a l zero h = refl
     none-among a l (suc k) h = omega (arith, one-lt a l h, none-among a (suc l) k (omega arith))
 
-none_number : (l k : ℕ) → rowTotal (map (λ m. number m []) (lengths_from l k)) ≡ 0
+none_number : (l k : ℕ) → row_total (map (λ m. number m []) (lengths_from l k)) ≡ 0
 unfolding lengths_from
 none_number l zero = refl
 none_number l (suc k) = omega (arith, none_number (suc l) k)
 
 more-number : (w : Prefix) (ws : List Prefix) (l k : ℕ)
-    → rowTotal (map (λ m. number m (w ∷ ws)) (lengths_from l k)) ≡ rowTotal (map (λ m. one? (eqb w.length m)) (lengths_from l k)) + rowTotal (map (λ m. number m ws) (lengths_from l k))
+    → row_total (map (λ m. number m (w ∷ ws)) (lengths_from l k)) ≡ row_total (map (λ m. one? (eqb w.length m)) (lengths_from l k)) + row_total (map (λ m. number m ws) (lengths_from l k))
 unfolding lengths_from
 more-number w ws l zero = refl
 more-number w ws l (suc k) = omega (arith, more-number w ws (suc l) k)
 
 -- Prefixes of lengths that are counted, by length.
-by_length : (ws : List Prefix) → All (λ w. (shortestPool ≤ w.length) × (w.length ≤ longest)) ws → rowTotal (map (λ m. number m ws) (lengths_from shortestPool countedLengths)) ≡ length ws
-by_length [] a = none_number shortestPool countedLengths
+by_length : (ws : List Prefix) → All (λ w. (shortest_pool ≤ w.length) × (w.length ≤ longest)) ws → row_total (map (λ m. number m ws) (lengths_from shortest_pool counted_lengths)) ≡ length ws
+by_length [] a = none_number shortest_pool counted_lengths
 by_length (w ∷ ws) a =
     omega (
       arith,
-      more-number w ws shortestPool countedLengths,
-      one-among w.length shortestPool countedLengths a.0.0 (omega (arith, a.0.1)),
+      more-number w ws shortest_pool counted_lengths,
+      one-among w.length shortest_pool counted_lengths a.0.0 (omega (arith, a.0.1)),
       by_length ws a.1,
     )
 
-none_row : (n : ℕ) → rowTotal (replicate n 0) ≡ 0
+none_row : (n : ℕ) → row_total (replicate n 0) ≡ 0
 none_row zero = refl
 none_row (suc n) = omega (arith, none_row n)
 
-none-total : (m : ℕ) → total (replicate m (replicate countedLengths 0)) ≡ 0
+none-total : (m : ℕ) → total (replicate m (replicate counted_lengths 0)) ≡ 0
 none-total zero = refl
-none-total (suc m) = omega (arith, none_row countedLengths, none-total m)
+none-total (suc m) = omega (arith, none_row counted_lengths, none-total m)
 
-rows-total : (leases ps : List Prefix) (m : ℕ) → All (λ w. (shortestPool ≤ w.length) × (w.length ≤ longest)) (wholes ps leases)
-    → total (map (countRow leases) ps ++ replicate m (replicate countedLengths 0)) ≡ length (wholes ps leases)
-unfolding countRow
+rows-total : (leases ps : List Prefix) (m : ℕ) → All (λ w. (shortest_pool ≤ w.length) × (w.length ≤ longest)) (wholes ps leases)
+    → total (map (count_row leases) ps ++ replicate m (replicate counted_lengths 0)) ≡ length (wholes ps leases)
+unfolding count_row
 rows-total leases [] m a = none-total m
 rows-total leases (p ∷ ps) m a =
     let here : List Prefix = walk leases (32 - p.length) p in
     omega (
       arith,
-      by_length here (all_left (λ w. (shortestPool ≤ w.length) × (w.length ≤ longest)) here (wholes ps leases) a),
-      rows-total leases ps m (all_right (λ w. (shortestPool ≤ w.length) × (w.length ≤ longest)) here (wholes ps leases) a),
+      by_length here (all_left (λ w. (shortest_pool ≤ w.length) × (w.length ≤ longest)) here (wholes ps leases) a),
+      rows-total leases ps m (all_right (λ w. (shortest_pool ≤ w.length) × (w.length ≤ longest)) here (wholes ps leases) a),
       length-append here (wholes ps leases),
     )
 
-pub total-is-wholes : (t : LeaseTable) → sound t ≡ true → total (countsOf t) ≡ length (wholes (poolsOf t) (map prefix_of (present t.last t.leases)))
-unfolding countsOf
+pub total-is-wholes : (t : LeaseTable) → sound t ≡ true → total (counts_of t) ≡ length (wholes (pools_of t) (map prefix_of (present t.last t.leases)))
+unfolding counts_of
 total-is-wholes t e =
     let leases : List Prefix = map prefix_of (present t.last t.leases) in
-    rows-total leases (poolsOf t) (poolSlots - length (poolsOf t)) (all_map (whole-counted t e) (wholes (poolsOf t) leases) (wholes-whole (poolsOf t) leases (pools-good t e)))
+    rows-total leases (pools_of t) (pool_slots - length (pools_of t)) (all_map (whole-counted t e) (wholes (pools_of t) leases) (wholes-whole (pools_of t) leases (pools-good t e)))

@@ -1,7 +1,7 @@
 // How much is left: the counts of whole free blocks, eight rows of twenty-three, compared and summed.
 ghost use Rattle.std.specs.Prelude.{◌≡◌, ◌*◌, ◌≤◌};
-ghost use Rattle.counts.specs.Counts.{countedLengths, sameRow?, sameCounts?, sum_at, rowTotal, total};
-ghost use Rattle.counts.specs.InnerLevels.{commonBits};
+ghost use Rattle.counts.specs.Counts.{counted_lengths, same_row?, same_counts?, sum_at, row_total, total};
+ghost use Rattle.counts.specs.InnerLevels.{common_bits};
 
 use prefix::Prefix;
 use table::{POOLS, SHORTEST_POOL};
@@ -17,7 +17,7 @@ pub type Counts = [[u16; LENGTHS]; POOLS];
 
 // Whether two rows are the same.
 fn same_row(a: [u16; LENGTHS], b: [u16; LENGTHS]) -> bool
-    ensures { result ≡ sameRow? a b }
+    ensures { result ≡ same_row? a b }
 {
     let mut j: usize = 0;
     while j < LENGTHS {
@@ -31,7 +31,7 @@ fn same_row(a: [u16; LENGTHS], b: [u16; LENGTHS]) -> bool
 
 // Whether two counts are the same, rows of unused pools included.
 pub fn same(a: Counts, b: Counts) -> bool
-    ensures { result ≡ sameCounts? a b }
+    ensures { result ≡ same_counts? a b }
 {
     let mut k: usize = 0;
     while k < POOLS {
@@ -72,7 +72,7 @@ pub fn sum(c: Counts, length: u32) -> u32
 }
 
 fn row_total(row: [u16; LENGTHS]) -> u32
-    ensures { (result ≡ rowTotal row) × (result ≤ 65535 * countedLengths) }
+    ensures { (result ≡ row_total row) × (result ≤ 65535 * counted_lengths) }
 {
     let mut n: u32 = 0;
     let mut i: usize = 0;
@@ -99,7 +99,7 @@ pub fn total(c: Counts) -> u32
 
 // Two networks lie in as many prefixes as this, and one more.
 pub fn common_bits(a: u32, b: u32) -> u32
-    ensures { (result ≡ commonBits a b) × (result ≤ 32) }
+    ensures { (result ≡ common_bits a b) × (result ≤ 32) }
 {
     u32::leading_zeros(a ^ b)
 }

@@ -2,14 +2,14 @@
 ghost use Rattle.std.specs.Prelude.{◌≡◌};
 ghost use Rattle.table.specs.declared.Lease.{Lease};
 ghost use Rattle.figures.specs.Figures.{
-  untoldRow,
-  emptyRow,
-  highWaterOf,
-  inUseOf,
-  unusableOf,
-  newerHighWater,
-  newerInUse,
-  newerUnusable,
+  untold_row,
+  empty_row,
+  high_water_of,
+  in_use_of,
+  unusable_of,
+  newer_high_water,
+  newer_in_use,
+  newer_unusable,
   filed,
 };
 
@@ -31,7 +31,7 @@ pub const UNTOLD: u16 = 65535;
 
 // The row of a lease of which nothing is told.
 pub fn untold_row(network: u32, length: u8) -> FigureRow
-    ensures { (x : Lease) → x.network ≡ network → x.length ≡ length → result ≡ untoldRow x }
+    ensures { (x : Lease) → x.network ≡ network → x.length ≡ length → result ≡ untold_row x }
 {
     FigureRow {
         network,
@@ -44,7 +44,7 @@ pub fn untold_row(network: u32, length: u8) -> FigureRow
 
 // The row of an empty slot.
 pub fn empty_row() -> FigureRow
-    ensures { result ≡ emptyRow }
+    ensures { result ≡ empty_row }
 {
     untold_row(0, 0)
 }
@@ -53,7 +53,7 @@ pub fn empty_row() -> FigureRow
 
 // The figures of an entry, each as what it is; one that is missing is untold.
 fn high_water_of(f: Figures) -> HighWater
-    ensures { result ≡ highWaterOf f }
+    ensures { result ≡ high_water_of f }
 {
     if 0 < f.count {
         f.high_water
@@ -63,13 +63,13 @@ fn high_water_of(f: Figures) -> HighWater
 }
 
 fn in_use_of(f: Figures) -> InUse
-    ensures { result ≡ inUseOf f }
+    ensures { result ≡ in_use_of f }
 {
     if 1 < f.count { f.in_use } else { InUse(UNTOLD) }
 }
 
 fn unusable_of(f: Figures) -> Unusable
-    ensures { result ≡ unusableOf f }
+    ensures { result ≡ unusable_of f }
 {
     if 2 < f.count {
         f.unusable
@@ -80,19 +80,19 @@ fn unusable_of(f: Figures) -> Unusable
 
 // What is told, or what was told before.
 fn newer_high_water(old: HighWater, new: HighWater) -> HighWater
-    ensures { result ≡ newerHighWater old new }
+    ensures { result ≡ newer_high_water old new }
 {
     if new.0 == UNTOLD { old } else { new }
 }
 
 fn newer_in_use(old: InUse, new: InUse) -> InUse
-    ensures { result ≡ newerInUse old new }
+    ensures { result ≡ newer_in_use old new }
 {
     if new.0 == UNTOLD { old } else { new }
 }
 
 fn newer_unusable(old: Unusable, new: Unusable) -> Unusable
-    ensures { result ≡ newerUnusable old new }
+    ensures { result ≡ newer_unusable old new }
 {
     if new.0 == UNTOLD { old } else { new }
 }

@@ -2,25 +2,25 @@
 // book that it is lent: image, figures sheet and counts. A slice is a pointer and a length; nothing is allocated and nothing is kept
 // between two calls.
 ghost use Rattle.std.specs.Prelude.{◌≡◌, not, [], eqb};
-ghost use Rattle.image.specs.Image.{formNumbered};
-ghost use Rattle.ledger.specs.Ledger.{call, callWith, result};
-ghost use Rattle.call_spec.specs.ImageCalls.{carriedIf};
+ghost use Rattle.image.specs.Image.{form_numbered};
+ghost use Rattle.ledger.specs.Ledger.{call, call_with, outcome};
+ghost use Rattle.call_spec.specs.ImageCalls.{carried_if};
 ghost use Rattle.call_spec.specs.Books.{
-  bookOf,
-  lentIn,
-  openBook,
-  loadBook,
-  saveBook,
-  askBook,
-  takeBook,
-  listBook,
-  releaseBook,
-  markBook,
-  wholeBook,
+  book_of,
+  lent_in,
+  open_book,
+  load_book,
+  save_book,
+  ask_book,
+  take_book,
+  list_book,
+  release_book,
+  mark_book,
+  whole_book,
 };
-ghost use Rattle.call_query.specs.Queries.{checkImage, headImage, poolImage, leaseImage};
-ghost use Rattle.call_option.specs.Options.{selectionIn, selectionInto, optionCheck};
-ghost use Rattle.call_sheet.specs.SheetImage.{sheetImage};
+ghost use Rattle.call_query.specs.Queries.{check_image, head_image, pool_image, lease_image};
+ghost use Rattle.call_option.specs.Options.{selection_in, selection_into, option_check};
+ghost use Rattle.call_sheet.specs.SheetImage.{sheet_image};
 
 use call_open::Terms;
 use call_option::SelectionAnswer;
@@ -43,8 +43,8 @@ pub extern "C" fn flockdrift_open(
     default_length: u32,
     start: u32,
 ) -> Answer
-    ensures* { λ r. ⌜ result r (bookOf image.new image_bytes.new figures.new counts.new) []
-        ≡ openBook (bookOf image.old image_bytes.old figures.old counts.old) networks.now lengths.now term default_length start ⌝ }
+    ensures { outcome result (book_of image.new image_bytes.new figures.new counts.new) []
+        ≡ open_book (book_of image.old image_bytes.old figures.old counts.old) networks.now lengths.now term default_length start }
 {
     let terms = Terms {
         term,
@@ -70,8 +70,8 @@ pub extern "C" fn flockdrift_load(
     counts: &mut Counts,
     saved: &[u8],
 ) -> Answer
-    ensures* { λ r. ⌜ result r (bookOf image.new image_bytes.new figures.new counts.new) []
-        ≡ loadBook (bookOf image.old image_bytes.old figures.old counts.old) saved.now ⌝ }
+    ensures { outcome result (book_of image.new image_bytes.new figures.new counts.new) []
+        ≡ load_book (book_of image.old image_bytes.old figures.old counts.old) saved.now }
 {
     call_load::load(image, image_bytes, figures, counts, saved)
 }
@@ -86,8 +86,8 @@ pub extern "C" fn flockdrift_save(
     older: u32,
     buffer: &mut [u8],
 ) -> Answer
-    ensures* { λ r. ⌜ result r (bookOf image.now image_bytes [] counts.now) buffer.new
-        ≡ saveBook (bookOf image.now image_bytes [] counts.now) (formNumbered form) (not (eqb older 0)) buffer.old ⌝ }
+    ensures { outcome result (book_of image.now image_bytes [] counts.now) buffer.new
+        ≡ save_book (book_of image.now image_bytes [] counts.now) (form_numbered form) (not (eqb older 0)) buffer.old }
 {
     call_save::save(
         image,
@@ -112,9 +112,9 @@ pub extern "C" fn flockdrift_ask(
     selection: &[u8],
     reply: &mut [u8],
 ) -> Answer
-    ensures* { λ r. ⌜ result r (bookOf image.new image_bytes.new figures.new counts.new) reply.new
-        ≡ askBook (bookOf image.old image_bytes.old figures.old counts.old) time
-        (callWith client option.now (carriedIf (not (eqb selected 0)) selection.now) reply.old) ⌝ }
+    ensures { outcome result (book_of image.new image_bytes.new figures.new counts.new) reply.new
+        ≡ ask_book (book_of image.old image_bytes.old figures.old counts.old) time
+        (call_with client option.now (carried_if (not (eqb selected 0)) selection.now) reply.old) }
 {
     let message = Message {
         client,
@@ -146,9 +146,9 @@ pub extern "C" fn flockdrift_take(
     selection: &[u8],
     reply: &mut [u8],
 ) -> Answer
-    ensures* { λ r. ⌜ result r (bookOf image.new image_bytes.new figures.new counts.new) reply.new
-        ≡ takeBook (bookOf image.old image_bytes.old figures.old counts.old) time
-        (callWith client option.now (carriedIf (not (eqb selected 0)) selection.now) reply.old) ⌝ }
+    ensures { outcome result (book_of image.new image_bytes.new figures.new counts.new) reply.new
+        ≡ take_book (book_of image.old image_bytes.old figures.old counts.old) time
+        (call_with client option.now (carried_if (not (eqb selected 0)) selection.now) reply.old) }
 {
     let message = Message {
         client,
@@ -177,8 +177,8 @@ pub extern "C" fn flockdrift_list(
     option: &[u8],
     reply: &mut [u8],
 ) -> Answer
-    ensures* { λ r. ⌜ result r (bookOf image.now image_bytes [] counts.now) reply.new
-        ≡ listBook (bookOf image.now image_bytes [] counts.now) time (call client option.now reply.old) ⌝ }
+    ensures { outcome result (book_of image.now image_bytes [] counts.now) reply.new
+        ≡ list_book (book_of image.now image_bytes [] counts.now) time (call client option.now reply.old) }
 {
     call_list::list(image, image_bytes, counts, client, time, option, reply)
 }
@@ -193,8 +193,8 @@ pub extern "C" fn flockdrift_release(
     time: u32,
     option: &[u8],
 ) -> Answer
-    ensures* { λ r. ⌜ result r (bookOf image.new image_bytes.new figures.new counts.new) []
-        ≡ releaseBook (bookOf image.old image_bytes.old figures.old counts.old) time (call client option.now []) ⌝ }
+    ensures { outcome result (book_of image.new image_bytes.new figures.new counts.new) []
+        ≡ release_book (book_of image.old image_bytes.old figures.old counts.old) time (call client option.now []) }
 {
     call_release::release(image, image_bytes, figures, counts, client, time, option)
 }
@@ -210,8 +210,8 @@ pub extern "C" fn flockdrift_mark(
     deprecated: u32,
     time: u32,
 ) -> Answer
-    ensures* { λ r. ⌜ result r (bookOf image.new image_bytes.new figures.new counts.new) []
-        ≡ markBook (bookOf image.old image_bytes.old figures.old counts.old) time network length (not (eqb deprecated 0)) ⌝ }
+    ensures { outcome result (book_of image.new image_bytes.new figures.new counts.new) []
+        ≡ mark_book (book_of image.old image_bytes.old figures.old counts.old) time network length (not (eqb deprecated 0)) }
 {
     call_mark::mark(
         image,
@@ -227,7 +227,7 @@ pub extern "C" fn flockdrift_mark(
 
 #[unsafe(no_mangle)]
 pub extern "C" fn flockdrift_sheet(image: &[u8], text: &mut [u8]) -> Answer
-    ensures* { λ r. ⌜ (r, text.new) ≡ sheetImage image.now text.old ⌝ }
+    ensures { (result, text.new) ≡ sheet_image image.now text.old }
 {
     call_sheet::sheet(image, text)
 }
@@ -236,7 +236,7 @@ pub extern "C" fn flockdrift_sheet(image: &[u8], text: &mut [u8]) -> Answer
 
 #[unsafe(no_mangle)]
 pub extern "C" fn flockdrift_check(image: &[u8], image_bytes: usize, counts: &Counts) -> Answer
-    ensures* { λ r. ⌜ r ≡ checkImage (lentIn (bookOf image.now image_bytes [] counts.now)) ⌝ }
+    ensures { result ≡ check_image (lent_in (book_of image.now image_bytes [] counts.now)) }
 {
     call_query::check(image, image_bytes, counts)
 }
@@ -249,14 +249,14 @@ pub extern "C" fn flockdrift_whole(
     counts: &Counts,
     length: u32,
 ) -> Answer
-    ensures* { λ r. ⌜ r ≡ wholeBook (bookOf image.now image_bytes [] counts.now) length ⌝ }
+    ensures { result ≡ whole_book (book_of image.now image_bytes [] counts.now) length }
 {
     call_query::whole(image, image_bytes, counts, length)
 }
 
 #[unsafe(no_mangle)]
 pub extern "C" fn flockdrift_head(image: &[u8], image_bytes: usize, counts: &Counts) -> HeadAnswer
-    ensures* { λ r. ⌜ r ≡ headImage (lentIn (bookOf image.now image_bytes [] counts.now)) ⌝ }
+    ensures { result ≡ head_image (lent_in (book_of image.now image_bytes [] counts.now)) }
 {
     call_query::head(image, image_bytes, counts)
 }
@@ -268,7 +268,7 @@ pub extern "C" fn flockdrift_pool(
     counts: &Counts,
     index: usize,
 ) -> PoolAnswer
-    ensures* { λ r. ⌜ r ≡ poolImage (lentIn (bookOf image.now image_bytes [] counts.now)) index ⌝ }
+    ensures { result ≡ pool_image (lent_in (book_of image.now image_bytes [] counts.now)) index }
 {
     call_query::pool(image, image_bytes, counts, index)
 }
@@ -280,7 +280,7 @@ pub extern "C" fn flockdrift_lease(
     counts: &Counts,
     index: usize,
 ) -> LeaseAnswer
-    ensures* { λ r. ⌜ r ≡ leaseImage (lentIn (bookOf image.now image_bytes [] counts.now)) index ⌝ }
+    ensures { result ≡ lease_image (lent_in (book_of image.now image_bytes [] counts.now)) index }
 {
     call_query::lease(image, image_bytes, counts, index)
 }
@@ -289,21 +289,21 @@ pub extern "C" fn flockdrift_lease(
 
 #[unsafe(no_mangle)]
 pub extern "C" fn flockdrift_check_option(option: &[u8]) -> Answer
-    ensures* { λ r. ⌜ r ≡ optionCheck option.now ⌝ }
+    ensures { result ≡ option_check option.now }
 {
     call_option::check_option(option)
 }
 
 #[unsafe(no_mangle)]
 pub extern "C" fn flockdrift_read_selection(option: &[u8]) -> SelectionAnswer
-    ensures* { λ r. ⌜ r ≡ selectionIn option.now ⌝ }
+    ensures { result ≡ selection_in option.now }
 {
     call_option::read_selection(option)
 }
 
 #[unsafe(no_mangle)]
 pub extern "C" fn flockdrift_write_selection(address: u32, buffer: &mut [u8]) -> Answer
-    ensures* { λ r. ⌜ (r, buffer.new) ≡ selectionInto address buffer.old ⌝ }
+    ensures { (result, buffer.new) ≡ selection_into address buffer.old }
 {
     call_option::write_selection(address, buffer)
 }

@@ -22,7 +22,7 @@ use Rattle.prefix.proofs.PrefixLaws.{size-positive, size-half}
 use Rattle.prefix.proofs.Nesting.{order, inside-order, aligned-down, aligned-add, aligned-pow, aligned-end, next_multiple}
 use Rattle.free_space.specs.Space.{Free, around, Whole, NotWorse}
 use Rattle.free_space.specs.Serving.{Length, Pools}
-use Rattle.free_space.specs.Scan.{round_up, roundDown, length_of, levels, inGap}
+use Rattle.free_space.specs.Scan.{round_up, round_down, length_of, levels, in_gap}
 use Rattle.free_space.proofs.BestLaws.{not-worse-trans}
 use Rattle.free_space.proofs.Rules.{largest}
 
@@ -61,19 +61,19 @@ module _ (l a : ℕ) where
       (λ t. omega (arith, t.1, next_multiple (size l) (a / size l * size l) m (mul-mod_left (a / size l) (size l)) e (omega (arith, t.0, div-add-mod' a (size l)))))
       up-cases
 
-  pub down_is : roundDown l a ≡ a / size l * size l
+  pub down_is : round_down l a ≡ a / size l * size l
   down_is = omega (arith, div-add-mod' a (size l))
 
-  pub down-multiple : roundDown l a % size l ≡ 0
+  pub down-multiple : round_down l a % size l ≡ 0
   down-multiple = ap (λ (x : ℕ). x % size l) down_is ∙ mul-mod_left (a / size l) (size l)
 
-  pub down_le : roundDown l a ≤ a
+  pub down_le : round_down l a ≤ a
   down_le = omega arith
 
-  pub down-greatest : (m : ℕ) → m % size l ≡ 0 → m ≤ a → m ≤ roundDown l a
+  pub down-greatest : (m : ℕ) → m % size l ≡ 0 → m ≤ a → m ≤ round_down l a
   down-greatest m e h =
-      by_cases (dec_le m (roundDown l a)) (λ q. q)
-      (λ q. absurd (omega (arith, down_is, next_multiple (size l) (roundDown l a) m down-multiple e (omega arith), lt-div-mul-add {a = a} (size-positive l))))
+      by_cases (dec_le m (round_down l a)) (λ q. q)
+      (λ q. absurd (omega (arith, down_is, next_multiple (size l) (round_down l a) m down-multiple e (omega arith), lt-div-mul-add {a = a} (size-positive l))))
 
 -- What is found below an address, for asks of length l.
 
@@ -130,8 +130,8 @@ module _ (pools leases : List Prefix) (good : Pools pools) (l : ℕ) (block : Le
   whole-positive w k = let t = any-all pools k.free.pooled good.lengths in omega (arith, inside-order w t.0 t.1, t.2.0)
 
   module _ (a b A B : ℕ) (ordered : a ≤ b) (room : A < B) (inner : B ≤ b)
-      (edgeA : (x : Prefix) → x.length ≤ l → Free pools leases x → (end x ≤ A) ⊎ (A ≤ x.network))
-      (edgeB : (x : Prefix) → x.length ≤ l → Free pools leases x → (end x ≤ B) ⊎ (B ≤ x.network)) (clear : Clear A B)
+      (edge_a : (x : Prefix) → x.length ≤ l → Free pools leases x → (end x ≤ A) ⊎ (A ≤ x.network))
+      (edge_b : (x : Prefix) → x.length ≤ l → Free pools leases x → (end x ≤ B) ⊎ (B ≤ x.network)) (clear : Clear A B)
       (ends : (w : Prefix) → Within a b w → (A ≤ w.network) × (end w ≤ B)) where
     -- No whole prefix is the half of one that lies from A to B.
     no-half : (m : ℕ) → m ≤ 32 → A % size m ≡ 0 → (w : Prefix) → Within a b w → w.length ≡ suc m → w.network / size m * size m + size m ≤ B → ⊥
@@ -154,7 +154,7 @@ module _ (pools leases : List Prefix) (good : Pools pools) (l : ℕ) (block : Le
         (λ q. inr (omega (arith, f w t), omega (arith, k.is.2, t.from)))
 
     module _ (stop n : ℕ) (best : Option Prefix) (here : length_of best ≡ stop) (long : stop + suc n ≤ l)
-        (multipleA : A % size (stop + suc n) ≡ 0) (multipleB : B % size (stop + suc n) ≡ 0)
+        (multiple_a : A % size (stop + suc n) ≡ 0) (multiple_b : B % size (stop + suc n) ≡ 0)
         (small : (w : Prefix) → Within a b w → w.length ≤ stop + suc n) (below : Below a best) where
       parent : stop + suc n - 1 ≡ stop + n
       parent = omega (arith, add-suc stop n)
@@ -170,14 +170,14 @@ module _ (pools leases : List Prefix) (good : Pools pools) (l : ℕ) (block : Le
 
           whole : Whole pools leases (prefix A (stop + suc n))
           whole = record {
-            free = clear (prefix A (stop + suc n)) multipleA (le_refl A) (next_multiple (size (stop + suc n)) A B multipleA multipleB room);
+            free = clear (prefix A (stop + suc n)) multiple_a (le_refl A) (next_multiple (size (stop + suc n)) A B multiple_a multiple_b room);
             maximal = inr (λ f.
                 let P : ℕ = size (stop + suc n - 1) in
                 let e : P ≡ size (stop + n) = ap size parent in
                 ⊎_elim
                 (λ h. omega (arith, h, lt-div-mul-add {a = A} (size-positive (stop + suc n - 1))))
                 (λ h. odd (subst (λ (x : ℕ). A % x ≡ 0) e (omega (arith, h, div-add-mod' A P))))
-                (edgeA (around (prefix A (stop + suc n))) (omega arith) f));
+                (edge_a (around (prefix A (stop + suc n))) (omega arith) f));
           }
 
       -- A is a multiple of twice the size and B is not: the prefix that ends at B is whole.
@@ -188,10 +188,10 @@ module _ (pools leases : List Prefix) (good : Pools pools) (l : ℕ) (block : Le
           v = prefix (B - size (stop + suc n)) (stop + suc n)
 
           fits : A + size (stop + suc n) ≤ B
-          fits = next_multiple (size (stop + suc n)) A B multipleA multipleB room
+          fits = next_multiple (size (stop + suc n)) A B multiple_a multiple_b room
 
           aligned : (B - size (stop + suc n)) % size (stop + suc n) ≡ 0
-          aligned = sym (mod-eq-sub-mod {n = B} {m = size (stop + suc n)} (omega (arith, fits))) ∙ multipleB
+          aligned = sym (mod-eq-sub-mod {n = B} {m = size (stop + suc n)} (omega (arith, fits))) ∙ multiple_b
 
           whole : Whole pools leases (prefix (B - size (stop + suc n)) (stop + suc n))
           whole = record {
@@ -206,7 +206,7 @@ module _ (pools leases : List Prefix) (good : Pools pools) (l : ℕ) (block : Le
                 ⊎_elim
                 (λ h. odd (subst (λ (y : ℕ). B % size y ≡ 0) parent (subst (λ (y : ℕ). y % size (stop + suc n - 1) ≡ 0) (omega (arith, h, reach, fits)) (aligned-end x (order x) (le_refl (order x)) u))))
                 (λ h. omega (arith, h, low, fits, size-positive (stop + suc n)))
-                (edgeB x (omega arith) f));
+                (edge_b x (omega arith) f));
           }
 
           beats : (w : Prefix) → Within a b w → NotWorse (prefix (B - size (stop + suc n)) (stop + suc n)) w
@@ -231,61 +231,61 @@ module _ (pools leases : List Prefix) (good : Pools pools) (l : ℕ) (block : Le
 
       -- Both are multiples of twice the size: nothing in the gap is as small as this.
       smaller : A % size (stop + n) ≡ 0 → B % size (stop + n) ≡ 0 → (w : Prefix) → Within a b w → w.length ≤ stop + n
-      smaller evenA evenB w k =
+      smaller even_a even_b w k =
           by_cases (dec_le w.length (stop + n)) (λ q. q)
-          (λ q. absurd (no-half (stop + n) (omega arith) evenA w k (omega (arith, small w k, add-suc stop n))
-          (next_multiple (size (stop + n)) (w.network / size (stop + n) * size (stop + n)) B (mul-mod_left (w.network / size (stop + n)) (size (stop + n))) evenB
+          (λ q. absurd (no-half (stop + n) (omega arith) even_a w k (omega (arith, small w k, add-suc stop n))
+          (next_multiple (size (stop + n)) (w.network / size (stop + n) * size (stop + n)) B (mul-mod_left (w.network / size (stop + n)) (size (stop + n))) even_b
           (omega (arith, div-mul-le_self w.network (size (stop + n)), ends w k, size-positive w.length)))))
 
     levels-below : (n stop : ℕ) (best : Option Prefix) → length_of best ≡ stop → stop + n ≤ l → A % size (stop + n) ≡ 0 → B % size (stop + n) ≡ 0
         → ((w : Prefix) → Within a b w → w.length ≤ stop + n) → Below a best → Below b (levels A B stop n best)
-    levels-below zero stop best here long mA mB small below =
+    levels-below zero stop best here long m_a m_b small below =
         below-keep a b best ordered (nothing-better best (λ w k. omega (arith, small w k, here)) below) below
-    levels-below (suc n) stop best here long mA mB small below =
+    levels-below (suc n) stop best here long m_a m_b small below =
         go (eqb (A % size (stop + n)) 0) (eqb (B % size (stop + n)) 0) refl refl
-        (λ eA eB. levels-below n stop best here (omega arith) eA eB (smaller stop n best here long mA mB small below eA eB) below)
+        (λ e_a e_b. levels-below n stop best here (omega arith) e_a e_b (smaller stop n best here long m_a m_b small below e_a e_b) below)
       where
         go : (t u : Bool) → eqb (A % size (stop + n)) 0 ≡ t → eqb (B % size (stop + n)) 0 ≡ u
             → (A % size (stop + n) ≡ 0 → B % size (stop + n) ≡ 0 → Below b (levels A B stop n best))
             → Below b (cond t (cond u (levels A B stop n best) (some (prefix (B - size (stop + suc n)) (stop + suc n)))) (some (prefix A (stop + suc n))))
         go true true e f rec = rec (eqb-true _ _ e) (eqb-true _ _ f)
-        go true false e f rec = at_high stop n best here long mA mB small below (eqb-true _ _ e) (eqb-false _ _ f)
-        go false u e f rec = at_low stop n best here long mA mB small below (eqb-false _ _ e)
+        go true false e f rec = at_high stop n best here long m_a m_b small below (eqb-true _ _ e) (eqb-false _ _ f)
+        go false u e f rec = at_low stop n best here long m_a m_b small below (eqb-false _ _ e)
 
-  module _ (a b : ℕ) (ordered : a ≤ b) (edgeA : Edge a) (edgeB : Edge b) (clear : Clear a b) where
+  module _ (a b : ℕ) (ordered : a ≤ b) (edge_a : Edge a) (edge_b : Edge b) (clear : Clear a b) where
     multiple : (w : Prefix) → w.length ≤ l → Aligned w → (w.network % size l ≡ 0) × (end w % size l ≡ 0)
     multiple w q u = (aligned-down w.network (32 - l) (order w) (omega arith) u, aligned-end w (32 - l) (omega arith) u)
 
-    within-ends : (w : Prefix) → Within a b w → (round_up l a ≤ w.network) × (end w ≤ roundDown l b)
+    within-ends : (w : Prefix) → Within a b w → (round_up l a ≤ w.network) × (end w ≤ round_down l b)
     within-ends w k =
         let m = multiple w k.large k.whole.free.aligned in (
           up_least l a w.network m.0 k.from,
-          down-greatest l b (end w) m.1 (⊎_elim (λ h. h) (λ h. absurd (omega (arith, k.below))) (edgeB w k.whole.free)),
+          down-greatest l b (end w) m.1 (⊎_elim (λ h. h) (λ h. absurd (omega (arith, k.below))) (edge_b w k.whole.free)),
         )
 
     -- No free prefix of length at most l lies across the ends of that part either.
     edge-up : (x : Prefix) → x.length ≤ l → Free pools leases x → (end x ≤ round_up l a) ⊎ (round_up l a ≤ x.network)
-    edge-up x q f = ⊎_elim (λ h. inl (omega (arith, up-ge l a))) (λ h. inr (up_least l a x.network (multiple x q f.aligned).0 h)) (edgeA x f)
+    edge-up x q f = ⊎_elim (λ h. inl (omega (arith, up-ge l a))) (λ h. inr (up_least l a x.network (multiple x q f.aligned).0 h)) (edge_a x f)
 
-    edge-down : (x : Prefix) → x.length ≤ l → Free pools leases x → (end x ≤ roundDown l b) ⊎ (roundDown l b ≤ x.network)
-    edge-down x q f = ⊎_elim (λ h. inl (down-greatest l b (end x) (multiple x q f.aligned).1 h)) (λ h. inr (omega (arith, down_le l b))) (edgeB x f)
+    edge-down : (x : Prefix) → x.length ≤ l → Free pools leases x → (end x ≤ round_down l b) ⊎ (round_down l b ≤ x.network)
+    edge-down x q f = ⊎_elim (λ h. inl (down-greatest l b (end x) (multiple x q f.aligned).1 h)) (λ h. inr (omega (arith, down_le l b))) (edge_b x f)
 
-    clear-part : Clear (round_up l a) (roundDown l b)
+    clear-part : Clear (round_up l a) (round_down l b)
     clear-part x u h k = clear x u (omega (arith, up-ge l a)) (omega (arith, down_le l b))
 
-    pub gap_below : (best : Option Prefix) → length_of best ≤ l → Below a best → Below b (inGap l best a b)
-    gap_below best short below = go (ltb b (a + size l)) (leb (roundDown l b) (round_up l a)) refl refl
+    pub gap_below : (best : Option Prefix) → length_of best ≤ l → Below a best → Below b (in_gap l best a b)
+    gap_below best short below = go (ltb b (a + size l)) (leb (round_down l b) (round_up l a)) refl refl
       where
-        go : (t u : Bool) → ltb b (a + size l) ≡ t → leb (roundDown l b) (round_up l a) ≡ u
-            → Below b (cond t best (cond u best (levels (round_up l a) (roundDown l b) (length_of best) (l - length_of best) best)))
+        go : (t u : Bool) → ltb b (a + size l) ≡ t → leb (round_down l b) (round_up l a) ≡ u
+            → Below b (cond t best (cond u best (levels (round_up l a) (round_down l b) (length_of best) (l - length_of best) best)))
         go true u e f =
             below-keep a b best ordered
             (λ w k. absurd (omega (arith, ltb-true b (a + size l) e, within-ends w k, k.from, down_le l b, pow_mono {i = 32 - l} {j = order w} (omega (arith, k.large))))) below
         go false true e f =
-            below-keep a b best ordered (λ w k. absurd (omega (arith, leb-true (roundDown l b) (round_up l a) f, within-ends w k, size-positive w.length))) below
+            below-keep a b best ordered (λ w k. absurd (omega (arith, leb-true (round_down l b) (round_up l a) f, within-ends w k, size-positive w.length))) below
         go false false e f =
             let d : length_of best + (l - length_of best) ≡ l = omega arith in
-            levels-below a b (round_up l a) (roundDown l b) ordered (leb-false (roundDown l b) (round_up l a) f) (down_le l b) edge-up edge-down clear-part within-ends
+            levels-below a b (round_up l a) (round_down l b) ordered (leb-false (round_down l b) (round_up l a) f) (down_le l b) edge-up edge-down clear-part within-ends
             (l - length_of best) (length_of best) best refl (omega arith)
-            (subst (λ (x : ℕ). round_up l a % size x ≡ 0) (sym d) (up_multiple l a)) (subst (λ (x : ℕ). roundDown l b % size x ≡ 0) (sym d) (down-multiple l b))
+            (subst (λ (x : ℕ). round_up l a % size x ≡ 0) (sym d) (up_multiple l a)) (subst (λ (x : ℕ). round_down l b % size x ≡ 0) (sym d) (down-multiple l b))
             (λ w k. omega (arith, k.large)) below

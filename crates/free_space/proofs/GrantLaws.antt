@@ -26,8 +26,8 @@ use Rattle.free_space.proofs.BestLaws.{Best, best-best, best-holds}
 -- all pools
 
 -- The walk of a pool.
-abbrev pub walkPool : List Prefix → Prefix → List Prefix
-walkPool leases p = walk leases (32 - p.length) p
+abbrev pub walk_pool : List Prefix → Prefix → List Prefix
+walk_pool leases p = walk leases (32 - p.length) p
 
 pub pool-level : (p : Prefix) → Length p.length → Level (32 - p.length) p
 pool-level p l = omega arith
@@ -40,9 +40,9 @@ pub record ChosenWhole (pools leases : List Prefix) (w : Prefix) : Type 0 where
 pub wholes-found : (pools leases : List Prefix) → All (λ p. Length p.length) pools → All Aligned pools → All (ChosenWhole pools leases) (wholes pools leases)
 wholes-found [] leases l u = tt
 wholes-found (p ∷ ps) leases l u =
-    all_append (ChosenWhole (p ∷ ps) leases) (walkPool leases p) (wholes ps leases)
+    all_append (ChosenWhole (p ∷ ps) leases) (walk_pool leases p) (wholes ps leases)
     (all_map (λ w k. record { free = record { aligned = k.aligned; pooled = inl k.inside; unused = k.unused }; length = k.length })
-    (walkPool leases p) (walk-listed leases (32 - p.length) p (pool-level p l.0) u.0))
+    (walk_pool leases p) (walk-listed leases (32 - p.length) p (pool-level p l.0) u.0))
     (all_map (λ w k. record { free = record { aligned = k.free.aligned; pooled = inr k.free.pooled; unused = k.free.unused }; length = k.length })
     (wholes ps leases) (wholes-found ps leases l.1 u.1))
 
@@ -50,9 +50,9 @@ pub wholes-cover : (pools leases : List Prefix) (b : Prefix) → All (λ p. Leng
     → Any (Inside b) (wholes pools leases)
 wholes-cover [] leases b l u v i a = absurd i
 wholes-cover (p ∷ ps) leases b l u v (inl i) a =
-    any_left (Inside b) (walkPool leases p) (wholes ps leases) (walk-covers leases (32 - p.length) p b (pool-level p l.0) u.0 v i a)
+    any_left (Inside b) (walk_pool leases p) (wholes ps leases) (walk-covers leases (32 - p.length) p b (pool-level p l.0) u.0 v i a)
 wholes-cover (p ∷ ps) leases b l u v (inr i) a =
-    any-right (Inside b) (walkPool leases p) (wholes ps leases) (wholes-cover ps leases b l.1 u.1 v i a)
+    any-right (Inside b) (walk_pool leases p) (wholes ps leases) (wholes-cover ps leases b l.1 u.1 v i a)
 
 wholes-skip : (pools leases : List Prefix) (b : Prefix) → All (λ p. Length p.length) pools → All (Apart b) pools → wholes pools (b ∷ leases) ≡ wholes pools leases
 wholes-skip [] leases b l a = refl
@@ -69,8 +69,8 @@ removals-first p ps leases l d w k m b v i u f =
     omega (
       arith,
       m b v i u f,
-      sum-append f (walkPool leases p) (wholes ps leases),
-      sum-append f (walkPool (b ∷ leases) p) (wholes ps (b ∷ leases)),
+      sum-append f (walk_pool leases p) (wholes ps leases),
+      sum-append f (walk_pool (b ∷ leases) p) (wholes ps (b ∷ leases)),
       ap (sum f) (wholes-skip ps leases b l (all-apart-sub b p ps (inside-trans b w p i k.inside) d)),
     )
 
@@ -80,8 +80,8 @@ removals-later p ps leases l d w k m b v i u f =
     omega (
       arith,
       m b v i u f,
-      sum-append f (walkPool leases p) (wholes ps leases),
-      sum-append f (walkPool (b ∷ leases) p) (wholes ps (b ∷ leases)),
+      sum-append f (walk_pool leases p) (wholes ps leases),
+      sum-append f (walk_pool (b ∷ leases) p) (wholes ps (b ∷ leases)),
       ap (sum f) (walk-skip leases b (32 - p.length) p (pool-level p l) (apart-sym b p (apart-sub b t.0 p (inside-trans b w t.0 i t.1) (apart-sym p t.0 t.2)))),
     )
 
@@ -89,8 +89,8 @@ wholes-removals : (pools leases : List Prefix) → All (λ p. Length p.length) p
 wholes-removals [] leases l u d = tt
 wholes-removals (p ∷ ps) leases l u d =
     let v = pool-level p l.0 in
-    all_append (Removals (p ∷ ps) leases) (walkPool leases p) (wholes ps leases)
-    (all-map₂ (removals-first p ps leases l.1 d.0) (walkPool leases p) (walk-listed leases (32 - p.length) p v u.0) (walk-removal leases (32 - p.length) p v u.0))
+    all_append (Removals (p ∷ ps) leases) (walk_pool leases p) (wholes ps leases)
+    (all-map₂ (removals-first p ps leases l.1 d.0) (walk_pool leases p) (walk-listed leases (32 - p.length) p v u.0) (walk-removal leases (32 - p.length) p v u.0))
     (all-map₂ (removals-later p ps leases l.0 d.0) (wholes ps leases) (wholes-found ps leases l.1 u.1) (wholes-removals ps leases l.1 u.1 d.1))
 
 -- How many free prefixes of order k there is room for, and how many of order k a list of asks comes to.

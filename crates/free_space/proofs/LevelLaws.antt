@@ -10,7 +10,7 @@ use borrow.Author.Tests.{eq-eqb, ne_eqb, lt-ltb, le-ltb, le-leb, lt-leb}
 use Rattle.prefix.specs.declared.Prefix.{Prefix}
 use Rattle.prefix.specs.Prefixes.{size, prefix}
 use Rattle.prefix.proofs.Nesting.{aligned-down}
-use Rattle.free_space.specs.Scan.{round_up, roundDown, length_of, levels, inGap}
+use Rattle.free_space.specs.Scan.{round_up, round_down, length_of, levels, in_gap}
 
 module _ (a b stop len : ℕ) (best : Option Prefix) (above : stop < len) where
   steps : len - stop ≡ suc (len - 1 - stop)
@@ -56,25 +56,25 @@ levels-none a b stop (suc n) best e f =
 -- the cases of a gap
 
 module _ (l : ℕ) (best : Option Prefix) (a b : ℕ) where
-  pub gap-small : b < a + size l → inGap l best a b ≡ best
+  pub gap-small : b < a + size l → in_gap l best a b ≡ best
   gap-small h = rw (lt-ltb b (a + size l) h)
 
   -- Nothing better at its ends.
-  pub gap-nothing : levels (round_up l a) (roundDown l b) (length_of best) (l - length_of best) best ≡ best → inGap l best a b ≡ best
-  gap-nothing = go (ltb b (a + size l)) (leb (roundDown l b) (round_up l a))
+  pub gap-nothing : levels (round_up l a) (round_down l b) (length_of best) (l - length_of best) best ≡ best → in_gap l best a b ≡ best
+  gap-nothing = go (ltb b (a + size l)) (leb (round_down l b) (round_up l a))
     where
       go : (t u : Bool) {x : Option Prefix} → x ≡ best → cond t best (cond u best x) ≡ best
       go true u p = refl
       go false true p = refl
       go false false p = p
 
-  pub gap-empty : a + size l ≤ b → roundDown l b ≤ round_up l a → inGap l best a b ≡ best
-  gap-empty h k = rw (le-ltb b (a + size l) h, le-leb (roundDown l b) (round_up l a) k)
+  pub gap-empty : a + size l ≤ b → round_down l b ≤ round_up l a → in_gap l best a b ≡ best
+  gap-empty h k = rw (le-ltb b (a + size l) h, le-leb (round_down l b) (round_up l a) k)
 
-  pub gap_ends : a + size l ≤ b → round_up l a < roundDown l b → inGap l best a b ≡ levels (round_up l a) (roundDown l b) (length_of best) (l - length_of best) best
-  gap_ends h k = rw (le-ltb b (a + size l) h, lt-leb (roundDown l b) (round_up l a) k)
+  pub gap_ends : a + size l ≤ b → round_up l a < round_down l b → in_gap l best a b ≡ levels (round_up l a) (round_down l b) (length_of best) (l - length_of best) best
+  gap_ends h k = rw (le-ltb b (a + size l) h, lt-leb (round_down l b) (round_up l a) k)
 
 -- an exact fit stays
 
-pub gap-exact : (l : ℕ) (best : Option Prefix) (a b : ℕ) → length_of best ≡ l → inGap l best a b ≡ best
-gap-exact l best a b e = gap-nothing l best a b (levels-done (round_up l a) (roundDown l b) (length_of best) l best (omega arith))
+pub gap-exact : (l : ℕ) (best : Option Prefix) (a b : ℕ) → length_of best ≡ l → in_gap l best a b ≡ best
+gap-exact l best a b e = gap-nothing l best a b (levels-done (round_up l a) (round_down l b) (length_of best) l best (omega arith))

@@ -14,15 +14,15 @@ use Rattle.prefix.specs.Prefixes.{prefix, Aligned, Inside, Apart}
 use Rattle.prefix.proofs.PrefixLaws.{apart-sym}
 use Rattle.prefix.proofs.Nesting.{order, inside-order}
 use Rattle.free_space.specs.Space.{Free}
-use Rattle.free_space.specs.Grant.{wholes, best, lowestPart, grant}
-use Rattle.free_space.specs.Serving.{Pools, Packing, withGrant, serve}
+use Rattle.free_space.specs.Grant.{wholes, best, lowest_part, grant}
+use Rattle.free_space.specs.Serving.{Pools, Packing, with_grant, serve}
 use Rattle.free_space.proofs.BestLaws.{Best, best-best, best-holds}
 use Rattle.free_space.proofs.GrantLaws.{ChosenWhole, found, cover, Fits, takes, lowest-free, granted}
 
 serve-step : (pools leases : List Prefix) (l : ℕ) (ls : List ℕ) (g : Prefix) (gs : List Prefix)
     → grant pools leases l ≡ some g → serve pools (g ∷ leases) ls ≡ map some gs → serve pools leases (l ∷ ls) ≡ map some (g ∷ gs)
 serve-step pools leases l ls g gs e f =
-    ap (λ (o : Option Prefix). o ∷ serve pools (withGrant o leases) ls) e ∙ ap (λ (xs : List (Option Prefix)). some g ∷ xs) f
+    ap (λ (o : Option Prefix). o ∷ serve pools (with_grant o leases) ls) e ∙ ap (λ (xs : List (Option Prefix)). some g ∷ xs) f
 
 -- Leases as the table keeps them: each aligned and inside a pool, no two sharing an address.
 pub record Leases (pools leases : List Prefix) : Type 0 where
@@ -45,7 +45,7 @@ module _ (pools : List Prefix) (good : Pools pools) where
       ws : List Prefix
       ws = wholes pools leases
 
-      never : (o : Option Prefix) → Best l (wholes pools leases) o → lowestPart l o ≡ none → (n : ℕ) → Free pools leases (prefix n l) → ⊥
+      never : (o : Option Prefix) → Best l (wholes pools leases) o → lowest_part l o ≡ none → (n : ℕ) → Free pools leases (prefix n l) → ⊥
       never none k f n a =
           let both : All (λ w. (l < w.length) × (w.length ≤ 32)) (wholes pools leases) =
           all-map₂ (λ w u v. (u, v.length)) (wholes pools leases) k (found pools good leases) in
@@ -56,7 +56,7 @@ module _ (pools : List Prefix) (good : Pools pools) where
           smaller w u v q = omega arith
       never (some w) k f n a = some-ne-none (prefix w.network l) f
 
-      granting : (o : Option Prefix) → Best l (wholes pools leases) o → OfSome (ChosenWhole pools leases) o → ((n : ℕ) → Free pools leases (prefix n l) → ⊥) → lowestPart l o ≡ none
+      granting : (o : Option Prefix) → Best l (wholes pools leases) o → OfSome (ChosenWhole pools leases) o → ((n : ℕ) → Free pools leases (prefix n l) → ⊥) → lowest_part l o ≡ none
       granting none k a h = refl
       granting (some w) k a h = absurd (h w.network (lowest-free pools good leases w l a.free k.0))
 
@@ -64,7 +64,7 @@ module _ (pools : List Prefix) (good : Pools pools) where
   pub granted-free : (leases : List Prefix) (l : ℕ) (g : Prefix) → grant pools leases l ≡ some g → Free pools leases g × (g.length ≡ l)
   granted-free leases l g = go (best l (wholes pools leases)) (best-best l (wholes pools leases)) (best-holds (ChosenWhole pools leases) l (wholes pools leases) (found pools good leases))
     where
-      go : (o : Option Prefix) → Best l (wholes pools leases) o → OfSome (ChosenWhole pools leases) o → lowestPart l o ≡ some g → Free pools leases g × (g.length ≡ l)
+      go : (o : Option Prefix) → Best l (wholes pools leases) o → OfSome (ChosenWhole pools leases) o → lowest_part l o ≡ some g → Free pools leases g × (g.length ≡ l)
       go none b a e = absurd (none-ne-some g e)
       go (some w) b a e =
           let p = some-injective (prefix w.network l) g e in
@@ -100,7 +100,7 @@ module _ (pools : List Prefix) (good : Pools pools) where
       let g : Prefix = prefix t.0.network l in
       let s = served ls (g ∷ leases) t.3 in (
         g ∷ s.0,
-        serve-step pools leases l ls g s.0 (ap (lowestPart l) t.1) s.1,
+        serve-step pools leases l ls g s.0 (ap (lowest_part l) t.1) s.1,
         record {
           asked = ap (λ (xs : List ℕ). l ∷ xs) s.2.asked;
           free = (t.2, all_map (λ c. free-less leases g c) s.0 s.2.free);
@@ -121,7 +121,7 @@ module _ (pools : List Prefix) (good : Pools pools) where
   serve-packing (l ∷ ls) leases (g ∷ gs) e =
       let h : grant pools leases l ≡ some g = head-eq_of_cons-eq e in
       let a = granted-free leases l g h in
-      let s = serve-packing ls (g ∷ leases) gs (subst (λ (o : Option Prefix). serve pools (withGrant o leases) ls ≡ map some gs) h (tail-eq_of_cons-eq e)) in
+      let s = serve-packing ls (g ∷ leases) gs (subst (λ (o : Option Prefix). serve pools (with_grant o leases) ls ≡ map some gs) h (tail-eq_of_cons-eq e)) in
       record {
         asked = ap₂ (λ (x : ℕ) (xs : List ℕ). x ∷ xs) a.1 s.asked;
         free = (a.0, all_map (λ c. free-less leases g c) gs s.free);

@@ -17,7 +17,7 @@ use Rattle.lists.proofs.ListLaws.{all_map}
 use Rattle.prefix.specs.declared.Prefix.{Prefix}
 use Rattle.prefix.specs.Prefixes.{prefix}
 use Rattle.prefix.proofs.Nesting.{order}
-use Rattle.free_space.specs.Grant.{wholes, lowestPart}
+use Rattle.free_space.specs.Grant.{wholes, lowest_part}
 use Rattle.free_space.specs.Serving.{Length, Pools, Packing, after, one?, number}
 use Rattle.free_space.proofs.Weights.{wt, wt-self, wt-mul-le}
 use Rattle.free_space.proofs.WalkLaws.{sum}
@@ -72,13 +72,13 @@ module _ (pools : List Prefix) (good : Pools pools) where
   fits_after [] ms leases fit = fit
   fits_after (l ∷ ls) ms leases fit =
       let t = granted pools good leases l (ls ++ ms) fit in
-      rw (ap (lowestPart l) t.1) (fits_after ls ms (prefix t.0.network l ∷ leases) t.3)
+      rw (ap (lowest_part l) t.1) (fits_after ls ms (prefix t.0.network l ∷ leases) t.3)
 
   cost : (ls : List ℕ) (leases : List Prefix) → Fits pools leases ls → (k : ℕ) → room pools (after pools leases ls) k + load ls k ≤ room pools leases k
   cost [] leases fit k = omega arith
   cost (l ∷ ls) leases fit k =
       let t = granted pools good leases l ls fit in
-      rw (ap (lowestPart l) t.1) (omega (arith, cost ls (prefix t.0.network l ∷ leases) t.3 k, takes pools good leases (prefix t.0.network l) t.2 k))
+      rw (ap (lowest_part l) t.1) (omega (arith, cost ls (prefix t.0.network l ∷ leases) t.3 k, takes pools good leases (prefix t.0.network l) t.2 k))
 
   -- As many prefixes as were left after one order could still be asked for after the other.
   room-le : (ls ms : List ℕ) (leases : List Prefix) → Permᴰ ls ms → Fits pools leases ls → (k : ℕ) → k ≤ 32

@@ -12,7 +12,7 @@ use Rattle.prefix.specs.declared.Prefix.{Prefix}
 use Rattle.prefix.specs.Prefixes.{Apart, Inside, inside?, lower, upper}
 use Rattle.prefix.proofs.PrefixLaws.{inside_of}
 use Rattle.free_space.specs.Space.{Free, unused?}
-use Rattle.free_space.specs.Grant.{covered?, walk, wholes, best, lowestPart, grant}
+use Rattle.free_space.specs.Grant.{covered?, walk, wholes, best, lowest_part, grant}
 use Rattle.free_space.proofs.WalkLaws.{unused-to, unused-of, covered-to}
 
 pub covered_of : (outer : List Prefix) (p : Prefix) → Any (Inside p) outer → covered? outer p ≡ true
@@ -39,7 +39,7 @@ wholes-perm [] d = refl
 wholes-perm (p ∷ ps) d = rw (walk-perm d (32 - p.length) p, wholes-perm ps d)
 
 pub grant-perm : (pools : List Prefix) {ls ms : List Prefix} → Permᴰ ls ms → (l : ℕ) → grant pools ls l ≡ grant pools ms l
-grant-perm pools d l = ap (λ (ws : List Prefix). lowestPart l (best l ws)) (wholes-perm pools d)
+grant-perm pools d l = ap (λ (ws : List Prefix). lowest_part l (best l ws)) (wholes-perm pools d)
 
 pub free-perm : (pools : List Prefix) {ls ms : List Prefix} → Permᴰ ls ms → (p : Prefix) → Free pools ls p → Free pools ms p
 free-perm pools d p f = record { aligned = f.aligned; pooled = f.pooled; unused = perm-all (Apart p) d f.unused }

@@ -18,11 +18,11 @@ use Rattle.prefix.specs.Prefixes.{longest, size, prefix, end, Aligned, Inside, A
 use Rattle.prefix.proofs.PrefixLaws.{size-half, size-positive, apart-sym}
 use Rattle.prefix.proofs.Nesting.{order, prefix-path, inside-trans, apart-sub, apart-absurd, inside-order, aligned-down, aligned-end, aligned-lower, aligned-upper, next_multiple, nested}
 use Rattle.free_space.specs.Space.{Free, around, Whole, NotWorse, Takes, unused?}
-use Rattle.free_space.specs.Grant.{covered?, pick, walk, wholes, best, lowestPart, grant}
+use Rattle.free_space.specs.Grant.{covered?, pick, walk, wholes, best, lowest_part, grant}
 use Rattle.free_space.specs.Serving.{Length, Pools, Before}
 use Rattle.free_space.proofs.WalkLaws.{Level, short, unused-of, pick_all, walk-listed}
 use Rattle.free_space.proofs.BestLaws.{Best, not-worse-antisym, best-best, best-holds}
-use Rattle.free_space.proofs.GrantLaws.{walkPool, pool-level, wholes-found, found, cover, free-inside}
+use Rattle.free_space.proofs.GrantLaws.{walk_pool, pool-level, wholes-found, found, cover, free-inside}
 
 -- the prefix twice the size around another
 
@@ -78,8 +78,8 @@ wholes-top : (pools leases : List Prefix) → All (λ p. Length p.length) pools 
     → All (λ w. Any (λ p. p ≡ w) pools ⊎ (All (Apart (around w)) leases → ⊥)) (wholes pools leases)
 wholes-top [] leases l u = tt
 wholes-top (p ∷ ps) leases l u =
-    all_append (λ w. Any (λ x. x ≡ w) (p ∷ ps) ⊎ (All (Apart (around w)) leases → ⊥)) (walkPool leases p) (wholes ps leases)
-    (all_map (λ w. ⊎_elim (λ e. inl (inl (sym e))) inr) (walkPool leases p) (walk_top leases (32 - p.length) p (pool-level p l.0) u.0))
+    all_append (λ w. Any (λ x. x ≡ w) (p ∷ ps) ⊎ (All (Apart (around w)) leases → ⊥)) (walk_pool leases p) (wholes ps leases)
+    (all_map (λ w. ⊎_elim (λ e. inl (inl (sym e))) inr) (walk_pool leases p) (walk_top leases (32 - p.length) p (pool-level p l.0) u.0))
     (all_map (λ w. ⊎_elim (λ e. inl (inr e)) inr) (wholes ps leases) (wholes-top ps leases l.1 u.1))
 
 pub wholes-whole : (pools leases : List Prefix) → Pools pools → All (Whole pools leases) (wholes pools leases)
@@ -155,11 +155,11 @@ module _ (pools : List Prefix) (good : Pools pools) where
           let t = any-all (wholes pools leases) (wholes-complete leases v k) b.1 in
           subst (NotWorse w) t.1 (t.2 (subst (λ (x : Prefix). x.length ≤ length) (sym t.1) q))
 
-      to : (o : Option Prefix) → Best length (wholes pools leases) o → OfSome (Whole pools leases) o → lowestPart length o ≡ some g → Takes pools leases length g
+      to : (o : Option Prefix) → Best length (wholes pools leases) o → OfSome (Whole pools leases) o → lowest_part length o ≡ some g → Takes pools leases length g
       to none b a e = absurd (none-ne-some g e)
       to (some w) b a e = record { from = w; whole = a; large = b.0; best = least w b; part = cc }
 
-      from : (o : Option Prefix) → Best length (wholes pools leases) o → OfSome (Whole pools leases) o → Takes pools leases length g → lowestPart length o ≡ some g
+      from : (o : Option Prefix) → Best length (wholes pools leases) o → OfSome (Whole pools leases) o → Takes pools leases length g → lowest_part length o ≡ some g
       from none b a k =
           let t = any-all (wholes pools leases) (wholes-complete leases k.from k.whole) b in
           absurd (omega (arith, k.large, t.2, ap (λ (x : Prefix). x.length) t.1))
@@ -188,27 +188,27 @@ walk-ascends leases (suc h) p v u =
     cross w x i k = omega arith
 
 -- What holds of any two prefixes that lie in two pools, the one before the other, holds of those listed.
-concatMap-pairwise : (R : Prefix → Prefix → Type 0) → ((a b p q : Prefix) → Inside a p → Inside b q → R p q → R a b)
-    → (pools leases : List Prefix) → All (λ p. Length p.length) pools → All Aligned pools → All (λ p. Pairwise R (walkPool leases p)) pools → Pairwise R pools → Pairwise R (wholes pools leases)
-concatMap-pairwise R f [] leases l u w d = tt
-concatMap-pairwise R f (p ∷ ps) leases l u w d =
-    pairwise_append R (walkPool leases p) (wholes ps leases) w.0 (concatMap-pairwise R f ps leases l.1 u.1 w.1 d.1)
+concat_map-pairwise : (R : Prefix → Prefix → Type 0) → ((a b p q : Prefix) → Inside a p → Inside b q → R p q → R a b)
+    → (pools leases : List Prefix) → All (λ p. Length p.length) pools → All Aligned pools → All (λ p. Pairwise R (walk_pool leases p)) pools → Pairwise R pools → Pairwise R (wholes pools leases)
+concat_map-pairwise R f [] leases l u w d = tt
+concat_map-pairwise R f (p ∷ ps) leases l u w d =
+    pairwise_append R (walk_pool leases p) (wholes ps leases) w.0 (concat_map-pairwise R f ps leases l.1 u.1 w.1 d.1)
     (all_map (λ a k. all_map (λ b m. let t = any-all ps m.free.pooled d.0 in f a b p t.0 k.inside t.1 t.2) (wholes ps leases) (wholes-found ps leases l.1 u.1))
-    (walkPool leases p) (walk-listed leases (32 - p.length) p (pool-level p l.0) u.0))
+    (walk_pool leases p) (walk-listed leases (32 - p.length) p (pool-level p l.0) u.0))
 
-pools-ascend : (leases : List Prefix) (pools : List Prefix) → All (λ p. Length p.length) pools → All Aligned pools → All (λ p. Pairwise Before (walkPool leases p)) pools
+pools-ascend : (leases : List Prefix) (pools : List Prefix) → All (λ p. Length p.length) pools → All Aligned pools → All (λ p. Pairwise Before (walk_pool leases p)) pools
 pools-ascend leases = all-map₂ (λ p l u. walk-ascends leases (32 - p.length) p (pool-level p l) u)
 
 -- "Walking each root in ascending order": where the pools ascend, so do the whole free prefixes.
 pub wholes-ascend : (pools leases : List Prefix) → Pools pools → Pairwise Before pools → Pairwise Before (wholes pools leases)
 wholes-ascend pools leases good =
-    concatMap-pairwise Before (λ a b p q i j d. omega arith) pools leases good.lengths good.aligned (pools-ascend leases pools good.lengths good.aligned)
+    concat_map-pairwise Before (λ a b p q i j d. omega arith) pools leases good.lengths good.aligned (pools-ascend leases pools good.lengths good.aligned)
 
 -- No two whole free prefixes share an address, in whatever order the pools stand.
 pub wholes-apart : (pools leases : List Prefix) → Pools pools → Pairwise Apart (wholes pools leases)
 wholes-apart pools leases good =
-    concatMap-pairwise Apart (λ a b p q i j d. apart-sym b a (apart-sub b q a j (apart-sym a q (apart-sub a p q i d)))) pools leases good.lengths good.aligned
-    (all_map (λ p. pairwise_map (λ a b h. inl h) (walkPool leases p)) pools (pools-ascend leases pools good.lengths good.aligned)) good.disjoint
+    concat_map-pairwise Apart (λ a b p q i j d. apart-sym b a (apart-sub b q a j (apart-sym a q (apart-sub a p q i d)))) pools leases good.lengths good.aligned
+    (all_map (λ p. pairwise_map (λ a b h. inl h) (walk_pool leases p)) pools (pools-ascend leases pools good.lengths good.aligned)) good.disjoint
 
 -- "A block length runs from 1 to 30": where the leases are blocks, so is every whole free prefix.
 pub whole-block : (pools leases : List Prefix) → Pools pools → All (λ l. (l.length ≤ longest) × Aligned l) leases → (w : Prefix) → Whole pools leases w → Length w.length

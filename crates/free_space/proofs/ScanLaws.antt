@@ -19,7 +19,7 @@ use Rattle.prefix.proofs.PrefixLaws.{size-positive}
 use Rattle.free_space.specs.Space.{Free, Whole}
 use Rattle.free_space.specs.Grant.{wholes, best}
 use Rattle.free_space.specs.Serving.{Length, Before, Ordered}
-use Rattle.free_space.specs.Scan.{length_of, inGap, Scan, inPool, inPools}
+use Rattle.free_space.specs.Scan.{length_of, in_gap, Scan, in_pool, in_pools}
 use Rattle.free_space.proofs.BestLaws.{Best, best-unique}
 use Rattle.free_space.proofs.Rules.{wholes-whole, wholes-exactly}
 use Rattle.free_space.proofs.GapLaws.{Beats, Edge, Clear, Below, below-keep, gap_below}
@@ -89,9 +89,9 @@ module _ (pools leases : List Prefix) (ordered : Ordered pools leases) (l : ℕ)
 
     gap : (c b : ℕ) (xs : List Prefix) (found : Option Prefix) → p.network ≤ c → c ≤ b → b ≤ end p → Reached leases c xs → All (λ x. b ≤ x.network) xs
         → Edge pools leases ordered.good l block c → Edge pools leases ordered.good l block b → Below pools leases ordered.good l block c found
-        → Below pools leases ordered.good l block b (inGap l found c b)
-    gap c b xs found low h high r later eC eB k =
-        gap_below pools leases ordered.good l block c b h eC eB (clear-to c b xs low high r later) found (short c found k) k
+        → Below pools leases ordered.good l block b (in_gap l found c b)
+    gap c b xs found low h high r later e_c e_b k =
+        gap_below pools leases ordered.good l block c b h e_c e_b (clear-to c b xs low high r later) found (short c found k) k
 
     record Scanned (s : Scan) : Type 0 where
       below : Below pools leases ordered.good l block (end p) s.best
@@ -102,33 +102,33 @@ module _ (pools leases : List Prefix) (ordered : Ordered pools leases) (l : ℕ)
     beside c x xs r w f = (reached-left leases c (Apart w) (x ∷ xs) r f.unused).0
 
     scan-pool : (xs : List Prefix) (c : ℕ) (found : Option Prefix) → p.network ≤ c → c ≤ end p → Reached leases c xs
-        → Edge pools leases ordered.good l block c → Below pools leases ordered.good l block c found → Scanned (inPool l found c (end p) xs)
-    scan-pool [] c found low high r eC k = record {
-      below = gap c (end p) [] found low high (le_refl (end p)) r tt eC current.edge k;
+        → Edge pools leases ordered.good l block c → Below pools leases ordered.good l block c found → Scanned (in_pool l found c (end p) xs)
+    scan-pool [] c found low high r e_c k = record {
+      below = gap c (end p) [] found low high (le_refl (end p)) r tt e_c current.edge k;
       reached = reached-on leases c (end p) [] high tt r;
     }
-    scan-pool (x ∷ xs) c found low high r eC k =
+    scan-pool (x ∷ xs) c found low high r e_c k =
         go (ltb x.network (end p)) refl
         (λ h.
         let at : Edge pools leases ordered.good l block x.network =
         λ w f. ⊎_elim inl (λ e. inr (omega (arith, e))) (beside c x xs r w f) in
         let later : All (λ y. x.network ≤ y.network) (x ∷ xs) = (le_refl x.network, all_map (λ y e. omega (arith, e)) xs r.ascend.0) in
-        let first = gap c x.network (x ∷ xs) found low r.next.0 (omega arith) r later eC at k in
-        scan-pool xs (end x) (inGap l found c x.network) (omega (arith, r.next.0))
+        let first = gap c x.network (x ∷ xs) found low r.next.0 (omega arith) r later e_c at k in
+        scan-pool xs (end x) (in_gap l found c x.network) (omega (arith, r.next.0))
         (current.holds x (reached-left leases c (λ y. Any (Inside y) pools) (x ∷ xs) r ordered.pooled).0 (omega (arith, r.next.0)) h)
         (reached-over leases c x xs r)
         (λ w f. ⊎_elim (λ e. inl (omega (arith, e))) inr (beside c x xs r w f))
-        (below-keep pools leases ordered.good l block x.network (end x) (inGap l found c x.network) (omega arith)
+        (below-keep pools leases ordered.good l block x.network (end x) (in_gap l found c x.network) (omega arith)
         (λ w t. absurd (⊎_elim (λ e. omega (arith, e, t.from, size-positive w.length)) (λ e. omega (arith, e, t.below)) (beside c x xs r w t.whole.free))) first))
       where
-        go : (t : Bool) → ltb x.network (end p) ≡ t → (x.network < end p → Scanned (inPool l (inGap l found c x.network) (end x) (end p) xs))
-            → Scanned (cond t (inPool l (inGap l found c x.network) (end x) (end p) xs) (record { best = inGap l found c (end p); left = x ∷ xs }))
+        go : (t : Bool) → ltb x.network (end p) ≡ t → (x.network < end p → Scanned (in_pool l (in_gap l found c x.network) (end x) (end p) xs))
+            → Scanned (cond t (in_pool l (in_gap l found c x.network) (end x) (end p) xs) (record { best = in_gap l found c (end p); left = x ∷ xs }))
         go true e rec = rec (ltb-true _ _ e)
         go false e rec =
             let h : end p ≤ x.network = ltb-false _ _ e in
             let later : All (λ y. end p ≤ y.network) (x ∷ xs) = (h, all_map (λ y d. omega (arith, d)) xs r.ascend.0) in
             record {
-              below = gap c (end p) (x ∷ xs) found low high (le_refl (end p)) r later eC current.edge k;
+              below = gap c (end p) (x ∷ xs) found low high (le_refl (end p)) r later e_c current.edge k;
               reached = reached-on leases c (end p) (x ∷ xs) high later r;
             }
 
@@ -191,16 +191,16 @@ module _ (pools leases : List Prefix) (ordered : Ordered pools leases) (l : ℕ)
           (k.is.1, all_map (λ w u q. beaten (some v) k w u q) (wholes pools leases) (wholes-whole pools leases ordered.good))
 
   scan-pools : (ps xs : List Prefix) (c : ℕ) (found : Option Prefix) → Reached pools c ps → Reached leases c xs → Below pools leases ordered.good l block c found
-      → best l (wholes pools leases) ≡ inPools l found ps xs
+      → best l (wholes pools leases) ≡ in_pools l found ps xs
   scan-pools [] xs c found r q k = scan-end c found r k
   scan-pools (p ∷ ps) xs c found r q k =
       let s = scan-pool p (current c p ps r) xs p.network found (le_refl p.network) (omega arith) (start-reached c p ps r xs q) (start-edge c p ps r) (start-below c p ps r found k) in
-      scan-pools ps (inPool l found p.network (end p) xs).left (end p) (inPool l found p.network (end p) xs).best (reached-over pools c p ps r) s.reached s.below
+      scan-pools ps (in_pool l found p.network (end p) xs).left (end p) (in_pool l found p.network (end p) xs).best (reached-over pools c p ps r) s.reached s.below
 
   -- The scan finds the best whole free prefix.
-  pub scan-best : best l (wholes pools leases) ≡ inPools l none pools leases
+  pub scan-best : best l (wholes pools leases) ≡ in_pools l none pools leases
   scan-best =
       scan-pools pools leases 0 none
-      (record { done = []; split = refl; over = tt; next = all-every (λ x. omega arith) pools; ascend = ordered.poolsAscend })
-      (record { done = []; split = refl; over = tt; next = all-every (λ x. omega arith) leases; ascend = ordered.leasesAscend })
+      (record { done = []; split = refl; over = tt; next = all-every (λ x. omega arith) pools; ascend = ordered.pools_ascend })
+      (record { done = []; split = refl; over = tt; next = all-every (λ x. omega arith) leases; ascend = ordered.leases_ascend })
       (record { is = tt; all = λ w u q. inl (omega arith) })

@@ -15,7 +15,7 @@ use Rattle.prefix.specs.Prefixes.{Inside, inside?, Apart, apart?, lower, upper}
 use Rattle.prefix.proofs.PrefixLaws.{inside_of, inside-not, apart_of, apart-sym, lower-inside, upper-inside}
 use Rattle.prefix.proofs.Nesting.{apart-sub, apart-absurd}
 use Rattle.free_space.specs.Space.{unused?}
-use Rattle.free_space.specs.Grant.{covered?, walk, wholes, best, lowestPart, grant}
+use Rattle.free_space.specs.Grant.{covered?, walk, wholes, best, lowest_part, grant}
 use Rattle.free_space.specs.Serving.{Length, Pools}
 use Rattle.free_space.proofs.WalkLaws.{Level, short}
 use Rattle.free_space.proofs.GrantLaws.{pool-level}
@@ -84,7 +84,7 @@ module _ (ground leases : List Prefix) (lengths : All (λ p. Length p.length) gr
   wholes-within = wholes-kept (λ x. any? (inside? x) ground) leases ground lengths (all_map (out ground) leases parted)
 
   pub grant-within : (l : ℕ) → grant ground leases l ≡ grant ground (within ground leases) l
-  grant-within l = ap (λ (ws : List Prefix). lowestPart l (best l ws)) wholes-within
+  grant-within l = ap (λ (ws : List Prefix). lowest_part l (best l ws)) wholes-within
 
 -- PART OF THE POOLS OF A SOUND TABLE
 

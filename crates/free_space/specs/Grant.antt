@@ -1,7 +1,7 @@
 -- What an ask is granted, as functions that compute: the whole free prefixes from halves, the best of them, its lowest part. Nobody has to
 -- believe them: an ask takes what the rule `Takes` of Space says, exactly (`grant-takes`).
 use Rattle.lists.specs.Basics.{ℕ, zero, suc, ◌-◌, Bool, true, false, ◌&&◌, ◌||◌, List, [], ◌∷◌, ◌++◌, Option, none, some, leb, ltb, eqb}
-use Rattle.lists.specs.Lists.{any?, concatMap}
+use Rattle.lists.specs.Lists.{any?, concat_map}
 use Rattle.prefix.specs.declared.Prefix.{Prefix}
 use Rattle.prefix.specs.Prefixes.{prefix, inside?, lower, upper}
 use Rattle.free_space.specs.Space.{unused?}
@@ -23,7 +23,7 @@ walk leases (suc left) p =
     pick (unused? leases p) (covered? leases p) p halves
 
 abbrev pub wholes : List Prefix → List Prefix → List Prefix
-wholes pools leases = concatMap (λ p. walk leases (32 - p.length) p) pools
+wholes pools leases = concat_map (λ p. walk leases (32 - p.length) p) pools
 
 -- w is smaller than v, or as large and lower.
 abbrev pub better? : Prefix → Prefix → Bool
@@ -44,10 +44,10 @@ abbrev pub best : ℕ → List Prefix → Option Prefix
 best length [] = none
 best length (w ∷ ws) = consider (leb w.length length) w (best length ws)
 
-abbrev pub lowestPart : ℕ → Option Prefix → Option Prefix
-lowestPart length none = none
-lowestPart length (some w) = some (prefix w.network length)
+abbrev pub lowest_part : ℕ → Option Prefix → Option Prefix
+lowest_part length none = none
+lowest_part length (some w) = some (prefix w.network length)
 
 -- What an ask of this length is granted.
 abbrev pub grant : List Prefix → List Prefix → ℕ → Option Prefix
-grant pools leases length = lowestPart length (best length (wholes pools leases))
+grant pools leases length = lowest_part length (best length (wholes pools leases))

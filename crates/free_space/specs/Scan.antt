@@ -8,8 +8,8 @@ use Rattle.prefix.specs.Prefixes.{size, prefix, end}
 abbrev pub round_up : ℕ → ℕ → ℕ
 round_up l a = cond (eqb (a % size l) 0) a (a + (size l - a % size l))
 
-abbrev pub roundDown : ℕ → ℕ → ℕ
-roundDown l b = b - b % size l
+abbrev pub round_down : ℕ → ℕ → ℕ
+round_down l b = b - b % size l
 
 -- The length of the best prefix so far; 0 where there is none, which is shorter than any.
 abbrev pub length_of : Option Prefix → ℕ
@@ -27,22 +27,22 @@ levels a b stop (suc n) best =
     (some (prefix a (stop + suc n)))
 
 -- The better of `best` and what the gap from a to b has for length l.
-abbrev pub inGap : ℕ → Option Prefix → ℕ → ℕ → Option Prefix
-inGap l best a b =
+abbrev pub in_gap : ℕ → Option Prefix → ℕ → ℕ → Option Prefix
+in_gap l best a b =
     cond (ltb b (a + size l)) best
-    (cond (leb (roundDown l b) (round_up l a)) best (levels (round_up l a) (roundDown l b) (length_of best) (l - length_of best) best))
+    (cond (leb (round_down l b) (round_up l a)) best (levels (round_up l a) (round_down l b) (length_of best) (l - length_of best) best))
 
 -- What is found in a pool that ends at `stop`, from the address `from` on, and the leases that are left for the next pool.
 pub record Scan : Type 0 where
   pub best : Option Prefix
   pub left : List Prefix
 
-abbrev pub inPool : ℕ → Option Prefix → ℕ → ℕ → List Prefix → Scan
-inPool l best from stop [] = record { best = inGap l best from stop; left = [] }
-inPool l best from stop (x ∷ xs) =
-    let later = inPool l (inGap l best from x.network) (end x) stop xs in
-    cond (ltb x.network stop) later (record { best = inGap l best from stop; left = x ∷ xs })
+abbrev pub in_pool : ℕ → Option Prefix → ℕ → ℕ → List Prefix → Scan
+in_pool l best from stop [] = record { best = in_gap l best from stop; left = [] }
+in_pool l best from stop (x ∷ xs) =
+    let later = in_pool l (in_gap l best from x.network) (end x) stop xs in
+    cond (ltb x.network stop) later (record { best = in_gap l best from stop; left = x ∷ xs })
 
-abbrev pub inPools : ℕ → Option Prefix → List Prefix → List Prefix → Option Prefix
-inPools l best [] xs = best
-inPools l best (p ∷ ps) xs = let s = inPool l best p.network (end p) xs in inPools l s.best ps s.left
+abbrev pub in_pools : ℕ → Option Prefix → List Prefix → List Prefix → Option Prefix
+in_pools l best [] xs = best
+in_pools l best (p ∷ ps) xs = let s = in_pool l best p.network (end p) xs in in_pools l s.best ps s.left

@@ -24,8 +24,8 @@ Before a b = end a ≤ b.network
 -- Pools and leases as a sound table keeps them: a line is "a block inside one root", and "roots and lines each ascend by network without overlap".
 pub record Ordered (pools leases : List Prefix) : Type 0 where
   pub good : Pools pools
-  pub poolsAscend : Pairwise Before pools
-  pub leasesAscend : Pairwise Before leases
+  pub pools_ascend : Pairwise Before pools
+  pub leases_ascend : Pairwise Before leases
   pub pooled : All (λ x. Any (Inside x) pools) leases
 
 -- Prefixes of these lengths, each free, no two sharing an address: the asks can be packed.
@@ -34,19 +34,19 @@ pub record Packing (pools leases : List Prefix) (lengths : List ℕ) (chosen : L
   pub free : All (Free pools leases) chosen
   pub disjoint : Pairwise Apart chosen
 
-abbrev pub withGrant : Option Prefix → List Prefix → List Prefix
-withGrant none leases = leases
-withGrant (some p) leases = p ∷ leases
+abbrev pub with_grant : Option Prefix → List Prefix → List Prefix
+with_grant none leases = leases
+with_grant (some p) leases = p ∷ leases
 
 -- What each ask of a list is granted, in order; a refused ask changes nothing.
 abbrev pub serve : List Prefix → List Prefix → List ℕ → List (Option Prefix)
 serve pools leases [] = []
-serve pools leases (l ∷ ls) = let granted = grant pools leases l in granted ∷ serve pools (withGrant granted leases) ls
+serve pools leases (l ∷ ls) = let granted = grant pools leases l in granted ∷ serve pools (with_grant granted leases) ls
 
 -- The leases after a list was served.
 abbrev pub after : List Prefix → List Prefix → List ℕ → List Prefix
 after pools leases [] = leases
-after pools leases (l ∷ ls) = after pools (withGrant (grant pools leases l) leases) ls
+after pools leases (l ∷ ls) = after pools (with_grant (grant pools leases l) leases) ls
 
 -- How many of the prefixes have this length.
 abbrev pub one? : Bool → ℕ

@@ -11,7 +11,7 @@ use Rattle.lists.proofs.TakeLaws.{take_short}
 use Rattle.prefix.specs.declared.Prefix.{Prefix}
 use Rattle.prefix.specs.Prefixes.{size, prefix, end}
 use Rattle.gap_list.specs.Gaps.{Gap, between, without, LiesIn, solid}
-use Rattle.gap_list.specs.Columns.{held, heldIn, Kept, Carved}
+use Rattle.gap_list.specs.Columns.{held, held_in, Kept, Carved}
 use Rattle.gap_list.specs.InnerSearch.{doubled}
 use Rattle.gap_list.proofs.FitLaws.{between-some, between_none}
 
@@ -23,20 +23,20 @@ held-snoc (s ∷ ss) (l ∷ ls) e a b = ap (λ (gs : List Gap). record { from = 
 
 module _ (starts lasts : List ℕ) (n from to : ℕ) where
   pub push-some : n < length starts → n < length lasts → from < to
-      → Kept n (heldIn starts lasts n ++ between from to) (n + 1) (set starts n from) (set lasts n (to - 1))
+      → Kept n (held_in starts lasts n ++ between from to) (n + 1) (set starts n from) (set lasts n (to - 1))
   push-some h k some = record {
     gaps =
-        ap (heldIn (set starts n from) (set lasts n (to - 1))) (add-one n)
+        ap (held_in (set starts n from) (set lasts n (to - 1))) (add-one n)
         ∙ ap₂ held (take-suc-set starts n from h) (take-suc-set lasts n (to - 1) k)
         ∙ held-snoc (take n starts) (take n lasts) (length-take-le n starts (omega arith) ∙ sym (length-take-le n lasts (omega arith))) from (to - 1)
-        ∙ ap (λ (b : ℕ). heldIn starts lasts n ++ (record { from = from; to = b } ∷ [])) (omega arith)
-        ∙ ap (λ (gs : List Gap). heldIn starts lasts n ++ gs) (sym (between-some from to some));
+        ∙ ap (λ (b : ℕ). held_in starts lasts n ++ (record { from = from; to = b } ∷ [])) (omega arith)
+        ∙ ap (λ (gs : List Gap). held_in starts lasts n ++ gs) (sym (between-some from to some));
     few = omega arith;
   }
 
-  pub push-none : to ≤ from → Kept n (heldIn starts lasts n ++ between from to) n starts lasts
+  pub push-none : to ≤ from → Kept n (held_in starts lasts n ++ between from to) n starts lasts
   push-none h = record {
-    gaps = sym (ap (λ (gs : List Gap). heldIn starts lasts n ++ gs) (between_none from to h) ∙ append-nil (heldIn starts lasts n));
+    gaps = sym (ap (λ (gs : List Gap). held_in starts lasts n ++ gs) (between_none from to h) ∙ append-nil (held_in starts lasts n));
     few = omega arith;
   }
 
@@ -92,11 +92,11 @@ module _ (p : Prefix) where
       sym (ap₂ (λ (gs hs : List Gap). solid (gs ++ (hs ++ held ss ls))) (between_none s p.network low) (between_none (end p) (l + 1) (omega arith)))
   split-none (suc i) (s ∷ ss) (l ∷ ls) k low high = ap (λ (gs : List Gap). between s (l + 1) ++ gs) (split-none i ss ls k low high)
 
-pub lies-below : (p : Prefix) (i : ℕ) (starts lasts : List ℕ) (n : ℕ) → LiesIn p i (heldIn starts lasts n) → i < n
+pub lies-below : (p : Prefix) (i : ℕ) (starts lasts : List ℕ) (n : ℕ) → LiesIn p i (held_in starts lasts n) → i < n
 lies-below p i starts lasts n k = omega (arith, (lies_within p i (take n starts) (take n lasts) k).0, take_short n starts)
 
 -- The same of columns of which the first n places are used, as the code changes them.
-module _ (starts lasts : List ℕ) (n i network l : ℕ) (within : i < n) (lies : LiesIn (prefix network l) i (heldIn starts lasts n)) where
+module _ (starts lasts : List ℕ) (n i network l : ℕ) (within : i < n) (lies : LiesIn (prefix network l) i (held_in starts lasts n)) where
   start_is : get_or (take n starts) i 0 ≡ get_or starts i 0
   start_is = get_or-take n starts i 0 within
 
@@ -105,7 +105,7 @@ module _ (starts lasts : List ℕ) (n i network l : ℕ) (within : i < n) (lies 
 
   pub part-both : (ss ls : List ℕ) → take (n + 1) ss ≡ doubled (take n starts) i → take (n + 1) ls ≡ doubled (take n lasts) i
       → (after : ℕ) → after ≡ network + size l → get_or starts i 0 < network → after ≤ get_or lasts i 0
-      → Carved n (without (prefix network l) i (heldIn starts lasts n)) (n + 1) (set ss (i + 1) after) (set ls i (network - 1))
+      → Carved n (without (prefix network l) i (held_in starts lasts n)) (n + 1) (set ss (i + 1) after) (set ls i (network - 1))
   part-both ss ls e f after g low high = record {
     gaps =
         ap solid
@@ -116,7 +116,7 @@ module _ (starts lasts : List ℕ) (n i network l : ℕ) (within : i < n) (lies 
     few = omega arith;
   }
 
-  pub part-below : get_or starts i 0 < network → get_or lasts i 0 < network + size l → Carved n (without (prefix network l) i (heldIn starts lasts n)) n starts (set lasts i (network - 1))
+  pub part-below : get_or starts i 0 < network → get_or lasts i 0 < network + size l → Carved n (without (prefix network l) i (held_in starts lasts n)) n starts (set lasts i (network - 1))
   part-below low high = record {
     gaps =
         ap solid
@@ -126,7 +126,7 @@ module _ (starts lasts : List ℕ) (n i network l : ℕ) (within : i < n) (lies 
   }
 
   pub part-above : (after : ℕ) → after ≡ network + size l → network ≤ get_or starts i 0 → after ≤ get_or lasts i 0
-      → Carved n (without (prefix network l) i (heldIn starts lasts n)) n (set starts i after) lasts
+      → Carved n (without (prefix network l) i (held_in starts lasts n)) n (set starts i after) lasts
   part-above after g low high = record {
     gaps =
         ap solid
@@ -135,7 +135,7 @@ module _ (starts lasts : List ℕ) (n i network l : ℕ) (within : i < n) (lies 
     few = omega arith;
   }
 
-  pub part_none : network ≤ get_or starts i 0 → get_or lasts i 0 < network + size l → Carved n (without (prefix network l) i (heldIn starts lasts n)) n (set starts i 1) (set lasts i 0)
+  pub part_none : network ≤ get_or starts i 0 → get_or lasts i 0 < network + size l → Carved n (without (prefix network l) i (held_in starts lasts n)) n (set starts i 1) (set lasts i 0)
   part_none low high = record {
     gaps =
         ap₂ (λ (ss ls : List ℕ). solid (held ss ls)) (take-set-lt n starts i 1 within) (take-set-lt n lasts i 0 within)

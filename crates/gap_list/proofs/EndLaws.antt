@@ -16,7 +16,7 @@ use Rattle.prefix.specs.declared.Prefix.{Prefix}
 use Rattle.prefix.specs.Prefixes.{size, prefix}
 use Rattle.prefix.proofs.PrefixLaws.{size-positive}
 use Rattle.prefix.proofs.Nesting.{aligned-down, next_multiple}
-use Rattle.free_space.specs.Scan.{length_of, levels, inGap, round_up, roundDown}
+use Rattle.free_space.specs.Scan.{length_of, levels, in_gap, round_up, round_down}
 use Rattle.free_space.proofs.LevelLaws.{levels-low, levels-high, levels-on, levels-none, gap-small, gap-nothing, gap-empty, gap_ends}
 use Rattle.free_space.proofs.GapLaws.{up_multiple, up-ge, up_least, down-multiple, down_le}
 use Rattle.gap_list.specs.declared.Best.{Best}
@@ -29,17 +29,17 @@ size-mask : (x l s : ℕ) → s ≡ size l → bit_and x (s - 1) ≡ x % size l
 size-mask x l s e = ap (λ (t : ℕ). bit_and x (t - 1)) e ∙ and_mask x (32 - l)
 
 module _ (l s : ℕ) (sized : s ≡ size l) where
-  pub mask-down : (x : ℕ) → x - bit_and x (s - 1) ≡ roundDown l x
+  pub mask-down : (x : ℕ) → x - bit_and x (s - 1) ≡ round_down l x
   mask-down x = ap (λ (y : ℕ). x - y) (size-mask x l s sized)
 
   pub mask_up : (x : ℕ) → x + (s - 1) - bit_and (x + (s - 1)) (s - 1) ≡ round_up l x
   mask_up x =
       let up : ℕ = x + (s - 1) in
-      let near : x ≤ roundDown l up = omega (arith, div-add-mod' up (size l), mod-lt up (size-positive l), sized) in
-      let above : round_up l x ≤ roundDown l up = up_least l x (roundDown l up) (down-multiple l up) near in
-      let below : roundDown l up ≤ round_up l x =
-      by_cases (dec_le (roundDown l up) (round_up l x)) (λ h. h)
-      (λ h. absurd (omega (arith, next_multiple (size l) (round_up l x) (roundDown l up) (up_multiple l x) (down-multiple l up) (omega arith), up-ge l x, down_le l up, sized, size-positive l))) in
+      let near : x ≤ round_down l up = omega (arith, div-add-mod' up (size l), mod-lt up (size-positive l), sized) in
+      let above : round_up l x ≤ round_down l up = up_least l x (round_down l up) (down-multiple l up) near in
+      let below : round_down l up ≤ round_up l x =
+      by_cases (dec_le (round_down l up) (round_up l x)) (λ h. h)
+      (λ h. absurd (omega (arith, next_multiple (size l) (round_up l x) (round_down l up) (up_multiple l x) (down-multiple l up) (omega arith), up-ge l x, down_le l up, sized, size-positive l))) in
       mask-down up ∙ omega arith
 
 -- The first prefix of the size that begins in a gap ends behind it: the gap has none.
@@ -47,9 +47,9 @@ pub gap-passed : (mask a b : ℕ) → b < a + mask - bit_and (a + mask) mask + m
 gap-passed mask a b h l best e =
     let m : mask + 1 - 1 ≡ mask = omega arith in
     let up : a + mask - bit_and (a + mask) mask ≡ round_up l a = ap (λ (x : ℕ). a + x - bit_and (a + x) x) (sym m) ∙ mask_up l (mask + 1) (sym e) a in
-    let shut : roundDown l (b + 1) ≤ round_up l a =
-    by_cases (dec_le (roundDown l (b + 1)) (round_up l a)) (λ k. k)
-    (λ k. absurd (omega (arith, next_multiple (size l) (round_up l a) (roundDown l (b + 1)) (up_multiple l a) (down-multiple l (b + 1)) (omega arith), down_le l (b + 1), up, e, h))) in
+    let shut : round_down l (b + 1) ≤ round_up l a =
+    by_cases (dec_le (round_down l (b + 1)) (round_up l a)) (λ k. k)
+    (λ k. absurd (omega (arith, next_multiple (size l) (round_up l a) (round_down l (b + 1)) (up_multiple l a) (down-multiple l (b + 1)) (omega arith), down_le l (b + 1), up, e, h))) in
     by_cases (dec_le (a + size l) (b + 1)) (λ k. gap-empty l best a (b + 1) k shut) (λ k. gap-small l best a (b + 1) (omega arith))
 
 -- What the bits of both ends say.
@@ -163,19 +163,19 @@ module _ (low high : ℕ) (room : low < high) (bound : high ≤ 4294967296) wher
           }
 
 -- One gap, from its ends rounded: nothing better than the best so far, or what is found at an end.
-module _ (l s from last low high : ℕ) (best : Option Prefix) (sized : s ≡ size l) (at_low : low ≡ round_up l from) (at_high : high ≡ roundDown l (last + 1)) where
+module _ (l s from last low high : ℕ) (best : Option Prefix) (sized : s ≡ size l) (at_low : low ≡ round_up l from) (at_high : high ≡ round_down l (last + 1)) where
   -- A gap that is too small has nothing between its rounded ends.
-  gap-closed : high ≤ low → inGap l best from (last + 1) ≡ best
+  gap-closed : high ≤ low → in_gap l best from (last + 1) ≡ best
   gap-closed h =
       by_cases (dec_le (from + size l) (last + 1)) (λ k. gap-empty l best from (last + 1) k (omega arith)) (λ k. gap-small l best from (last + 1) (omega arith))
 
-  pub gap-worse : (t : ℕ) → t ≡ size (length_of best) → bit_and (bits_of low high) (t - 1) ≡ 0 → inGap l best from (last + 1) ≡ best
+  pub gap-worse : (t : ℕ) → t ≡ size (length_of best) → bit_and (bits_of low high) (t - 1) ≡ 0 → in_gap l best from (last + 1) ≡ best
   gap-worse t e z =
       by_cases (dec_le high low) gap-closed
       (λ k.
       let m = or-multiple (32 - length_of best) low high (sym (size-mask (bit_or low high) (length_of best) t e) ∙ ap (λ (x : ℕ). bit_and x (t - 1)) (sym (bits-some low high (omega arith))) ∙ z) in
       gap-nothing l best from (last + 1)
-      (levels-none (round_up l from) (roundDown l (last + 1)) (length_of best) (l - length_of best) best
+      (levels-none (round_up l from) (round_down l (last + 1)) (length_of best) (l - length_of best) best
       (ap (λ (x : ℕ). x % size (length_of best)) (sym at_low) ∙ m.0) (ap (λ (x : ℕ). x % size (length_of best)) (sym at_high) ∙ m.1)))
 
   module _ (t : ℕ) (e : t ≡ size (length_of best)) (some-bit : bit_and (bits_of low high) (t - 1) ≡ 0 → ⊥) where
@@ -194,7 +194,7 @@ module _ (l s from last low high : ℕ) (best : Option Prefix) (sized : s ≡ si
     pub gap-found : l ≤ 32 → (r : Best) → AtEnd low high r → BestFound low high (length_of best) l best r
     gap-found long r found = found (length_of best) l best long ends.0 ends.1 odd
 
-    pub gap-better : (r : Best) (f : BestFound low high (length_of best) l best r) → inGap l best from (last + 1) ≡ some (prefix r.network f.length)
+    pub gap-better : (r : Best) (f : BestFound low high (length_of best) l best r) → in_gap l best from (last + 1) ≡ some (prefix r.network f.length)
     gap-better r f =
         let large : from + size l ≤ last + 1 = omega (arith, next_multiple (size l) low high ends.0 ends.1 gap-open, at_low, at_high, up-ge l from, down_le l (last + 1)) in
         gap_ends l best from (last + 1) large (omega (arith, gap-open))

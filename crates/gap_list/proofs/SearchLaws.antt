@@ -20,25 +20,25 @@ use Rattle.prefix.specs.declared.Prefix.{Prefix}
 use Rattle.prefix.specs.Prefixes.{size, prefix}
 use Rattle.prefix.proofs.PrefixLaws.{size-positive}
 use Rattle.prefix.proofs.Nesting.{pow-le}
-use Rattle.free_space.specs.Grant.{lowestPart}
-use Rattle.free_space.specs.Scan.{length_of, inGap, round_up, roundDown}
+use Rattle.free_space.specs.Grant.{lowest_part}
+use Rattle.free_space.specs.Scan.{length_of, in_gap, round_up, round_down}
 use Rattle.free_space.proofs.GapLaws.{up-ge, down_le}
 use Rattle.gap_list.specs.declared.Best.{Best}
-use Rattle.gap_list.specs.Gaps.{fitFrom, fitIn, LiesIn}
-use Rattle.gap_list.specs.Columns.{held, heldIn, Fitted}
-use Rattle.gap_list.specs.InnerSearch.{heldFrom, Passed, NextLarge, bits_of, BestFound, AtEnd}
+use Rattle.gap_list.specs.Gaps.{fit_from, fit_in, LiesIn}
+use Rattle.gap_list.specs.Columns.{held, held_in, Fitted}
+use Rattle.gap_list.specs.InnerSearch.{held_from, Passed, NextLarge, bits_of, BestFound, AtEnd}
 use Rattle.gap_list.proofs.FitLaws.{fit-exact}
 use Rattle.gap_list.proofs.ColumnLaws.{at_lies}
 use Rattle.gap_list.proofs.EndLaws.{mask_up, mask-down, gap-worse, gap-open, gap-found, gap-better}
 
 module _ (starts lasts : List ℕ) (n : ℕ) where
   held_next : (i : ℕ) → n ≤ length starts → n ≤ length lasts → i < n
-      → heldFrom starts lasts n i ≡ record { from = get_or starts i 0; to = get_or lasts i 0 + 1 } ∷ heldFrom starts lasts n (i + 1)
+      → held_from starts lasts n i ≡ record { from = get_or starts i 0; to = get_or lasts i 0 + 1 } ∷ held_from starts lasts n (i + 1)
   held_next i h k lt =
       ap₂ held (drop_at (take n starts) i 0 (omega (arith, length-take-le n starts h))) (drop_at (take n lasts) i 0 (omega (arith, length-take-le n lasts k)))
-      ∙ ap₂ (λ (a b : ℕ). record { from = a; to = b + 1 } ∷ heldFrom starts lasts n (i + 1)) (get_or-take n starts i 0 lt) (get_or-take n lasts i 0 lt)
+      ∙ ap₂ (λ (a b : ℕ). record { from = a; to = b + 1 } ∷ held_from starts lasts n (i + 1)) (get_or-take n starts i 0 lt) (get_or-take n lasts i 0 lt)
 
-  held-end : (i : ℕ) → n ≤ i → heldFrom starts lasts n i ≡ []
+  held-end : (i : ℕ) → n ≤ i → held_from starts lasts n i ≡ []
   held-end i h = ap (λ (ss : List ℕ). held ss (drop i (take n lasts))) (drop-end (take n starts) i (omega (arith, take_short n starts)))
 
   -- Gaps that have nothing of a size are passed over.
@@ -51,9 +51,9 @@ module _ (starts lasts : List ℕ) (n : ℕ) where
     later = omega (arith, next.later);
     within = omega arith;
     rest = λ l best e.
-        next.rest l best e ∙ ap (fitFrom l best) (held_next i h k lt)
-        ∙ ap (λ (o : Option Prefix). fitFrom l o (heldFrom starts lasts n (i + 1))) (passed l best e)
-        ∙ ap (λ (x : ℕ). fitFrom l best (heldFrom starts lasts n x)) (sym is);
+        next.rest l best e ∙ ap (fit_from l best) (held_next i h k lt)
+        ∙ ap (λ (o : Option Prefix). fit_from l o (held_from starts lasts n (i + 1))) (passed l best e)
+        ∙ ap (λ (x : ℕ). fit_from l best (held_from starts lasts n x)) (sym is);
   }
 
 -- The best prefix so far, as the code has it: of size 2^32 it is none.
@@ -67,8 +67,8 @@ pub record Searching (starts lasts : List ℕ) (n l : ℕ) (best : Best) (index 
   pub within : i ≤ n
   pub so_far : Option Prefix
   pub stands : Stands best l so_far
-  pub rest : fitIn l (heldIn starts lasts n) ≡ fitFrom l so_far (heldFrom starts lasts n i)
-  pub place : (so_far ≡ none) ⊎ LiesIn (prefix best.network l) index (heldIn starts lasts n)
+  pub rest : fit_in l (held_in starts lasts n) ≡ fit_from l so_far (held_from starts lasts n i)
+  pub place : (so_far ≡ none) ⊎ LiesIn (prefix best.network l) index (held_in starts lasts n)
   pub small : best.network < 4294967296
 
 pub search-start : (starts lasts : List ℕ) (n l s i : ℕ) → s ≡ size l → NextLarge starts lasts n (s - 1) 0 i → Searching starts lasts n l (record { network = 0; size = 4294967296 }) 0 i
@@ -86,7 +86,7 @@ search-start starts lasts n l s i e first = record {
 size_less : (k : ℕ) → 0 < k → size k ≡ 4294967296 → ⊥
 size_less k h e = omega (arith, e, pow-lt {i = 32 - k} {j = 32} (omega arith))
 
-found-is : (best : Best) (l : ℕ) (o : Option Prefix) → Stands best l o → cond (not (eqb best.size 4294967296)) (some (prefix best.network l)) none ≡ lowestPart l o
+found-is : (best : Best) (l : ℕ) (o : Option Prefix) → Stands best l o → cond (not (eqb best.size 4294967296)) (some (prefix best.network l)) none ≡ lowest_part l o
 found-is best l none s = rw (eq-eqb best.size 4294967296 s.sized)
 found-is best l (some v) s =
     let more : best.size ≡ 4294967296 → ⊥ = λ e. size_less v.length s.network.1 (sym s.sized ∙ e) in
@@ -102,18 +102,18 @@ same_length : (a b : ℕ) → a ≤ b → b ≤ 32 → size a ≡ size b → a �
 same_length a b h k e = omega (arith, pow-le (32 - a) (32 - b) (omega (arith, e)))
 
 -- An address cut to a multiple of a size, upwards and downwards.
-abbrev cutUp : ℕ → ℕ → ℕ
-cutUp s x = x + (s - 1) - bit_and (x + (s - 1)) (s - 1)
+abbrev cut_up : ℕ → ℕ → ℕ
+cut_up s x = x + (s - 1) - bit_and (x + (s - 1)) (s - 1)
 
-abbrev cutDown : ℕ → ℕ → ℕ
-cutDown s x = x - bit_and x (s - 1)
+abbrev cut_down : ℕ → ℕ → ℕ
+cut_down s x = x - bit_and x (s - 1)
 
 module _ (starts lasts : List ℕ) (n l s : ℕ) (best : Best) (index i : ℕ) (searching : Searching starts lasts n l best index i) where
-  pub search-end : n ≤ i → Fitted (heldIn starts lasts n) l (record { found = not (eqb best.size 4294967296); index = index; network = best.network })
+  pub search-end : n ≤ i → Fitted (held_in starts lasts n) l (record { found = not (eqb best.size 4294967296); index = index; network = best.network })
   search-end h = record {
     best = λ short.
         found-is best l searching.so_far searching.stands
-        ∙ ap (lowestPart l) (sym (searching.rest ∙ ap (fitFrom l searching.so_far) (held-end starts lasts n i h)));
+        ∙ ap (lowest_part l) (sym (searching.rest ∙ ap (fit_from l searching.so_far) (held-end starts lasts n i h)));
     place = λ e. ⊎_elim (λ z. absurd (found-not best l searching.so_far searching.stands e z)) (λ k. k) searching.place;
   }
 
@@ -132,24 +132,24 @@ module _ (starts lasts : List ℕ) (n l s : ℕ) (best : Best) (index i : ℕ) (
   size-pos = omega (arith, searching.stands.sized, size-positive (length_of searching.so_far))
 
   -- The gap at i, its ends cut to multiples of the size as the code does it, and their bits.
-  module _ (h : n ≤ length starts) (k : n ≤ length lasts) (lt : i < n) (sized : s ≡ size l) (bits : ℕ) (bits_are : bits ≡ bits_of (cutUp s (get_or starts i 0)) (cutDown s (get_or lasts i 0 + 1))) where
+  module _ (h : n ≤ length starts) (k : n ≤ length lasts) (lt : i < n) (sized : s ≡ size l) (bits : ℕ) (bits_are : bits ≡ bits_of (cut_up s (get_or starts i 0)) (cut_down s (get_or lasts i 0 + 1))) where
     abbrev low : ℕ
-    low = cutUp s (get_or starts i 0)
+    low = cut_up s (get_or starts i 0)
 
     abbrev high : ℕ
-    high = cutDown s (get_or lasts i 0 + 1)
+    high = cut_down s (get_or lasts i 0 + 1)
 
     at_low : low ≡ round_up l (get_or starts i 0)
     at_low = mask_up l s sized (get_or starts i 0)
 
-    at_high : high ≡ roundDown l (get_or lasts i 0 + 1)
+    at_high : high ≡ round_down l (get_or lasts i 0 + 1)
     at_high = mask-down l s sized (get_or lasts i 0 + 1)
 
     told : bit_and bits (best.size - 1) ≡ bit_and (bits_of low high) (best.size - 1)
     told = ap (λ (x : ℕ). bit_and x (best.size - 1)) bits_are
 
-    next : fitIn l (heldIn starts lasts n) ≡ fitFrom l (inGap l searching.so_far (get_or starts i 0) (get_or lasts i 0 + 1)) (heldFrom starts lasts n (i + 1))
-    next = searching.rest ∙ ap (fitFrom l searching.so_far) (held_next starts lasts n i h k lt)
+    next : fit_in l (held_in starts lasts n) ≡ fit_from l (in_gap l searching.so_far (get_or starts i 0) (get_or lasts i 0 + 1)) (held_from starts lasts n (i + 1))
+    next = searching.rest ∙ ap (fit_from l searching.so_far) (held_next starts lasts n i h k lt)
 
     -- The gap has nothing better.
     pub search-keep : bit_and bits (best.size - 1) ≡ 0 → Searching starts lasts n l best index (i + 1)
@@ -159,7 +159,7 @@ module _ (starts lasts : List ℕ) (n l s : ℕ) (best : Best) (index i : ℕ) (
       stands = searching.stands;
       rest =
           next
-          ∙ ap (λ (o : Option Prefix). fitFrom l o (heldFrom starts lasts n (i + 1)))
+          ∙ ap (λ (o : Option Prefix). fit_from l o (held_from starts lasts n (i + 1)))
           (gap-worse l s (get_or starts i 0) (get_or lasts i 0) low high searching.so_far sized at_low at_high best.size searching.stands.sized (sym told ∙ z));
       place = searching.place;
       small = searching.small;
@@ -176,7 +176,7 @@ module _ (starts lasts : List ℕ) (n l s : ℕ) (best : Best) (index i : ℕ) (
         found : BestFound low high (length_of searching.so_far) l searching.so_far r
         found = gap-found l s (get_or starts i 0) (get_or lasts i 0) low high searching.so_far sized at_low at_high best.size searching.stands.sized some-bit long r at
 
-        better : inGap l searching.so_far (get_or starts i 0) (get_or lasts i 0 + 1) ≡ some (prefix r.network found.length)
+        better : in_gap l searching.so_far (get_or starts i 0) (get_or lasts i 0 + 1) ≡ some (prefix r.network found.length)
         better = gap-better l s (get_or starts i 0) (get_or lasts i 0) low high searching.so_far sized at_low at_high best.size searching.stands.sized some-bit r found
 
         inside : (get_or starts i 0 ≤ r.network) × (r.network + size l ≤ get_or lasts i 0 + 1)
@@ -188,14 +188,14 @@ module _ (starts lasts : List ℕ) (n l s : ℕ) (best : Best) (index i : ℕ) (
         pub search-small : r.network < 4294967296
         search-small = omega (arith, inside.1, size-positive l)
 
-        lies : LiesIn (prefix r.network l) i (heldIn starts lasts n)
+        lies : LiesIn (prefix r.network l) i (held_in starts lasts n)
         lies =
             at_lies (prefix r.network l) i (take n starts) (take n lasts)
             (omega (arith, length-take-le n starts h)) (omega (arith, length-take-le n lasts k))
             (rw (get_or-take n starts i 0 lt) inside.0) (rw (get_or-take n lasts i 0 lt) inside.1)
 
-        rest-better : fitIn l (heldIn starts lasts n) ≡ fitFrom l (some (prefix r.network found.length)) (heldFrom starts lasts n (i + 1))
-        rest-better = next ∙ ap (λ (o : Option Prefix). fitFrom l o (heldFrom starts lasts n (i + 1))) better
+        rest-better : fit_in l (held_in starts lasts n) ≡ fit_from l (some (prefix r.network found.length)) (held_from starts lasts n (i + 1))
+        rest-better = next ∙ ap (λ (o : Option Prefix). fit_from l o (held_from starts lasts n (i + 1))) better
 
         -- It has something better.
         pub search-better : Searching starts lasts n l r i (i + 1)
@@ -209,10 +209,10 @@ module _ (starts lasts : List ℕ) (n l s : ℕ) (best : Best) (index i : ℕ) (
         }
 
         -- An exact fit.
-        pub search-exact : r.size ≡ s → Fitted (heldIn starts lasts n) l (record { found = true; index = i; network = r.network })
+        pub search-exact : r.size ≡ s → Fitted (held_in starts lasts n) l (record { found = true; index = i; network = r.network })
         search-exact e =
             let exact : found.length ≡ l = same_length found.length l found.short long (sym found.sized ∙ e ∙ sized) in
             record {
-              best = λ short. ap (lowestPart l) (sym (rest-better ∙ fit-exact l (some (prefix r.network found.length)) (heldFrom starts lasts n (i + 1)) exact));
+              best = λ short. ap (lowest_part l) (sym (rest-better ∙ fit-exact l (some (prefix r.network found.length)) (held_from starts lasts n (i + 1)) exact));
               place = λ t. lies;
             }

@@ -13,8 +13,8 @@ use Rattle.lists.proofs.Tests.{bool_cases}
 use Rattle.prefix.specs.declared.Prefix.{Prefix}
 use Rattle.prefix.specs.Prefixes.{end}
 use Rattle.prefix.proofs.PrefixLaws.{size-positive}
-use Rattle.free_space.specs.Scan.{inGap}
-use Rattle.gap_list.specs.Gaps.{Gap, between, PoolGaps, poolGaps, gapsOf, fitFrom, without, LiesIn, solid}
+use Rattle.free_space.specs.Scan.{in_gap}
+use Rattle.gap_list.specs.Gaps.{Gap, between, PoolGaps, pool_gaps, gaps_of, fit_from, without, LiesIn, solid}
 use Rattle.gap_list.proofs.FitLaws.{between-some, between_none, fit_append, fit-between}
 
 solid-between : (a b : ℕ) (hs : List Gap) → solid (between a b ++ hs) ≡ between a b ++ solid hs
@@ -32,12 +32,12 @@ solid-append (g ∷ gs) hs =
     ap (λ (ks : List Gap). b ++ ks) (solid-append gs hs) ∙ sym (append_assoc b (solid gs) (solid hs))
 
 -- A search finds the same.
-pub fit-solid : (l : ℕ) (best : Option Prefix) (gs : List Gap) → fitFrom l best (solid gs) ≡ fitFrom l best gs
+pub fit-solid : (l : ℕ) (best : Option Prefix) (gs : List Gap) → fit_from l best (solid gs) ≡ fit_from l best gs
 fit-solid l best [] = refl
 fit-solid l best (g ∷ gs) =
     fit_append l best (between g.from g.to) (solid gs)
-    ∙ ap (λ (o : Option Prefix). fitFrom l o (solid gs)) (fit-between l best g.from g.to)
-    ∙ fit-solid l (inGap l best g.from g.to) gs
+    ∙ ap (λ (o : Option Prefix). fit_from l o (solid gs)) (fit-between l best g.from g.to)
+    ∙ fit-solid l (in_gap l best g.from g.to) gs
 
 -- The gaps of pools and leases are none of them empty.
 one-solid : (a b : ℕ) → solid (between a b) ≡ between a b
@@ -46,19 +46,19 @@ one-solid a b = sym (ap solid (append-nil (between a b))) ∙ solid-between a b 
 abbrev Solid : PoolGaps → Type 0
 Solid s = solid s.gaps ≡ s.gaps
 
-pool-solid : (from stop : ℕ) (xs : List Prefix) → Solid (poolGaps from stop xs)
+pool-solid : (from stop : ℕ) (xs : List Prefix) → Solid (pool_gaps from stop xs)
 pool-solid from stop [] = one-solid from stop
-pool-solid from stop (x ∷ xs) = go (ltb x.network stop) (poolGaps (end x) stop xs) (pool-solid (end x) stop xs)
+pool-solid from stop (x ∷ xs) = go (ltb x.network stop) (pool_gaps (end x) stop xs) (pool-solid (end x) stop xs)
   where
     go : (t : Bool) (g : PoolGaps) → Solid g → Solid (cond t (record { gaps = between from x.network ++ g.gaps; left = g.left }) (record { gaps = between from stop; left = x ∷ xs }))
     go true g e = solid-between from x.network g.gaps ∙ ap (λ (hs : List Gap). between from x.network ++ hs) e
     go false g e = one-solid from stop
 
-pub gaps-solid : (ps xs : List Prefix) → solid (gapsOf ps xs) ≡ gapsOf ps xs
+pub gaps-solid : (ps xs : List Prefix) → solid (gaps_of ps xs) ≡ gaps_of ps xs
 gaps-solid [] xs = refl
 gaps-solid (p ∷ ps) xs =
-    let s : PoolGaps = poolGaps p.network (end p) xs in
-    solid-append s.gaps (gapsOf ps s.left) ∙ ap₂ (λ (gs hs : List Gap). gs ++ hs) (pool-solid p.network (end p) xs) (gaps-solid ps s.left)
+    let s : PoolGaps = pool_gaps p.network (end p) xs in
+    solid-append s.gaps (gaps_of ps s.left) ∙ ap₂ (λ (gs hs : List Gap). gs ++ hs) (pool-solid p.network (end p) xs) (gaps-solid ps s.left)
 
 -- The place of a gap among those that are not empty, and what is left of these.
 pub record LiesSolid (p : Prefix) (i : ℕ) (gs : List Gap) : Type 0 where

@@ -8,19 +8,19 @@ use mathlib.Core.List.{List, [], ◌∷◌, ◌++◌}
 use native.Mathlib.Omega.{arith}
 use lib.Dec.{ltb}
 use borrow.Author.Tests.{ltb-true, ltb-false, lt-ltb, le-ltb}
-use Rattle.lists.specs.Lists.{All, Pairwise, insertBy}
+use Rattle.lists.specs.Lists.{All, Pairwise, insert_by}
 use Rattle.lists.proofs.Tests.{bool_cases}
 use Rattle.lists.proofs.ListLaws.{all_map, all_append}
-use Rattle.lists.proofs.SortingLaws.{insertBy-before, insertBy-after, insertBy-all}
+use Rattle.lists.proofs.SortingLaws.{insert_by-before, insert_by-after, insert_by-all}
 use Rattle.prefix.specs.declared.Prefix.{Prefix}
 use Rattle.prefix.specs.Prefixes.{end}
 use Rattle.prefix.proofs.PrefixLaws.{size-positive}
 use Rattle.free_space.specs.Serving.{Before}
-use Rattle.gap_list.specs.Gaps.{Gap, between, PoolGaps, poolGaps, gapsOf, without, LiesIn}
-use Rattle.gap_list.proofs.FitLaws.{between-some, between_none, gapsAt, walk-lease, walk-pool}
+use Rattle.gap_list.specs.Gaps.{Gap, between, PoolGaps, pool_gaps, gaps_of, without, LiesIn}
+use Rattle.gap_list.proofs.FitLaws.{between-some, between_none, gaps_at, walk-lease, walk-pool}
 
-abbrev networkOf : Prefix → ℕ
-networkOf x = x.network
+abbrev network_of : Prefix → ℕ
+network_of x = x.network
 
 -- where gaps begin
 
@@ -35,30 +35,30 @@ record From (c : ℕ) (s : PoolGaps) : Type 0 where
   gaps : All (λ (g : Gap). c ≤ g.from) s.gaps
   left : All (λ x. c ≤ end x) s.left
 
-pool-from : (c from stop : ℕ) (xs : List Prefix) → c ≤ from → All (λ x. c ≤ end x) xs → From c (poolGaps from stop xs)
+pool-from : (c from stop : ℕ) (xs : List Prefix) → c ≤ from → All (λ x. c ≤ end x) xs → From c (pool_gaps from stop xs)
 pool-from c from stop [] h a = record { gaps = between-from c from stop h; left = tt }
-pool-from c from stop (x ∷ xs) h a = go (ltb x.network stop) (poolGaps (end x) stop xs) (pool-from c (end x) stop xs a.0 a.1)
+pool-from c from stop (x ∷ xs) h a = go (ltb x.network stop) (pool_gaps (end x) stop xs) (pool-from c (end x) stop xs a.0 a.1)
   where
     go : (t : Bool) (g : PoolGaps) → From c g
         → From c (cond t (record { gaps = between from x.network ++ g.gaps; left = g.left }) (record { gaps = between from stop; left = x ∷ xs }))
     go true g k = record { gaps = all_append (λ (g : Gap). c ≤ g.from) (between from x.network) g.gaps (between-from c from x.network h) k.gaps; left = k.left }
     go false g k = record { gaps = between-from c from stop h; left = a }
 
-gaps-from : (c : ℕ) (ps xs : List Prefix) → All (λ q. c ≤ q.network) ps → All (λ x. c ≤ end x) xs → All (λ (g : Gap). c ≤ g.from) (gapsOf ps xs)
+gaps-from : (c : ℕ) (ps xs : List Prefix) → All (λ q. c ≤ q.network) ps → All (λ x. c ≤ end x) xs → All (λ (g : Gap). c ≤ g.from) (gaps_of ps xs)
 gaps-from c [] xs a b = tt
 gaps-from c (p ∷ ps) xs a b =
     let k = pool-from c p.network (end p) xs a.0 b in
-    all_append (λ (g : Gap). c ≤ g.from) (poolGaps p.network (end p) xs).gaps (gapsOf ps (poolGaps p.network (end p) xs).left) k.gaps
-    (gaps-from c ps (poolGaps p.network (end p) xs).left a.1 k.left)
+    all_append (λ (g : Gap). c ≤ g.from) (pool_gaps p.network (end p) xs).gaps (gaps_of ps (pool_gaps p.network (end p) xs).left) k.gaps
+    (gaps-from c ps (pool_gaps p.network (end p) xs).left a.1 k.left)
 
-at_from : (c from stop : ℕ) (ps xs : List Prefix) → c ≤ from → All (λ q. c ≤ q.network) ps → All (λ x. c ≤ end x) xs → All (λ (g : Gap). c ≤ g.from) (gapsAt from stop ps xs)
+at_from : (c from stop : ℕ) (ps xs : List Prefix) → c ≤ from → All (λ q. c ≤ q.network) ps → All (λ x. c ≤ end x) xs → All (λ (g : Gap). c ≤ g.from) (gaps_at from stop ps xs)
 at_from c from stop ps xs h a b =
     let k = pool-from c from stop xs h b in
-    all_append (λ (g : Gap). c ≤ g.from) (poolGaps from stop xs).gaps (gapsOf ps (poolGaps from stop xs).left) k.gaps
-    (gaps-from c ps (poolGaps from stop xs).left a k.left)
+    all_append (λ (g : Gap). c ≤ g.from) (pool_gaps from stop xs).gaps (gaps_of ps (pool_gaps from stop xs).left) k.gaps
+    (gaps-from c ps (pool_gaps from stop xs).left a k.left)
 
 -- Past the end of a pool its last gap comes, and then the other pools.
-walk-past : (from stop : ℕ) (ps xs : List Prefix) → All (λ x. stop ≤ x.network) xs → gapsAt from stop ps xs ≡ between from stop ++ gapsOf ps xs
+walk-past : (from stop : ℕ) (ps xs : List Prefix) → All (λ x. stop ≤ x.network) xs → gaps_at from stop ps xs ≡ between from stop ++ gaps_of ps xs
 walk-past from stop ps [] a = refl
 walk-past from stop ps (x ∷ xs) a = walk-pool from stop ps x xs a.0
 
@@ -104,33 +104,33 @@ module _ (p : Prefix) where
           })
 
   -- Before the first, if it ends there.
-  insert-ahead : (xs : List Prefix) → All (λ x. end p ≤ x.network) xs → insertBy networkOf p xs ≡ p ∷ xs
-  unfolding insertBy
+  insert-ahead : (xs : List Prefix) → All (λ x. end p ≤ x.network) xs → insert_by network_of p xs ≡ p ∷ xs
+  unfolding insert_by
   insert-ahead [] a = refl
-  insert-ahead (x ∷ xs) a = insertBy-before networkOf p x xs (lt-ltb p.network x.network (omega (arith, a.0, size-positive p.length)))
+  insert-ahead (x ∷ xs) a = insert_by-before network_of p x xs (lt-ltb p.network x.network (omega (arith, a.0, size-positive p.length)))
 
-  module _ (ps : List Prefix) (rec : (xs : List Prefix) → Pairwise Before xs → (i : ℕ) → LiesIn p i (gapsOf ps xs) → gapsOf ps (insertBy networkOf p xs) ≡ without p i (gapsOf ps xs)) where
+  module _ (ps : List Prefix) (rec : (xs : List Prefix) → Pairwise Before xs → (i : ℕ) → LiesIn p i (gaps_of ps xs) → gaps_of ps (insert_by network_of p xs) ≡ without p i (gaps_of ps xs)) where
     -- Past the end of a pool.
-    past_split : (from stop : ℕ) (xs : List Prefix) → All (λ q. stop ≤ q.network) ps → All (λ x. stop ≤ x.network) xs → Pairwise Before xs → (i : ℕ) → LiesIn p i (gapsAt from stop ps xs)
-        → gapsAt from stop ps (insertBy networkOf p xs) ≡ without p i (gapsAt from stop ps xs)
+    past_split : (from stop : ℕ) (xs : List Prefix) → All (λ q. stop ≤ q.network) ps → All (λ x. stop ≤ x.network) xs → Pairwise Before xs → (i : ℕ) → LiesIn p i (gaps_at from stop ps xs)
+        → gaps_at from stop ps (insert_by network_of p xs) ≡ without p i (gaps_at from stop ps xs)
     past_split from stop xs above past ascend i k =
         let e = walk-past from stop ps xs past in
         ⊎_elim
-        (λ (f : First from stop i (gapsOf ps xs)).
-        let ahead : insertBy networkOf p xs ≡ p ∷ xs = insert-ahead xs (all_map (λ (x : Prefix) (h : stop ≤ x.network). omega (arith, f.high)) xs past) in
-        ap (gapsAt from stop ps) ahead
+        (λ (f : First from stop i (gaps_of ps xs)).
+        let ahead : insert_by network_of p xs ≡ p ∷ xs = insert-ahead xs (all_map (λ (x : Prefix) (h : stop ≤ x.network). omega (arith, f.high)) xs past) in
+        ap (gaps_at from stop ps) ahead
         ∙ walk-lease from stop ps p xs (omega (arith, f.high, size-positive p.length))
         ∙ ap (λ (gs : List Gap). between from p.network ++ gs) (walk-past (end p) stop ps xs past)
         ∙ sym (ap (without p i) e ∙ f.split))
-        (λ (f : Later from stop i (gapsOf ps xs)).
-        let low : stop ≤ p.network = lies-from stop f.index (gapsOf ps xs) (gaps-from stop ps xs above (all_map (λ (x : Prefix) (h : stop ≤ x.network). omega arith) xs past)) f.lies in
-        walk-past from stop ps (insertBy networkOf p xs) (insertBy-all networkOf (λ x. stop ≤ x.network) p xs low past)
+        (λ (f : Later from stop i (gaps_of ps xs)).
+        let low : stop ≤ p.network = lies-from stop f.index (gaps_of ps xs) (gaps-from stop ps xs above (all_map (λ (x : Prefix) (h : stop ≤ x.network). omega arith) xs past)) f.lies in
+        walk-past from stop ps (insert_by network_of p xs) (insert_by-all network_of (λ x. stop ≤ x.network) p xs low past)
         ∙ ap (λ (gs : List Gap). between from stop ++ gs) (rec xs ascend f.index f.lies)
         ∙ sym (ap (without p i) e ∙ f.split))
-        (lies_where from stop i (gapsOf ps xs) (subst (LiesIn p i) e k))
+        (lies_where from stop i (gaps_of ps xs) (subst (LiesIn p i) e k))
 
-    at_split : (xs : List Prefix) (from stop : ℕ) → All (λ q. stop ≤ q.network) ps → Pairwise Before xs → (i : ℕ) → LiesIn p i (gapsAt from stop ps xs)
-        → gapsAt from stop ps (insertBy networkOf p xs) ≡ without p i (gapsAt from stop ps xs)
+    at_split : (xs : List Prefix) (from stop : ℕ) → All (λ q. stop ≤ q.network) ps → Pairwise Before xs → (i : ℕ) → LiesIn p i (gaps_at from stop ps xs)
+        → gaps_at from stop ps (insert_by network_of p xs) ≡ without p i (gaps_at from stop ps xs)
     at_split [] from stop above ascend i k = past_split from stop [] above tt tt i k
     at_split (x ∷ xs) from stop above ascend i k =
         ⊎_elim
@@ -140,15 +140,15 @@ module _ (p : Prefix) where
         past_split from stop (x ∷ xs) above (h, all_map (λ (y : Prefix) (b : Before x y). omega arith) xs ascend.0) ascend i k)
         (bool_cases (ltb x.network stop))
       where
-        inside : x.network < stop → ((j : ℕ) → LiesIn p j (gapsAt (end x) stop ps xs) → gapsAt (end x) stop ps (insertBy networkOf p xs) ≡ without p j (gapsAt (end x) stop ps xs))
-            → gapsAt from stop ps (insertBy networkOf p (x ∷ xs)) ≡ without p i (gapsAt from stop ps (x ∷ xs))
+        inside : x.network < stop → ((j : ℕ) → LiesIn p j (gaps_at (end x) stop ps xs) → gaps_at (end x) stop ps (insert_by network_of p xs) ≡ without p j (gaps_at (end x) stop ps xs))
+            → gaps_at from stop ps (insert_by network_of p (x ∷ xs)) ≡ without p i (gaps_at from stop ps (x ∷ xs))
         inside h later =
-            let rest : List Gap = gapsAt (end x) stop ps xs in
-            let e : gapsAt from stop ps (x ∷ xs) ≡ between from x.network ++ rest = walk-lease from stop ps x xs h in
+            let rest : List Gap = gaps_at (end x) stop ps xs in
+            let e : gaps_at from stop ps (x ∷ xs) ≡ between from x.network ++ rest = walk-lease from stop ps x xs h in
             ⊎_elim
             (λ (f : First from x.network i rest).
             let before : p.network < x.network = omega (arith, f.high, size-positive p.length) in
-            ap (gapsAt from stop ps) (insertBy-before networkOf p x xs (lt-ltb p.network x.network before))
+            ap (gaps_at from stop ps) (insert_by-before network_of p x xs (lt-ltb p.network x.network before))
             ∙ walk-lease from stop ps p (x ∷ xs) (omega arith)
             ∙ ap (λ (gs : List Gap). between from p.network ++ gs) (walk-lease (end p) stop ps x xs h)
             ∙ sym (ap (without p i) e ∙ f.split))
@@ -157,13 +157,13 @@ module _ (p : Prefix) where
             lies-from x.network f.index rest
             (at_from x.network (end x) stop ps xs (omega arith) (all_map (λ (q : Prefix) (b : stop ≤ q.network). omega arith) ps above)
             (all_map (λ (y : Prefix) (b : Before x y). omega arith) xs ascend.0)) f.lies in
-            ap (gapsAt from stop ps) (insertBy-after networkOf p x xs (le-ltb p.network x.network after))
-            ∙ walk-lease from stop ps x (insertBy networkOf p xs) h
+            ap (gaps_at from stop ps) (insert_by-after network_of p x xs (le-ltb p.network x.network after))
+            ∙ walk-lease from stop ps x (insert_by network_of p xs) h
             ∙ ap (λ (gs : List Gap). between from x.network ++ gs) (later f.index f.lies)
             ∙ sym (ap (without p i) e ∙ f.split))
             (lies_where from x.network i rest (subst (LiesIn p i) e k))
 
   -- SPLIT: with one lease more, in gap i, that gap is what is left of it on both sides.
-  pub gaps-split : (ps xs : List Prefix) → Pairwise Before ps → Pairwise Before xs → (i : ℕ) → LiesIn p i (gapsOf ps xs) → gapsOf ps (insertBy networkOf p xs) ≡ without p i (gapsOf ps xs)
+  pub gaps-split : (ps xs : List Prefix) → Pairwise Before ps → Pairwise Before xs → (i : ℕ) → LiesIn p i (gaps_of ps xs) → gaps_of ps (insert_by network_of p xs) ≡ without p i (gaps_of ps xs)
   gaps-split [] xs a b i k = absurd k
   gaps-split (q ∷ ps) xs a b i k = at_split ps (λ ys c j. gaps-split ps ys a.1 c j) xs q.network (end q) a.0 b i k

@@ -3,7 +3,7 @@ use Rattle.std.specs.Prelude.{ℕ, zero, suc, ◌≤◌, cond, List, [], ◌∷�
 use Rattle.std.proofs.Math.Option.{Option, none}
 use Rattle.prefix.specs.declared.Prefix.{Prefix}
 use Rattle.prefix.specs.Prefixes.{end}
-use Rattle.free_space.specs.Scan.{inGap}
+use Rattle.free_space.specs.Scan.{in_gap}
 
 -- The free addresses from `from` on, up to the one before `to`.
 pub record Gap : Type 0 where
@@ -19,25 +19,25 @@ pub record PoolGaps : Type 0 where
   pub gaps : List Gap
   pub left : List Prefix
 
-abbrev pub poolGaps : ℕ → ℕ → List Prefix → PoolGaps
-poolGaps from stop [] = record { gaps = between from stop; left = [] }
-poolGaps from stop (x ∷ xs) =
-    let later = poolGaps (end x) stop xs in
+abbrev pub pool_gaps : ℕ → ℕ → List Prefix → PoolGaps
+pool_gaps from stop [] = record { gaps = between from stop; left = [] }
+pool_gaps from stop (x ∷ xs) =
+    let later = pool_gaps (end x) stop xs in
     cond (ltb x.network stop) (record { gaps = between from x.network ++ later.gaps; left = later.left })
     (record { gaps = between from stop; left = x ∷ xs })
 
 -- The gaps of pools and leases, both ascending.
-abbrev pub gapsOf : List Prefix → List Prefix → List Gap
-gapsOf [] xs = []
-gapsOf (p ∷ ps) xs = let s = poolGaps p.network (end p) xs in s.gaps ++ gapsOf ps s.left
+abbrev pub gaps_of : List Prefix → List Prefix → List Gap
+gaps_of [] xs = []
+gaps_of (p ∷ ps) xs = let s = pool_gaps p.network (end p) xs in s.gaps ++ gaps_of ps s.left
 
 -- The better of `best` and what the gaps have for length l.
-abbrev pub fitFrom : ℕ → Option Prefix → List Gap → Option Prefix
-fitFrom l best [] = best
-fitFrom l best (g ∷ gs) = fitFrom l (inGap l best g.from g.to) gs
+abbrev pub fit_from : ℕ → Option Prefix → List Gap → Option Prefix
+fit_from l best [] = best
+fit_from l best (g ∷ gs) = fit_from l (in_gap l best g.from g.to) gs
 
-abbrev pub fitIn : ℕ → List Gap → Option Prefix
-fitIn l gs = fitFrom l none gs
+abbrev pub fit_in : ℕ → List Gap → Option Prefix
+fit_in l gs = fit_from l none gs
 
 -- The gaps after p was taken out of gap i.
 abbrev pub without : Prefix → ℕ → List Gap → List Gap

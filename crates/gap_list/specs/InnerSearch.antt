@@ -4,28 +4,28 @@ use Rattle.std.proofs.Math.Option.{Option, some}
 use Rattle.std.specs.Int.Bits.{bit_or}
 use Rattle.prefix.specs.declared.Prefix.{Prefix}
 use Rattle.prefix.specs.Prefixes.{size, prefix}
-use Rattle.free_space.specs.Scan.{levels, inGap}
+use Rattle.free_space.specs.Scan.{levels, in_gap}
 use Rattle.gap_list.specs.declared.Best.{Best}
-use Rattle.gap_list.specs.Gaps.{Gap, fitFrom}
-use Rattle.gap_list.specs.Columns.{held, heldIn}
+use Rattle.gap_list.specs.Gaps.{Gap, fit_from}
+use Rattle.gap_list.specs.Columns.{held, held_in}
 
 -- The first n elements of a column, with the one at i twice.
 abbrev pub doubled : List ℕ → ℕ → List ℕ
 doubled xs i = take (suc i) xs ++ drop i xs
 
 -- The gaps from i on.
-abbrev pub heldFrom : List ℕ → List ℕ → ℕ → ℕ → List Gap
-heldFrom starts lasts n i = held (drop i (take n starts)) (drop i (take n lasts))
+abbrev pub held_from : List ℕ → List ℕ → ℕ → ℕ → List Gap
+held_from starts lasts n i = held (drop i (take n starts)) (drop i (take n lasts))
 
 -- A gap, by its first and its last address, has nothing of a size, of which `mask` is one less.
 abbrev pub Passed : ℕ → ℕ → ℕ → Type 0
-Passed first last mask = (l : ℕ) (best : Option Prefix) → size l ≡ mask + 1 → inGap l best first (last + 1) ≡ best
+Passed first last mask = (l : ℕ) (best : Option Prefix) → size l ≡ mask + 1 → in_gap l best first (last + 1) ≡ best
 
 -- The gaps from `from` on that are before r have nothing of a size, of which `mask` is one less.
 pub record NextLarge (starts lasts : List ℕ) (n mask from r : ℕ) : Type 0 where
   pub later : from ≤ r
   pub within : r ≤ n
-  pub rest : (l : ℕ) (best : Option Prefix) → size l ≡ mask + 1 → fitFrom l best (heldFrom starts lasts n from) ≡ fitFrom l best (heldFrom starts lasts n r)
+  pub rest : (l : ℕ) (best : Option Prefix) → size l ≡ mask + 1 → fit_from l best (held_from starts lasts n from) ≡ fit_from l best (held_from starts lasts n r)
 
 -- The bits of both ends of a range; none where nothing is between them.
 abbrev pub bits_of : ℕ → ℕ → ℕ

@@ -3,13 +3,13 @@ ghost use Rattle.std.specs.Prelude.{◌≡◌, false, ◌++◌, ◌+◌, ◌-◌
 ghost use Rattle.std.specs.Int.Bits.{bit_or};
 ghost use Rattle.prefix.specs.Prefixes.{prefix};
 ghost use Rattle.gap_list.specs.Gaps.{between, without, LiesIn};
-ghost use Rattle.gap_list.specs.Columns.{heldIn, Kept, Carved, Fitted};
+ghost use Rattle.gap_list.specs.Columns.{held_in, Kept, Carved, Fitted};
 ghost use Rattle.gap_list.specs.InnerSearch.{doubled, Passed, NextLarge, bits_of, AtEnd};
 
 // One gap more after the first n, if it is not empty; answers how many there are.
 pub fn push(starts: &mut [u32], lasts: &mut [u32], n: usize, from: u64, to: u64) -> usize
     requires { (n < length_of starts.old) × (n < length_of lasts.old) × (to ≤ 4294967296) }
-    ensures { Kept n (heldIn starts.old lasts.old n ++ between from to) result starts.new lasts.new }
+    ensures { Kept n (held_in starts.old lasts.old n ++ between from to) result starts.new lasts.new }
 {
     if from < to {
         starts[n] = from as u32;
@@ -94,7 +94,7 @@ pub struct Choice {
 // The best fit for a length in the first n gaps; stops at an exact fit.
 pub fn fit(starts: &[u32], lasts: &[u32], n: usize, length: u8) -> Choice
     requires { (n ≤ length_of starts.now) × (n ≤ length_of lasts.now) }
-    ensures { Fitted (heldIn starts.now lasts.now n) length result }
+    ensures { Fitted (held_in starts.now lasts.now n) length result }
 {
     if 32 < length {
         return Choice {
@@ -161,8 +161,8 @@ pub fn carve(
     network: u32,
     length: u8,
 ) -> usize
-    requires { (index < n) × (n < length_of starts.old) × (n < length_of lasts.old) × LiesIn (prefix network length) index (heldIn starts.old lasts.old n) }
-    ensures { Carved n (without (prefix network length) index (heldIn starts.old lasts.old n)) result starts.new lasts.new }
+    requires { (index < n) × (n < length_of starts.old) × (n < length_of lasts.old) × LiesIn (prefix network length) index (held_in starts.old lasts.old n) }
+    ensures { Carved n (without (prefix network length) index (held_in starts.old lasts.old n)) result starts.new lasts.new }
 {
     let last = lasts[index] as u64;
     let after = (network as u64) + prefix::size(length);

@@ -10,10 +10,10 @@ use lib.ListN.{length, take, drop, get_or, take-append-drop}
 use lib.Seq.{get_or-drop}
 use lib.Dec.{eqb}
 use borrow.Author.Tests.{eqb-true, eq-eqb}
-use Rattle.lists.specs.Lists.{All, and, concatMap}
+use Rattle.lists.specs.Lists.{All, and, concat_map}
 use Rattle.lists.proofs.Tests.{bool-ext, and-list-to, and-list-of}
 use Rattle.lists.proofs.DropLaws.{drop_at}
-use Rattle.image.specs.Fields.{number16, number32, Run, before, onItem, records}
+use Rattle.image.specs.Fields.{number16, number32, Run, before, on_item, records}
 use Rattle.image.specs.Image.{le16, le32}
 
 -- NUMBERS
@@ -121,20 +121,20 @@ module _ {A : Type 0} (read : List ℕ → Option A) (size : ℕ) where
   records-some limit s x e = rw e
 
   -- What is written is read, up to what is no such record.
-  pub records-concatMap : (rec : A → List ℕ) (P : A → Type 0) → ((x : A) (q : List ℕ) → P x → read (rec x ++ q) ≡ some x) → ((x : A) (q : List ℕ) → drop size (rec x ++ q) ≡ q)
-      → (limit : ℕ) (xs : List A) (q : List ℕ) → All P xs → length xs ≤ limit → read q ≡ none → records read size limit (concatMap rec xs ++ q) ≡ record { items = xs; rest = q }
-  records-concatMap rec P reads skips limit [] q a h e = records-none limit q e
-  records-concatMap rec P reads skips zero (x ∷ xs) q a h e = absurd (omega arith)
-  records-concatMap rec P reads skips (suc limit) (x ∷ xs) q a h e =
-      let rest : List ℕ = concatMap rec xs ++ q in
-      ap (records read size (suc limit)) (append_assoc (rec x) (concatMap rec xs) q)
+  pub records-concat_map : (rec : A → List ℕ) (P : A → Type 0) → ((x : A) (q : List ℕ) → P x → read (rec x ++ q) ≡ some x) → ((x : A) (q : List ℕ) → drop size (rec x ++ q) ≡ q)
+      → (limit : ℕ) (xs : List A) (q : List ℕ) → All P xs → length xs ≤ limit → read q ≡ none → records read size limit (concat_map rec xs ++ q) ≡ record { items = xs; rest = q }
+  records-concat_map rec P reads skips limit [] q a h e = records-none limit q e
+  records-concat_map rec P reads skips zero (x ∷ xs) q a h e = absurd (omega arith)
+  records-concat_map rec P reads skips (suc limit) (x ∷ xs) q a h e =
+      let rest : List ℕ = concat_map rec xs ++ q in
+      ap (records read size (suc limit)) (append_assoc (rec x) (concat_map rec xs) q)
       ∙ records-some limit (rec x ++ rest) x (reads x rest a.0)
       ∙ ap (λ (l : List ℕ). before x (records read size limit l)) (skips x rest)
-      ∙ ap (before x) (records-concatMap rec P reads skips limit xs q a.1 (omega arith) e)
+      ∙ ap (before x) (records-concat_map rec P reads skips limit xs q a.1 (omega arith) e)
 
   -- What is read stood there as it is written.
   pub record Readings (rec : A → List ℕ) (P : A → Type 0) (limit : ℕ) (s : List ℕ) (r : Run A) : Type 0 where
-    pub same : s ≡ concatMap rec r.items ++ r.rest
+    pub same : s ≡ concat_map rec r.items ++ r.rest
     pub each : All P r.items
     pub few : length r.items ≤ limit
 
@@ -145,13 +145,13 @@ module _ {A : Type 0} (read : List ℕ → Option A) (size : ℕ) where
   readings rec P written (suc limit) s b = cases (readings rec P written limit (drop size s) (bytes_drop size s b)) (read s) refl
     where
       cases : Readings rec P limit (drop size s) (records read size limit (drop size s)) → (o : Option A) → read s ≡ o
-          → Readings rec P (suc limit) s (onItem o s (records read size limit (drop size s)))
+          → Readings rec P (suc limit) s (on_item o s (records read size limit (drop size s)))
       cases later none e = record { same = refl; each = tt; few = omega arith }
       cases later (some x) e =
           let w = written s x b e in
           let r : Run A = records read size limit (drop size s) in
           record {
-            same = w.0 ∙ ap (λ (l : List ℕ). rec x ++ l) later.same ∙ sym (append_assoc (rec x) (concatMap rec r.items) r.rest);
+            same = w.0 ∙ ap (λ (l : List ℕ). rec x ++ l) later.same ∙ sym (append_assoc (rec x) (concat_map rec r.items) r.rest);
             each = (w.1, later.each);
             few = omega (arith, later.few);
           }

@@ -16,11 +16,11 @@ pub record Run (A : Type 0) : Type 0 where
 abbrev pub before : {A : Type 0} → A → Run A → Run A
 before x r = record { items = x ∷ r.items; rest = r.rest }
 
-abbrev pub onItem : {A : Type 0} → Option A → List ℕ → Run A → Run A
-onItem none s later = record { items = []; rest = s }
-onItem (some x) s later = before x later
+abbrev pub on_item : {A : Type 0} → Option A → List ℕ → Run A → Run A
+on_item none s later = record { items = []; rest = s }
+on_item (some x) s later = before x later
 
 -- The records of one size that stand at the front, as far as `read` finds one, and at most so many.
 unfoldable pub records : {A : Type 0} → (List ℕ → Option A) → ℕ → ℕ → List ℕ → Run A
 records read size zero s = record { items = []; rest = s }
-records read size (suc limit) s = let later = records read size limit (drop size s) in onItem (read s) s later
+records read size (suc limit) s = let later = records read size limit (drop size s) in on_item (read s) s later

@@ -2,8 +2,8 @@
 ghost use Rattle.std.specs.Prelude.{◌≡◌, ◌+◌, ◌≤◌, ◌<◌, length, drop, get_or};
 ghost use Rattle.lists.specs.Lists.{and};
 ghost use Rattle.image.specs.Fields.{number32};
-ghost use Rattle.image.specs.Image.{formNumbered, headSize, headKind, poolSize, leaseSize, leaseSizeIn, leaseKind};
-ghost use Rattle.image.specs.Reading.{start_of, nameLengthAt, headTestsIn, headIn, form_of, poolIn, leaseIn};
+ghost use Rattle.image.specs.Image.{form_numbered, head_size, head_kind, pool_size, lease_size, lease_size_in, lease_kind};
+ghost use Rattle.image.specs.Reading.{start_of, name_length_at, head_tests_in, head_in, form_of, pool_in, lease_in};
 
 use names::Name;
 use table::{LEASES, POOLS, Pool};
@@ -90,7 +90,7 @@ pub fn read32(s: &[u8], at: usize) -> u32
 // WHAT THE FORMS DIFFER IN
 
 pub fn head_start(form: Form) -> u32
-    ensures { result ≡ start_of headSize (headKind form) }
+    ensures { result ≡ start_of head_size (head_kind form) }
 {
     match form {
         Form::First => FIRST_HEAD_START,
@@ -99,7 +99,7 @@ pub fn head_start(form: Form) -> u32
 }
 
 pub fn lease_size(form: Form) -> usize
-    ensures { result ≡ leaseSizeIn form }
+    ensures { result ≡ lease_size_in form }
 {
     match form {
         Form::First => FIRST_LEASE,
@@ -108,7 +108,7 @@ pub fn lease_size(form: Form) -> usize
 }
 
 pub fn lease_start(form: Form) -> u32
-    ensures { result ≡ start_of (leaseSizeIn form) (leaseKind form) }
+    ensures { result ≡ start_of (lease_size_in form) (lease_kind form) }
 {
     match form {
         Form::First => FIRST_LEASE_START,
@@ -120,7 +120,7 @@ pub fn lease_start(form: Form) -> u32
 
 // Whether the bytes begin with the record of a head of this form.
 pub fn head_begins(form: Form, s: &[u8]) -> bool
-    ensures { result ≡ and (headTestsIn form s.now) }
+    ensures { result ≡ and (head_tests_in form s.now) }
 {
     if s.len() < HEAD {
         return false;
@@ -130,7 +130,7 @@ pub fn head_begins(form: Form, s: &[u8]) -> bool
 
 // The form with a number: 1 is the first, and every other number the second.
 pub fn form_numbered(n: u32) -> Form
-    ensures { result ≡ formNumbered n }
+    ensures { result ≡ form_numbered n }
 {
     if n == 1 { Form::First } else { Form::Second }
 }
@@ -146,8 +146,8 @@ pub fn form_of(s: &[u8]) -> Form
 }
 
 pub fn head_in(s: &[u8]) -> Head
-    requires { headSize ≤ length s.now }
-    ensures { result ≡ headIn s.now }
+    requires { head_size ≤ length s.now }
+    ensures { result ≡ head_in s.now }
 {
     Head {
         term: read32(s, TERM),
@@ -159,8 +159,8 @@ pub fn head_in(s: &[u8]) -> Head
 // POOLS AND LEASES, field by field: each reads what it needs of the record at a place.
 
 pub fn pool_at(image: &[u8], at: usize) -> Pool
-    requires { at + poolSize ≤ length image.now }
-    ensures { result ≡ poolIn (drop at image.now) }
+    requires { at + pool_size ≤ length image.now }
+    ensures { result ≡ pool_in (drop at image.now) }
 {
     Pool {
         network: read32(image, at + NETWORK),
@@ -169,65 +169,65 @@ pub fn pool_at(image: &[u8], at: usize) -> Pool
 }
 
 pub fn network_at(image: &[u8], at: usize) -> u32
-    requires { at + leaseSize ≤ length image.now }
-    ensures { result ≡ (leaseIn (drop at image.now)).network }
+    requires { at + lease_size ≤ length image.now }
+    ensures { result ≡ (lease_in (drop at image.now)).network }
 {
     read32(image, at + NETWORK)
 }
 
 pub fn length_at(image: &[u8], at: usize) -> u8
-    requires { at + leaseSize ≤ length image.now }
-    ensures { result ≡ (leaseIn (drop at image.now)).length }
+    requires { at + lease_size ≤ length image.now }
+    ensures { result ≡ (lease_in (drop at image.now)).length }
 {
     image[at + LENGTH]
 }
 
 pub fn leased_at(image: &[u8], at: usize) -> bool
-    requires { at + leaseSize ≤ length image.now }
-    ensures { result ≡ (leaseIn (drop at image.now)).leased }
+    requires { at + lease_size ≤ length image.now }
+    ensures { result ≡ (lease_in (drop at image.now)).leased }
 {
     image[at + STATE] == 2
 }
 
 pub fn h_at(image: &[u8], at: usize) -> bool
-    requires { at + leaseSize ≤ length image.now }
-    ensures { result ≡ (leaseIn (drop at image.now)).h }
+    requires { at + lease_size ≤ length image.now }
+    ensures { result ≡ (lease_in (drop at image.now)).h }
 {
     image[at + FLAGS] % 2 == 1
 }
 
 pub fn d_at(image: &[u8], at: usize) -> bool
-    requires { at + leaseSize ≤ length image.now }
-    ensures { result ≡ (leaseIn (drop at image.now)).d }
+    requires { at + lease_size ≤ length image.now }
+    ensures { result ≡ (lease_in (drop at image.now)).d }
 {
     image[at + FLAGS] / 2 % 2 == 1
 }
 
 pub fn client_at(image: &[u8], at: usize) -> u32
-    requires { at + leaseSize ≤ length image.now }
-    ensures { result ≡ (leaseIn (drop at image.now)).client }
+    requires { at + lease_size ≤ length image.now }
+    ensures { result ≡ (lease_in (drop at image.now)).client }
 {
     read32(image, at + CLIENT)
 }
 
 pub fn expires_at(image: &[u8], at: usize) -> u32
-    requires { at + leaseSize ≤ length image.now }
-    ensures { result ≡ (leaseIn (drop at image.now)).expires }
+    requires { at + lease_size ≤ length image.now }
+    ensures { result ≡ (lease_in (drop at image.now)).expires }
 {
     read32(image, at + EXPIRES)
 }
 
 // How many octets the name has: as the record says, and the check has seen that it is so.
 pub fn name_length_at(image: &[u8], at: usize) -> u8
-    requires { at + leaseSize ≤ length image.now }
-    ensures { result ≡ get_or (drop at image.now) nameLengthAt 0 }
+    requires { at + lease_size ≤ length image.now }
+    ensures { result ≡ get_or (drop at image.now) name_length_at 0 }
 {
     image[at + NAME_LENGTH]
 }
 
 pub fn name_at(image: &[u8], at: usize) -> Name
-    requires { at + leaseSize ≤ length image.now }
-    ensures { result ≡ (leaseIn (drop at image.now)).name }
+    requires { at + lease_size ≤ length image.now }
+    ensures { result ≡ (lease_in (drop at image.now)).name }
 {
     names::name_at(image, at + NAME)
 }

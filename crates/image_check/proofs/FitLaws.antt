@@ -16,17 +16,17 @@ use Rattle.prefix.specs.declared.Prefix.{Prefix}
 use Rattle.prefix.specs.Prefixes.{end, Aligned, inside?}
 use Rattle.prefix.proofs.PrefixLaws.{aligned-to, aligned-of}
 use Rattle.table.specs.declared.Lease.{Lease}
-use Rattle.table.specs.Table.{leaseRules, leaseOk, empty?}
+use Rattle.table.specs.Table.{lease_rules, lease_ok, empty?}
 use Rattle.table.proofs.TableLaws.{long-not-empty}
 use Rattle.image.specs.declared.Form.{Form}
 use Rattle.image.specs.declared.Form.TheVariants.{First, Second}
 use Rattle.image.specs.Fields.{number16, number32}
-use Rattle.image.specs.Image.{leaseSizeIn, leaseKind}
-use Rattle.image.specs.Reading.{leaseFieldsIn, leaseTestsIn, leaseAtIn, nameTest, clientIn, expiresIn, flagsByteIn, lengthIn, networkIn, stateByteIn}
+use Rattle.image.specs.Image.{lease_size_in, lease_kind}
+use Rattle.image.specs.Reading.{lease_fields_in, lease_tests_in, lease_at_in, name_test, client_in, expires_in, flags_byte_in, length_in, network_in, state_byte_in}
 use Rattle.image.proofs.FieldLaws.{Bytes, start-of}
 use Rattle.image.proofs.ImageLaws.{some_same}
 use Rattle.image_check.specs.declared.Fit.{Fit}
-use Rattle.image_check.specs.Inner.{leaseStart, prefixIn, stateAndFlags?, fitTests, fitAt}
+use Rattle.image_check.specs.Inner.{lease_start, prefix_in, state_and_flags?, fit_tests, fit_at}
 
 -- The bits of one more than the state, which is the second byte of a word, and of the flags, its third.
 half-next : (word : ℕ) → (word + 256) / 512 % 128 ≡ (word / 256 + 1) % 256 / 2
@@ -56,176 +56,176 @@ flags_of word s e = omega arith
 flags-to : (word : ℕ) → word / 256 % 256 ≤ 2 → word / 65536 % 256 ≤ 3 → (word + 256) / 262144 % 64 ≡ 0
 flags-to word s e = omega arith
 
-abbrev bytesOk : ℕ → List Bool
-bytesOk word = leb 1 (word / 256 % 256) ∷ leb (word / 256 % 256) 2 ∷ leb (word / 65536 % 256) 3 ∷ []
+abbrev bytes_ok : ℕ → List Bool
+bytes_ok word = leb 1 (word / 256 % 256) ∷ leb (word / 256 % 256) 2 ∷ leb (word / 65536 % 256) 3 ∷ []
 
 module _ (word : ℕ) where
-  pub state-bad : ((word + 256) / 512 % 128 ≡ 1 → ⊥) → false ≡ stateAndFlags? word
-  state-bad h = sym (not-true⇒false (and (bytesOk word)) (λ e. let t = and-list-to (bytesOk word) e in h (state-to word (leb-true 1 (word / 256 % 256) t.0) (leb-true (word / 256 % 256) 2 t.1.0))))
+  pub state-bad : ((word + 256) / 512 % 128 ≡ 1 → ⊥) → false ≡ state_and_flags? word
+  state-bad h = sym (not-true⇒false (and (bytes_ok word)) (λ e. let t = and-list-to (bytes_ok word) e in h (state-to word (leb-true 1 (word / 256 % 256) t.0) (leb-true (word / 256 % 256) 2 t.1.0))))
 
-  pub flags-tell : (word + 256) / 512 % 128 ≡ 1 → eqb ((word + 256) / 262144 % 64) 0 ≡ stateAndFlags? word
+  pub flags-tell : (word + 256) / 512 % 128 ≡ 1 → eqb ((word + 256) / 262144 % 64) 0 ≡ state_and_flags? word
   flags-tell h =
       let s = state-of word h in
       ⊎_elim
       (λ (b : eqb ((word + 256) / 262144 % 64) 0 ≡ true).
-      b ∙ sym (and-list-of (bytesOk word) (le-leb 1 (word / 256 % 256) s.0, (le-leb (word / 256 % 256) 2 s.1, (le-leb (word / 65536 % 256) 3 (flags_of word s.1 (eqb-true ((word + 256) / 262144 % 64) 0 b)), tt)))))
+      b ∙ sym (and-list-of (bytes_ok word) (le-leb 1 (word / 256 % 256) s.0, (le-leb (word / 256 % 256) 2 s.1, (le-leb (word / 65536 % 256) 3 (flags_of word s.1 (eqb-true ((word + 256) / 262144 % 64) 0 b)), tt)))))
       (λ (b : eqb ((word + 256) / 262144 % 64) 0 ≡ false).
-      b ∙ sym (not-true⇒false (and (bytesOk word)) (λ e. let t = and-list-to (bytesOk word) e in eqb-false ((word + 256) / 262144 % 64) 0 b (flags-to word s.1 (leb-true (word / 65536 % 256) 3 t.1.1.0)))))
+      b ∙ sym (not-true⇒false (and (bytes_ok word)) (λ e. let t = and-list-to (bytes_ok word) e in eqb-false ((word + 256) / 262144 % 64) 0 b (flags-to word s.1 (leb-true (word / 65536 % 256) 3 t.1.1.0)))))
       (bool_cases (eqb ((word + 256) / 262144 % 64) 0))
 
-  pub bytes-told : stateAndFlags? word ≡ true → (1 ≤ word / 256 % 256) × (word / 256 % 256 ≤ 2) × (word / 65536 % 256 ≤ 3)
+  pub bytes-told : state_and_flags? word ≡ true → (1 ≤ word / 256 % 256) × (word / 256 % 256 ≤ 2) × (word / 65536 % 256 ≤ 3)
   bytes-told e =
-      let t = and-list-to (bytesOk word) e in
+      let t = and-list-to (bytes_ok word) e in
       (leb-true 1 (word / 256 % 256) t.0, leb-true (word / 256 % 256) 2 t.1.0, leb-true (word / 65536 % 256) 3 t.1.1.0)
 
 -- The word from the length on, by its bytes.
-pub word_bytes : (s : List ℕ) → Bytes s → (word : ℕ) → word ≡ number32 s 8 → (word % 256 ≡ lengthIn s) × (word / 256 % 256 ≡ stateByteIn s) × (word / 65536 % 256 ≡ flagsByteIn s)
+pub word_bytes : (s : List ℕ) → Bytes s → (word : ℕ) → word ≡ number32 s 8 → (word % 256 ≡ length_in s) × (word / 256 % 256 ≡ state_byte_in s) × (word / 65536 % 256 ≡ flags_byte_in s)
 unfolding number32
 word_bytes s bytes word e = (omega (arith, bytes 8, bytes 9, bytes 10), omega (arith, bytes 8, bytes 9, bytes 10), omega (arith, bytes 8, bytes 9, bytes 10))
 
-pub size-least : (form : Form) → 19 ≤ leaseSizeIn form
+pub size-least : (form : Form) → 19 ≤ lease_size_in form
 size-least First = omega arith
 size-least Second = omega arith
 
-size_small : (form : Form) → leaseSizeIn form - 2 < 65536
+size_small : (form : Form) → lease_size_in form - 2 < 65536
 size_small First = omega arith
 size_small Second = omega arith
 
 pub record Fits (form : Form) (last : ℕ) (s : List ℕ) : Type 0 where
-  pub start : number32 s 0 ≡ leaseStart form
-  pub short : 1 ≤ lengthIn s
-  pub long : lengthIn s ≤ 30
-  pub low : 1 ≤ stateByteIn s
-  pub high : stateByteIn s ≤ 2
-  pub flags : flagsByteIn s ≤ 3
-  pub client : clientIn s ≡ 0 → ⊥
-  pub later : last < expiresIn s
-  pub aligned : Aligned (prefixIn s)
-  pub named : nameTest form s ≡ true
+  pub start : number32 s 0 ≡ lease_start form
+  pub short : 1 ≤ length_in s
+  pub long : length_in s ≤ 30
+  pub low : 1 ≤ state_byte_in s
+  pub high : state_byte_in s ≤ 2
+  pub flags : flags_byte_in s ≤ 3
+  pub client : client_in s ≡ 0 → ⊥
+  pub later : last < expires_in s
+  pub aligned : Aligned (prefix_in s)
+  pub named : name_test form s ≡ true
 
 -- The fields that were read of a record that fits.
 pub record Met (form : Form) (last : ℕ) (s : List ℕ) (network to expires : ℕ) : Type 0 where
   pub fits : Fits form last s
-  pub starts : network ≡ networkIn s
-  pub ends : to ≡ end (prefixIn s)
-  pub until : expires ≡ expiresIn s
+  pub starts : network ≡ network_in s
+  pub ends : to ≡ end (prefix_in s)
+  pub until : expires ≡ expires_in s
 
 abbrev lease : List ℕ → Fit
-lease s = Fit.Lease (networkIn s) (end (prefixIn s)) (expiresIn s)
+lease s = Fit.Lease (network_in s) (end (prefix_in s)) (expires_in s)
 
 module _ (form : Form) (last : ℕ) (s : List ℕ) where
-  pub fits-to : and (fitTests form last s) ≡ true → Fits form last s
+  pub fits-to : and (fit_tests form last s) ≡ true → Fits form last s
   fits-to e =
-      let t = and-list-to (fitTests form last s) e in
+      let t = and-list-to (fit_tests form last s) e in
       record {
-        start = eqb-true (number32 s 0) (leaseStart form) t.0;
-        short = leb-true 1 (lengthIn s) t.1.0;
-        long = leb-true (lengthIn s) 30 t.1.1.0;
-        low = leb-true 1 (stateByteIn s) t.1.1.1.0;
-        high = leb-true (stateByteIn s) 2 t.1.1.1.1.0;
-        flags = leb-true (flagsByteIn s) 3 t.1.1.1.1.1.0;
-        client = eqb-false (clientIn s) 0 (not-true (eqb (clientIn s) 0) t.1.1.1.1.1.1.0);
-        later = ltb-true last (expiresIn s) t.1.1.1.1.1.1.1.0;
-        aligned = aligned-to (prefixIn s) t.1.1.1.1.1.1.1.1.0;
+        start = eqb-true (number32 s 0) (lease_start form) t.0;
+        short = leb-true 1 (length_in s) t.1.0;
+        long = leb-true (length_in s) 30 t.1.1.0;
+        low = leb-true 1 (state_byte_in s) t.1.1.1.0;
+        high = leb-true (state_byte_in s) 2 t.1.1.1.1.0;
+        flags = leb-true (flags_byte_in s) 3 t.1.1.1.1.1.0;
+        client = eqb-false (client_in s) 0 (not-true (eqb (client_in s) 0) t.1.1.1.1.1.1.0);
+        later = ltb-true last (expires_in s) t.1.1.1.1.1.1.1.0;
+        aligned = aligned-to (prefix_in s) t.1.1.1.1.1.1.1.1.0;
         named = t.1.1.1.1.1.1.1.1.1.0;
       }
 
-  pub fits-of : Fits form last s → and (fitTests form last s) ≡ true
+  pub fits-of : Fits form last s → and (fit_tests form last s) ≡ true
   fits-of f =
       rw (
-        eq-eqb (number32 s 0) (leaseStart form) f.start,
-        le-leb 1 (lengthIn s) f.short,
-        le-leb (lengthIn s) 30 f.long,
-        le-leb 1 (stateByteIn s) f.low,
-        le-leb (stateByteIn s) 2 f.high,
-        le-leb (flagsByteIn s) 3 f.flags,
-        ne_eqb (clientIn s) 0 f.client,
-        lt-ltb last (expiresIn s) f.later,
-        aligned-of (prefixIn s) f.aligned,
+        eq-eqb (number32 s 0) (lease_start form) f.start,
+        le-leb 1 (length_in s) f.short,
+        le-leb (length_in s) 30 f.long,
+        le-leb 1 (state_byte_in s) f.low,
+        le-leb (state_byte_in s) 2 f.high,
+        le-leb (flags_byte_in s) 3 f.flags,
+        ne_eqb (client_in s) 0 f.client,
+        lt-ltb last (expires_in s) f.later,
+        aligned-of (prefix_in s) f.aligned,
         f.named,
       )
 
-  pub fit-other : (Fits form last s → ⊥) → Fit.Other ≡ fitAt form last s
-  unfolding fitAt
-  fit-other h = sym (cond-false (and (fitTests form last s)) (lease s) Fit.Other (not-true⇒false (and (fitTests form last s)) (λ e. h (fits-to e))))
+  pub fit-other : (Fits form last s → ⊥) → Fit.Other ≡ fit_at form last s
+  unfolding fit_at
+  fit-other h = sym (cond-false (and (fit_tests form last s)) (lease s) Fit.Other (not-true⇒false (and (fit_tests form last s)) (λ e. h (fits-to e))))
 
-  pub fit-lease : Fits form last s → lease s ≡ fitAt form last s
-  unfolding fitAt
-  fit-lease f = sym (cond-true (and (fitTests form last s)) (lease s) Fit.Other (fits-of f))
+  pub fit-lease : Fits form last s → lease s ≡ fit_at form last s
+  unfolding fit_at
+  fit-lease f = sym (cond-true (and (fit_tests form last s)) (lease s) Fit.Other (fits-of f))
 
   -- State and flags of one that fits.
-  pub fits-bytes : Fits form last s → (word : ℕ) → word / 256 % 256 ≡ stateByteIn s → word / 65536 % 256 ≡ flagsByteIn s → stateAndFlags? word ≡ true
+  pub fits-bytes : Fits form last s → (word : ℕ) → word / 256 % 256 ≡ state_byte_in s → word / 65536 % 256 ≡ flags_byte_in s → state_and_flags? word ≡ true
   fits-bytes f word a b =
-      and-list-of (bytesOk word) (
+      and-list-of (bytes_ok word) (
         le-leb 1 (word / 256 % 256) (omega (arith, f.low)),
         (le-leb (word / 256 % 256) 2 (omega (arith, f.high)), (le-leb (word / 65536 % 256) 3 (omega (arith, f.flags)), tt)),
       )
 
   -- What an answer tells.
-  pub other-unfit : fitAt form last s ≡ Fit.Other → Fits form last s → ⊥
+  pub other-unfit : fit_at form last s ≡ Fit.Other → Fits form last s → ⊥
   other-unfit e f = let b = fit-lease f in let z : ◌≡◌ {A = ℕ} 0 1 = cc in omega arith
 
-  pub lease-met : (network to expires : ℕ) → fitAt form last s ≡ Fit.Lease network to expires → Met form last s network to expires
+  pub lease-met : (network to expires : ℕ) → fit_at form last s ≡ Fit.Lease network to expires → Met form last s network to expires
   lease-met network to expires e =
       ⊎_elim
-      (λ (b : and (fitTests form last s) ≡ true).
+      (λ (b : and (fit_tests form last s) ≡ true).
       let f = fits-to b in
       let g = fit-lease f in
       record { fits = f; starts = cc; ends = cc; until = cc })
-      (λ (b : and (fitTests form last s) ≡ false).
+      (λ (b : and (fit_tests form last s) ≡ false).
       let g = fit-other (λ f. true≢false (sym (fits-of f) ∙ b)) in
       let z : ◌≡◌ {A = ℕ} 0 1 = cc in
       absurd (omega arith))
-      (bool_cases (and (fitTests form last s)))
+      (bool_cases (and (fit_tests form last s)))
 
   -- A record that fits is read.
-  module _ (bytes : Bytes s) (whole : leaseSizeIn form ≤ length s) where
-    pub fits_read : Fits form last s → leaseAtIn form s ≡ some (leaseFieldsIn form s)
-    unfolding leaseAtIn number16 number32
+  module _ (bytes : Bytes s) (whole : lease_size_in form ≤ length s) where
+    pub fits_read : Fits form last s → lease_at_in form s ≡ some (lease_fields_in form s)
+    unfolding lease_at_in number16 number32
     fits_read f =
-        let start = start-of s bytes (leaseSizeIn form - 2) (leaseKind form) (size_small form) f.start in
-        cond-true (and (leaseTestsIn form s)) (some (leaseFieldsIn form s)) none
-        (and-list-of (leaseTestsIn form s) (
-          le-leb (leaseSizeIn form) (length s) whole,
+        let start = start-of s bytes (lease_size_in form - 2) (lease_kind form) (size_small form) f.start in
+        cond-true (and (lease_tests_in form s)) (some (lease_fields_in form s)) none
+        (and-list-of (lease_tests_in form s) (
+          le-leb (lease_size_in form) (length s) whole,
           (
-            eq-eqb (number16 s 0) (leaseSizeIn form - 2) start.0,
+            eq-eqb (number16 s 0) (lease_size_in form - 2) start.0,
             (
-              eq-eqb (number16 s 2) (leaseKind form) start.1,
+              eq-eqb (number16 s 2) (lease_kind form) start.1,
               (
-                le-leb 1 (stateByteIn s) f.low,
+                le-leb 1 (state_byte_in s) f.low,
                 (
-                  le-leb (stateByteIn s) 2 f.high,
-                  (le-leb (flagsByteIn s) 3 f.flags, (f.named, (not-of (empty? (leaseFieldsIn form s)) (long-not-empty (leaseFieldsIn form s) f.short), tt))),
+                  le-leb (state_byte_in s) 2 f.high,
+                  (le-leb (flags_byte_in s) 3 f.flags, (f.named, (not-of (empty? (lease_fields_in form s)) (long-not-empty (lease_fields_in form s) f.short), tt))),
                 ),
               ),
             ),
           ),
         ))
 
-  pub fits-ok : (qs : List Prefix) → Fits form last s → any? (inside? (prefixIn s)) qs ≡ true → leaseOk qs last (leaseFieldsIn form s) ≡ true
-  unfolding leaseOk
+  pub fits-ok : (qs : List Prefix) → Fits form last s → any? (inside? (prefix_in s)) qs ≡ true → lease_ok qs last (lease_fields_in form s) ≡ true
+  unfolding lease_ok
   fits-ok qs f e =
-      and-list-of (leaseRules qs last (leaseFieldsIn form s))
-      (le-leb 1 (lengthIn s) f.short, (le-leb (lengthIn s) 30 f.long, (aligned-of (prefixIn s) f.aligned, (not-of (eqb (clientIn s) 0) (ne_eqb (clientIn s) 0 f.client), (lt-ltb last (expiresIn s) f.later, (e, tt))))))
+      and-list-of (lease_rules qs last (lease_fields_in form s))
+      (le-leb 1 (length_in s) f.short, (le-leb (length_in s) 30 f.long, (aligned-of (prefix_in s) f.aligned, (not-of (eqb (client_in s) 0) (ne_eqb (client_in s) 0 f.client), (lt-ltb last (expires_in s) f.later, (e, tt))))))
 
   -- A record that is read and is as a sound table has it fits.
-  pub read_fits : (qs : List Prefix) (x : Lease) → leaseAtIn form s ≡ some x → leaseOk qs last x ≡ true
-      → Fits form last s × (x ≡ leaseFieldsIn form s) × (any? (inside? (prefixIn s)) qs ≡ true)
-  unfolding leaseAtIn leaseOk number16 number32
+  pub read_fits : (qs : List Prefix) (x : Lease) → lease_at_in form s ≡ some x → lease_ok qs last x ≡ true
+      → Fits form last s × (x ≡ lease_fields_in form s) × (any? (inside? (prefix_in s)) qs ≡ true)
+  unfolding lease_at_in lease_ok number16 number32
   read_fits qs x r o =
-      let p = some_same (and (leaseTestsIn form s)) (leaseFieldsIn form s) x r in
-      let t = and-list-to (leaseTestsIn form s) p.0 in
-      let u = and-list-to (leaseRules qs last (leaseFieldsIn form s)) (ap (leaseOk qs last) p.1 ∙ o) in (
+      let p = some_same (and (lease_tests_in form s)) (lease_fields_in form s) x r in
+      let t = and-list-to (lease_tests_in form s) p.0 in
+      let u = and-list-to (lease_rules qs last (lease_fields_in form s)) (ap (lease_ok qs last) p.1 ∙ o) in (
         record {
-          start = omega (arith, eqb-true (number16 s 0) (leaseSizeIn form - 2) t.1.0, eqb-true (number16 s 2) (leaseKind form) t.1.1.0);
-          short = leb-true 1 (lengthIn s) u.0;
-          long = leb-true (lengthIn s) 30 u.1.0;
-          low = leb-true 1 (stateByteIn s) t.1.1.1.0;
-          high = leb-true (stateByteIn s) 2 t.1.1.1.1.0;
-          flags = leb-true (flagsByteIn s) 3 t.1.1.1.1.1.0;
-          client = eqb-false (clientIn s) 0 (not-true (eqb (clientIn s) 0) u.1.1.1.0);
-          later = ltb-true last (expiresIn s) u.1.1.1.1.0;
-          aligned = aligned-to (prefixIn s) u.1.1.0;
+          start = omega (arith, eqb-true (number16 s 0) (lease_size_in form - 2) t.1.0, eqb-true (number16 s 2) (lease_kind form) t.1.1.0);
+          short = leb-true 1 (length_in s) u.0;
+          long = leb-true (length_in s) 30 u.1.0;
+          low = leb-true 1 (state_byte_in s) t.1.1.1.0;
+          high = leb-true (state_byte_in s) 2 t.1.1.1.1.0;
+          flags = leb-true (flags_byte_in s) 3 t.1.1.1.1.1.0;
+          client = eqb-false (client_in s) 0 (not-true (eqb (client_in s) 0) u.1.1.1.0);
+          later = ltb-true last (expires_in s) u.1.1.1.1.0;
+          aligned = aligned-to (prefix_in s) u.1.1.0;
           named = t.1.1.1.1.1.1.0;
         },
         sym p.1,

@@ -16,81 +16,81 @@ use Rattle.lists.proofs.Tests.{bool_cases, and-to, cond-true, cond-false, not-of
 use Rattle.prefix.specs.Prefixes.{end}
 use Rattle.prefix.proofs.PrefixLaws.{size-positive}
 use Rattle.table.specs.declared.Pool.{Pool}
-use Rattle.table.specs.Table.{poolSlots, poolPrefix, unused?, poolOk, ascends?, poolsAscend?}
-use Rattle.table.proofs.TableLaws.{poolOk-to, long-not-unused}
+use Rattle.table.specs.Table.{pool_slots, pool_prefix, unused?, pool_ok, ascends?, pools_ascend?}
+use Rattle.table.proofs.TableLaws.{pool_ok-to, long-not-unused}
 use Rattle.image.specs.Fields.{number16, number32, Run, records}
-use Rattle.image.specs.Image.{poolSize}
-use Rattle.image.specs.Reading.{poolIn, poolTests, poolAt, poolsAt}
+use Rattle.image.specs.Image.{pool_size}
+use Rattle.image.specs.Reading.{pool_in, pool_tests, pool_at, pools_at}
 use Rattle.image.proofs.FieldLaws.{Bytes, bytes_drop, start-of, start-to, records-none, records-some}
-use Rattle.image_check.specs.Inner.{poolEnd, poolCount, poolStart, poolBegins?}
+use Rattle.image_check.specs.Inner.{pool_end, pool_count, pool_start, pool_begins?}
 use Rattle.image_check.proofs.RunLaws.{pool-known}
 
 -- What the end of a pool tells.
 module _ (p : Pool) where
-  pub end_none : poolOk p ≡ false → 0 ≡ poolEnd p
-  end_none e = sym (cond-false (poolOk p) (end (poolPrefix p)) 0 e)
+  pub end_none : pool_ok p ≡ false → 0 ≡ pool_end p
+  end_none e = sym (cond-false (pool_ok p) (end (pool_prefix p)) 0 e)
 
-  pub end-some : poolOk p ≡ true → end (poolPrefix p) ≡ poolEnd p
-  end-some e = sym (cond-true (poolOk p) (end (poolPrefix p)) 0 e)
+  pub end-some : pool_ok p ≡ true → end (pool_prefix p) ≡ pool_end p
+  end-some e = sym (cond-true (pool_ok p) (end (pool_prefix p)) 0 e)
 
-  pub end-bad : 0 ≡ poolEnd p → poolOk p ≡ true → ⊥
+  pub end-bad : 0 ≡ pool_end p → pool_ok p ≡ true → ⊥
   end-bad z e = omega (arith, z, end-some e, size-positive p.length)
 
-  end-good : (to : ℕ) → to ≡ poolEnd p → (to ≡ 0 → ⊥) → (poolOk p ≡ true) × (to ≡ end (poolPrefix p))
+  end-good : (to : ℕ) → to ≡ pool_end p → (to ≡ 0 → ⊥) → (pool_ok p ≡ true) × (to ≡ end (pool_prefix p))
   end-good to e h =
-      ⊎_elim (λ (b : poolOk p ≡ true). (b, e ∙ cond-true (poolOk p) (end (poolPrefix p)) 0 b))
-      (λ (b : poolOk p ≡ false). absurd (h (e ∙ cond-false (poolOk p) (end (poolPrefix p)) 0 b)))
-      (bool_cases (poolOk p))
+      ⊎_elim (λ (b : pool_ok p ≡ true). (b, e ∙ cond-true (pool_ok p) (end (pool_prefix p)) 0 b))
+      (λ (b : pool_ok p ≡ false). absurd (h (e ∙ cond-false (pool_ok p) (end (pool_prefix p)) 0 b)))
+      (bool_cases (pool_ok p))
 
-pub begins-long : (s : List ℕ) → poolBegins? s ≡ true → poolSize ≤ length s
-begins-long s e = leb-true poolSize (length s) (and-list-to (leb poolSize (length s) ∷ eqb (number32 s 0) poolStart ∷ []) e).0
+pub begins-long : (s : List ℕ) → pool_begins? s ≡ true → pool_size ≤ length s
+begins-long s e = leb-true pool_size (length s) (and-list-to (leb pool_size (length s) ∷ eqb (number32 s 0) pool_start ∷ []) e).0
 
 -- A record that begins as a pool's is one, unless it is unused.
 module _ (s : List ℕ) (bytes : Bytes s) where
   abbrev starts : List Bool
-  starts = leb poolSize (length s) ∷ eqb (number32 s 0) poolStart ∷ []
+  starts = leb pool_size (length s) ∷ eqb (number32 s 0) pool_start ∷ []
 
-  pub begins-not : poolBegins? s ≡ false → poolAt s ≡ none
-  unfolding poolAt
+  pub begins-not : pool_begins? s ≡ false → pool_at s ≡ none
+  unfolding pool_at
   begins-not e =
-      cond-false (and (poolTests s)) (some (poolIn s)) none (not-true⇒false (and (poolTests s)) (λ f.
-      let t = and-list-to (poolTests s) f in
-      let start = start-to s bytes (poolSize - 2) 2 (omega arith) (eqb-true (number16 s 0) (poolSize - 2) t.1.0) (eqb-true (number16 s 2) 2 t.1.1.0) in
-      true≢false (sym (and-list-of starts (t.0, (eq-eqb (number32 s 0) poolStart start, tt))) ∙ e)))
+      cond-false (and (pool_tests s)) (some (pool_in s)) none (not-true⇒false (and (pool_tests s)) (λ f.
+      let t = and-list-to (pool_tests s) f in
+      let start = start-to s bytes (pool_size - 2) 2 (omega arith) (eqb-true (number16 s 0) (pool_size - 2) t.1.0) (eqb-true (number16 s 2) 2 t.1.1.0) in
+      true≢false (sym (and-list-of starts (t.0, (eq-eqb (number32 s 0) pool_start start, tt))) ∙ e)))
 
-  pub begins-unused : unused? (poolIn s) ≡ true → poolAt s ≡ none
-  unfolding poolAt
+  pub begins-unused : unused? (pool_in s) ≡ true → pool_at s ≡ none
+  unfolding pool_at
   begins-unused e =
-      cond-false (and (poolTests s)) (some (poolIn s)) none (not-true⇒false (and (poolTests s)) (λ f.
-      true≢false (sym e ∙ not-true (unused? (poolIn s)) (and-list-to (poolTests s) f).1.1.1.0)))
+      cond-false (and (pool_tests s)) (some (pool_in s)) none (not-true⇒false (and (pool_tests s)) (λ f.
+      true≢false (sym e ∙ not-true (unused? (pool_in s)) (and-list-to (pool_tests s) f).1.1.1.0)))
 
-  pub begins-pool : poolBegins? s ≡ true → unused? (poolIn s) ≡ false → poolAt s ≡ some (poolIn s)
-  unfolding poolAt
+  pub begins-pool : pool_begins? s ≡ true → unused? (pool_in s) ≡ false → pool_at s ≡ some (pool_in s)
+  unfolding pool_at
   begins-pool e u =
       let t = and-list-to starts e in
-      let start = start-of s bytes (poolSize - 2) 2 (omega arith) (eqb-true (number32 s 0) poolStart t.1.0) in
-      cond-true (and (poolTests s)) (some (poolIn s)) none
-      (and-list-of (poolTests s) (t.0, (eq-eqb (number16 s 0) (poolSize - 2) start.0, (eq-eqb (number16 s 2) 2 start.1, (not-of (unused? (poolIn s)) u, tt)))))
+      let start = start-of s bytes (pool_size - 2) 2 (omega arith) (eqb-true (number32 s 0) pool_start t.1.0) in
+      cond-true (and (pool_tests s)) (some (pool_in s)) none
+      (and-list-of (pool_tests s) (t.0, (eq-eqb (number16 s 0) (pool_size - 2) start.0, (eq-eqb (number16 s 2) 2 start.1, (not-of (unused? (pool_in s)) u, tt)))))
 
 -- Pools that are counted are as a sound table has them.
-pub counted-pools : (ps : List Pool) (n : ℕ) → n ≡ poolCount ps → (n ≡ 0 → ⊥) → (poolsAscend? ps ≡ true) × (n ≡ length ps)
+pub counted-pools : (ps : List Pool) (n : ℕ) → n ≡ pool_count ps → (n ≡ 0 → ⊥) → (pools_ascend? ps ≡ true) × (n ≡ length ps)
 counted-pools ps n e h =
-    ⊎_elim (λ (b : poolsAscend? ps ≡ true). (b, e ∙ cond-true (poolsAscend? ps) (length ps) 0 b))
-    (λ (b : poolsAscend? ps ≡ false). absurd (h (e ∙ cond-false (poolsAscend? ps) (length ps) 0 b)))
-    (bool_cases (poolsAscend? ps))
+    ⊎_elim (λ (b : pools_ascend? ps ≡ true). (b, e ∙ cond-true (pools_ascend? ps) (length ps) 0 b))
+    (λ (b : pools_ascend? ps ≡ false). absurd (h (e ∙ cond-false (pools_ascend? ps) (length ps) 0 b)))
+    (bool_cases (pools_ascend? ps))
 
-abbrev poolsFrom : ℕ → List ℕ → Run Pool
-poolsFrom limit s = records poolAt poolSize limit s
+abbrev pools_from : ℕ → List ℕ → Run Pool
+pools_from limit s = records pool_at pool_size limit s
 
 abbrev ascend? : ℕ → List Pool → Bool
-ascend? from ps = ascends? unused? poolOk poolPrefix from ps
+ascend? from ps = ascends? unused? pool_ok pool_prefix from ps
 
 -- After n pools that are as a sound table has them, which end at `from`: what is left to test, and to count.
 pub record PoolsRead (s : List ℕ) (from n : ℕ) : Type 0 where
-  pub few : n ≤ poolSlots
-  pub inside : poolSize * n ≤ length s
-  pub ascends : poolsAscend? (poolsAt s).items ≡ ascend? from (poolsFrom (poolSlots - n) (drop (poolSize * n) s)).items
-  pub counted : length (poolsAt s).items ≡ n + length (poolsFrom (poolSlots - n) (drop (poolSize * n) s)).items
+  pub few : n ≤ pool_slots
+  pub inside : pool_size * n ≤ length s
+  pub ascends : pools_ascend? (pools_at s).items ≡ ascend? from (pools_from (pool_slots - n) (drop (pool_size * n) s)).items
+  pub counted : length (pools_at s).items ≡ n + length (pools_from (pool_slots - n) (drop (pool_size * n) s)).items
 
 module _ (s : List ℕ) where
   pub pools-none : PoolsRead s 0 0
@@ -98,51 +98,51 @@ module _ (s : List ℕ) where
 
   module _ (from n : ℕ) (r : PoolsRead s from n) where
     abbrev here : List ℕ
-    here = drop (poolSize * n) s
+    here = drop (pool_size * n) s
 
     -- Nothing is left.
-    over : (poolsFrom (poolSlots - n) here).items ≡ [] → n ≡ poolCount (poolsAt s).items
+    over : (pools_from (pool_slots - n) here).items ≡ [] → n ≡ pool_count (pools_at s).items
     unfolding ascends?
     over e =
-        let ps : List Pool = (poolsAt s).items in
-        sym (cond-true (poolsAscend? ps) (length ps) 0 (r.ascends ∙ ap (ascend? from) e) ∙ r.counted ∙ omega (arith, ap length e))
+        let ps : List Pool = (pools_at s).items in
+        sym (cond-true (pools_ascend? ps) (length ps) 0 (r.ascends ∙ ap (ascend? from) e) ∙ r.counted ∙ omega (arith, ap length e))
 
-    pub pools-stop : poolAt here ≡ none → n ≡ poolCount (poolsAt s).items
-    pools-stop e = over (ap (λ (v : Run Pool). v.items) (records-none poolAt poolSize (poolSlots - n) here e))
+    pub pools-stop : pool_at here ≡ none → n ≡ pool_count (pools_at s).items
+    pools-stop e = over (ap (λ (v : Run Pool). v.items) (records-none pool_at pool_size (pool_slots - n) here e))
 
-    pub pools-full : poolSlots ≤ n → n ≡ poolCount (poolsAt s).items
+    pub pools-full : pool_slots ≤ n → n ≡ pool_count (pools_at s).items
     unfolding records
-    pools-full h = let z : poolSlots - n ≡ 0 = omega arith in over (ap (λ (k : ℕ). (poolsFrom k here).items) z)
+    pools-full h = let z : pool_slots - n ≡ 0 = omega arith in over (ap (λ (k : ℕ). (pools_from k here).items) z)
 
     -- A pool more.
-    module _ (p : Pool) (e : poolAt here ≡ some p) (lt : n < poolSlots) where
+    module _ (p : Pool) (e : pool_at here ≡ some p) (lt : n < pool_slots) where
       later : List Pool
-      later = (poolsFrom (poolSlots - (n + 1)) (drop (poolSize * (n + 1)) s)).items
+      later = (pools_from (pool_slots - (n + 1)) (drop (pool_size * (n + 1)) s)).items
 
-      items : (poolsFrom (poolSlots - n) here).items ≡ p ∷ later
+      items : (pools_from (pool_slots - n) here).items ≡ p ∷ later
       unfolding later
       items =
-          let less : poolSlots - n ≡ suc (poolSlots - (n + 1)) = omega arith in
-          let place : poolSize * n + poolSize ≡ poolSize * (n + 1) = omega arith in
-          ap (λ (k : ℕ). (poolsFrom k here).items) less
-          ∙ ap (λ (v : Run Pool). v.items) (records-some poolAt poolSize (poolSlots - (n + 1)) here p e)
-          ∙ ap (λ (u : List ℕ). p ∷ (poolsFrom (poolSlots - (n + 1)) u).items) (drop-drop poolSize (poolSize * n) s ∙ ap (λ (k : ℕ). drop k s) place)
+          let less : pool_slots - n ≡ suc (pool_slots - (n + 1)) = omega arith in
+          let place : pool_size * n + pool_size ≡ pool_size * (n + 1) = omega arith in
+          ap (λ (k : ℕ). (pools_from k here).items) less
+          ∙ ap (λ (v : Run Pool). v.items) (records-some pool_at pool_size (pool_slots - (n + 1)) here p e)
+          ∙ ap (λ (u : List ℕ). p ∷ (pools_from (pool_slots - (n + 1)) u).items) (drop-drop pool_size (pool_size * n) s ∙ ap (λ (k : ℕ). drop k s) place)
 
-      first : poolsAscend? (poolsAt s).items ≡ leb from p.network && (poolOk p && ascend? (end (poolPrefix p)) later)
+      first : pools_ascend? (pools_at s).items ≡ leb from p.network && (pool_ok p && ascend? (end (pool_prefix p)) later)
       unfolding ascends?
       first = r.ascends ∙ ap (ascend? from) items ∙ cond-false (unused? p) _ _ (pool-known here p e).2
 
-      pub pools-bad : (from ≤ p.network → poolOk p ≡ true → ⊥) → 0 ≡ poolCount (poolsAt s).items
+      pub pools-bad : (from ≤ p.network → pool_ok p ≡ true → ⊥) → 0 ≡ pool_count (pools_at s).items
       pools-bad bad =
-          let ps : List Pool = (poolsAt s).items in
-          sym (cond-false (poolsAscend? ps) (length ps) 0 (not-true⇒false (poolsAscend? ps) (λ t.
-          let a = and-to (leb from p.network) (poolOk p && ascend? (end (poolPrefix p)) later) (sym first ∙ t) in
-          bad (leb-true from p.network a.0) (and-to (poolOk p) (ascend? (end (poolPrefix p)) later) a.1).0)))
+          let ps : List Pool = (pools_at s).items in
+          sym (cond-false (pools_ascend? ps) (length ps) 0 (not-true⇒false (pools_ascend? ps) (λ t.
+          let a = and-to (leb from p.network) (pool_ok p && ascend? (end (pool_prefix p)) later) (sym first ∙ t) in
+          bad (leb-true from p.network a.0) (and-to (pool_ok p) (ascend? (end (pool_prefix p)) later) a.1).0)))
 
-      pub pools-room : poolSize * n + poolSize ≤ length s
-      pools-room = omega (arith, (pool-known here p e).0, length-drop (poolSize * n) s)
+      pub pools-room : pool_size * n + pool_size ≤ length s
+      pools-room = omega (arith, (pool-known here p e).0, length-drop (pool_size * n) s)
 
-      pub pools-more : from ≤ p.network → poolOk p ≡ true → PoolsRead s (end (poolPrefix p)) (n + 1)
+      pub pools-more : from ≤ p.network → pool_ok p ≡ true → PoolsRead s (end (pool_prefix p)) (n + 1)
       unfolding later
       pools-more l o = record {
         few = omega arith;
@@ -152,21 +152,21 @@ module _ (s : List ℕ) where
       }
 
 -- A record that begins as a pool's.
-module _ (s : List ℕ) (bytes : Bytes s) (from n : ℕ) (r : PoolsRead s from n) (lt : n < poolSlots) (begins : poolBegins? (drop (poolSize * n) s) ≡ true) (p : Pool)
-    (same : p ≡ poolIn (drop (poolSize * n) s)) where
-  used-pool : unused? p ≡ false → poolAt (drop (poolSize * n) s) ≡ some p
-  used-pool u = begins-pool (drop (poolSize * n) s) (bytes_drop (poolSize * n) s bytes) begins (ap unused? (sym same) ∙ u) ∙ ap some (sym same)
+module _ (s : List ℕ) (bytes : Bytes s) (from n : ℕ) (r : PoolsRead s from n) (lt : n < pool_slots) (begins : pool_begins? (drop (pool_size * n) s) ≡ true) (p : Pool)
+    (same : p ≡ pool_in (drop (pool_size * n) s)) where
+  used-pool : unused? p ≡ false → pool_at (drop (pool_size * n) s) ≡ some p
+  used-pool u = begins-pool (drop (pool_size * n) s) (bytes_drop (pool_size * n) s bytes) begins (ap unused? (sym same) ∙ u) ∙ ap some (sym same)
 
   -- It is not as a sound table has it.
-  pub pools-stopped : (from ≤ p.network → poolOk p ≡ true → ⊥) → cond (unused? p) n 0 ≡ poolCount (poolsAt s).items
+  pub pools-stopped : (from ≤ p.network → pool_ok p ≡ true → ⊥) → cond (unused? p) n 0 ≡ pool_count (pools_at s).items
   pools-stopped bad =
       ⊎_elim
-      (λ (u : unused? p ≡ true). cond-true (unused? p) n 0 u ∙ pools-stop s from n r (begins-unused (drop (poolSize * n) s) (bytes_drop (poolSize * n) s bytes) (ap unused? (sym same) ∙ u)))
+      (λ (u : unused? p ≡ true). cond-true (unused? p) n 0 u ∙ pools-stop s from n r (begins-unused (drop (pool_size * n) s) (bytes_drop (pool_size * n) s bytes) (ap unused? (sym same) ∙ u)))
       (λ (u : unused? p ≡ false). cond-false (unused? p) n 0 u ∙ pools-bad s from n r p (used-pool u) lt bad)
       (bool_cases (unused? p))
 
   -- It is.
-  pub pools-good : (to : ℕ) → to ≡ poolEnd p → (to ≡ 0 → ⊥) → from ≤ p.network → PoolsRead s to (n + 1)
+  pub pools-good : (to : ℕ) → to ≡ pool_end p → (to ≡ 0 → ⊥) → from ≤ p.network → PoolsRead s to (n + 1)
   pools-good to e h l =
       let good = end-good p to e h in
-      subst (λ (f : ℕ). PoolsRead s f (n + 1)) (sym good.1) (pools-more s from n r p (used-pool (long-not-unused p (omega (arith, (poolOk-to p good.0).short)))) lt l good.0)
+      subst (λ (f : ℕ). PoolsRead s f (n + 1)) (sym good.1) (pools-more s from n r p (used-pool (long-not-unused p (omega (arith, (pool_ok-to p good.0).short)))) lt l good.0)

@@ -14,11 +14,11 @@ use Rattle.lists.specs.Lists.{All, and}
 use Rattle.lists.proofs.Tests.{and-list-to}
 use Rattle.table.specs.declared.Pool.{Pool}
 use Rattle.table.specs.declared.Lease.{Lease}
-use Rattle.table.specs.Table.{poolSlots, unused?, empty?}
+use Rattle.table.specs.Table.{pool_slots, unused?, empty?}
 use Rattle.image.specs.declared.Form.{Form}
-use Rattle.image.specs.Fields.{Run, onItem, records}
-use Rattle.image.specs.Image.{poolSize, leaseSizeIn}
-use Rattle.image.specs.Reading.{poolIn, poolTests, poolAt, leaseFieldsIn, leaseTestsIn, leaseAtIn, poolsAt}
+use Rattle.image.specs.Fields.{Run, on_item, records}
+use Rattle.image.specs.Image.{pool_size, lease_size_in}
+use Rattle.image.specs.Reading.{pool_in, pool_tests, pool_at, lease_fields_in, lease_tests_in, lease_at_in, pools_at}
 use Rattle.image.proofs.ImageLaws.{some_same, pool-long, lease-long-in}
 
 -- A part from a place to the end is the rest.
@@ -44,7 +44,7 @@ module _ {A : Type 0} (read : List ℕ → Option A) (size : ℕ) (into : List �
   taken (suc limit) s = cases (taken limit (drop size s)) (read s) refl
     where
       cases : Taken size into P limit (drop size s) (records read size limit (drop size s)) → (o : Option A) → read s ≡ o
-          → Taken size into P (suc limit) s (onItem o s (records read size limit (drop size s)))
+          → Taken size into P (suc limit) s (on_item o s (records read size limit (drop size s)))
       cases later none e = record { rest = front s; inside = omega (arith, mul-zero size); few = omega arith; each = tt; at = λ k d (h : k < 0). absurd (omega arith) }
       cases later (some x) e =
           let w = known s x e in
@@ -65,23 +65,23 @@ module _ {A : Type 0} (read : List ℕ → Option A) (size : ℕ) (into : List �
               let more : size + size * k ≡ size * suc k = sym (mul-suc size k ∙ omega arith) in
               f k d (omega arith) ∙ ap into (drop-drop (size * k) size s ∙ ap (λ (n : ℕ). drop n s) more)
 
-pub pool-known : (b : List ℕ) (p : Pool) → poolAt b ≡ some p → (poolSize ≤ length b) × (p ≡ poolIn b) × (unused? p ≡ false)
-unfolding poolAt
+pub pool-known : (b : List ℕ) (p : Pool) → pool_at b ≡ some p → (pool_size ≤ length b) × (p ≡ pool_in b) × (unused? p ≡ false)
+unfolding pool_at
 pool-known b p e =
-    let q = some_same (and (poolTests b)) (poolIn b) p e in
-    let t = and-list-to (poolTests b) q.0 in
-    (pool-long b p e, sym q.1, ap unused? (sym q.1) ∙ not-true (unused? (poolIn b)) t.1.1.1.0)
+    let q = some_same (and (pool_tests b)) (pool_in b) p e in
+    let t = and-list-to (pool_tests b) q.0 in
+    (pool-long b p e, sym q.1, ap unused? (sym q.1) ∙ not-true (unused? (pool_in b)) t.1.1.1.0)
 
-pub pools-taken : (s : List ℕ) → Taken poolSize poolIn (λ p. unused? p ≡ false) poolSlots s (poolsAt s)
-pools-taken s = taken poolAt poolSize poolIn (λ p. unused? p ≡ false) pool-known poolSlots s
+pub pools-taken : (s : List ℕ) → Taken pool_size pool_in (λ p. unused? p ≡ false) pool_slots s (pools_at s)
+pools-taken s = taken pool_at pool_size pool_in (λ p. unused? p ≡ false) pool-known pool_slots s
 
-pub lease-known : (form : Form) (b : List ℕ) (x : Lease) → leaseAtIn form b ≡ some x → (leaseSizeIn form ≤ length b) × (x ≡ leaseFieldsIn form b) × (empty? x ≡ false)
-unfolding leaseAtIn
+pub lease-known : (form : Form) (b : List ℕ) (x : Lease) → lease_at_in form b ≡ some x → (lease_size_in form ≤ length b) × (x ≡ lease_fields_in form b) × (empty? x ≡ false)
+unfolding lease_at_in
 lease-known form b x e =
-    let q = some_same (and (leaseTestsIn form b)) (leaseFieldsIn form b) x e in
-    let t = and-list-to (leaseTestsIn form b) q.0 in
-    (lease-long-in form b x e, sym q.1, ap empty? (sym q.1) ∙ not-true (empty? (leaseFieldsIn form b)) t.1.1.1.1.1.1.1.0)
+    let q = some_same (and (lease_tests_in form b)) (lease_fields_in form b) x e in
+    let t = and-list-to (lease_tests_in form b) q.0 in
+    (lease-long-in form b x e, sym q.1, ap empty? (sym q.1) ∙ not-true (empty? (lease_fields_in form b)) t.1.1.1.1.1.1.1.0)
 
 pub leases-taken : (form : Form) (limit : ℕ) (s : List ℕ)
-    → Taken (leaseSizeIn form) (leaseFieldsIn form) (λ x. empty? x ≡ false) limit s (records (leaseAtIn form) (leaseSizeIn form) limit s)
-leases-taken form limit s = taken (leaseAtIn form) (leaseSizeIn form) (leaseFieldsIn form) (λ x. empty? x ≡ false) (lease-known form) limit s
+    → Taken (lease_size_in form) (lease_fields_in form) (λ x. empty? x ≡ false) limit s (records (lease_at_in form) (lease_size_in form) limit s)
+leases-taken form limit s = taken (lease_at_in form) (lease_size_in form) (lease_fields_in form) (λ x. empty? x ≡ false) (lease-known form) limit s

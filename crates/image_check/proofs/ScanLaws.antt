@@ -22,20 +22,20 @@ use Rattle.prefix.specs.Prefixes.{end, inside?}
 use Rattle.prefix.proofs.PrefixLaws.{size-positive, inside_of, inside-not}
 use Rattle.table.specs.declared.Pool.{Pool}
 use Rattle.table.specs.declared.Lease.{Lease}
-use Rattle.table.specs.Table.{leaseSlots, leasesAscend?, noPool, poolPrefix, unused?, poolOk}
+use Rattle.table.specs.Table.{lease_slots, leases_ascend?, no_pool, pool_prefix, unused?, pool_ok}
 use Rattle.table.proofs.Ascending.{Ascending, used, ascending-low, ascends-to}
 use Rattle.table.proofs.TableLaws.{unused-to}
 use Rattle.image.specs.declared.Head.{Head}
 use Rattle.image.specs.declared.Form.{Form}
 use Rattle.image.specs.declared.Form.TheVariants.{First, Second}
 use Rattle.image.specs.Fields.{Run}
-use Rattle.image.specs.Image.{leaseSizeIn, poolSize}
-use Rattle.image.specs.Reading.{leaseFieldsIn, leaseAtIn, poolsAt, afterHeadIn, networkIn}
+use Rattle.image.specs.Image.{lease_size_in, pool_size}
+use Rattle.image.specs.Reading.{lease_fields_in, lease_at_in, pools_at, after_head_in, network_in}
 use Rattle.image.proofs.FieldLaws.{Bytes, bytes_drop, records-none}
-use Rattle.image_check.specs.ImageSummary.{unsound, summaryOf}
+use Rattle.image_check.specs.ImageSummary.{unsound, summary_of}
 use Rattle.image_check.specs.declared.Pass.{Pass}
-use Rattle.image_check.specs.Inner.{prefixIn, nthPool, fitTests, due, Begun}
-use Rattle.image_check.specs.InnerPass.{summaryWith, ending, leasesFrom, poolsIn, Answered, Reached}
+use Rattle.image_check.specs.Inner.{prefix_in, nth_pool, fit_tests, due, Begun}
+use Rattle.image_check.specs.InnerPass.{summary_with, ending, leases_from, pools_in, Answered, Reached}
 use Rattle.image_check.proofs.FitLaws.{size-least, Fits, Met, fits-to, fits-of, fits_read, fits-ok}
 use Rattle.image_check.proofs.RunLaws.{pools-taken, leases-taken}
 use Rattle.image_check.proofs.SummaryLaws.{read-begun, ending-none, ending-unsound, ending-next, left-fits}
@@ -62,49 +62,49 @@ due-few expires time =
     ⊎_elim (λ (b : leb expires time ≡ true). omega (arith, cond-true {A = ℕ} (leb expires time) 1 0 b)) (λ (b : leb expires time ≡ false). omega (arith, cond-false {A = ℕ} (leb expires time) 1 0 b))
     (bool_cases (leb expires time))
 
-nothing_read : (form : Form) → leaseAtIn form [] ≡ none
-unfolding leaseAtIn
+nothing_read : (form : Form) → lease_at_in form [] ≡ none
+unfolding lease_at_in
 nothing_read First = refl
 nothing_read Second = refl
 
 -- SIZES, in each form: what is left has the size of so many leases, one of which may come.
 module _ (at len left : ℕ) where
-  pub one_left : (form : Form) → at + leaseSizeIn form * left ≡ len → at < len → at + leaseSizeIn form ≤ len
+  pub one_left : (form : Form) → at + lease_size_in form * left ≡ len → at < len → at + lease_size_in form ≤ len
   one_left First e h = omega arith
   one_left Second e h = omega arith
 
-  pub others-left : (form : Form) → at + leaseSizeIn form * left ≡ len → at < len → at + leaseSizeIn form + leaseSizeIn form * (left - 1) ≡ len
+  pub others-left : (form : Form) → at + lease_size_in form * left ≡ len → at < len → at + lease_size_in form + lease_size_in form * (left - 1) ≡ len
   others-left First e h = omega arith
   others-left Second e h = omega arith
 
 module _ (len n at i : ℕ) where
-  few-before : (form : Form) → len ≤ poolSize * n + leaseSizeIn form * leaseSlots → at ≡ poolSize * n + leaseSizeIn form * i → at + leaseSizeIn form ≤ len → i < leaseSlots
+  few-before : (form : Form) → len ≤ pool_size * n + lease_size_in form * lease_slots → at ≡ pool_size * n + lease_size_in form * i → at + lease_size_in form ≤ len → i < lease_slots
   few-before First size place room = omega arith
   few-before Second size place room = omega arith
 
-  one_further : (form : Form) → at ≡ poolSize * n + leaseSizeIn form * i → at + leaseSizeIn form ≡ poolSize * n + leaseSizeIn form * (i + 1)
+  one_further : (form : Form) → at ≡ pool_size * n + lease_size_in form * i → at + lease_size_in form ≡ pool_size * n + lease_size_in form * (i + 1)
   one_further First place = omega arith
   one_further Second place = omega arith
 
 -- The bytes after the pools, as so many leases.
 module _ (len from : ℕ) (inside : from ≤ len) where
-  pub count-inside : (form : Form) → from + leaseSizeIn form * ((len - from) / leaseSizeIn form) ≤ len
+  pub count-inside : (form : Form) → from + lease_size_in form * ((len - from) / lease_size_in form) ≤ len
   count-inside First = omega arith
   count-inside Second = omega arith
 
-  pub count-many : (form : Form) (m : ℕ) → leaseSlots < (len - from) / leaseSizeIn form → m ≤ leaseSlots → from + leaseSizeIn form * m ≡ len → ⊥
+  pub count-many : (form : Form) (m : ℕ) → lease_slots < (len - from) / lease_size_in form → m ≤ lease_slots → from + lease_size_in form * m ≡ len → ⊥
   count-many First m a b e = omega arith
   count-many Second m a b e = omega arith
 
-  pub count-uneven : (form : Form) (m : ℕ) → (from + leaseSizeIn form * ((len - from) / leaseSizeIn form) ≡ len → ⊥) → from + leaseSizeIn form * m ≡ len → ⊥
+  pub count-uneven : (form : Form) (m : ℕ) → (from + lease_size_in form * ((len - from) / lease_size_in form) ≡ len → ⊥) → from + lease_size_in form * m ≡ len → ⊥
   count-uneven First m a e = omega arith
   count-uneven Second m a e = omega arith
 
-  pub count-few : (form : Form) → (len - from) / leaseSizeIn form ≤ leaseSlots → from + leaseSizeIn form * ((len - from) / leaseSizeIn form) ≡ len → len ≤ from + leaseSizeIn form * leaseSlots
+  pub count-few : (form : Form) → (len - from) / lease_size_in form ≤ lease_slots → from + lease_size_in form * ((len - from) / lease_size_in form) ≡ len → len ≤ from + lease_size_in form * lease_slots
   count-few First a e = omega arith
   count-few Second a e = omega arith
 
-pub same_count : (form : Form) (from m n len : ℕ) → from + leaseSizeIn form * m ≡ len → from + leaseSizeIn form * n ≡ len → m ≡ n
+pub same_count : (form : Form) (from m n len : ℕ) → from + lease_size_in form * m ≡ len → from + lease_size_in form * n ≡ len → m ≡ n
 same_count First from m n len a b = omega arith
 same_count Second from m n len a b = omega arith
 
@@ -112,125 +112,125 @@ same_count Second from m n len a b = omega arith
 pub record Along (form : Form) (x : Head) (s : List ℕ) (n time k low : ℕ) (p : Pass) : Type 0 where
   pub leases : ℕ
   pub least : ℕ
-  pub size : length s ≤ poolSize * n + leaseSizeIn form * leaseSlots
-  pub place : p.at ≡ poolSize * n + leaseSizeIn form * leases
+  pub size : length s ≤ pool_size * n + lease_size_in form * lease_slots
+  pub place : p.at ≡ pool_size * n + lease_size_in form * leases
   pub above : least ≤ low
-  pub under : low ≤ end (nthPool s k)
-  pub begins : (nthPool s k).network ≤ low
-  pub between : (q : Prefix) → least ≤ q.network → q.network < low → inside? q (nthPool s k) ≡ false
-  pub passed : (j : ℕ) → j < k → p.at < length s → and (fitTests form x.last (drop p.at s)) ≡ true → least ≤ networkIn (drop p.at s)
-      → inside? (prefixIn (drop p.at s)) (nthPool s j) ≡ false
+  pub under : low ≤ end (nth_pool s k)
+  pub begins : (nth_pool s k).network ≤ low
+  pub between : (q : Prefix) → least ≤ q.network → q.network < low → inside? q (nth_pool s k) ≡ false
+  pub passed : (j : ℕ) → j < k → p.at < length s → and (fit_tests form x.last (drop p.at s)) ≡ true → least ≤ network_in (drop p.at s)
+      → inside? (prefix_in (drop p.at s)) (nth_pool s j) ≡ false
   pub same : Answered form x s n time least leases p.expired p.at
 
 module _ (form : Form) (x : Head) (s : List ℕ) (n time : ℕ) (begun : Begun x s n) where
-  pool-at : (k : ℕ) → k < n → get_or (poolsIn s) k (poolPrefix noPool) ≡ nthPool s k
-  pool-at k h = get_or-map poolPrefix (poolsAt s).items k noPool ∙ ap poolPrefix ((pools-taken s).at k noPool (omega (arith, begun.counted)))
+  pool-at : (k : ℕ) → k < n → get_or (pools_in s) k (pool_prefix no_pool) ≡ nth_pool s k
+  pool-at k h = get_or-map pool_prefix (pools_at s).items k no_pool ∙ ap pool_prefix ((pools-taken s).at k no_pool (omega (arith, begun.counted)))
 
-  pools-many : length (poolsIn s) ≡ n
-  pools-many = length-map (poolsAt s).items poolPrefix ∙ sym begun.counted
+  pools-many : length (pools_in s) ≡ n
+  pools-many = length-map (pools_at s).items pool_prefix ∙ sym begun.counted
 
-  pools-apart : (j k : ℕ) → j < k → k < n → end (nthPool s j) ≤ (nthPool s k).network
+  pools-apart : (j k : ℕ) → j < k → k < n → end (nth_pool s j) ≤ (nth_pool s k).network
   pools-apart j k lt h =
-      let ps : List Pool = (poolsAt s).items in
+      let ps : List Pool = (pools_at s).items in
       let all : used unused? ps ≡ ps = filter-whole (λ p. not (unused? p)) ps (all_map (λ p (e : unused? p ≡ false). not-of (unused? p) e) ps (pools-taken s).each) in
-      let up : Ascending poolPrefix 0 ps = subst (Ascending poolPrefix 0) all (ascends-to unused? poolOk poolPrefix noPool unused-to 0 ps begun.ascends).ascending in
-      let a : end (poolPrefix (get_or ps j noPool)) ≤ (poolPrefix (get_or ps k noPool)).network = ascending-pair poolPrefix 0 ps j k noPool up lt (omega (arith, begun.counted)) in
-      let e : poolPrefix (get_or ps j noPool) ≡ nthPool s j = ap poolPrefix ((pools-taken s).at j noPool (omega (arith, begun.counted))) in
-      let f : poolPrefix (get_or ps k noPool) ≡ nthPool s k = ap poolPrefix ((pools-taken s).at k noPool (omega (arith, begun.counted))) in
-      subst (λ (q : Prefix). end (nthPool s j) ≤ q.network) f (subst (λ (q : Prefix). end q ≤ (poolPrefix (get_or ps k noPool)).network) e a)
+      let up : Ascending pool_prefix 0 ps = subst (Ascending pool_prefix 0) all (ascends-to unused? pool_ok pool_prefix no_pool unused-to 0 ps begun.ascends).ascending in
+      let a : end (pool_prefix (get_or ps j no_pool)) ≤ (pool_prefix (get_or ps k no_pool)).network = ascending-pair pool_prefix 0 ps j k no_pool up lt (omega (arith, begun.counted)) in
+      let e : pool_prefix (get_or ps j no_pool) ≡ nth_pool s j = ap pool_prefix ((pools-taken s).at j no_pool (omega (arith, begun.counted))) in
+      let f : pool_prefix (get_or ps k no_pool) ≡ nth_pool s k = ap pool_prefix ((pools-taken s).at k no_pool (omega (arith, begun.counted))) in
+      subst (λ (q : Prefix). end (nth_pool s j) ≤ q.network) f (subst (λ (q : Prefix). end q ≤ (pool_prefix (get_or ps k no_pool)).network) e a)
 
-  pub pools-inside : poolSize * n ≤ length s
+  pub pools-inside : pool_size * n ≤ length s
   pools-inside = omega (arith, (pools-taken s).inside, begun.counted)
 
-  in-pool : (q : Prefix) (k : ℕ) → k < n → inside? q (nthPool s k) ≡ true → any? (inside? q) (poolsIn s) ≡ true
-  in-pool q k h e = any?-at (inside? q) (poolsIn s) k (poolPrefix noPool) (omega (arith, pools-many)) (ap (inside? q) (pool-at k h) ∙ e)
+  in-pool : (q : Prefix) (k : ℕ) → k < n → inside? q (nth_pool s k) ≡ true → any? (inside? q) (pools_in s) ≡ true
+  in-pool q k h e = any?-at (inside? q) (pools_in s) k (pool_prefix no_pool) (omega (arith, pools-many)) (ap (inside? q) (pool-at k h) ∙ e)
 
   -- No number of leases makes up the rest.
-  pub scanned-size : ((m : ℕ) → m ≤ leaseSlots → poolSize * n + leaseSizeIn form * m ≡ length s → ⊥) → summaryOf time (afterHeadIn form (some x) s) ≡ unsound
+  pub scanned-size : ((m : ℕ) → m ≤ lease_slots → pool_size * n + lease_size_in form * m ≡ length s → ⊥) → summary_of time (after_head_in form (some x) s) ≡ unsound
   scanned-size h =
       read-begun form x s n begun time
-      ∙ ending-unsound x time n (poolsIn s) 0 0 0 (leasesFrom form leaseSlots (drop (poolSize * n) s)) (λ e.
-      let r : Run Lease = leasesFrom form leaseSlots (drop (poolSize * n) s) in
-      let t = and-list-to (eqb (length r.rest) 0 ∷ leasesAscend? (poolsIn s) x.last 0 r.items ∷ []) e in
-      let q = leases-taken form leaseSlots (drop (poolSize * n) s) in
-      h (length r.items) q.few (omega (arith, eqb-true (length r.rest) 0 t.0, ap length q.rest, length-drop (leaseSizeIn form * length r.items) (drop (poolSize * n) s), q.inside, length-drop (poolSize * n) s, pools-inside)))
+      ∙ ending-unsound x time n (pools_in s) 0 0 0 (leases_from form lease_slots (drop (pool_size * n) s)) (λ e.
+      let r : Run Lease = leases_from form lease_slots (drop (pool_size * n) s) in
+      let t = and-list-to (eqb (length r.rest) 0 ∷ leases_ascend? (pools_in s) x.last 0 r.items ∷ []) e in
+      let q = leases-taken form lease_slots (drop (pool_size * n) s) in
+      h (length r.items) q.few (omega (arith, eqb-true (length r.rest) 0 t.0, ap length q.rest, length-drop (lease_size_in form * length r.items) (drop (pool_size * n) s), q.inside, length-drop (pool_size * n) s, pools-inside)))
 
   -- THE LEASE AT A PLACE
 
-  module _ (low expired at i : ℕ) (place : at ≡ poolSize * n + leaseSizeIn form * i) (same : Answered form x s n time low i expired at) where
+  module _ (low expired at i : ℕ) (place : at ≡ pool_size * n + lease_size_in form * i) (same : Answered form x s n time low i expired at) where
     abbrev here : List ℕ
     here = drop at s
 
-    nothing_left : length s ≤ at → summaryOf time (afterHeadIn form (some x) s) ≡ summaryWith x n i expired
-    unfolding leaseAtIn
+    nothing_left : length s ≤ at → summary_of time (after_head_in form (some x) s) ≡ summary_with x n i expired
+    unfolding lease_at_in
     nothing_left e =
         let nothing : here ≡ [] = drop-end s at e in
-        let none : leasesFrom form (leaseSlots - i) [] ≡ record { items = []; rest = [] } = records-none (leaseAtIn form) (leaseSizeIn form) (leaseSlots - i) [] (nothing_read form) in
+        let none : leases_from form (lease_slots - i) [] ≡ record { items = []; rest = [] } = records-none (lease_at_in form) (lease_size_in form) (lease_slots - i) [] (nothing_read form) in
         same
-        ∙ ap (λ (u : List ℕ). ending x time n (poolsIn s) i expired low (leasesFrom form (leaseSlots - i) u)) nothing
-        ∙ ap (ending x time n (poolsIn s) i expired low) none
-        ∙ ending-none x time n (poolsIn s) i expired low
+        ∙ ap (λ (u : List ℕ). ending x time n (pools_in s) i expired low (leases_from form (lease_slots - i) u)) nothing
+        ∙ ap (ending x time n (pools_in s) i expired low) none
+        ∙ ending-none x time n (pools_in s) i expired low
 
-    module _ (few : i < leaseSlots) (room : at + leaseSizeIn form ≤ length s) where
-      long : leaseSizeIn form ≤ length here
+    module _ (few : i < lease_slots) (room : at + lease_size_in form ≤ length s) where
+      long : lease_size_in form ≤ length here
       long = omega (arith, length-drop at s)
 
-      less : leaseSlots - i ≡ suc (leaseSlots - (i + 1))
+      less : lease_slots - i ≡ suc (lease_slots - (i + 1))
       less = omega arith
 
       -- No sound table has it.
-      no-lease : (Fits form x.last here → low ≤ networkIn here → any? (inside? (prefixIn here)) (poolsIn s) ≡ true → ⊥) → summaryOf time (afterHeadIn form (some x) s) ≡ unsound
+      no-lease : (Fits form x.last here → low ≤ network_in here → any? (inside? (prefix_in here)) (pools_in s) ≡ true → ⊥) → summary_of time (after_head_in form (some x) s) ≡ unsound
       no-lease h =
           same
-          ∙ ap (λ (k : ℕ). ending x time n (poolsIn s) i expired low (leasesFrom form k here)) less
-          ∙ ending-unsound x time n (poolsIn s) i expired low (leasesFrom form (suc (leaseSlots - (i + 1))) here) (λ e.
-          let f = left-fits x time n (poolsIn s) form low (leaseSlots - (i + 1)) here long e in
+          ∙ ap (λ (k : ℕ). ending x time n (pools_in s) i expired low (leases_from form k here)) less
+          ∙ ending-unsound x time n (pools_in s) i expired low (leases_from form (suc (lease_slots - (i + 1))) here) (λ e.
+          let f = left-fits x time n (pools_in s) form low (lease_slots - (i + 1)) here long e in
           h f.0 f.1 f.2)
 
       -- It lies in a pool, after the one before it.
-      one-lease : Bytes s → (network top expires : ℕ) → Met form x.last here network top expires → low ≤ network → any? (inside? (prefixIn here)) (poolsIn s) ≡ true
-          → Answered form x s n time top (i + 1) (expired + due expires time) (at + leaseSizeIn form)
+      one-lease : Bytes s → (network top expires : ℕ) → Met form x.last here network top expires → low ≤ network → any? (inside? (prefix_in here)) (pools_in s) ≡ true
+          → Answered form x s n time top (i + 1) (expired + due expires time) (at + lease_size_in form)
       one-lease bytes network top expires met above a =
-          let higher : low ≤ networkIn here = omega (arith, met.starts) in
+          let higher : low ≤ network_in here = omega (arith, met.starts) in
           same
-          ∙ ap (λ (k : ℕ). ending x time n (poolsIn s) i expired low (leasesFrom form k here)) less
-          ∙ ending-next x time n (poolsIn s) form low (leaseSlots - (i + 1)) here (leaseFieldsIn form here) (fits_read form x.last here (bytes_drop at s bytes) long met.fits) i expired higher
-          (fits-ok form x.last here (poolsIn s) met.fits a)
-          ∙ ap₂ (λ (e t : ℕ). ending x time n (poolsIn s) (i + 1) (expired + due e time) t (leasesFrom form (leaseSlots - (i + 1)) (drop (leaseSizeIn form) here))) (sym met.until) (sym met.ends)
-          ∙ ap (λ (u : List ℕ). ending x time n (poolsIn s) (i + 1) (expired + due expires time) top (leasesFrom form (leaseSlots - (i + 1)) u))
-          (drop-drop (leaseSizeIn form) at s)
+          ∙ ap (λ (k : ℕ). ending x time n (pools_in s) i expired low (leases_from form k here)) less
+          ∙ ending-next x time n (pools_in s) form low (lease_slots - (i + 1)) here (lease_fields_in form here) (fits_read form x.last here (bytes_drop at s bytes) long met.fits) i expired higher
+          (fits-ok form x.last here (pools_in s) met.fits a)
+          ∙ ap₂ (λ (e t : ℕ). ending x time n (pools_in s) (i + 1) (expired + due e time) t (leases_from form (lease_slots - (i + 1)) (drop (lease_size_in form) here))) (sym met.until) (sym met.ends)
+          ∙ ap (λ (u : List ℕ). ending x time n (pools_in s) (i + 1) (expired + due expires time) top (leases_from form (lease_slots - (i + 1)) u))
+          (drop-drop (lease_size_in form) at s)
 
   -- ALL POOLS
 
-  pub reached-start : length s ≤ poolSize * n + leaseSizeIn form * leaseSlots → Reached form x s n time 0 (record { at = poolSize * n; expired = 0 })
+  pub reached-start : length s ≤ pool_size * n + lease_size_in form * lease_slots → Reached form x s n time 0 (record { at = pool_size * n; expired = 0 })
   reached-start size = record {
     leases = 0;
     low = 0;
     size = size;
-    place = omega (arith, mul-zero (leaseSizeIn form));
+    place = omega (arith, mul-zero (lease_size_in form));
     below = λ h. omega arith;
     passed = λ j (h : j < 0). absurd (omega arith);
     same = read-begun form x s n begun time;
   }
 
-  pub reached-end : (k : ℕ) (p : Pass) (r : Reached form x s n time k p) → length s ≤ p.at → summaryOf time (afterHeadIn form (some x) s) ≡ summaryWith x n r.leases p.expired
+  pub reached-end : (k : ℕ) (p : Pass) (r : Reached form x s n time k p) → length s ≤ p.at → summary_of time (after_head_in form (some x) s) ≡ summary_with x n r.leases p.expired
   reached-end k p r e = nothing_left r.low p.expired p.at r.leases r.place r.same e
 
   -- A lease is left that lies in no pool.
-  pub reached-none : (k : ℕ) (p : Pass) → Reached form x s n time k p → n ≤ k → p.at + leaseSizeIn form ≤ length s → summaryOf time (afterHeadIn form (some x) s) ≡ unsound
+  pub reached-none : (k : ℕ) (p : Pass) → Reached form x s n time k p → n ≤ k → p.at + lease_size_in form ≤ length s → summary_of time (after_head_in form (some x) s) ≡ unsound
   reached-none k p r h room =
       no-lease r.low p.expired p.at r.leases r.place r.same (few-before (length s) n p.at r.leases form r.size r.place room) room (λ f l a.
       true≢false
       (sym a
-      ∙ any?-none (inside? (prefixIn (drop p.at s))) (poolsIn s) (poolPrefix noPool) (λ j (b : j < length (poolsIn s)).
+      ∙ any?-none (inside? (prefix_in (drop p.at s))) (pools_in s) (pool_prefix no_pool) (λ j (b : j < length (pools_in s)).
       let c : j < n = omega (arith, pools-many) in
-      ap (inside? (prefixIn (drop p.at s))) (pool-at j c) ∙ r.passed j (omega arith) (omega (arith, size-least form)) (fits-of form x.last (drop p.at s) f) l)))
+      ap (inside? (prefix_in (drop p.at s))) (pool-at j c) ∙ r.passed j (omega arith) (omega (arith, size-least form)) (fits-of form x.last (drop p.at s) f) l)))
 
   -- ONE POOL
 
   module _ (k : ℕ) (lt : k < n) where
     abbrev pool : Prefix
-    pool = nthPool s k
+    pool = nth_pool s k
 
     pub along-start : (p : Pass) → Reached form x s n time k p → Along form x s n time k pool.network p
     along-start p r = record {
@@ -251,10 +251,10 @@ module _ (form : Form) (x : Head) (s : List ℕ) (n time : ℕ) (begun : Begun x
       front = drop p.at s
 
       -- The lease here lies in the pool.
-      pub along-lease : Bytes s → p.at + leaseSizeIn form ≤ length s → (network top expires : ℕ) → Met form x.last front network top expires → low ≤ network → top ≤ end pool
-          → Along form x s n time k top (record { at = p.at + leaseSizeIn form; expired = p.expired + due expires time })
+      pub along-lease : Bytes s → p.at + lease_size_in form ≤ length s → (network top expires : ℕ) → Met form x.last front network top expires → low ≤ network → top ≤ end pool
+          → Along form x s n time k top (record { at = p.at + lease_size_in form; expired = p.expired + due expires time })
       along-lease bytes room network top expires met h e =
-          let lease : Prefix = prefixIn front in
+          let lease : Prefix = prefix_in front in
           let rises : low ≤ top = omega (arith, met.starts, met.ends) in
           let inside : inside? lease pool ≡ true = inside_of lease pool (omega (arith, a.begins, met.starts), omega (arith, met.ends)) in
           record {
@@ -266,13 +266,13 @@ module _ (form : Form) (x : Head) (s : List ℕ) (n time : ℕ) (begun : Begun x
             under = e;
             begins = omega (arith, a.begins, rises);
             between = λ q l (b : q.network < top). absurd (omega arith);
-            passed = λ j (b : j < k) c f (l : top ≤ networkIn (drop (p.at + leaseSizeIn form) s)).
-                inside-not (prefixIn (drop (p.at + leaseSizeIn form) s)) (nthPool s j) (λ w. omega (arith, w.1, pools-apart j k b lt, a.begins, rises, size-positive (prefixIn (drop (p.at + leaseSizeIn form) s)).length));
+            passed = λ j (b : j < k) c f (l : top ≤ network_in (drop (p.at + lease_size_in form) s)).
+                inside-not (prefix_in (drop (p.at + lease_size_in form) s)) (nth_pool s j) (λ w. omega (arith, w.1, pools-apart j k b lt, a.begins, rises, size-positive (prefix_in (drop (p.at + lease_size_in form) s)).length));
             same = one-lease a.least p.expired p.at a.leases a.place a.same (few-before (length s) n p.at a.leases form a.size a.place room) room bytes network top expires met (omega (arith, a.above)) (in-pool lease k lt inside);
           }
 
       -- What is here, if anything, does not lie in the pool.
-      pub along-stop : (p.at < length s → and (fitTests form x.last front) ≡ true → a.least ≤ networkIn front → inside? (prefixIn front) pool ≡ false) → Reached form x s n time (k + 1) p
+      pub along-stop : (p.at < length s → and (fit_tests form x.last front) ≡ true → a.least ≤ network_in front → inside? (prefix_in front) pool ≡ false) → Reached form x s n time (k + 1) p
       along-stop out = record {
         leases = a.leases;
         low = a.least;
@@ -282,7 +282,7 @@ module _ (form : Form) (x : Head) (s : List ℕ) (n time : ℕ) (begun : Begun x
         passed = λ j (h : j < k + 1) c f l.
             ⊎_elim
             (λ (b : ltb j k ≡ true). a.passed j (ltb-true j k b) c f l)
-            (λ (b : ltb j k ≡ false). let e : j ≡ k = omega (arith, ltb-false j k b) in ap (λ (m : ℕ). inside? (prefixIn front) (nthPool s m)) e ∙ out c f l)
+            (λ (b : ltb j k ≡ false). let e : j ≡ k = omega (arith, ltb-false j k b) in ap (λ (m : ℕ). inside? (prefix_in front) (nth_pool s m)) e ∙ out c f l)
             (bool_cases (ltb j k));
         same = a.same;
       }
@@ -296,7 +296,7 @@ module _ (form : Form) (x : Head) (s : List ℕ) (n time : ℕ) (begun : Begun x
 
       module _ (network top expires : ℕ) (met : Met form x.last front network top expires) where
         pub stop-low : network < low → Reached form x s n time (k + 1) p
-        stop-low h = along-stop (λ c f l. a.between (prefixIn front) l (omega (arith, met.starts)))
+        stop-low h = along-stop (λ c f l. a.between (prefix_in front) l (omega (arith, met.starts)))
 
         pub stop-high : end pool < top → Reached form x s n time (k + 1) p
-        stop-high h = along-stop (λ c f l. inside-not (prefixIn front) pool (λ w. omega (arith, w.1, met.ends)))
+        stop-high h = along-stop (λ c f l. inside-not (prefix_in front) pool (λ w. omega (arith, w.1, met.ends)))

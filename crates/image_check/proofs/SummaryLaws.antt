@@ -19,20 +19,20 @@ use Rattle.prefix.specs.Prefixes.{end, inside?}
 use Rattle.table.specs.declared.Pool.{Pool}
 use Rattle.table.specs.declared.Lease.{Lease}
 use Rattle.table.specs.declared.LeaseTable.{LeaseTable}
-use Rattle.table.specs.Table.{poolSlots, leaseSlots, noPool, noLease, poolPrefix, prefix_of, unused?, empty?, prefixesOf, headOk, poolOk, leaseOk, ascends?, poolsAscend?, leasesAscend?, sound, padded, paddedPools}
+use Rattle.table.specs.Table.{pool_slots, lease_slots, no_pool, no_lease, pool_prefix, prefix_of, unused?, empty?, prefixes_of, head_ok, pool_ok, lease_ok, ascends?, pools_ascend?, leases_ascend?, sound, padded, padded_pools}
 use Rattle.table.proofs.Ascending.{blanks}
 use Rattle.table.proofs.TableLaws.{unused-of, empty_of, sound-tests, length-padded}
 use Rattle.image.specs.declared.Head.{Head}
 use Rattle.image.specs.declared.Form.{Form}
 use Rattle.image.specs.Fields.{Run}
-use Rattle.image.specs.Image.{leaseSizeIn, loadedTable, poolSize}
-use Rattle.image.specs.Reading.{leaseAtIn, poolsAt, leasesAtIn, tableWith, afterHeadIn, networkIn}
+use Rattle.image.specs.Image.{lease_size_in, loaded_table, pool_size}
+use Rattle.image.specs.Reading.{lease_at_in, pools_at, leases_at_in, table_with, after_head_in, network_in}
 use Rattle.image.proofs.FieldLaws.{records-none, records-some}
 use Rattle.image.proofs.ImageLaws.{used-pools, used-leases}
 use Rattle.image_check.specs.declared.ImageSummary.{ImageSummary}
-use Rattle.image_check.specs.ImageSummary.{unsound, summaryOf}
-use Rattle.image_check.specs.Inner.{poolCount, prefixIn, due, Begun}
-use Rattle.image_check.specs.InnerPass.{summaryWith, due?, left?, ending, leasesFrom}
+use Rattle.image_check.specs.ImageSummary.{unsound, summary_of}
+use Rattle.image_check.specs.Inner.{pool_count, prefix_in, due, Begun}
+use Rattle.image_check.specs.InnerPass.{summary_with, due?, left?, ending, leases_from}
 use Rattle.image_check.proofs.RunLaws.{pools-taken, lease-known, leases-taken}
 use Rattle.image_check.proofs.FitLaws.{size-least, Fits, read_fits}
 
@@ -50,31 +50,31 @@ ascends-padded none? ok pre blank b from k (x ∷ xs) a =
     ∙ sym (cond-false (none? x) _ _ a.0)
 
 -- The table of a head, pools and leases that were read: what is left to test of it, and what its book is.
-module _ (x : Head) (ps : List Pool) (xs : List Lease) (few : length ps ≤ poolSlots) (fewer : length xs ≤ leaseSlots) (pools : All (λ p. unused? p ≡ false) ps)
+module _ (x : Head) (ps : List Pool) (xs : List Lease) (few : length ps ≤ pool_slots) (fewer : length xs ≤ lease_slots) (pools : All (λ p. unused? p ≡ false) ps)
     (leases : All (λ y. empty? y ≡ false) xs) where
   abbrev table : LeaseTable
-  table = tableWith x ps xs
+  table = table_with x ps xs
 
-  prefixes : prefixesOf (paddedPools ps) ≡ map poolPrefix ps
-  unfolding prefixesOf
-  prefixes = ap (map poolPrefix) (used-pools (poolSlots - length ps) ps pools)
+  prefixes : prefixes_of (padded_pools ps) ≡ map pool_prefix ps
+  unfolding prefixes_of
+  prefixes = ap (map pool_prefix) (used-pools (pool_slots - length ps) ps pools)
 
   table-sound : sound table
-      ≡ headOk x.term x.default_length x.last && (ltb 0 (length ps) && (poolsAscend? ps && leasesAscend? (map poolPrefix ps) x.last 0 xs))
+      ≡ head_ok x.term x.default_length x.last && (ltb 0 (length ps) && (pools_ascend? ps && leases_ascend? (map pool_prefix ps) x.last 0 xs))
   table-sound =
-      let ok : Bool = headOk x.term x.default_length x.last in
-      let slots : length (paddedPools ps) ≡ poolSlots = length-append ps (replicate (poolSlots - length ps) noPool) ∙ omega (arith, length-replicate (poolSlots - length ps) noPool) in
+      let ok : Bool = head_ok x.term x.default_length x.last in
+      let slots : length (padded_pools ps) ≡ pool_slots = length-append ps (replicate (pool_slots - length ps) no_pool) ∙ omega (arith, length-replicate (pool_slots - length ps) no_pool) in
       sound-tests table slots (length-padded xs fewer)
-      ∙ ap (λ (qs : List Prefix). ok && (ltb 0 (length qs) && (poolsAscend? (paddedPools ps) && leasesAscend? qs x.last 0 (padded xs)))) prefixes
-      ∙ ap (λ (n : ℕ). ok && (ltb 0 n && (poolsAscend? (paddedPools ps) && leasesAscend? (map poolPrefix ps) x.last 0 (padded xs)))) (length-map ps poolPrefix)
+      ∙ ap (λ (qs : List Prefix). ok && (ltb 0 (length qs) && (pools_ascend? (padded_pools ps) && leases_ascend? qs x.last 0 (padded xs)))) prefixes
+      ∙ ap (λ (n : ℕ). ok && (ltb 0 n && (pools_ascend? (padded_pools ps) && leases_ascend? (map pool_prefix ps) x.last 0 (padded xs)))) (length-map ps pool_prefix)
       ∙ ap₂ (λ (a b : Bool). ok && (ltb 0 (length ps) && (a && b)))
-      (ascends-padded unused? poolOk poolPrefix noPool unused-of 0 (poolSlots - length ps) ps pools)
-      (ascends-padded empty? (leaseOk (map poolPrefix ps) x.last) prefix_of noLease empty_of 0 (leaseSlots - length xs) xs leases)
+      (ascends-padded unused? pool_ok pool_prefix no_pool unused-of 0 (pool_slots - length ps) ps pools)
+      (ascends-padded empty? (lease_ok (map pool_prefix ps) x.last) prefix_of no_lease empty_of 0 (lease_slots - length xs) xs leases)
 
-  table-summary : (time : ℕ) (b : Bool) → summaryOf time (cond b (some table) none) ≡ cond b (summaryWith x (length ps) (length xs) (length (filter (due? time) xs))) unsound
+  table-summary : (time : ℕ) (b : Bool) → summary_of time (cond b (some table) none) ≡ cond b (summary_with x (length ps) (length xs) (length (filter (due? time) xs))) unsound
   table-summary time true =
-      ap₂ (λ (l : List Pool) (m : List Lease). summaryWith x (length l) (length m) (length (filter (due? time) m)))
-      (used-pools (poolSlots - length ps) ps pools) (used-leases (leaseSlots - length xs) xs leases)
+      ap₂ (λ (l : List Pool) (m : List Lease). summary_with x (length l) (length m) (length (filter (due? time) m)))
+      (used-pools (pool_slots - length ps) ps pools) (used-leases (lease_slots - length xs) xs leases)
   table-summary time false = refl
 
 -- WHAT IS LEFT
@@ -82,26 +82,26 @@ module _ (x : Head) (ps : List Pool) (xs : List Lease) (few : length ps ≤ pool
 -- The bytes after a head: the pools, and the leases after them.
 module _ (form : Form) (x : Head) (s : List ℕ) where
   abbrev ps : List Pool
-  ps = (poolsAt s).items
+  ps = (pools_at s).items
 
   abbrev xs : Run Lease
-  xs = leasesAtIn form (poolsAt s).rest
+  xs = leases_at_in form (pools_at s).rest
 
-  read-summary : (time : ℕ) → summaryOf time (afterHeadIn form (some x) s)
-      ≡ cond (and (eqb (length xs.rest) 0 ∷ (headOk x.term x.default_length x.last && (ltb 0 (length ps) && (poolsAscend? ps && leasesAscend? (map poolPrefix ps) x.last 0 xs.items))) ∷ []))
-      (summaryWith x (length ps) (length xs.items) (length (filter (due? time) xs.items))) unsound
+  read-summary : (time : ℕ) → summary_of time (after_head_in form (some x) s)
+      ≡ cond (and (eqb (length xs.rest) 0 ∷ (head_ok x.term x.default_length x.last && (ltb 0 (length ps) && (pools_ascend? ps && leases_ascend? (map pool_prefix ps) x.last 0 xs.items))) ∷ []))
+      (summary_with x (length ps) (length xs.items) (length (filter (due? time) xs.items))) unsound
   read-summary time =
       let p = pools-taken s in
-      let q = leases-taken form leaseSlots (poolsAt s).rest in
-      table-summary x ps xs.items p.few q.few p.each q.each time (and (eqb (length xs.rest) 0 ∷ sound (tableWith x ps xs.items) ∷ []))
-      ∙ ap (λ (b : Bool). cond (and (eqb (length xs.rest) 0 ∷ b ∷ [])) (summaryWith x (length ps) (length xs.items) (length (filter (due? time) xs.items))) unsound)
+      let q = leases-taken form lease_slots (pools_at s).rest in
+      table-summary x ps xs.items p.few q.few p.each q.each time (and (eqb (length xs.rest) 0 ∷ sound (table_with x ps xs.items) ∷ []))
+      ∙ ap (λ (b : Bool). cond (and (eqb (length xs.rest) 0 ∷ b ∷ [])) (summary_with x (length ps) (length xs.items) (length (filter (due? time) xs.items))) unsound)
       (table-sound x ps xs.items p.few q.few p.each q.each)
 
   -- A head or pools that no sound table has.
-  pub read-unsound : (time : ℕ) → (headOk x.term x.default_length x.last ≡ false) ⊎ (poolCount ps ≡ 0) → summaryOf time (afterHeadIn form (some x) s) ≡ unsound
+  pub read-unsound : (time : ℕ) → (head_ok x.term x.default_length x.last ≡ false) ⊎ (pool_count ps ≡ 0) → summary_of time (after_head_in form (some x) s) ≡ unsound
   read-unsound time bad =
-      let rules : List Bool = eqb (length xs.rest) 0 ∷ (headOk x.term x.default_length x.last && (ltb 0 (length ps) && (poolsAscend? ps && leasesAscend? (map poolPrefix ps) x.last 0 xs.items))) ∷ [] in
-      read-summary time ∙ cond-false (and rules) _ _ (not-true⇒false (and rules) (λ e. none-sound (headOk x.term x.default_length x.last) (poolsAscend? ps) (leasesAscend? (map poolPrefix ps) x.last 0 xs.items) (length ps) (and-list-to rules e).1.0 bad))
+      let rules : List Bool = eqb (length xs.rest) 0 ∷ (head_ok x.term x.default_length x.last && (ltb 0 (length ps) && (pools_ascend? ps && leases_ascend? (map pool_prefix ps) x.last 0 xs.items))) ∷ [] in
+      read-summary time ∙ cond-false (and rules) _ _ (not-true⇒false (and rules) (λ e. none-sound (head_ok x.term x.default_length x.last) (pools_ascend? ps) (leases_ascend? (map pool_prefix ps) x.last 0 xs.items) (length ps) (and-list-to rules e).1.0 bad))
     where
       none-sound : (h p l : Bool) (n : ℕ) → (h && (ltb 0 n && (p && l))) ≡ true → (h ≡ false) ⊎ (cond p n 0 ≡ 0) → ⊥
       none-sound h p l n e bad =
@@ -113,23 +113,23 @@ module _ (form : Form) (x : Head) (s : List ℕ) where
           bad
 
   module _ (n : ℕ) (begun : Begun x s n) where
-    pub read-begun : (time : ℕ) → summaryOf time (afterHeadIn form (some x) s) ≡ ending x time n (map poolPrefix ps) 0 0 0 (leasesFrom form leaseSlots (drop (poolSize * n) s))
+    pub read-begun : (time : ℕ) → summary_of time (after_head_in form (some x) s) ≡ ending x time n (map pool_prefix ps) 0 0 0 (leases_from form lease_slots (drop (pool_size * n) s))
     read-begun time =
-        let qs : List Prefix = map poolPrefix ps in
-        let rest : Bool = leasesAscend? qs x.last 0 xs.items in
+        let qs : List Prefix = map pool_prefix ps in
+        let rest : Bool = leases_ascend? qs x.last 0 xs.items in
         let few : 0 < length ps = omega (arith, begun.counted, begun.any) in
-        let ok : (headOk x.term x.default_length x.last && (ltb 0 (length ps) && (poolsAscend? ps && rest))) ≡ rest = rw (begun.headed, lt-ltb 0 (length ps) few, begun.ascends) in
+        let ok : (head_ok x.term x.default_length x.last && (ltb 0 (length ps) && (pools_ascend? ps && rest))) ≡ rest = rw (begun.headed, lt-ltb 0 (length ps) few, begun.ascends) in
         read-summary time
-        ∙ ap (λ (b : Bool). cond (and (eqb (length xs.rest) 0 ∷ b ∷ [])) (summaryWith x (length ps) (length xs.items) (length (filter (due? time) xs.items))) unsound) ok
-        ∙ ap (λ (m : ℕ). cond (left? qs x.last 0 xs) (summaryWith x m (length xs.items) (length (filter (due? time) xs.items))) unsound) (sym begun.counted)
-        ∙ ap₂ (λ (l e : ℕ). cond (left? qs x.last 0 xs) (summaryWith x n l e) unsound) (omega arith) (omega arith)
-        ∙ ap (λ (u : List ℕ). ending x time n qs 0 0 0 (leasesFrom form leaseSlots u)) ((pools-taken s).rest ∙ ap (λ (m : ℕ). drop (poolSize * m) s) (sym begun.counted))
+        ∙ ap (λ (b : Bool). cond (and (eqb (length xs.rest) 0 ∷ b ∷ [])) (summary_with x (length ps) (length xs.items) (length (filter (due? time) xs.items))) unsound) ok
+        ∙ ap (λ (m : ℕ). cond (left? qs x.last 0 xs) (summary_with x m (length xs.items) (length (filter (due? time) xs.items))) unsound) (sym begun.counted)
+        ∙ ap₂ (λ (l e : ℕ). cond (left? qs x.last 0 xs) (summary_with x n l e) unsound) (omega arith) (omega arith)
+        ∙ ap (λ (u : List ℕ). ending x time n qs 0 0 0 (leases_from form lease_slots u)) ((pools-taken s).rest ∙ ap (λ (m : ℕ). drop (pool_size * m) s) (sym begun.counted))
 
 -- One lease further.
 module _ (x : Head) (time n : ℕ) (qs : List Prefix) where
-  pub ending-none : (i e low : ℕ) → ending x time n qs i e low (record { items = []; rest = [] }) ≡ summaryWith x n i e
+  pub ending-none : (i e low : ℕ) → ending x time n qs i e low (record { items = []; rest = [] }) ≡ summary_with x n i e
   unfolding ascends?
-  ending-none i e low = ap₂ (summaryWith x n) (add-zero i) (add-zero e)
+  ending-none i e low = ap₂ (summary_with x n) (add-zero i) (add-zero e)
 
   pub ending-unsound : (i e low : ℕ) (r : Run Lease) → (left? qs x.last low r ≡ true → ⊥) → ending x time n qs i e low r ≡ unsound
   ending-unsound i e low r h = cond-false (left? qs x.last low r) _ _ (not-true⇒false (left? qs x.last low r) h)
@@ -141,47 +141,47 @@ module _ (x : Head) (time n : ℕ) (qs : List Prefix) where
       (λ (t : due? time y ≡ false). omega (arith, ap length (filter-no (due? time) y ys t), cond-false {A = ℕ} (leb y.expires time) 1 0 t))
       (bool_cases (due? time y))
 
-  module _ (form : Form) (low k : ℕ) (u : List ℕ) (y : Lease) (read : leaseAtIn form u ≡ some y) where
+  module _ (form : Form) (low k : ℕ) (u : List ℕ) (y : Lease) (read : lease_at_in form u ≡ some y) where
     abbrev later : Run Lease
-    later = leasesFrom form k (drop (leaseSizeIn form) u)
+    later = leases_from form k (drop (lease_size_in form) u)
 
-    ascends-first : leasesAscend? qs x.last low (y ∷ later.items) ≡ leb low y.network && (leaseOk qs x.last y && leasesAscend? qs x.last (end (prefix_of y)) later.items)
+    ascends-first : leases_ascend? qs x.last low (y ∷ later.items) ≡ leb low y.network && (lease_ok qs x.last y && leases_ascend? qs x.last (end (prefix_of y)) later.items)
     unfolding ascends?
     ascends-first = cond-false (empty? y) _ _ (lease-known form u y read).2
 
-    pub ending-next : (i e : ℕ) → low ≤ y.network → leaseOk qs x.last y ≡ true
-        → ending x time n qs i e low (leasesFrom form (suc k) u) ≡ ending x time n qs (i + 1) (e + due y.expires time) (end (prefix_of y)) later
+    pub ending-next : (i e : ℕ) → low ≤ y.network → lease_ok qs x.last y ≡ true
+        → ending x time n qs i e low (leases_from form (suc k) u) ≡ ending x time n qs (i + 1) (e + due y.expires time) (end (prefix_of y)) later
     ending-next i e l o =
-        let rest : Bool = leasesAscend? qs x.last (end (prefix_of y)) later.items in
-        let ok : (leb low y.network && (leaseOk qs x.last y && rest)) ≡ rest = rw (le-leb low y.network l, o) in
-        ap (ending x time n qs i e low) (records-some (leaseAtIn form) (leaseSizeIn form) k u y read)
+        let rest : Bool = leases_ascend? qs x.last (end (prefix_of y)) later.items in
+        let ok : (leb low y.network && (lease_ok qs x.last y && rest)) ≡ rest = rw (le-leb low y.network l, o) in
+        ap (ending x time n qs i e low) (records-some (lease_at_in form) (lease_size_in form) k u y read)
         ∙ ap₂ (λ (b : Bool) (summary : ImageSummary). cond (and (eqb (length later.rest) 0 ∷ b ∷ [])) summary unsound)
         (ascends-first ∙ ok)
-        (ap₂ (summaryWith x n) (omega arith) (one_more e y later.items))
+        (ap₂ (summary_with x n) (omega arith) (one_more e y later.items))
 
-    left-some : left? qs x.last low (leasesFrom form (suc k) u) ≡ true → Fits form x.last u × (low ≤ networkIn u) × (any? (inside? (prefixIn u)) qs ≡ true)
+    left-some : left? qs x.last low (leases_from form (suc k) u) ≡ true → Fits form x.last u × (low ≤ network_in u) × (any? (inside? (prefix_in u)) qs ≡ true)
     left-some e =
-        let t = and-list-to (eqb (length later.rest) 0 ∷ leasesAscend? qs x.last low (y ∷ later.items) ∷ []) (ap (left? qs x.last low) (sym (records-some (leaseAtIn form) (leaseSizeIn form) k u y read)) ∙ e) in
+        let t = and-list-to (eqb (length later.rest) 0 ∷ leases_ascend? qs x.last low (y ∷ later.items) ∷ []) (ap (left? qs x.last low) (sym (records-some (lease_at_in form) (lease_size_in form) k u y read)) ∙ e) in
         let a = and-to (leb low y.network) _ (sym ascends-first ∙ t.1.0) in
-        let f = read_fits form x.last u qs y read (and-to (leaseOk qs x.last y) _ a.1).0 in
+        let f = read_fits form x.last u qs y read (and-to (lease_ok qs x.last y) _ a.1).0 in
         (f.0, subst (λ (z : Lease). low ≤ z.network) f.1 (leb-true low y.network a.0), f.2)
 
-  pub left-fits : (form : Form) (low k : ℕ) (u : List ℕ) → leaseSizeIn form ≤ length u → left? qs x.last low (leasesFrom form (suc k) u) ≡ true
-      → Fits form x.last u × (low ≤ networkIn u) × (any? (inside? (prefixIn u)) qs ≡ true)
-  left-fits form low k u long e = cases (leaseAtIn form u) refl
+  pub left-fits : (form : Form) (low k : ℕ) (u : List ℕ) → lease_size_in form ≤ length u → left? qs x.last low (leases_from form (suc k) u) ≡ true
+      → Fits form x.last u × (low ≤ network_in u) × (any? (inside? (prefix_in u)) qs ≡ true)
+  left-fits form low k u long e = cases (lease_at_in form u) refl
     where
-      cases : (o : Option Lease) → leaseAtIn form u ≡ o → Fits form x.last u × (low ≤ networkIn u) × (any? (inside? (prefixIn u)) qs ≡ true)
+      cases : (o : Option Lease) → lease_at_in form u ≡ o → Fits form x.last u × (low ≤ network_in u) × (any? (inside? (prefix_in u)) qs ≡ true)
       cases none read =
-          let t = and-list-to (eqb (length u) 0 ∷ leasesAscend? qs x.last low [] ∷ []) (ap (left? qs x.last low) (sym (records-none (leaseAtIn form) (leaseSizeIn form) (suc k) u read)) ∙ e) in
+          let t = and-list-to (eqb (length u) 0 ∷ leases_ascend? qs x.last low [] ∷ []) (ap (left? qs x.last low) (sym (records-none (lease_at_in form) (lease_size_in form) (suc k) u read)) ∙ e) in
           absurd (omega (arith, eqb-true (length u) 0 t.0, size-least form))
       cases (some y) read = left-some form low k u y read e
 
 -- WHAT A SUMMARY TELLS
 
-pub summary-some : (time : ℕ) (o : Option LeaseTable) → (summaryOf time o).sound ≡ true → o ≡ some (loadedTable o)
+pub summary-some : (time : ℕ) (o : Option LeaseTable) → (summary_of time o).sound ≡ true → o ≡ some (loaded_table o)
 summary-some time none e = absurd (true≢false (sym e))
 summary-some time (some t) e = refl
 
-pub summary-none : (time : ℕ) (o : Option LeaseTable) → (summaryOf time o).sound ≡ false → o ≡ none
+pub summary-none : (time : ℕ) (o : Option LeaseTable) → (summary_of time o).sound ≡ false → o ≡ none
 summary-none time none e = refl
 summary-none time (some t) e = absurd (true≢false e)

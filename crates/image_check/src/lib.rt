@@ -2,11 +2,11 @@
 ghost use Rattle.std.specs.Prelude.{◌≡◌, cond, ℕ, ◌+◌, ◌*◌, ◌/◌, ◌≤◌, ◌<◌, length, drop};
 ghost use Rattle.std.proofs.Math.Option.{some};
 ghost use Rattle.image.specs.declared.Head.{Head};
-ghost use Rattle.table.specs.Table.{poolSlots, unused?};
-ghost use Rattle.image.specs.Image.{poolSize, leaseSizeIn};
-ghost use Rattle.image.specs.Reading.{poolsAt, nameTest, afterHeadIn, loadIn, loadImage};
-ghost use Rattle.image_check.specs.ImageSummary.{unsound, summaryOf};
-ghost use Rattle.image_check.specs.Inner.{poolEnd, poolCount, poolBegins?, nthPool, stateAndFlags?, fitAt, due, Begun};
+ghost use Rattle.table.specs.Table.{pool_slots, unused?};
+ghost use Rattle.image.specs.Image.{pool_size, lease_size_in};
+ghost use Rattle.image.specs.Reading.{pools_at, name_test, after_head_in, load_in, load_image};
+ghost use Rattle.image_check.specs.ImageSummary.{unsound, summary_of};
+ghost use Rattle.image_check.specs.Inner.{pool_end, pool_count, pool_begins?, nth_pool, state_and_flags?, fit_at, due, Begun};
 ghost use Rattle.image_check.specs.InnerPass.{Left, Reached};
 
 use image::{FIRST_LEASE, Form, HEAD, Head, LEASE, POOL};
@@ -44,7 +44,7 @@ fn unsound() -> ImageSummary
 
 // The end of a pool, or 0 where it is not as a sound table has it.
 fn pool_end(p: Pool) -> u64
-    ensures { result ≡ poolEnd p }
+    ensures { result ≡ pool_end p }
 {
     if !table::pool_ok(p) {
         return 0;
@@ -54,8 +54,8 @@ fn pool_end(p: Pool) -> u64
 
 // Whether a pool record begins at a place, be it of an unused slot.
 fn pool_begins(s: &[u8], at: usize) -> bool
-    requires { at ≤ poolSize * poolSlots }
-    ensures { result ≡ poolBegins? (drop at s.now) }
+    requires { at ≤ pool_size * pool_slots }
+    ensures { result ≡ pool_begins? (drop at s.now) }
 {
     if s.len() < at + POOL {
         return false;
@@ -76,7 +76,7 @@ fn counted_before(p: Pool, n: usize) -> usize
 
 // How many pools stand at the front of the bytes, or 0 where they are not as a sound table has them.
 fn pools_in(s: &[u8]) -> usize
-    ensures { result ≡ poolCount (poolsAt s.now).items }
+    ensures { result ≡ pool_count (pools_at s.now).items }
 {
     let mut from: u64 = 0;
     let mut n: usize = 0;
@@ -100,8 +100,8 @@ fn pools_in(s: &[u8]) -> usize
 
 // The prefix of the k-th pool.
 pub fn pool(s: &[u8], k: usize) -> Prefix
-    requires { poolSize * k + poolSize ≤ length s.now }
-    ensures { result ≡ nthPool s.now k }
+    requires { pool_size * k + pool_size ≤ length s.now }
+    ensures { result ≡ nth_pool s.now k }
 {
     table::pool_prefix(image::pool_at(s, POOL * k))
 }
@@ -122,7 +122,7 @@ enum Fit {
 // Whether state and flags, the second and third byte of a word, are as a lease has them: 1 or 2, and at most 3. One more than the
 // state is 2 or 3, so that the tests are of single bits, and compiled they are one mask.
 fn state_and_flags(word: u32) -> bool
-    ensures { result ≡ stateAndFlags? word }
+    ensures { result ≡ state_and_flags? word }
 {
     let next = (word as u64) + 256;
     if next / 512 % 128 != 1 {
@@ -133,8 +133,8 @@ fn state_and_flags(word: u32) -> bool
 
 // Whether the name in a record is as long as its length says.
 fn name_fits(form: Form, s: &[u8]) -> bool
-    requires { leaseSizeIn form ≤ length s.now }
-    ensures { result ≡ nameTest form s.now }
+    requires { lease_size_in form ≤ length s.now }
+    ensures { result ≡ name_test form s.now }
 {
     match form {
         Form::First => true,
@@ -144,8 +144,8 @@ fn name_fits(form: Form, s: &[u8]) -> bool
 
 // The lease record at the front of the bytes.
 fn fit_at(form: Form, s: &[u8], last: u32) -> Fit
-    requires { leaseSizeIn form ≤ length s.now }
-    ensures { result ≡ fitAt form last s.now }
+    requires { lease_size_in form ≤ length s.now }
+    ensures { result ≡ fit_at form last s.now }
 {
     if image::read32(s, 0) != image::lease_start(form) {
         return Fit::Other;
@@ -192,7 +192,7 @@ struct Pass {
 fn in_pool(form: Form, s: &[u8], p: Prefix, from: Pass, last: u32, time: u32) -> Pass
     requires { Left form s.now from }
     ensures left { Left form s.now result }
-    ensures reached { (x : Head) (n k : ℕ) → Begun x s.now n → x.last ≡ last → k < n → p ≡ nthPool s.now k
+    ensures reached { (x : Head) (n k : ℕ) → Begun x s.now n → x.last ≡ last → k < n → p ≡ nth_pool s.now k
         → Reached form x s.now n time k from → Reached form x s.now n time (k + 1) result }
 {
     let size = image::lease_size(form);
@@ -224,7 +224,7 @@ fn in_pool(form: Form, s: &[u8], p: Prefix, from: Pass, last: u32, time: u32) ->
 
 // How many leases so many bytes have, each division by a constant.
 fn leases_of(form: Form, bytes: usize) -> usize
-    ensures { result ≡ bytes / leaseSizeIn form }
+    ensures { result ≡ bytes / lease_size_in form }
 {
     match form {
         Form::First => bytes / FIRST_LEASE,
@@ -235,7 +235,7 @@ fn leases_of(form: Form, bytes: usize) -> usize
 // The leases after n pools, and nothing after them. Pools and leases both ascend, so the leases of one pool stand together, before those of the next.
 fn leases_in(form: Form, head: Head, s: &[u8], n: usize, time: u32) -> ImageSummary
     requires { Begun head s.now n }
-    ensures { result ≡ summaryOf time (afterHeadIn form (some head) s.now) }
+    ensures { result ≡ summary_of time (after_head_in form (some head) s.now) }
 {
     let from = POOL * n;
     let count = leases_of(form, s.len() - from);
@@ -272,7 +272,7 @@ fn leases_in(form: Form, head: Head, s: &[u8], n: usize, time: u32) -> ImageSumm
 
 // What the bytes are the image of in a form, at a time.
 pub fn check_in(form: Form, image: &[u8], time: u32) -> ImageSummary
-    ensures { result ≡ summaryOf time (loadIn form image.now) }
+    ensures { result ≡ summary_of time (load_in form image.now) }
 {
     if !image::head_begins(form, image) {
         return unsound();
@@ -290,7 +290,7 @@ pub fn check_in(form: Form, image: &[u8], time: u32) -> ImageSummary
 
 // In the form that the calls work on.
 pub fn check(image: &[u8], time: u32) -> ImageSummary
-    ensures { result ≡ summaryOf time (loadImage image.now) }
+    ensures { result ≡ summary_of time (load_image image.now) }
 {
     check_in(Form::Second, image, time)
 }

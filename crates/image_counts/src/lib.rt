@@ -3,12 +3,12 @@
 ghost use Rattle.std.specs.Prelude.{◌≡◌, [], ◌+◌, ◌-◌, ◌*◌, ◌≤◌, ◌<◌, length};
 ghost use Rattle.prefix.specs.Prefixes.{longest, end};
 ghost use Rattle.table.specs.declared.LeaseTable.{LeaseTable};
-ghost use Rattle.table.specs.Table.{leaseSlots, shortestPool};
-ghost use Rattle.image.specs.Image.{leaseSize};
-ghost use Rattle.counts.specs.Counts.{countedLengths, countsOf, sameCounts?};
-ghost use Rattle.counts.specs.InnerLevels.{freesAfter};
+ghost use Rattle.table.specs.Table.{lease_slots, shortest_pool};
+ghost use Rattle.image.specs.Image.{lease_size};
+ghost use Rattle.counts.specs.Counts.{counted_lengths, counts_of, same_counts?};
+ghost use Rattle.counts.specs.InnerLevels.{frees_after};
 ghost use Rattle.image_counts.specs.Standing.{Stands, SomeTable};
-ghost use Rattle.image_counts.specs.InnerTally.{no_row, leaseAt, Short, Few, bothOf, Tallied, total, freesOn, Ready, Counted};
+ghost use Rattle.image_counts.specs.InnerTally.{no_row, lease_at, Short, Few, both_of, Tallied, total, frees_on, Ready, Counted};
 
 use counts::{Counts, LENGTHS};
 use image::{HEAD, LEASE, POOL};
@@ -36,7 +36,7 @@ struct Tally {
 // The leases of a pool, of which the one at the place `at` is the first. It opens at the pool's length, each later one after the bits that its network
 // has in common with the one before it.
 fn in_pool(image: &[u8], from: usize, n: usize, p: Prefix, at: usize) -> Tally
-    requires { (from + leaseSize * n ≤ length image.now) × (n ≤ leaseSlots) × (at < n) × (p.length ≤ 32) × Short image.now from n × ((leaseAt image.now from at).network < end p) }
+    requires { (from + lease_size * n ≤ length image.now) × (n ≤ lease_slots) × (at < n) × (p.length ≤ 32) × Short image.now from n × ((lease_at image.now from at).network < end p) }
     ensures { Tallied image.now from n p at result }
 {
     let stop = p.end();
@@ -83,8 +83,8 @@ fn less(a: u16, b: u16) -> u16
 // The row of a pool that has leases, into a row of zeros. It has nothing at lengths below the pool's, and at that length the pool itself counts: its
 // place comes first, so that the others need no test. Both sides are added here, where one pass sums them up anyway.
 fn fill(pool: u8, opened: [u16; LEVELS], sides: [u16; SIDES], row: &mut [u16; LENGTHS])
-    requires { (shortestPool ≤ pool) × (pool ≤ longest) × Few opened × Few (bothOf sides) × (total (pool - 1) opened ≡ 0) × (total (pool - 1) (bothOf sides) ≡ 0) × (row.old ≡ no_row) }
-    ensures { row.new ≡ freesOn pool opened (bothOf sides) (shortestPool - 1) countedLengths }
+    requires { (shortest_pool ≤ pool) × (pool ≤ longest) × Few opened × Few (both_of sides) × (total (pool - 1) opened ≡ 0) × (total (pool - 1) (both_of sides) ≡ 0) × (row.old ≡ no_row) }
+    ensures { row.new ≡ frees_on pool opened (both_of sides) (shortest_pool - 1) counted_lengths }
 {
     let top = pool as usize;
     let mut up = opened[top];
@@ -103,8 +103,8 @@ fn fill(pool: u8, opened: [u16; LEVELS], sides: [u16; SIDES], row: &mut [u16; LE
 
 // The row of a pool that has no lease: the pool itself.
 fn bare(pool: u8, row: &mut [u16; LENGTHS])
-    requires { (shortestPool ≤ pool) × (pool ≤ longest) × (row.old ≡ no_row) }
-    ensures { row.new ≡ freesAfter pool [] [] (shortestPool - 1) countedLengths }
+    requires { (shortest_pool ≤ pool) × (pool ≤ longest) × (row.old ≡ no_row) }
+    ensures { row.new ≡ frees_after pool [] [] (shortest_pool - 1) counted_lengths }
 {
     let j = (pool - SHORTEST_POOL) as usize;
     row[j] = 1;
@@ -139,7 +139,7 @@ fn pool_row(
 // While leases are left there is a pool for them; the pools after the last lease have no lease, and need no look at one.
 pub fn recount(image: &[u8], pools: usize, leases: usize, counts: &mut Counts)
     requires { SomeTable image.now pools leases }
-    ensures { (t : LeaseTable) → Stands t image.now pools leases → counts.new ≡ countsOf t }
+    ensures { (t : LeaseTable) → Stands t image.now pools leases → counts.new ≡ counts_of t }
 {
     let from = HEAD + POOL * pools;
     let none = [0u16; LENGTHS];
@@ -161,7 +161,7 @@ pub fn recount(image: &[u8], pools: usize, leases: usize, counts: &mut Counts)
 // The counts of a table, from its image.
 pub fn counts_in(image: &[u8], pools: usize, leases: usize) -> Counts
     requires { SomeTable image.now pools leases }
-    ensures { (t : LeaseTable) → Stands t image.now pools leases → result ≡ countsOf t }
+    ensures { (t : LeaseTable) → Stands t image.now pools leases → result ≡ counts_of t }
 {
     let none = [0u16; LENGTHS];
     let mut counts = [none; POOLS];
@@ -172,7 +172,7 @@ pub fn counts_in(image: &[u8], pools: usize, leases: usize) -> Counts
 // Whether these are the counts of the table: "a book whose counts differ is unsound".
 pub fn counted(image: &[u8], pools: usize, leases: usize, counts: &Counts) -> bool
     requires { SomeTable image.now pools leases }
-    ensures { (t : LeaseTable) → Stands t image.now pools leases → result ≡ sameCounts? counts.now (countsOf t) }
+    ensures { (t : LeaseTable) → Stands t image.now pools leases → result ≡ same_counts? counts.now (counts_of t) }
 {
     let fresh = counts_in(image, pools, leases);
     counts::same(*counts, fresh)

@@ -11,16 +11,16 @@ use Rattle.lists.specs.Lists.{All, all?}
 use Rattle.lists.proofs.Tests.{bool-ext, all?-to, all?-of}
 use Rattle.lists.proofs.DropLaws.{drop_at, drop-end, all_drop}
 use Rattle.table.specs.declared.Lease.{Lease}
-use Rattle.table.specs.Table.{leaseSlots, noLease, empty?, padded}
-use Rattle.image.specs.Image.{leaseSize}
-use Rattle.image.specs.Reading.{leaseIn}
+use Rattle.table.specs.Table.{lease_slots, no_lease, empty?, padded}
+use Rattle.image.specs.Image.{lease_size}
+use Rattle.image.specs.Reading.{lease_in}
 use Rattle.image_records.specs.Records.{Records}
 use Rattle.image_records.proofs.RecordLaws.{lease-in-place}
 use Rattle.figures.specs.declared.FigureRow.{FigureRow}
-use Rattle.figures.specs.Figures.{emptyRow, ofLease?, matches?}
-use Rattle.figures.specs.Inner.{leasesMatch?, emptyRow?}
+use Rattle.figures.specs.Figures.{empty_row, of_lease?, matches?}
+use Rattle.figures.specs.Inner.{leases_match?, empty_row?}
 use Rattle.figures.proofs.MatchLaws.{padded-match}
-use Rattle.image_figures.specs.Sheets.{rowSize, figuresSize, rowIn, rowsIn, sheetRows}
+use Rattle.image_figures.specs.Sheets.{row_size, figures_size, row_in, rows_in, sheet_rows}
 use Rattle.image_figures.proofs.SheetLaws.{length-rows-in, rows-in-at, rows-in-two, rows-in-from, sheet-rows, sheet-none}
 
 -- ONE BY ONE
@@ -28,33 +28,33 @@ use Rattle.image_figures.proofs.SheetLaws.{length-rows-in, rows-in-at, rows-in-t
 module _ (l image : List ℕ) (from n slots : ℕ) (few : n ≤ slots) where
   -- The answer for all leases is that for those from the i-th on.
   pub Matching : ℕ → Type 0
-  Matching i = (xs : List Lease) → Records image from xs → n ≡ length xs → leasesMatch? xs (rowsIn slots l) ≡ leasesMatch? (drop i xs) (drop i (rowsIn slots l))
+  Matching i = (xs : List Lease) → Records image from xs → n ≡ length xs → leases_match? xs (rows_in slots l) ≡ leases_match? (drop i xs) (drop i (rows_in slots l))
 
   pub matching-none : Matching 0
   unfolding Matching
   matching-none xs r e = refl
 
-  module _ (i : ℕ) (lt : i < n) (before : Matching i) (b : Bool) (told : b ≡ ofLease? (leaseIn (drop (from + leaseSize * i) image)) (rowIn (drop (rowSize * i) l))) where
-    one : (xs : List Lease) → Records image from xs → n ≡ length xs → leasesMatch? xs (rowsIn slots l) ≡ (b && leasesMatch? (drop (i + 1) xs) (drop (i + 1) (rowsIn slots l)))
+  module _ (i : ℕ) (lt : i < n) (before : Matching i) (b : Bool) (told : b ≡ of_lease? (lease_in (drop (from + lease_size * i) image)) (row_in (drop (row_size * i) l))) where
+    one : (xs : List Lease) → Records image from xs → n ≡ length xs → leases_match? xs (rows_in slots l) ≡ (b && leases_match? (drop (i + 1) xs) (drop (i + 1) (rows_in slots l)))
     unfolding Matching
     one xs r e =
-        let rows : List FigureRow = rowsIn slots l in
+        let rows : List FigureRow = rows_in slots l in
         before xs r e
-        ∙ ap₂ leasesMatch?
-        (drop_at xs i noLease (omega arith) ∙ ap (λ (z : Lease). z ∷ drop (i + 1) xs) (sym (lease-in-place image from xs r i (omega arith))))
-        (drop_at rows i emptyRow (omega (arith, length-rows-in slots l)) ∙ ap (λ (z : FigureRow). z ∷ drop (i + 1) rows) (rows-in-at slots l i (omega arith)))
-        ∙ ap (λ (c : Bool). c && leasesMatch? (drop (i + 1) xs) (drop (i + 1) rows)) (sym told)
+        ∙ ap₂ leases_match?
+        (drop_at xs i no_lease (omega arith) ∙ ap (λ (z : Lease). z ∷ drop (i + 1) xs) (sym (lease-in-place image from xs r i (omega arith))))
+        (drop_at rows i empty_row (omega (arith, length-rows-in slots l)) ∙ ap (λ (z : FigureRow). z ∷ drop (i + 1) rows) (rows-in-at slots l i (omega arith)))
+        ∙ ap (λ (c : Bool). c && leases_match? (drop (i + 1) xs) (drop (i + 1) rows)) (sym told)
 
     pub matching-more : b ≡ true → Matching (i + 1)
     unfolding Matching
-    matching-more t xs r e = one xs r e ∙ ap (λ (c : Bool). c && leasesMatch? (drop (i + 1) xs) (drop (i + 1) (rowsIn slots l))) t
+    matching-more t xs r e = one xs r e ∙ ap (λ (c : Bool). c && leases_match? (drop (i + 1) xs) (drop (i + 1) (rows_in slots l))) t
 
-    pub matching-not : b ≡ false → (xs : List Lease) → Records image from xs → n ≡ length xs → false ≡ leasesMatch? xs (rowsIn slots l)
-    matching-not t xs r e = sym (one xs r e ∙ ap (λ (c : Bool). c && leasesMatch? (drop (i + 1) xs) (drop (i + 1) (rowsIn slots l))) t)
+    pub matching-not : b ≡ false → (xs : List Lease) → Records image from xs → n ≡ length xs → false ≡ leases_match? xs (rows_in slots l)
+    matching-not t xs r e = sym (one xs r e ∙ ap (λ (c : Bool). c && leases_match? (drop (i + 1) xs) (drop (i + 1) (rows_in slots l))) t)
 
-  pub matching-all : (i : ℕ) → n ≤ i → Matching i → (xs : List Lease) → Records image from xs → n ≡ length xs → true ≡ leasesMatch? xs (rowsIn slots l)
+  pub matching-all : (i : ℕ) → n ≤ i → Matching i → (xs : List Lease) → Records image from xs → n ≡ length xs → true ≡ leases_match? xs (rows_in slots l)
   unfolding Matching
-  matching-all i h before xs r e = sym (before xs r e ∙ ap (λ (ys : List Lease). leasesMatch? ys (drop i (rowsIn slots l))) (drop-end xs i (omega arith)))
+  matching-all i h before xs r e = sym (before xs r e ∙ ap (λ (ys : List Lease). leases_match? ys (drop i (rows_in slots l))) (drop-end xs i (omega arith)))
 
 -- MANY ROWS AT ONCE
 
@@ -69,28 +69,28 @@ all?-later {A} f i j xs h e =
     ap (all? f) (ap (λ (k : ℕ). drop k xs) (sym there) ∙ sym (drop-drop (j - i) i xs))
     ∙ all?-of f (λ x t. t) (drop (j - i) (drop i xs)) (all_drop (λ (x : A). f x ≡ true) (j - i) (drop i xs) (all?-to f (λ x t. t) (drop i xs) e))
 
-pub empty-all : (l : List ℕ) (slots i : ℕ) → slots ≤ i → (all : Bool) → all ≡ all? emptyRow? (drop i (rowsIn slots l)) → true ≡ all
-empty-all l slots i h all e = sym (e ∙ ap (all? emptyRow?) (drop-end (rowsIn slots l) i (omega (arith, length-rows-in slots l))))
+pub empty-all : (l : List ℕ) (slots i : ℕ) → slots ≤ i → (all : Bool) → all ≡ all? empty_row? (drop i (rows_in slots l)) → true ≡ all
+empty-all l slots i h all e = sym (e ∙ ap (all? empty_row?) (drop-end (rows_in slots l) i (omega (arith, length-rows-in slots l))))
 
-pub empty-one : (s : List ℕ) → emptyRow? (rowIn s) ≡ all? emptyRow? (rowsIn 1 s)
-unfolding rowsIn
-empty-one s = sym (and-true (emptyRow? (rowIn s)))
+pub empty-one : (s : List ℕ) → empty_row? (row_in s) ≡ all? empty_row? (rows_in 1 s)
+unfolding rows_in
+empty-one s = sym (and-true (empty_row? (row_in s)))
 
 -- The answer for the rows from the i-th on: that for the next m, and that for the rest.
-module _ (l : List ℕ) (slots i m : ℕ) (inside : i + m ≤ slots) (b : Bool) (told : b ≡ all? emptyRow? (rowsIn m (drop (rowSize * i) l))) where
+module _ (l : List ℕ) (slots i m : ℕ) (inside : i + m ≤ slots) (b : Bool) (told : b ≡ all? empty_row? (rows_in m (drop (row_size * i) l))) where
   abbrev rest : ℕ → Bool
-  rest k = all? emptyRow? (drop k (rowsIn slots l))
+  rest k = all? empty_row? (drop k (rows_in slots l))
 
   empty-part : rest i ≡ (b && rest (i + m))
   empty-part =
-      let from : List ℕ = drop (rowSize * i) l in
+      let from : List ℕ = drop (row_size * i) l in
       let left : slots - i ≡ m + (slots - (i + m)) = omega arith in
-      let there : rowSize * i + rowSize * m ≡ rowSize * (i + m) = omega arith in
-      let behind : rowsIn (slots - (i + m)) (drop (rowSize * m) from) ≡ drop (i + m) (rowsIn slots l) =
-      ap (rowsIn (slots - (i + m))) (drop-drop (rowSize * m) (rowSize * i) l ∙ ap (λ (k : ℕ). drop k l) there) ∙ sym (rows-in-from slots l (i + m) inside) in
-      ap (all? emptyRow?) (rows-in-from slots l i (omega arith) ∙ ap (λ (k : ℕ). rowsIn k from) left ∙ rows-in-two m (slots - (i + m)) from)
-      ∙ all?-append emptyRow? (rowsIn m from) (rowsIn (slots - (i + m)) (drop (rowSize * m) from))
-      ∙ ap₂ (λ (c d : Bool). c && d) (sym told) (ap (all? emptyRow?) behind)
+      let there : row_size * i + row_size * m ≡ row_size * (i + m) = omega arith in
+      let behind : rows_in (slots - (i + m)) (drop (row_size * m) from) ≡ drop (i + m) (rows_in slots l) =
+      ap (rows_in (slots - (i + m))) (drop-drop (row_size * m) (row_size * i) l ∙ ap (λ (k : ℕ). drop k l) there) ∙ sym (rows-in-from slots l (i + m) inside) in
+      ap (all? empty_row?) (rows-in-from slots l i (omega arith) ∙ ap (λ (k : ℕ). rows_in k from) left ∙ rows-in-two m (slots - (i + m)) from)
+      ∙ all?-append empty_row? (rows_in m from) (rows_in (slots - (i + m)) (drop (row_size * m) from))
+      ∙ ap₂ (λ (c d : Bool). c && d) (sym told) (ap (all? empty_row?) behind)
 
   pub empty-more : (all : Bool) → all ≡ rest i → b ≡ true → all ≡ rest (i + m)
   empty-more all e t = e ∙ empty-part ∙ ap (λ (c : Bool). c && rest (i + m)) t
@@ -101,29 +101,29 @@ module _ (l : List ℕ) (slots i m : ℕ) (inside : i + m ≤ slots) (b : Bool) 
   -- The last m of them, some of which were looked at before.
   pub empty-last : slots ≤ i + m → (n j : ℕ) → n ≤ i → i ≤ j → rest n ≡ rest j → b ≡ rest n
   empty-last end n j h k e =
-      let rows : List FigureRow = rowsIn slots l in
+      let rows : List FigureRow = rows_in slots l in
       let last : b ≡ rest i = sym (empty-part ∙ ap (λ (c : Bool). b && c) (sym (empty-all l slots (i + m) end (rest (i + m)) refl)) ∙ and-true b) in
-      last ∙ bool-ext (rest i) (rest n) (λ t. e ∙ all?-later emptyRow? i j rows k t) (λ t. all?-later emptyRow? n i rows h t)
+      last ∙ bool-ext (rest i) (rest n) (λ t. e ∙ all?-later empty_row? i j rows k t) (λ t. all?-later empty_row? n i rows h t)
 
 -- A WHOLE TABLE
 
-matches-nothing : (xs : List Lease) (m : ℕ) → 0 < length xs + m → matches? (xs ++ replicate m noLease) [] ≡ false
+matches-nothing : (xs : List Lease) (m : ℕ) → 0 < length xs + m → matches? (xs ++ replicate m no_lease) [] ≡ false
 matches-nothing [] (suc m) h = refl
 matches-nothing [] zero h = absurd (omega arith)
 matches-nothing (x ∷ xs) m h = refl
 
-pub other-size : (l : List ℕ) (xs : List Lease) → (length l ≡ figuresSize → ⊥) → false ≡ matches? (padded xs) (sheetRows l)
-other-size l xs h = sym (ap (matches? (padded xs)) (sheet-none l h) ∙ matches-nothing xs (leaseSlots - length xs) (omega arith))
+pub other-size : (l : List ℕ) (xs : List Lease) → (length l ≡ figures_size → ⊥) → false ≡ matches? (padded xs) (sheet_rows l)
+other-size l xs h = sym (ap (matches? (padded xs)) (sheet-none l h) ∙ matches-nothing xs (lease_slots - length xs) (omega arith))
 
-module _ (l : List ℕ) (n : ℕ) (xs : List Lease) (size : length l ≡ figuresSize) (few : n ≤ leaseSlots) (e : n ≡ length xs) (used : All (λ x. empty? x ≡ false) xs) where
-  parts : matches? (padded xs) (sheetRows l) ≡ (leasesMatch? xs (rowsIn leaseSlots l) && all? emptyRow? (drop n (rowsIn leaseSlots l)))
+module _ (l : List ℕ) (n : ℕ) (xs : List Lease) (size : length l ≡ figures_size) (few : n ≤ lease_slots) (e : n ≡ length xs) (used : All (λ x. empty? x ≡ false) xs) where
+  parts : matches? (padded xs) (sheet_rows l) ≡ (leases_match? xs (rows_in lease_slots l) && all? empty_row? (drop n (rows_in lease_slots l)))
   parts =
       ap (matches? (padded xs)) (sheet-rows l size)
-      ∙ padded-match xs (leaseSlots - length xs) (rowsIn leaseSlots l) used (omega (arith, length-rows-in leaseSlots l))
-      ∙ ap (λ (k : ℕ). leasesMatch? xs (rowsIn leaseSlots l) && all? emptyRow? (drop k (rowsIn leaseSlots l))) (sym e)
+      ∙ padded-match xs (lease_slots - length xs) (rows_in lease_slots l) used (omega (arith, length-rows-in lease_slots l))
+      ∙ ap (λ (k : ℕ). leases_match? xs (rows_in lease_slots l) && all? empty_row? (drop k (rows_in lease_slots l))) (sym e)
 
-  pub other-lease : false ≡ leasesMatch? xs (rowsIn leaseSlots l) → false ≡ matches? (padded xs) (sheetRows l)
-  other-lease f = sym (parts ∙ ap (λ (b : Bool). b && all? emptyRow? (drop n (rowsIn leaseSlots l))) (sym f))
+  pub other-lease : false ≡ leases_match? xs (rows_in lease_slots l) → false ≡ matches? (padded xs) (sheet_rows l)
+  other-lease f = sym (parts ∙ ap (λ (b : Bool). b && all? empty_row? (drop n (rows_in lease_slots l))) (sym f))
 
-  pub by-the-rest : (b : Bool) → true ≡ leasesMatch? xs (rowsIn leaseSlots l) → b ≡ all? emptyRow? (drop n (rowsIn leaseSlots l)) → b ≡ matches? (padded xs) (sheetRows l)
-  by-the-rest b t f = f ∙ sym (parts ∙ ap (λ (c : Bool). c && all? emptyRow? (drop n (rowsIn leaseSlots l))) (sym t))
+  pub by-the-rest : (b : Bool) → true ≡ leases_match? xs (rows_in lease_slots l) → b ≡ all? empty_row? (drop n (rows_in lease_slots l)) → b ≡ matches? (padded xs) (sheet_rows l)
+  by-the-rest b t f = f ∙ sym (parts ∙ ap (λ (c : Bool). c && all? empty_row? (drop n (rows_in lease_slots l))) (sym t))

@@ -1,17 +1,17 @@
 // The figures sheet in a lent buffer, place for place beside the leases of an image: a row for each slot of the table.
 ghost use Rattle.std.specs.Prelude.{◌≡◌, true, false, List, map, ◌++◌, ◌+◌, ◌-◌, ◌*◌, ◌≤◌, ◌<◌, length, take, drop, get_or, set, replicate};
-ghost use Rattle.lists.specs.Lists.{All, catMaybes, all?};
+ghost use Rattle.lists.specs.Lists.{All, cat_maybes, all?};
 ghost use Rattle.lists.specs.Put.{put};
 ghost use Rattle.table.specs.declared.Lease.{Lease};
-ghost use Rattle.table.specs.Table.{leaseSlots, empty?, padded, present};
+ghost use Rattle.table.specs.Table.{lease_slots, empty?, padded, present};
 ghost use Rattle.image.specs.Fields.{number16};
-ghost use Rattle.image.specs.Image.{le16, leaseSize};
-ghost use Rattle.image.specs.Reading.{leaseIn};
+ghost use Rattle.image.specs.Image.{le16, lease_size};
+ghost use Rattle.image.specs.Reading.{lease_in};
 ghost use Rattle.image_records.specs.Records.{Records, ExpiredIn};
 ghost use Rattle.figures.specs.declared.FigureRow.{FigureRow};
-ghost use Rattle.figures.specs.Figures.{untoldRow, emptyRow, ofLease?, matches?, keptRows, found, rowFor, filed};
-ghost use Rattle.figures.specs.Inner.{leasesMatch?, emptyRow?};
-ghost use Rattle.image_figures.specs.Sheets.{rowSize, figuresSize, rowBytes, sheetOf, rowIn, rowsIn, sheetRows};
+ghost use Rattle.figures.specs.Figures.{untold_row, empty_row, of_lease?, matches?, kept_rows, found, row_for, filed};
+ghost use Rattle.figures.specs.Inner.{leases_match?, empty_row?};
+ghost use Rattle.image_figures.specs.Sheets.{row_size, figures_size, row_bytes, sheet_of, row_in, rows_in, sheet_rows};
 ghost use Rattle.image_figures.specs.Inner.{Closing, own?, placed};
 
 use figures::FigureRow;
@@ -62,8 +62,8 @@ fn put16(out: &mut [u8], at: usize, n: u16)
 
 // The row at the front of the bytes.
 fn row_in(s: &[u8]) -> FigureRow
-    requires { rowSize ≤ length s.now }
-    ensures { result ≡ rowIn s.now }
+    requires { row_size ≤ length s.now }
+    ensures { result ≡ row_in s.now }
 {
     FigureRow {
         network: image::read32(s, 0),
@@ -76,15 +76,15 @@ fn row_in(s: &[u8]) -> FigureRow
 
 // The row that begins here.
 pub fn row_at(sheet: &[u8], at: usize) -> FigureRow
-    requires { at + rowSize ≤ length sheet.now }
-    ensures { result ≡ rowIn (drop at sheet.now) }
+    requires { at + row_size ≤ length sheet.now }
+    ensures { result ≡ row_in (drop at sheet.now) }
 {
     row_in(&sheet[at..])
 }
 
 pub fn put_row(sheet: &mut [u8], at: usize, r: FigureRow)
-    requires { at + rowSize ≤ length sheet.old }
-    ensures { sheet.new ≡ put sheet.old at (rowBytes r) }
+    requires { at + row_size ≤ length sheet.old }
+    ensures { sheet.new ≡ put sheet.old at (row_bytes r) }
 {
     image_records::put32(sheet, at, r.network);
     sheet[at + LENGTH] = r.length;
@@ -95,8 +95,8 @@ pub fn put_row(sheet: &mut [u8], at: usize, r: FigureRow)
 
 // Whether the row that begins at a place of the sheet is of the lease whose record begins at a place of the image.
 fn of_lease_at(sheet: &[u8], at: usize, image: &[u8], place: usize) -> bool
-    requires { (at + rowSize ≤ length sheet.now) × (place + leaseSize ≤ length image.now) }
-    ensures { result ≡ ofLease? (leaseIn (drop place image.now)) (rowIn (drop at sheet.now)) }
+    requires { (at + row_size ≤ length sheet.now) × (place + lease_size ≤ length image.now) }
+    ensures { result ≡ of_lease? (lease_in (drop place image.now)) (row_in (drop at sheet.now)) }
 {
     if image::read32(sheet, at) != image::network_at(image, place) {
         return false;
@@ -108,9 +108,9 @@ fn of_lease_at(sheet: &[u8], at: usize, image: &[u8], place: usize) -> bool
 
 // Whether each of the first n rows is of the lease in its place.
 fn leases_match(sheet: &[u8], image: &[u8], from: usize, n: usize) -> bool
-    requires { (n ≤ leaseSlots) × (length sheet.now ≡ figuresSize) × (from + leaseSize * n ≤ length image.now) }
+    requires { (n ≤ lease_slots) × (length sheet.now ≡ figures_size) × (from + lease_size * n ≤ length image.now) }
     ensures { (xs : List Lease) → Records image.now from xs → n ≡ length xs
-        → result ≡ leasesMatch? xs (rowsIn leaseSlots sheet.now) }
+        → result ≡ leases_match? xs (rows_in lease_slots sheet.now) }
 {
     let mut i: usize = 0;
     while i < n {
@@ -129,8 +129,8 @@ const EMPTY_END: u32 = 4294967295;
 
 // Whether the row that begins here is that of an empty slot, by words.
 fn empty_at(sheet: &[u8], at: usize) -> bool
-    requires { at + rowSize ≤ length sheet.now }
-    ensures { result ≡ emptyRow? (rowIn (drop at sheet.now)) }
+    requires { at + row_size ≤ length sheet.now }
+    ensures { result ≡ empty_row? (row_in (drop at sheet.now)) }
 {
     if image::read32(sheet, at) != 0 {
         return false;
@@ -159,8 +159,8 @@ fn differ(before: u8, a: u8, b: u8) -> u8
 // Whether the thirty-two rows that begin here are those of empty slots. All bytes are looked at, so that they are compared many
 // at a time, and those of both halves with the same sixteen rows.
 fn thirty_two_empty(sheet: &[u8], at: usize) -> bool
-    requires { at + 32 * rowSize ≤ length sheet.now }
-    ensures { result ≡ all? emptyRow? (rowsIn 32 (drop at sheet.now)) }
+    requires { at + 32 * row_size ≤ length sheet.now }
+    ensures { result ≡ all? empty_row? (rows_in 32 (drop at sheet.now)) }
 {
     let turned = TURNED;
     let mut other: u8 = 0;
@@ -176,8 +176,8 @@ fn thirty_two_empty(sheet: &[u8], at: usize) -> bool
 
 // Whether the rows from place n on are those of empty slots, one by one.
 fn each_empty(sheet: &[u8], n: usize) -> bool
-    requires { (n ≤ leaseSlots) × (length sheet.now ≡ figuresSize) }
-    ensures { result ≡ all? emptyRow? (drop n (rowsIn leaseSlots sheet.now)) }
+    requires { (n ≤ lease_slots) × (length sheet.now ≡ figures_size) }
+    ensures { result ≡ all? empty_row? (drop n (rows_in lease_slots sheet.now)) }
 {
     let mut i: usize = n;
     while i < LEASES {
@@ -191,8 +191,8 @@ fn each_empty(sheet: &[u8], n: usize) -> bool
 
 // The same, by thirty-two; the last of them may begin among rows that were looked at.
 fn rest_empty(sheet: &[u8], n: usize) -> bool
-    requires { (n ≤ leaseSlots) × (length sheet.now ≡ figuresSize) }
-    ensures { result ≡ all? emptyRow? (drop n (rowsIn leaseSlots sheet.now)) }
+    requires { (n ≤ lease_slots) × (length sheet.now ≡ figures_size) }
+    ensures { result ≡ all? empty_row? (drop n (rows_in lease_slots sheet.now)) }
 {
     if LEASES < n + 32 {
         return each_empty(sheet, n);
@@ -209,9 +209,9 @@ fn rest_empty(sheet: &[u8], n: usize) -> bool
 
 // Row 15: whether the sheet has a row for each slot of the table, in its place. An image has records of leases only.
 pub fn matches(sheet: &[u8], image: &[u8], from: usize, n: usize) -> bool
-    requires { (n ≤ leaseSlots) × (from + leaseSize * n ≤ length image.now) }
+    requires { (n ≤ lease_slots) × (from + lease_size * n ≤ length image.now) }
     ensures { (xs : List Lease) → Records image.now from xs → n ≡ length xs → All (λ x. empty? x ≡ false) xs
-        → result ≡ matches? (padded xs) (sheetRows sheet.now) }
+        → result ≡ matches? (padded xs) (sheet_rows sheet.now) }
 {
     if sheet.len() != FIGURES {
         return false;
@@ -226,8 +226,8 @@ pub fn matches(sheet: &[u8], image: &[u8], from: usize, n: usize) -> bool
 
 // The bytes of a row. Copied out and in again, they move as words, whether or not the two places overlap.
 fn bytes_at(sheet: &[u8], at: usize) -> [u8; ROW]
-    requires { at + rowSize ≤ length sheet.now }
-    ensures { result ≡ take rowSize (drop at sheet.now) }
+    requires { at + row_size ≤ length sheet.now }
+    ensures { result ≡ take row_size (drop at sheet.now) }
 {
     let mut bytes = [0u8; ROW];
     let mut k: usize = 0;
@@ -239,7 +239,7 @@ fn bytes_at(sheet: &[u8], at: usize) -> [u8; ROW]
 }
 
 fn put_bytes(sheet: &mut [u8], at: usize, bytes: [u8; ROW])
-    requires { at + rowSize ≤ length sheet.old }
+    requires { at + row_size ≤ length sheet.old }
     ensures { sheet.new ≡ put sheet.old at bytes }
 {
     let mut k: usize = 0;
@@ -251,8 +251,8 @@ fn put_bytes(sheet: &mut [u8], at: usize, bytes: [u8; ROW])
 
 // Sixteen rows at once.
 fn sixteen_at(sheet: &[u8], at: usize) -> [u8; SIXTEEN]
-    requires { at + (16 * rowSize) ≤ length sheet.now }
-    ensures { result ≡ take (16 * rowSize) (drop at sheet.now) }
+    requires { at + (16 * row_size) ≤ length sheet.now }
+    ensures { result ≡ take (16 * row_size) (drop at sheet.now) }
 {
     let mut bytes = [0u8; SIXTEEN];
     let mut k: usize = 0;
@@ -264,7 +264,7 @@ fn sixteen_at(sheet: &[u8], at: usize) -> [u8; SIXTEEN]
 }
 
 fn put_sixteen(sheet: &mut [u8], at: usize, bytes: [u8; SIXTEEN])
-    requires { at + (16 * rowSize) ≤ length sheet.old }
+    requires { at + (16 * row_size) ≤ length sheet.old }
     ensures { sheet.new ≡ put sheet.old at bytes }
 {
     let mut k: usize = 0;
@@ -276,8 +276,8 @@ fn put_sixteen(sheet: &mut [u8], at: usize, bytes: [u8; SIXTEEN])
 
 // n rows from `at` on also from `to` on, which is no later, from the first up.
 fn lower_each(sheet: &mut [u8], to: usize, at: usize, n: usize)
-    requires { (to ≤ at) × (at + rowSize * n ≤ length sheet.old) }
-    ensures { sheet.new ≡ put sheet.old to (take (rowSize * n) (drop at sheet.old)) }
+    requires { (to ≤ at) × (at + row_size * n ≤ length sheet.old) }
+    ensures { sheet.new ≡ put sheet.old to (take (row_size * n) (drop at sheet.old)) }
 {
     let mut k: usize = 0;
     while k < n {
@@ -289,8 +289,8 @@ fn lower_each(sheet: &mut [u8], to: usize, at: usize, n: usize)
 
 // The same, sixteen rows at a time.
 fn lower(sheet: &mut [u8], to: usize, at: usize, n: usize)
-    requires { (to ≤ at) × (at + rowSize * n ≤ length sheet.old) }
-    ensures { sheet.new ≡ put sheet.old to (take (rowSize * n) (drop at sheet.old)) }
+    requires { (to ≤ at) × (at + row_size * n ≤ length sheet.old) }
+    ensures { sheet.new ≡ put sheet.old to (take (row_size * n) (drop at sheet.old)) }
 {
     let mut k: usize = 0;
     while k + 16 <= n {
@@ -305,8 +305,8 @@ fn lower(sheet: &mut [u8], to: usize, at: usize, n: usize)
 
 // Rows of empty slots from the place `first` up to `last`, one by one.
 fn clear_each(sheet: &mut [u8], first: usize, last: usize)
-    requires { (first ≤ last) × (rowSize * last ≤ length sheet.old) }
-    ensures { sheet.new ≡ put sheet.old (rowSize * first) (sheetOf (replicate (last - first) emptyRow)) }
+    requires { (first ≤ last) × (row_size * last ≤ length sheet.old) }
+    ensures { sheet.new ≡ put sheet.old (row_size * first) (sheet_of (replicate (last - first) empty_row)) }
 {
     let mut i: usize = first;
     while i < last {
@@ -317,8 +317,8 @@ fn clear_each(sheet: &mut [u8], first: usize, last: usize)
 
 // Sixteen of them.
 fn put_empty(sheet: &mut [u8], at: usize)
-    requires { at + (16 * rowSize) ≤ length sheet.old }
-    ensures { sheet.new ≡ put sheet.old at (sheetOf (replicate 16 emptyRow)) }
+    requires { at + (16 * row_size) ≤ length sheet.old }
+    ensures { sheet.new ≡ put sheet.old at (sheet_of (replicate 16 empty_row)) }
 {
     let turned = TURNED;
     let mut k: usize = 0;
@@ -330,8 +330,8 @@ fn put_empty(sheet: &mut [u8], at: usize)
 
 // Rows of empty slots from the place `first` up to `last`, by sixteen; the last of them may begin among rows that were cleared.
 fn clear_rows(sheet: &mut [u8], first: usize, last: usize)
-    requires { (first ≤ last) × (rowSize * last ≤ length sheet.old) }
-    ensures { sheet.new ≡ put sheet.old (rowSize * first) (sheetOf (replicate (last - first) emptyRow)) }
+    requires { (first ≤ last) × (row_size * last ≤ length sheet.old) }
+    ensures { sheet.new ≡ put sheet.old (row_size * first) (sheet_of (replicate (last - first) empty_row)) }
 {
     if last - first < 16 {
         clear_each(sheet, first, last);
@@ -365,7 +365,7 @@ fn close_rows(
     last: usize,
     time: u32,
 ) -> usize
-    requires { (first ≤ last) × (last ≤ n) × (rowSize * n ≤ length sheet.old) × (from + leaseSize * n ≤ length image.now) }
+    requires { (first ≤ last) × (last ≤ n) × (row_size * n ≤ length sheet.old) × (from + lease_size * n ≤ length image.now) }
     ensures upper_bound { result ≤ last }
     ensures closing { Closing sheet.old image.now from first last n time sheet.new result last }
 {
@@ -391,10 +391,10 @@ pub fn strike(
     last: usize,
     time: u32,
 ) -> usize
-    requires { (first ≤ last) × (last ≤ n) × (rowSize * n ≤ length sheet.old) × (from + leaseSize * n ≤ length image.now) }
+    requires { (first ≤ last) × (last ≤ n) × (row_size * n ≤ length sheet.old) × (from + lease_size * n ≤ length image.now) }
     ensures upper_bound { result ≤ n }
-    ensures value { (rows : List FigureRow) (xs : List Lease) → sheet.old ≡ sheetOf rows → Records image.now from xs → n ≡ length xs → ExpiredIn time first last xs
-        → (result ≡ length (present time xs)) × (sheet.new ≡ sheetOf (keptRows time xs rows ++ (replicate (n - result) emptyRow ++ drop n rows))) }
+    ensures value { (rows : List FigureRow) (xs : List Lease) → sheet.old ≡ sheet_of rows → Records image.now from xs → n ≡ length xs → ExpiredIn time first last xs
+        → (result ≡ length (present time xs)) × (sheet.new ≡ sheet_of (kept_rows time xs rows ++ (replicate (n - result) empty_row ++ drop n rows))) }
 {
     let kept = close_rows(sheet, image, from, n, first, last, time);
     lower(sheet, ROW * kept, ROW * last, n - last);
@@ -407,9 +407,9 @@ pub fn strike(
 
 // Whether the last of the first `left` rows is of the lease whose record begins here.
 fn is_own(sheet: &[u8], left: usize, image: &[u8], place: usize) -> bool
-    requires { (rowSize * left ≤ length sheet.now) × (place + leaseSize ≤ length image.now) }
+    requires { (row_size * left ≤ length sheet.now) × (place + lease_size ≤ length image.now) }
     ensures left_nonzero { result ≡ true → 0 < left }
-    ensures value { (rows : List FigureRow) → sheet.now ≡ sheetOf rows → result ≡ own? rows left (leaseIn (drop place image.now)) }
+    ensures value { (rows : List FigureRow) → sheet.now ≡ sheet_of rows → result ≡ own? rows left (lease_in (drop place image.now)) }
 {
     if left == 0 {
         return false;
@@ -420,10 +420,10 @@ fn is_own(sheet: &[u8], left: usize, image: &[u8], place: usize) -> bool
 // The row at place k of the lease whose record begins here: the last of the first `left` rows if that is its own, and otherwise
 // an untold one; how many rows are left.
 fn place_row(sheet: &mut [u8], left: usize, k: usize, image: &[u8], place: usize) -> usize
-    requires { (left ≤ k) × (rowSize * k + rowSize ≤ length sheet.old) × (place + leaseSize ≤ length image.now) }
+    requires { (left ≤ k) × (row_size * k + row_size ≤ length sheet.old) × (place + lease_size ≤ length image.now) }
     ensures upper_bound { result ≤ left }
-    ensures value { (rows : List FigureRow) (x : Lease) → sheet.old ≡ sheetOf rows → x ≡ leaseIn (drop place image.now)
-        → (result ≡ (placed rows left k x).0) × (sheet.new ≡ sheetOf (placed rows left k x).1) }
+    ensures value { (rows : List FigureRow) (x : Lease) → sheet.old ≡ sheet_of rows → x ≡ lease_in (drop place image.now)
+        → (result ≡ (placed rows left k x).0) × (sheet.new ≡ sheet_of (placed rows left k x).1) }
 {
     if is_own(sheet, left, image, place) {
         let bytes = bytes_at(sheet, ROW * (left - 1));
@@ -442,10 +442,10 @@ fn place_row(sheet: &mut [u8], left: usize, k: usize, image: &[u8], place: usize
 // become those of all its leases, from the last down, until the places agree. The premise says that each old row is of one of
 // the leases, in their order.
 pub fn spread(sheet: &mut [u8], n: usize, image: &[u8], from: usize, leases: usize)
-    requires { (n ≤ leases) × (rowSize * leases ≤ length sheet.old) × (from + leaseSize * leases ≤ length image.now) }
-    ensures { (rows : List FigureRow) (xs : List Lease) → sheet.old ≡ sheetOf rows → Records image.now from xs → leases ≡ length xs
-        → catMaybes (map (found (take n rows)) xs) ≡ take n rows
-        → sheet.new ≡ sheetOf (map (rowFor (take n rows)) xs ++ drop leases rows) }
+    requires { (n ≤ leases) × (row_size * leases ≤ length sheet.old) × (from + lease_size * leases ≤ length image.now) }
+    ensures { (rows : List FigureRow) (xs : List Lease) → sheet.old ≡ sheet_of rows → Records image.now from xs → leases ≡ length xs
+        → cat_maybes (map (found (take n rows)) xs) ≡ take n rows
+        → sheet.new ≡ sheet_of (map (row_for (take n rows)) xs ++ drop leases rows) }
 {
     let mut left: usize = n;
     let mut k: usize = leases;
@@ -459,8 +459,8 @@ pub fn spread(sheet: &mut [u8], n: usize, image: &[u8], from: usize, leases: usi
 
 // The row of a lease of which nothing is told, in three words, as `empty_at` reads them.
 fn put_untold(sheet: &mut [u8], at: usize, network: u32, len: u8)
-    requires { at + rowSize ≤ length sheet.old }
-    ensures { (x : Lease) → x.network ≡ network → x.length ≡ len → sheet.new ≡ put sheet.old at (rowBytes (untoldRow x)) }
+    requires { at + row_size ≤ length sheet.old }
+    ensures { (x : Lease) → x.network ≡ network → x.length ≡ len → sheet.new ≡ put sheet.old at (row_bytes (untold_row x)) }
 {
     image_records::put32(sheet, at, network);
     image_records::put32(sheet, at + LENGTH, EMPTY_FROM_LENGTH + (len as u32));
@@ -469,9 +469,9 @@ fn put_untold(sheet: &mut [u8], at: usize, network: u32, len: u8)
 
 // The rows of n leases, of which nothing is told.
 fn fill_leases(sheet: &mut [u8], image: &[u8], from: usize, n: usize)
-    requires { (rowSize * n ≤ length sheet.old) × (from + leaseSize * n ≤ length image.now) }
+    requires { (row_size * n ≤ length sheet.old) × (from + lease_size * n ≤ length image.now) }
     ensures { (xs : List Lease) → Records image.now from xs → n ≡ length xs
-        → sheet.new ≡ put sheet.old 0 (sheetOf (map untoldRow xs)) }
+        → sheet.new ≡ put sheet.old 0 (sheet_of (map untold_row xs)) }
 {
     let mut i: usize = 0;
     while i < n {
@@ -485,7 +485,7 @@ fn fill_leases(sheet: &mut [u8], image: &[u8], from: usize, n: usize)
 
 // n bytes from `at` on also from `to` on, by way of an array, which tells the compiler that this is one move: the array itself is never laid out.
 fn copy_bytes(sheet: &mut [u8], at: usize, to: usize, n: usize)
-    requires { (at + n ≤ length sheet.old) × (to + n ≤ length sheet.old) × (n ≤ figuresSize) }
+    requires { (at + n ≤ length sheet.old) × (to + n ≤ length sheet.old) × (n ≤ figures_size) }
     ensures { sheet.new ≡ put sheet.old to (take n (drop at sheet.old)) }
 {
     let mut bytes = [0u8; FIGURES];
@@ -503,8 +503,8 @@ fn copy_bytes(sheet: &mut [u8], at: usize, to: usize, n: usize)
 
 // Rows of empty slots from the place n on. Of many the second half is a copy of the first, which costs less than to make it.
 fn clear_rest(sheet: &mut [u8], n: usize)
-    requires { (n ≤ leaseSlots) × (length sheet.old ≡ figuresSize) }
-    ensures { sheet.new ≡ put sheet.old (rowSize * n) (sheetOf (replicate (leaseSlots - n) emptyRow)) }
+    requires { (n ≤ lease_slots) × (length sheet.old ≡ figures_size) }
+    ensures { sheet.new ≡ put sheet.old (row_size * n) (sheet_of (replicate (lease_slots - n) empty_row)) }
 {
     if LEASES < n + 128 {
         clear_rows(sheet, n, LEASES);
@@ -517,8 +517,8 @@ fn clear_rest(sheet: &mut [u8], n: usize)
 
 // The rows of a fresh or a loaded image, whatever stood in the sheet.
 pub fn fill(sheet: &mut [u8], image: &[u8], from: usize, n: usize)
-    requires { (n ≤ leaseSlots) × (length sheet.old ≡ figuresSize) × (from + leaseSize * n ≤ length image.now) }
-    ensures { (xs : List Lease) → Records image.now from xs → n ≡ length xs → sheet.new ≡ sheetOf (map untoldRow (padded xs)) }
+    requires { (n ≤ lease_slots) × (length sheet.old ≡ figures_size) × (from + lease_size * n ≤ length image.now) }
+    ensures { (xs : List Lease) → Records image.now from xs → n ≡ length xs → sheet.new ≡ sheet_of (map untold_row (padded xs)) }
 {
     fill_leases(sheet, image, from, n);
     clear_rest(sheet, n);
@@ -528,8 +528,8 @@ pub fn fill(sheet: &mut [u8], image: &[u8], from: usize, n: usize)
 
 // The figures of an entry into the row at a place.
 pub fn file(sheet: &mut [u8], place: usize, f: Figures)
-    requires { rowSize * place + rowSize ≤ length sheet.old }
-    ensures { (rows : List FigureRow) → sheet.old ≡ sheetOf rows → sheet.new ≡ sheetOf (set rows place (filed f (get_or rows place emptyRow))) }
+    requires { row_size * place + row_size ≤ length sheet.old }
+    ensures { (rows : List FigureRow) → sheet.old ≡ sheet_of rows → sheet.new ≡ sheet_of (set rows place (filed f (get_or rows place empty_row))) }
 {
     let r = row_at(sheet, ROW * place);
     put_row(sheet, ROW * place, figures::filed_row(f, r));

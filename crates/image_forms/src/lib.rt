@@ -6,9 +6,9 @@ ghost use Rattle.names.specs.Names.{unnamed?};
 ghost use Rattle.table.specs.declared.Lease.{Lease};
 ghost use Rattle.table.specs.declared.LeaseTable.{LeaseTable};
 ghost use Rattle.image.specs.declared.Form.TheVariants.{First, Second};
-ghost use Rattle.image.specs.Image.{headSize, poolSize, leaseSize, firstLeaseSize, usedPools, usedLeases, imageAs, image_of, fitsForm};
+ghost use Rattle.image.specs.Image.{head_size, pool_size, lease_size, first_lease_size, used_pools, used_leases, image_as, image_of, fits_form};
 ghost use Rattle.image_records.specs.Records.{Records};
-ghost use Rattle.image_forms.specs.Forms.{movedSize, leaseAs, frontAs, Moved};
+ghost use Rattle.image_forms.specs.Forms.{moved_size, lease_as, front_as, Moved};
 
 use image::{FIRST_LEASE, Form, HEAD, LEASE, POOL};
 
@@ -20,7 +20,7 @@ const BODY: usize = image::NAME_LENGTH - BODY_AT;
 
 // Whether one of n leases has a name, as the lengths of the names tell.
 pub fn any_named(image: &[u8], from: usize, n: usize) -> bool
-    requires { from + leaseSize * n ≤ length image.now }
+    requires { from + lease_size * n ≤ length image.now }
     ensures { (xs : List Lease) → Records image.now from xs → n ≡ length xs → result ≡ any? (λ x. not (unnamed? x.name)) xs }
 {
     let mut i: usize = 0;
@@ -37,8 +37,8 @@ pub fn any_named(image: &[u8], from: usize, n: usize) -> bool
 
 // The bytes of a body. Copied out and in again, they move by the register.
 fn body_at(s: &[u8], at: usize) -> [u8; BODY]
-    requires { at + movedSize ≤ length s.now }
-    ensures { result ≡ take movedSize (drop at s.now) }
+    requires { at + moved_size ≤ length s.now }
+    ensures { result ≡ take moved_size (drop at s.now) }
 {
     let mut bytes = [0u8; BODY];
     let mut k: usize = 0;
@@ -50,7 +50,7 @@ fn body_at(s: &[u8], at: usize) -> [u8; BODY]
 }
 
 fn put_body(out: &mut [u8], at: usize, bytes: [u8; BODY])
-    requires { at + movedSize ≤ length out.old }
+    requires { at + moved_size ≤ length out.old }
     ensures { out.new ≡ put out.old at bytes }
 {
     let mut k: usize = 0;
@@ -62,8 +62,8 @@ fn put_body(out: &mut [u8], at: usize, bytes: [u8; BODY])
 
 // The lease whose record of the first form begins at `at`, as a record of the second, with no name.
 fn widen_lease(saved: &[u8], at: usize, image: &mut [u8], to: usize)
-    requires { (at + firstLeaseSize ≤ length saved.now) × (to + leaseSize ≤ length image.old) }
-    ensures { image.new ≡ put image.old to (leaseAs Second (drop at saved.now)) }
+    requires { (at + first_lease_size ≤ length saved.now) × (to + lease_size ≤ length image.old) }
+    ensures { image.new ≡ put image.old to (lease_as Second (drop at saved.now)) }
 {
     let bytes = body_at(saved, at + BODY_AT);
     put_body(image, to + BODY_AT, bytes);
@@ -74,8 +74,8 @@ fn widen_lease(saved: &[u8], at: usize, image: &mut [u8], to: usize)
 
 // And the reverse: the name is left out.
 fn narrow_lease(image: &[u8], at: usize, buffer: &mut [u8], to: usize)
-    requires { (at + leaseSize ≤ length image.now) × (to + firstLeaseSize ≤ length buffer.old) }
-    ensures { buffer.new ≡ put buffer.old to (leaseAs First (drop at image.now)) }
+    requires { (at + lease_size ≤ length image.now) × (to + first_lease_size ≤ length buffer.old) }
+    ensures { buffer.new ≡ put buffer.old to (lease_as First (drop at image.now)) }
 {
     let bytes = body_at(image, at + BODY_AT);
     put_body(buffer, to + BODY_AT, bytes);
@@ -85,7 +85,7 @@ fn narrow_lease(image: &[u8], at: usize, buffer: &mut [u8], to: usize)
 // ALL OF THEM
 
 fn widen_leases(saved: &[u8], at: usize, n: usize, image: &mut [u8], to: usize)
-    requires { (at + firstLeaseSize * n ≤ length saved.now) × (to + leaseSize * n ≤ length image.old) }
+    requires { (at + first_lease_size * n ≤ length saved.now) × (to + lease_size * n ≤ length image.old) }
     ensures { Moved First Second saved.now at n image.old to image.new }
 {
     let mut i: usize = 0;
@@ -96,7 +96,7 @@ fn widen_leases(saved: &[u8], at: usize, n: usize, image: &mut [u8], to: usize)
 }
 
 fn narrow_leases(image: &[u8], at: usize, n: usize, buffer: &mut [u8], to: usize)
-    requires { (at + leaseSize * n ≤ length image.now) × (to + firstLeaseSize * n ≤ length buffer.old) }
+    requires { (at + lease_size * n ≤ length image.now) × (to + first_lease_size * n ≤ length buffer.old) }
     ensures { Moved Second First image.now at n buffer.old to buffer.new }
 {
     let mut i: usize = 0;
@@ -110,8 +110,8 @@ fn narrow_leases(image: &[u8], at: usize, n: usize, buffer: &mut [u8], to: usize
 
 // The head and the pools, n bytes, with the head of this form.
 fn put_front(form: Form, s: &[u8], n: usize, out: &mut [u8])
-    requires { (headSize ≤ n) × (n ≤ length s.now) × (n ≤ length out.old) }
-    ensures { out.new ≡ put out.old 0 (frontAs form n s.now) }
+    requires { (head_size ≤ n) × (n ≤ length s.now) × (n ≤ length out.old) }
+    ensures { out.new ≡ put out.old 0 (front_as form n s.now) }
 {
     bytes::copy(&s[..n], out);
     image_records::put32(out, 0, image::head_start(form));
@@ -119,9 +119,9 @@ fn put_front(form: Form, s: &[u8], n: usize, out: &mut [u8])
 
 // A saved image of the first form, with so many pools and leases, in the second form at the front of a buffer; how long it is there.
 pub fn widen(saved: &[u8], pools: usize, leases: usize, image: &mut [u8]) -> usize
-    requires { (headSize + poolSize * pools + firstLeaseSize * leases ≤ length saved.now) × (headSize + poolSize * pools + leaseSize * leases ≤ length image.old) }
-    ensures value { result ≡ headSize + poolSize * pools + leaseSize * leases }
-    ensures value_2 { (t : LeaseTable) → imageAs First t ≡ saved.now → fitsForm First t ≡ true → pools ≡ length (usedPools t) → leases ≡ length (usedLeases t)
+    requires { (head_size + pool_size * pools + first_lease_size * leases ≤ length saved.now) × (head_size + pool_size * pools + lease_size * leases ≤ length image.old) }
+    ensures value { result ≡ head_size + pool_size * pools + lease_size * leases }
+    ensures value_2 { (t : LeaseTable) → image_as First t ≡ saved.now → fits_form First t ≡ true → pools ≡ length (used_pools t) → leases ≡ length (used_leases t)
         → (result ≡ length (image_of t)) × (image.new ≡ image_of t ++ drop (length (image_of t)) image.old) }
 {
     let from = HEAD + POOL * pools;
@@ -132,10 +132,10 @@ pub fn widen(saved: &[u8], pools: usize, leases: usize, image: &mut [u8]) -> usi
 
 // The reverse, of an image at the front of a buffer, no lease of which has a name.
 pub fn narrow(image: &[u8], pools: usize, leases: usize, buffer: &mut [u8]) -> usize
-    requires { (headSize + poolSize * pools + leaseSize * leases ≤ length image.now) × (headSize + poolSize * pools + firstLeaseSize * leases ≤ length buffer.old) }
-    ensures value { result ≡ headSize + poolSize * pools + firstLeaseSize * leases }
-    ensures value_2 { (t : LeaseTable) (bytes : ℕ) → image_of t ≡ take bytes image.now → fitsForm First t ≡ true → pools ≡ length (usedPools t) → leases ≡ length (usedLeases t)
-        → (result ≡ length (imageAs First t)) × (buffer.new ≡ imageAs First t ++ drop (length (imageAs First t)) buffer.old) }
+    requires { (head_size + pool_size * pools + lease_size * leases ≤ length image.now) × (head_size + pool_size * pools + first_lease_size * leases ≤ length buffer.old) }
+    ensures value { result ≡ head_size + pool_size * pools + first_lease_size * leases }
+    ensures value_2 { (t : LeaseTable) (bytes : ℕ) → image_of t ≡ take bytes image.now → fits_form First t ≡ true → pools ≡ length (used_pools t) → leases ≡ length (used_leases t)
+        → (result ≡ length (image_as First t)) × (buffer.new ≡ image_as First t ++ drop (length (image_as First t)) buffer.old) }
 {
     let from = HEAD + POOL * pools;
     put_front(Form::First, image, from, buffer);

@@ -15,7 +15,7 @@ use Rattle.lists.proofs.ListLaws.{all_map}
 use Rattle.lists.proofs.IndexLaws.{all-at}
 use Rattle.lists.proofs.FilterLaws.{filter-yes, filter-no, filter_none, filter-fewer}
 use Rattle.table.specs.declared.Lease.{Lease}
-use Rattle.table.specs.Table.{noLease}
+use Rattle.table.specs.Table.{no_lease}
 use Rattle.image_records.specs.Records.{Ascending}
 use Rattle.image_records.proofs.PlaceLaws.{ascending-at}
 
@@ -72,16 +72,16 @@ up_to network x = leb x.network network
 
 abbrev Split : ℕ → List Lease → ℕ → Type 0
 Split network xs r =
-    ((k : ℕ) → k < r → (get_or xs k noLease).network ≤ network) × ((k : ℕ) → r ≤ k → k < length xs → network < (get_or xs k noLease).network)
+    ((k : ℕ) → k < r → (get_or xs k no_lease).network ≤ network) × ((k : ℕ) → r ≤ k → k < length xs → network < (get_or xs k no_lease).network)
 
 split-first : (network : ℕ) (x : Lease) (xs : List Lease) (r : ℕ) → x.network ≤ network → Split network xs r → Split network (x ∷ xs) (suc r)
 split-first network x xs r here s = (low, high)
   where
-    low : (k : ℕ) → k < suc r → (get_or (x ∷ xs) k noLease).network ≤ network
+    low : (k : ℕ) → k < suc r → (get_or (x ∷ xs) k no_lease).network ≤ network
     low zero h = here
     low (suc k) h = s.0 k (omega arith)
 
-    high : (k : ℕ) → suc r ≤ k → k < length (x ∷ xs) → network < (get_or (x ∷ xs) k noLease).network
+    high : (k : ℕ) → suc r ≤ k → k < length (x ∷ xs) → network < (get_or (x ∷ xs) k no_lease).network
     high zero h j = absurd (omega arith)
     high (suc k) h j = s.1 k (omega arith) (omega arith)
 
@@ -102,7 +102,7 @@ place-splits network (x ∷ xs) a =
     let above = all_above network x xs a (leb-false x.network network t) in
     let nothing = filter_none (up_to network) (x ∷ xs) (all_map (λ y (h : network < y.network). lt-leb y.network network h) (x ∷ xs) above) in
     subst (Split network (x ∷ xs)) (sym (ap length nothing))
-    ((λ k h. absurd (omega arith)), (λ k h j. all-at (λ y. network < y.network) (x ∷ xs) above k noLease j)))
+    ((λ k h. absurd (omega arith)), (λ k h j. all-at (λ y. network < y.network) (x ∷ xs) above k no_lease j)))
     (bool_cases (up_to network x))
 
 -- THE LEASE WITH A NETWORK, as a test that only a lease with this network passes tells it.
@@ -111,11 +111,11 @@ module _ (network : ℕ) (xs : List Lease) (a : Ascending xs) (r : ℕ) (c : r �
   found_within h = omega (arith, filter-fewer (up_to network) xs)
 
   module _ (g : Lease → Bool) (only : (x : Lease) → g x ≡ true → x.network ≡ network) where
-    only-place : Only g noLease xs (r - 1)
+    only-place : Only g no_lease xs (r - 1)
     only-place k h apart =
         let s = subst (Split network xs) (sym c) (place-splits network xs a) in
-        not-true⇒false (g (get_or xs k noLease)) (λ t.
-        let same = only (get_or xs k noLease) t in
+        not-true⇒false (g (get_or xs k no_lease)) (λ t.
+        let same = only (get_or xs k no_lease) t in
         ⊎_elim
         (λ (b : leb r k ≡ true). omega (arith, s.1 k (leb-true r k b) h))
         (λ (b : leb r k ≡ false).
@@ -128,25 +128,25 @@ module _ (network : ℕ) (xs : List Lease) (a : Ascending xs) (r : ℕ) (c : r �
     pub found_none : r ≡ 0 → All (λ x. g x ≡ false) xs
     found_none z =
         let s = subst (Split network xs) (sym c) (place-splits network xs a) in
-        all-places (λ x. g x ≡ false) noLease xs (λ k h.
-        not-true⇒false (g (get_or xs k noLease)) (λ t. omega (arith, only (get_or xs k noLease) t, s.1 k (omega arith) h)))
+        all-places (λ x. g x ≡ false) no_lease xs (λ k h.
+        not-true⇒false (g (get_or xs k no_lease)) (λ t. omega (arith, only (get_or xs k no_lease) t, s.1 k (omega arith) h)))
 
     -- or where the last of those up to it does not pass;
-    pub found-other : g (get_or xs (r - 1) noLease) ≡ false → All (λ x. g x ≡ false) xs
+    pub found-other : g (get_or xs (r - 1) no_lease) ≡ false → All (λ x. g x ≡ false) xs
     found-other e =
-        all-places (λ x. g x ≡ false) noLease xs (λ k h.
+        all-places (λ x. g x ≡ false) no_lease xs (λ k h.
         ⊎_elim
-        (λ (b : eqb k (r - 1) ≡ true). ap (λ (i : ℕ). g (get_or xs i noLease)) (eqb-true k (r - 1) b) ∙ e)
+        (λ (b : eqb k (r - 1) ≡ true). ap (λ (i : ℕ). g (get_or xs i no_lease)) (eqb-true k (r - 1) b) ∙ e)
         (λ (b : eqb k (r - 1) ≡ false). only-place k h (eqb-false k (r - 1) b))
         (bool_cases (eqb k (r - 1))))
 
     -- where it passes, it alone does.
-    module _ (some : 0 < r) (e : g (get_or xs (r - 1) noLease) ≡ true) where
-      pub found-filter : filter g xs ≡ get_or xs (r - 1) noLease ∷ []
-      found-filter = only-filter g noLease xs (r - 1) (found_within some) only-place e
+    module _ (some : 0 < r) (e : g (get_or xs (r - 1) no_lease) ≡ true) where
+      pub found-filter : filter g xs ≡ get_or xs (r - 1) no_lease ∷ []
+      found-filter = only-filter g no_lease xs (r - 1) (found_within some) only-place e
 
       pub found-any : any? g xs ≡ true
-      found-any = only-any g noLease xs (r - 1) (found_within some) e
+      found-any = only-any g no_lease xs (r - 1) (found_within some) e
 
-      pub found_map : (f : Lease → Lease) → map (λ x. cond (g x) (f x) x) xs ≡ set xs (r - 1) (f (get_or xs (r - 1) noLease))
-      found_map f = only-map g f noLease xs (r - 1) (found_within some) only-place e
+      pub found_map : (f : Lease → Lease) → map (λ x. cond (g x) (f x) x) xs ≡ set xs (r - 1) (f (get_or xs (r - 1) no_lease))
+      found_map f = only-map g f no_lease xs (r - 1) (found_within some) only-place e

@@ -10,16 +10,16 @@ use lib.ListN.{length, take, drop, length-drop}
 use lib.Seq.{length-take-le, take_at, take-add, drop-drop}
 use lib.Dec.{leb, ltb}
 use borrow.Author.Tests.{le-leb, lt-leb, ltb-true, ltb-false}
-use Rattle.lists.specs.Lists.{All, filter, concatMap, insertBy}
+use Rattle.lists.specs.Lists.{All, filter, concat_map, insert_by}
 use Rattle.lists.specs.Put.{put}
 use Rattle.lists.proofs.Tests.{bool_cases}
 use Rattle.lists.proofs.ListLaws.{all_map}
 use Rattle.lists.proofs.FilterLaws.{filter-yes, filter_none, filter-fewer}
-use Rattle.lists.proofs.SortingLaws.{insertBy-before, insertBy-after}
+use Rattle.lists.proofs.SortingLaws.{insert_by-before, insert_by-after}
 use Rattle.lists.proofs.PutLaws.{length-put, put-before, put-nothing}
 use Rattle.table.specs.declared.Lease.{Lease}
-use Rattle.table.specs.Table.{networkOf, insert}
-use Rattle.image.specs.Image.{leaseSize, leaseRecord}
+use Rattle.table.specs.Table.{network_of, insert}
+use Rattle.image.specs.Image.{lease_size, lease_record}
 use Rattle.image.proofs.ImageLaws.{length-lease}
 use Rattle.image_records.specs.Records.{Records, Ascending}
 use Rattle.image_records.proofs.PutForms.{drop-take, take_put}
@@ -63,7 +63,7 @@ larger-none network xs a = filter_none (up_to network) xs (all_map (λ y (h : ne
 -- Among leases that ascend it is inserted behind those with a network up to its own.
 pub insert-at : (x : Lease) (xs : List Lease) → Ascending xs → (r : ℕ) → r ≡ length (filter (λ y. leb y.network x.network) xs)
     → insert x xs ≡ take r xs ++ (x ∷ drop r xs)
-unfolding Ascending insertBy
+unfolding Ascending insert_by
 insert-at x [] a zero e = refl
 insert-at x [] a (suc r) e = absurd (omega arith)
 insert-at x (y ∷ ys) a r e =
@@ -73,33 +73,33 @@ insert-at x (y ∷ ys) a r e =
     let nothing : filter (up_to x.network) (y ∷ ys) ≡ [] =
     larger-none x.network (y ∷ ys) (below, all_map (λ z (g : y.network < z.network). omega arith) ys a.0) in
     let z : 0 ≡ r = omega (arith, ap length nothing) in
-    insertBy-before networkOf x y ys h ∙ ap (λ (k : ℕ). take k (y ∷ ys) ++ (x ∷ drop k (y ∷ ys))) z)
+    insert_by-before network_of x y ys h ∙ ap (λ (k : ℕ). take k (y ∷ ys) ++ (x ∷ drop k (y ∷ ys))) z)
     (λ (h : ltb x.network y.network ≡ false).
     let first = filter-yes (up_to x.network) y ys (le-leb y.network x.network (ltb-false x.network y.network h)) in
     let s : suc (r - 1) ≡ r = omega (arith, ap length first) in
-    insertBy-after networkOf x y ys h
+    insert_by-after network_of x y ys h
     ∙ ap (λ (l : List Lease). y ∷ l) (insert-at x ys a.1 (r - 1) (omega (arith, ap length first)))
     ∙ ap (λ (k : ℕ). take k (y ∷ ys) ++ (x ∷ drop k (y ∷ ys))) s)
     (bool_cases (ltb x.network y.network))
 
 -- The later ones raised by `room` records, and its own put right before them.
 module _ (l : List ℕ) (from n room : ℕ) (x : Lease) (r : ℕ) where
-  pub inserted : 1 ≤ room → (l₁ l₂ : List ℕ) → l₁ ≡ raised l (from + leaseSize * n) (leaseSize * room) (from + leaseSize * r) → l₂ ≡ put l₁ (from + leaseSize * (r + room - 1)) (leaseRecord x)
+  pub inserted : 1 ≤ room → (l₁ l₂ : List ℕ) → l₁ ≡ raised l (from + lease_size * n) (lease_size * room) (from + lease_size * r) → l₂ ≡ put l₁ (from + lease_size * (r + room - 1)) (lease_record x)
       → (xs : List Lease) → Records l from xs → n ≡ length xs → Ascending xs → r ≡ length (filter (λ y. leb y.network x.network) xs)
-      → (insert x xs ≡ take r xs ++ (x ∷ drop r xs)) × (l₂ ≡ put l (from + leaseSize * (r + room - 1)) (concatMap leaseRecord (x ∷ drop r xs)))
+      → (insert x xs ≡ take r xs ++ (x ∷ drop r xs)) × (l₂ ≡ put l (from + lease_size * (r + room - 1)) (concat_map lease_record (x ∷ drop r xs)))
   unfolding Records
   inserted p l₁ l₂ e₁ e₂ xs s e a c =
-      let at : ℕ = from + leaseSize * r in
-      let to : ℕ = from + leaseSize * (r + room - 1) in
+      let at : ℕ = from + lease_size * r in
+      let to : ℕ = from + lease_size * (r + room - 1) in
       let few : r ≤ length xs = omega (arith, filter-fewer (up_to x.network) xs) in
-      let high : List ℕ = concatMap leaseRecord (drop r xs) in
-      let rest : List ℕ = drop (at + leaseSize * length (drop r xs)) l in
-      let sized : length high ≡ from + leaseSize * n - at = omega (arith, length-leases (drop r xs), length-drop r xs) in
-      let moved : take (from + leaseSize * n - at) (drop at l) ≡ high =
-      ap (take (from + leaseSize * n - at)) (records-drop l from xs s r few) ∙ take_at high rest (from + leaseSize * n - at) sized in
-      let after : at + leaseSize * room ≡ to + length (leaseRecord x) = omega (arith, length-lease x) in (
+      let high : List ℕ = concat_map lease_record (drop r xs) in
+      let rest : List ℕ = drop (at + lease_size * length (drop r xs)) l in
+      let sized : length high ≡ from + lease_size * n - at = omega (arith, length-leases (drop r xs), length-drop r xs) in
+      let moved : take (from + lease_size * n - at) (drop at l) ≡ high =
+      ap (take (from + lease_size * n - at)) (records-drop l from xs s r few) ∙ take_at high rest (from + lease_size * n - at) sized in
+      let after : at + lease_size * room ≡ to + length (lease_record x) = omega (arith, length-lease x) in (
         insert-at x xs a r c,
         e₂
-            ∙ ap (λ (b : List ℕ). put b to (leaseRecord x)) (e₁ ∙ ap₂ (put l) after moved)
-            ∙ put-before (leaseRecord x) l to high,
+            ∙ ap (λ (b : List ℕ). put b to (lease_record x)) (e₁ ∙ ap₂ (put l) after moved)
+            ∙ put-before (lease_record x) l to high,
       )

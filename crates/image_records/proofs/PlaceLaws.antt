@@ -15,18 +15,18 @@ use Rattle.lists.proofs.Tests.{bool_cases}
 use Rattle.lists.proofs.FilterLaws.{filter-yes, filter-no}
 use Rattle.lists.proofs.IndexLaws.{all-at}
 use Rattle.table.specs.declared.Lease.{Lease}
-use Rattle.table.specs.Table.{noLease}
-use Rattle.image.specs.Image.{leaseSize}
-use Rattle.image.specs.Reading.{leaseIn}
+use Rattle.table.specs.Table.{no_lease}
+use Rattle.image.specs.Image.{lease_size}
+use Rattle.image.specs.Reading.{lease_in}
 use Rattle.image_records.specs.Records.{Records, Ascending}
 use Rattle.image_records.proofs.RecordLaws.{lease-in-place}
 
 -- A later one is larger.
-pub ascending-at : (xs : List Lease) → Ascending xs → (i j : ℕ) → i < j → j < length xs → (get_or xs i noLease).network < (get_or xs j noLease).network
+pub ascending-at : (xs : List Lease) → Ascending xs → (i j : ℕ) → i < j → j < length xs → (get_or xs i no_lease).network < (get_or xs j no_lease).network
 unfolding Ascending
 ascending-at [] a i j lt h = absurd (omega arith)
 ascending-at (x ∷ xs) a i zero lt h = absurd (omega arith)
-ascending-at (x ∷ xs) a zero (suc j) lt h = all-at (λ y. x.network < y.network) xs a.0 j noLease (omega arith)
+ascending-at (x ∷ xs) a zero (suc j) lt h = all-at (λ y. x.network < y.network) xs a.0 j no_lease (omega arith)
 ascending-at (x ∷ xs) a (suc i) (suc j) lt h = ascending-at xs a.1 i j (omega arith) (omega arith)
 
 -- Where the first m pass a test and no other does, they are those that pass it.
@@ -46,7 +46,7 @@ filter-first {A} f d (x ∷ xs) (suc m) h pass rest =
 pub Between : List ℕ → ℕ → ℕ → ℕ → ℕ → ℕ → Type 0
 Between l from n network low high =
     (xs : List Lease) → Records l from xs → n ≡ length xs → Ascending xs
-    → ((k : ℕ) → k < low → (get_or xs k noLease).network ≤ network) × ((k : ℕ) → high ≤ k → k < n → network < (get_or xs k noLease).network)
+    → ((k : ℕ) → k < low → (get_or xs k no_lease).network ≤ network) × ((k : ℕ) → high ≤ k → k < n → network < (get_or xs k no_lease).network)
 
 module _ (l : List ℕ) (from n network : ℕ) where
   pub between-all : Between l from n network 0 n
@@ -58,8 +58,8 @@ module _ (l : List ℕ) (from n network : ℕ) where
   unfolding Between
   between-wider low high low₁ high₁ b h j xs r e a = let p = b xs r e a in ((λ k i. p.0 k (omega arith)), (λ k i w. p.1 k (omega arith) w))
 
-  module _ (low high middle : ℕ) (b : Between l from n network low high) (within : middle < n) (here : ℕ) (read : here ≡ (leaseIn (drop (from + leaseSize * middle) l)).network) where
-    network-is : (xs : List Lease) → Records l from xs → n ≡ length xs → here ≡ (get_or xs middle noLease).network
+  module _ (low high middle : ℕ) (b : Between l from n network low high) (within : middle < n) (here : ℕ) (read : here ≡ (lease_in (drop (from + lease_size * middle) l)).network) where
+    network-is : (xs : List Lease) → Records l from xs → n ≡ length xs → here ≡ (get_or xs middle no_lease).network
     network-is xs r e = read ∙ ap (λ (y : Lease). y.network) (lease-in-place l from xs r middle (omega arith))
 
     -- Up to the wanted one: so are those before it.
@@ -68,12 +68,12 @@ module _ (l : List ℕ) (from n network : ℕ) where
     between-low h xs r e a =
         ((λ k j. upto k (omega arith)), (b xs r e a).1)
       where
-        upto : (k : ℕ) → k ≤ middle → (get_or xs k noLease).network ≤ network
+        upto : (k : ℕ) → k ≤ middle → (get_or xs k no_lease).network ≤ network
         upto k j =
             ⊎_elim
             (λ (t : leb middle k ≡ true).
             let same : k ≡ middle = omega (arith, leb-true middle k t) in
-            omega (arith, network-is xs r e, ap (λ (m : ℕ). (get_or xs m noLease).network) same))
+            omega (arith, network-is xs r e, ap (λ (m : ℕ). (get_or xs m no_lease).network) same))
             (λ (t : leb middle k ≡ false). omega (arith, network-is xs r e, ascending-at xs a k middle (omega (arith, leb-false middle k t)) (omega arith)))
             (bool_cases (leb middle k))
 
@@ -83,12 +83,12 @@ module _ (l : List ℕ) (from n network : ℕ) where
     between-high h xs r e a =
         ((b xs r e a).0, above)
       where
-        above : (k : ℕ) → middle ≤ k → k < n → network < (get_or xs k noLease).network
+        above : (k : ℕ) → middle ≤ k → k < n → network < (get_or xs k no_lease).network
         above k j i =
             ⊎_elim
             (λ (t : leb k middle ≡ true).
             let same : k ≡ middle = omega (arith, leb-true k middle t) in
-            omega (arith, network-is xs r e, ap (λ (m : ℕ). (get_or xs m noLease).network) same))
+            omega (arith, network-is xs r e, ap (λ (m : ℕ). (get_or xs m no_lease).network) same))
             (λ (t : leb k middle ≡ false). omega (arith, network-is xs r e, ascending-at xs a middle k (omega (arith, leb-false k middle t)) (omega arith)))
             (bool_cases (leb k middle))
 
@@ -98,7 +98,7 @@ module _ (l : List ℕ) (from n network : ℕ) where
   between_none low high b met within xs r e a =
       let p = b xs r e a in
       let f : Lease → Bool = λ x. leb x.network network in
-      sym (ap length (filter-first f noLease xs low (omega arith)
-      (λ k j. le-leb (get_or xs k noLease).network network (p.0 k j))
-      (λ k j i. lt-leb (get_or xs k noLease).network network (p.1 k (omega arith) (omega arith))))
+      sym (ap length (filter-first f no_lease xs low (omega arith)
+      (λ k j. le-leb (get_or xs k no_lease).network network (p.0 k j))
+      (λ k j i. lt-leb (get_or xs k no_lease).network network (p.1 k (omega arith) (omega arith))))
       ∙ length-take-le low xs (omega arith))

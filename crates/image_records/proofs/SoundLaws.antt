@@ -8,19 +8,19 @@ use mathlib.Core.Bool.{Bool, true, false, not}
 use mathlib.Core.List.{List, [], ◌∷◌, ◌++◌, append_assoc}
 use lib.ListN.{length, take, drop, length-append, take-append-drop}
 use lib.Seq.{drop_at}
-use Rattle.lists.specs.Lists.{filter, concatMap}
+use Rattle.lists.specs.Lists.{filter, concat_map}
 use Rattle.lists.proofs.Tests.{bool_cases}
 use Rattle.lists.proofs.ListLaws.{all_map}
 use Rattle.lists.proofs.FilterLaws.{filter-yes, filter-no, filter-all, filter-fewer}
 use Rattle.prefix.proofs.PrefixLaws.{size-positive}
 use Rattle.table.specs.declared.Lease.{Lease}
 use Rattle.table.specs.declared.LeaseTable.{LeaseTable}
-use Rattle.table.specs.Table.{poolSlots, leaseSlots, unused?, empty?, prefix_of, present, sound}
+use Rattle.table.specs.Table.{pool_slots, lease_slots, unused?, empty?, prefix_of, present, sound}
 use Rattle.table.proofs.Ascending.{ascending-low}
 use Rattle.table.proofs.Ascending as table
 use Rattle.table.proofs.TableLaws.{sound-used, sound-fine, sound-slots, sound-pool-slots, present-padded, present?}
-use Rattle.image.specs.Image.{headSize, poolSize, leaseSize, headRecord, poolRecord, leaseRecord, usedPools, usedLeases, head_of, imageAs, image_of}
-use Rattle.image.proofs.ImageLaws.{length-head, length-pool, length-concatMap, table-whole}
+use Rattle.image.specs.Image.{head_size, pool_size, lease_size, head_record, pool_record, lease_record, used_pools, used_leases, head_of, image_as, image_of}
+use Rattle.image.proofs.ImageLaws.{length-head, length-pool, length-concat_map, table-whole}
 use Rattle.image_records.specs.Records.{Records, Ascending}
 use Rattle.image_records.proofs.RecordLaws.{length-leases}
 
@@ -53,15 +53,15 @@ ascending-present time xs a = ascending-filter (present? time) xs a
 -- THE LEASES OF A TABLE
 
 module _ (t : LeaseTable) (e : sound t ≡ true) where
-  pub sound-ascending : Ascending (usedLeases t)
+  pub sound-ascending : Ascending (used_leases t)
   sound-ascending = subst Ascending (sym (sound-used t e)) (ascending-prefixes 0 (present t.last t.leases) (sound-fine t e t.last).1)
 
   -- Empty slots are not present.
-  pub present-used : (time : ℕ) → present time t.leases ≡ present time (usedLeases t)
+  pub present-used : (time : ℕ) → present time t.leases ≡ present time (used_leases t)
   present-used time =
-      ap (λ (u : LeaseTable). present time u.leases) (table-whole t e) ∙ present-padded time (leaseSlots - length (usedLeases t)) (usedLeases t)
+      ap (λ (u : LeaseTable). present time u.leases) (table-whole t e) ∙ present-padded time (lease_slots - length (used_leases t)) (used_leases t)
 
-  pub used-few : (length (usedPools t) ≤ poolSlots) × (length (usedLeases t) ≤ leaseSlots)
+  pub used-few : (length (used_pools t) ≤ pool_slots) × (length (used_leases t) ≤ lease_slots)
   used-few = (
     omega (arith, filter-fewer (λ p. not (unused? p)) t.pools, sound-pool-slots t e),
     omega (arith, filter-fewer (λ x. not (empty? x)) t.leases, sound-slots t e),
@@ -69,23 +69,23 @@ module _ (t : LeaseTable) (e : sound t ≡ true) where
 
 -- A buffer that an image is the front of holds the leases as records.
 module _ (t : LeaseTable) (l : List ℕ) (bytes : ℕ) (e : image_of t ≡ take bytes l) where
-  pub image-records : Records l (headSize + poolSize * length (usedPools t)) (usedLeases t)
-  unfolding Records imageAs
+  pub image-records : Records l (head_size + pool_size * length (used_pools t)) (used_leases t)
+  unfolding Records image_as
   image-records =
-      let head : List ℕ = headRecord (head_of t) in
-      let pools : List ℕ = concatMap poolRecord (usedPools t) in
-      let leases : List ℕ = concatMap leaseRecord (usedLeases t) in
-      let from : ℕ = headSize + poolSize * length (usedPools t) in
+      let head : List ℕ = head_record (head_of t) in
+      let pools : List ℕ = concat_map pool_record (used_pools t) in
+      let leases : List ℕ = concat_map lease_record (used_leases t) in
+      let from : ℕ = head_size + pool_size * length (used_pools t) in
       let rest : List ℕ = drop bytes l in
       let front : length (head ++ pools) ≡ from =
-      length-append head pools ∙ omega (arith, length-head (head_of t), length-concatMap poolRecord poolSize length-pool (usedPools t)) in
+      length-append head pools ∙ omega (arith, length-head (head_of t), length-concat_map pool_record pool_size length-pool (used_pools t)) in
       let here : l ≡ (head ++ pools) ++ (leases ++ rest) =
       sym (take-append-drop bytes l)
       ∙ ap (λ (s : List ℕ). s ++ rest) (sym e ∙ sym (append_assoc head pools leases))
       ∙ append_assoc (head ++ pools) leases rest in
-      let after : length ((head ++ pools) ++ leases) ≡ from + leaseSize * length (usedLeases t) =
-      length-append (head ++ pools) leases ∙ omega (arith, length-leases (usedLeases t)) in
+      let after : length ((head ++ pools) ++ leases) ≡ from + lease_size * length (used_leases t) =
+      length-append (head ++ pools) leases ∙ omega (arith, length-leases (used_leases t)) in
       ap (drop from) here
       ∙ drop_at (head ++ pools) (leases ++ rest) from front
       ∙ ap (λ (s : List ℕ). leases ++ s)
-      (sym (ap (drop (from + leaseSize * length (usedLeases t))) (here ∙ sym (append_assoc (head ++ pools) leases rest)) ∙ drop_at ((head ++ pools) ++ leases) rest (from + leaseSize * length (usedLeases t)) after))
+      (sym (ap (drop (from + lease_size * length (used_leases t))) (here ∙ sym (append_assoc (head ++ pools) leases rest)) ∙ drop_at ((head ++ pools) ++ leases) rest (from + lease_size * length (used_leases t)) after))

@@ -1,11 +1,11 @@
 // Records in a lent buffer: writing one, and leases that stand as records one after another.
 ghost use Rattle.std.specs.Prelude.{◌≡◌, List, ◌∷◌, ◌++◌, ◌+◌, ◌-◌, ◌*◌, ◌≤◌, ◌<◌, length, take, drop, replicate, leb};
-ghost use Rattle.lists.specs.Lists.{filter, concatMap};
+ghost use Rattle.lists.specs.Lists.{filter, concat_map};
 ghost use Rattle.lists.specs.Put.{put};
 ghost use Rattle.table.specs.declared.Lease.{Lease};
 ghost use Rattle.table.specs.Table.{present, insert};
-ghost use Rattle.image.specs.Image.{le32, headSize, poolSize, fullImage, headRecord, poolRecord, leaseRecord, leaseSize, stateByte, flagsByte};
-ghost use Rattle.image.specs.Reading.{leaseIn};
+ghost use Rattle.image.specs.Image.{le32, head_size, pool_size, full_image, head_record, pool_record, lease_record, lease_size, state_byte, flags_byte};
+ghost use Rattle.image.specs.Reading.{lease_in};
 ghost use Rattle.image_records.specs.Records.{Records, Ascending, ExpiredIn};
 ghost use Rattle.image_records.specs.Inner.{Closed};
 
@@ -28,13 +28,13 @@ pub fn put32(out: &mut [u8], at: usize, n: u32)
 }
 
 pub fn state_byte(leased: bool) -> u8
-    ensures { result ≡ stateByte leased }
+    ensures { result ≡ state_byte leased }
 {
     if leased { 2 } else { 1 }
 }
 
 pub fn flags_byte(h: bool, d: bool) -> u8
-    ensures { result ≡ flagsByte h d }
+    ensures { result ≡ flags_byte h d }
 {
     if h {
         if d { 3 } else { 1 }
@@ -44,8 +44,8 @@ pub fn flags_byte(h: bool, d: bool) -> u8
 }
 
 pub fn put_head(out: &mut [u8], head: Head)
-    requires { headSize ≤ length out.old }
-    ensures { out.new ≡ put out.old 0 (headRecord head) }
+    requires { head_size ≤ length out.old }
+    ensures { out.new ≡ put out.old 0 (head_record head) }
 {
     put32(out, 0, image::HEAD_START);
     put32(out, image::TERM, head.term);
@@ -54,8 +54,8 @@ pub fn put_head(out: &mut [u8], head: Head)
 }
 
 pub fn put_pool(out: &mut [u8], at: usize, p: Pool)
-    requires { at + poolSize ≤ length out.old }
-    ensures { out.new ≡ put out.old at (poolRecord p) }
+    requires { at + pool_size ≤ length out.old }
+    ensures { out.new ≡ put out.old at (pool_record p) }
 {
     put32(out, at, image::POOL_START);
     put32(out, at + image::NETWORK, p.network);
@@ -63,8 +63,8 @@ pub fn put_pool(out: &mut [u8], at: usize, p: Pool)
 }
 
 pub fn put_lease(out: &mut [u8], at: usize, x: Lease)
-    requires { at + leaseSize ≤ length out.old }
-    ensures { out.new ≡ put out.old at (leaseRecord x) }
+    requires { at + lease_size ≤ length out.old }
+    ensures { out.new ≡ put out.old at (lease_record x) }
 {
     put32(out, at, image::LEASE_START);
     put32(out, at + image::NETWORK, x.network);
@@ -93,7 +93,7 @@ pub fn clear(image: &mut [u8], from: usize, to: usize)
 // Bytes of an image to the front of a buffer; how many. By way of an array that overlaps with neither, which tells the compiler that
 // this is one move: the array itself is never laid out.
 pub fn copy(from: &[u8], to: &mut [u8]) -> usize
-    requires { (length from.now ≤ fullImage) × (length from.now ≤ length to.old) }
+    requires { (length from.now ≤ full_image) × (length from.now ≤ length to.old) }
     ensures value { result ≡ length from.now }
     ensures to_after { to.new ≡ from.now ++ drop (length from.now) to.old }
 {
@@ -106,8 +106,8 @@ pub fn copy(from: &[u8], to: &mut [u8]) -> usize
 
 // The lease whose record begins here.
 pub fn lease_at(image: &[u8], at: usize) -> Lease
-    requires { at + leaseSize ≤ length image.now }
-    ensures { result ≡ leaseIn (drop at image.now) }
+    requires { at + lease_size ≤ length image.now }
+    ensures { result ≡ lease_in (drop at image.now) }
 {
     Lease {
         network: image::network_at(image, at),
@@ -123,8 +123,8 @@ pub fn lease_at(image: &[u8], at: usize) -> Lease
 
 // The bytes of a record. Copied out and in again, they move as words, whether or not the two places overlap.
 fn record_at(image: &[u8], at: usize) -> [u8; LEASE]
-    requires { at + leaseSize ≤ length image.now }
-    ensures { result ≡ take leaseSize (drop at image.now) }
+    requires { at + lease_size ≤ length image.now }
+    ensures { result ≡ take lease_size (drop at image.now) }
 {
     let mut bytes = [0u8; LEASE];
     let mut k: usize = 0;
@@ -136,7 +136,7 @@ fn record_at(image: &[u8], at: usize) -> [u8; LEASE]
 }
 
 fn put_record(image: &mut [u8], at: usize, bytes: [u8; LEASE])
-    requires { at + leaseSize ≤ length image.old }
+    requires { at + lease_size ≤ length image.old }
     ensures { image.new ≡ put image.old at bytes }
 {
     let mut k: usize = 0;
@@ -148,8 +148,8 @@ fn put_record(image: &mut [u8], at: usize, bytes: [u8; LEASE])
 
 // Sixteen records at once: compiled to one call that moves memory, and enough of it to pay for the call.
 fn sixteen_at(image: &[u8], at: usize) -> [u8; SIXTEEN]
-    requires { at + (16 * leaseSize) ≤ length image.now }
-    ensures { result ≡ take (16 * leaseSize) (drop at image.now) }
+    requires { at + (16 * lease_size) ≤ length image.now }
+    ensures { result ≡ take (16 * lease_size) (drop at image.now) }
 {
     let mut bytes = [0u8; SIXTEEN];
     let mut k: usize = 0;
@@ -161,7 +161,7 @@ fn sixteen_at(image: &[u8], at: usize) -> [u8; SIXTEEN]
 }
 
 fn put_sixteen(image: &mut [u8], at: usize, bytes: [u8; SIXTEEN])
-    requires { at + (16 * leaseSize) ≤ length image.old }
+    requires { at + (16 * lease_size) ≤ length image.old }
     ensures { image.new ≡ put image.old at bytes }
 {
     let mut k: usize = 0;
@@ -183,8 +183,8 @@ fn stays(expires: u32, time: u32) -> usize
 // Of the leases from `first` up to `last` those present, each moved down to the one before; the place after them. Each record
 // is moved, and the next one over it if it has expired: so there is no branch that the processor cannot foresee.
 fn close_up(image: &mut [u8], from: usize, first: usize, last: usize, time: u32) -> usize
-    requires { (first ≤ last) × (from + leaseSize * last ≤ length image.old) }
-    ensures upper_bound { (result ≤ last) × (drop (from + leaseSize * last) image.new ≡ drop (from + leaseSize * last) image.old) }
+    requires { (first ≤ last) × (from + lease_size * last ≤ length image.old) }
+    ensures upper_bound { (result ≤ last) × (drop (from + lease_size * last) image.new ≡ drop (from + lease_size * last) image.old) }
     ensures closed { Closed image.old from first time image.new result last }
 {
     let mut kept: usize = first;
@@ -203,8 +203,8 @@ fn close_up(image: &mut [u8], from: usize, first: usize, last: usize, time: u32)
 
 // n records from `at` on also from `to` on, which is no later, from the first up.
 fn lower_each(image: &mut [u8], to: usize, at: usize, n: usize)
-    requires { (to ≤ at) × (at + leaseSize * n ≤ length image.old) }
-    ensures { image.new ≡ put image.old to (take (leaseSize * n) (drop at image.old)) }
+    requires { (to ≤ at) × (at + lease_size * n ≤ length image.old) }
+    ensures { image.new ≡ put image.old to (take (lease_size * n) (drop at image.old)) }
 {
     let mut k: usize = 0;
     while k < n {
@@ -216,8 +216,8 @@ fn lower_each(image: &mut [u8], to: usize, at: usize, n: usize)
 
 // The same, sixteen records at a time.
 fn lower(image: &mut [u8], to: usize, at: usize, n: usize)
-    requires { (to ≤ at) × (at + leaseSize * n ≤ length image.old) }
-    ensures { image.new ≡ put image.old to (take (leaseSize * n) (drop at image.old)) }
+    requires { (to ≤ at) × (at + lease_size * n ≤ length image.old) }
+    ensures { image.new ≡ put image.old to (take (lease_size * n) (drop at image.old)) }
 {
     let mut k: usize = 0;
     while k + 16 <= n {
@@ -238,10 +238,10 @@ pub fn remove_expired(
     last: usize,
     time: u32,
 ) -> usize
-    requires { (first ≤ last) × (last ≤ n) × (from + leaseSize * n ≤ length image.old) }
+    requires { (first ≤ last) × (last ≤ n) × (from + lease_size * n ≤ length image.old) }
     ensures upper_bound { result ≤ n }
     ensures value { (xs : List Lease) → Records image.old from xs → n ≡ length xs → ExpiredIn time first last xs
-        → (result ≡ length (present time xs)) × (image.new ≡ put image.old from (concatMap leaseRecord (present time xs) ++ replicate (leaseSize * (n - result)) 0)) }
+        → (result ≡ length (present time xs)) × (image.new ≡ put image.old from (concat_map lease_record (present time xs) ++ replicate (lease_size * (n - result)) 0)) }
 {
     let kept = close_up(image, from, first, last, time);
     lower(image, from + LEASE * kept, from + LEASE * last, n - last);
@@ -254,7 +254,7 @@ pub fn remove_expired(
 
 // How many of n leases that ascend have a network up to this one: the place after them, found by halving.
 pub fn place_after(image: &[u8], from: usize, n: usize, network: u32) -> usize
-    requires { from + leaseSize * n ≤ length image.now }
+    requires { from + lease_size * n ≤ length image.now }
     ensures upper_bound { result ≤ n }
     ensures value { (xs : List Lease) → Records image.now from xs → n ≡ length xs → Ascending xs
         → result ≡ length (filter (λ x. leb x.network network) xs) }
@@ -279,8 +279,8 @@ pub fn place_after(image: &[u8], from: usize, n: usize, network: u32) -> usize
 
 // The records from `place` up to n also `room` places up, from the last down.
 fn raise_each(image: &mut [u8], from: usize, place: usize, n: usize, room: usize)
-    requires { (place ≤ n) × (from + leaseSize * (n + room) ≤ length image.old) }
-    ensures { image.new ≡ put image.old (from + leaseSize * place + leaseSize * room) (take (from + leaseSize * n - (from + leaseSize * place)) (drop (from + leaseSize * place) image.old)) }
+    requires { (place ≤ n) × (from + lease_size * (n + room) ≤ length image.old) }
+    ensures { image.new ≡ put image.old (from + lease_size * place + lease_size * room) (take (from + lease_size * n - (from + lease_size * place)) (drop (from + lease_size * place) image.old)) }
 {
     let mut k: usize = n;
     while place < k {
@@ -292,8 +292,8 @@ fn raise_each(image: &mut [u8], from: usize, place: usize, n: usize, room: usize
 
 // The same, sixteen records at a time.
 fn raise(image: &mut [u8], from: usize, place: usize, n: usize, room: usize)
-    requires { (place ≤ n) × (from + leaseSize * (n + room) ≤ length image.old) }
-    ensures { image.new ≡ put image.old (from + leaseSize * place + leaseSize * room) (take (from + leaseSize * n - (from + leaseSize * place)) (drop (from + leaseSize * place) image.old)) }
+    requires { (place ≤ n) × (from + lease_size * (n + room) ≤ length image.old) }
+    ensures { image.new ≡ put image.old (from + lease_size * place + lease_size * room) (take (from + lease_size * n - (from + lease_size * place)) (drop (from + lease_size * place) image.old)) }
 {
     let mut k: usize = n;
     while place + 16 <= k {
@@ -307,10 +307,10 @@ fn raise(image: &mut [u8], from: usize, place: usize, n: usize, room: usize)
 // A lease among n that ascend: those after it moved up by `room` records, its own right before them; how many stand before it.
 // The records between stay for leases that belong there. With room 1 this is an insertion.
 pub fn insert_above(image: &mut [u8], from: usize, n: usize, room: usize, x: Lease) -> usize
-    requires { (1 ≤ room) × (from + leaseSize * (n + room) ≤ length image.old) }
+    requires { (1 ≤ room) × (from + lease_size * (n + room) ≤ length image.old) }
     ensures upper_bound { result ≤ n }
     ensures xs_value { (xs : List Lease) → Records image.old from xs → n ≡ length xs → Ascending xs
-        → (insert x xs ≡ take result xs ++ (x ∷ drop result xs)) × (image.new ≡ put image.old (from + leaseSize * (result + room - 1)) (concatMap leaseRecord (x ∷ drop result xs))) }
+        → (insert x xs ≡ take result xs ++ (x ∷ drop result xs)) × (image.new ≡ put image.old (from + lease_size * (result + room - 1)) (concat_map lease_record (x ∷ drop result xs))) }
 {
     let place = place_after(image, from, n, x.network);
     raise(image, from, place, n, room);

@@ -13,14 +13,14 @@ use Rattle.lists.specs.Lists.{filter}
 use Rattle.lists.proofs.Tests.{bool_cases, cond-true, cond-false}
 use Rattle.table.specs.declared.Lease.{Lease}
 use Rattle.table.specs.declared.LeaseTable.{LeaseTable}
-use Rattle.table.specs.Table.{leaseSlots, prefix_of, empty?, present, sound}
+use Rattle.table.specs.Table.{lease_slots, prefix_of, empty?, present, sound}
 use Rattle.table.proofs.TableLaws.{empty-to, sound-slots, present-yes, present-no}
-use Rattle.ledger.specs.Ledger.{emptySlot?, emptySlots}
-use Rattle.ledger.specs.Demand3.{inUse}
+use Rattle.ledger.specs.Ledger.{empty_slot?, empty_slots}
+use Rattle.ledger.specs.Demand3.{in_use}
 use Rattle.lists.proofs.PartLaws.{Opposite, count-parts}
 
 -- An empty slot has ended at every time.
-pub empty-ended : (now : ℕ) (x : Lease) → emptySlot? now x ≡ leb x.expires now
+pub empty-ended : (now : ℕ) (x : Lease) → empty_slot? now x ≡ leb x.expires now
 empty-ended now x =
     ⊎_elim
     (λ (e : empty? x ≡ true).
@@ -36,7 +36,7 @@ present-or-ended now x =
     (λ (h : ltb now x.expires ≡ false). inr (h, le-leb x.expires now (ltb-false now x.expires h)))
     (bool_cases (ltb now x.expires))
 
-present-or-empty : (now : ℕ) → Opposite (λ (x : Lease). ltb now x.expires) (emptySlot? now)
+present-or-empty : (now : ℕ) → Opposite (λ (x : Lease). ltb now x.expires) (empty_slot? now)
 present-or-empty now x =
     ⊎_elim
     (λ (h : (ltb now x.expires ≡ true) × (leb x.expires now ≡ false)). inl (h.0, empty-ended now x ∙ h.1))
@@ -65,9 +65,9 @@ present-later last now l (x ∷ xs) =
     (bool_cases (ltb now x.expires))
 
 -- On a sound table the empty slots at a time are the capacity less those present.
-pub empty-slots : (t : LeaseTable) (now : ℕ) → sound t ≡ true → length (present now t.leases) + emptySlots now t ≡ leaseSlots
-unfolding present emptySlots
-empty-slots t now s = count-parts (λ x. ltb now x.expires) (emptySlot? now) (present-or-empty now) t.leases ∙ sound-slots t s
+pub empty-slots : (t : LeaseTable) (now : ℕ) → sound t ≡ true → length (present now t.leases) + empty_slots now t ≡ lease_slots
+unfolding present empty_slots
+empty-slots t now s = count-parts (λ x. ltb now x.expires) (empty_slot? now) (present-or-empty now) t.leases ∙ sound-slots t s
 
-pub empty-slots-in-use : (t : LeaseTable) (now : ℕ) → sound t ≡ true → length (inUse now t) + emptySlots now t ≡ leaseSlots
-empty-slots-in-use t now s = ap (λ (n : ℕ). n + emptySlots now t) (length-map (present now t.leases) prefix_of) ∙ empty-slots t now s
+pub empty-slots-in-use : (t : LeaseTable) (now : ℕ) → sound t ≡ true → length (in_use now t) + empty_slots now t ≡ lease_slots
+empty-slots-in-use t now s = ap (λ (n : ℕ). n + empty_slots now t) (length-map (present now t.leases) prefix_of) ∙ empty-slots t now s

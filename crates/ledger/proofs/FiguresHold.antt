@@ -18,10 +18,10 @@ use Rattle.lists.proofs.FilterLaws.{filter-yes, filter-no, filter_none}
 use Rattle.prefix.specs.declared.Prefix.{Prefix}
 use Rattle.prefix.specs.Prefixes.{end}
 use Rattle.prefix.proofs.PrefixLaws.{size-positive}
-use Rattle.option.specs.Answers.{figuresOf}
+use Rattle.option.specs.Answers.{figures_of}
 use Rattle.option.specs.Values.{Entry}
 use Rattle.table.specs.declared.{Lease.Lease, LeaseTable.LeaseTable}
-use Rattle.table.specs.Table.{leaseSlots, prefix_of, noLease, present, sound, store}
+use Rattle.table.specs.Table.{lease_slots, prefix_of, no_lease, present, sound, store}
 use Rattle.table.proofs.Ascending.{Ascending, ascending-low}
 use Rattle.table.proofs.TableLaws.{present?, sound-fine}
 use Rattle.table_open.specs.Open.{given, fresh}
@@ -29,11 +29,11 @@ use Rattle.figures.specs.declared.FigureRow.{FigureRow}
 use Rattle.figures.specs.Figures as figures
 use Rattle.figures.proofs.RowsMatch.{of-lease, fits-to, filled-matches}
 use Rattle.figures.proofs.RowsFollow.{kept-yes, kept-no, kept-matches, found-same, found_none, own-rows, row_new, row-own}
-use Rattle.figures.proofs.RowsFile.{figureAt, newest, filed-high-water, filed-in-use, filed-unusable, filed-of-lease}
-use Rattle.ledger.specs.Ledger.{State, filled, left, Call, refusalPlace, askRows, ask, names?, namedBy?, usableEntries, renew, renewed, takeRows, take, releaseRows, release, markRows, mark, ledger}
+use Rattle.figures.proofs.RowsFile.{figure_at, newest, filed-high-water, filed-in-use, filed-unusable, filed-of-lease}
+use Rattle.ledger.specs.Ledger.{State, filled, left, Call, refusal_place, ask_rows, ask, names?, named_by?, usable_entries, renew, renewed, take_rows, take, release_rows, release, mark_rows, mark, ledger}
 use Rattle.ledger.specs.FiguresKept.{Matched, Beside, RowOf, told, last_of, Updated, Unchanged, FiguresAfter, FiguresKept, AllUntold, OpensUntold}
 use Rattle.ledger.proofs.RowLaws.{accepted-by, numbered-ask, numbered-take, numbered-release, numbered-mark}
-use Rattle.ledger.proofs.LeftLaws.{renewedTable, present-long, left-matches, renewed-matches}
+use Rattle.ledger.proofs.LeftLaws.{renewed_table, present-long, left-matches, renewed-matches}
 use Rattle.ledger.proofs.HistoriesHold.{opened-is}
 
 -- A LEASE AND THE ROW AT ITS PLACE
@@ -56,26 +56,26 @@ beside-member (y ∷ ys) [] x r b = absurd b
 beside-member (y ∷ ys) (q ∷ rs) x r (inl b) = inl b.0
 beside-member (y ∷ ys) (q ∷ rs) x r (inr b) = inr (beside-member ys rs x r b)
 
-beside-of-lease : (ys : List Lease) (rs : List FigureRow) (x : Lease) (r : FigureRow) → figures.matches? ys rs ≡ true → Beside ys rs x r → figures.ofLease? x r ≡ true
+beside-of-lease : (ys : List Lease) (rs : List FigureRow) (x : Lease) (r : FigureRow) → figures.matches? ys rs ≡ true → Beside ys rs x r → figures.of_lease? x r ≡ true
 beside-of-lease [] rs x r m b = absurd b
 beside-of-lease (y ∷ ys) [] x r m b = absurd b
-beside-of-lease (y ∷ ys) (q ∷ rs) x r m (inl b) = ap₂ figures.ofLease? (sym b.0) (sym b.1) ∙ fits-to y q (and-to (figures.fits? y q) (figures.matches? ys rs) m).0
+beside-of-lease (y ∷ ys) (q ∷ rs) x r m (inl b) = ap₂ figures.of_lease? (sym b.0) (sym b.1) ∙ fits-to y q (and-to (figures.fits? y q) (figures.matches? ys rs) m).0
 beside-of-lease (y ∷ ys) (q ∷ rs) x r m (inr b) = beside-of-lease ys rs x r (and-to (figures.fits? y q) (figures.matches? ys rs) m).1 b
 
 -- A lease that is present is among those present, with its row.
 module _ (now : ℕ) (x : Lease) (r : FigureRow) (l : ltb now x.expires ≡ true) where
   abbrev Kept : List Lease → List FigureRow → Type 0
-  Kept xs rs = Beside (present now xs) (figures.keptRows now xs rs) x r
+  Kept xs rs = Beside (present now xs) (figures.kept_rows now xs rs) x r
 
   kept-first : (y : Lease) (xs : List Lease) (q : FigureRow) (rs : List FigureRow) → ((y ≡ x) × (q ≡ r)) ⊎ Kept xs rs → Kept (y ∷ xs) (q ∷ rs)
   unfolding present
   kept-first y xs q rs b =
       ⊎_elim
       (λ (e : ltb now y.expires ≡ true).
-      subst (λ (ys : List Lease). Beside ys (figures.keptRows now (y ∷ xs) (q ∷ rs)) x r) (sym (filter-yes (present? now) y xs e))
+      subst (λ (ys : List Lease). Beside ys (figures.kept_rows now (y ∷ xs) (q ∷ rs)) x r) (sym (filter-yes (present? now) y xs e))
       (subst (λ (qs : List FigureRow). Beside (y ∷ present now xs) qs x r) (sym (kept-yes now y xs q rs e)) b))
       (λ (e : ltb now y.expires ≡ false).
-      subst (λ (ys : List Lease). Beside ys (figures.keptRows now (y ∷ xs) (q ∷ rs)) x r) (sym (filter-no (present? now) y xs e))
+      subst (λ (ys : List Lease). Beside ys (figures.kept_rows now (y ∷ xs) (q ∷ rs)) x r) (sym (filter-no (present? now) y xs e))
       (subst (λ (qs : List FigureRow). Beside (present now xs) qs x r) (sym (kept-no now y xs q rs e)) (later e b)))
       (bool_cases (ltb now y.expires))
     where
@@ -96,13 +96,13 @@ module _ (s : State) (now : ℕ) (so : sound s.table ≡ true) (m : Matched s) w
   here = present now s.table.leases
 
   abbrev rows : List FigureRow
-  rows = figures.keptRows now s.table.leases s.rows
+  rows = figures.kept_rows now s.table.leases s.rows
 
   rows-match : figures.matches? here rows ≡ true
   rows-match = kept-matches now s.table.leases s.rows m
 
   -- A lease that was present finds the row that it had, by any lease of its prefix.
-  row_stays : (x y : Lease) (r : FigureRow) → RowOf s x r → now < x.expires → prefix_of y ≡ prefix_of x → figures.rowFor rows y ≡ r
+  row_stays : (x y : Lease) (r : FigureRow) → RowOf s x r → now < x.expires → prefix_of y ≡ prefix_of x → figures.row_for rows y ≡ r
   row_stays x y r b l e =
       row-own rows y r
       (found-same rows x y e
@@ -110,7 +110,7 @@ module _ (s : State) (now : ℕ) (so : sound s.table ≡ true) (m : Matched s) w
       (beside-kept now x r (lt-ltb now x.expires l) s.table.leases s.rows b))
 
   -- One whose prefix none had finds none.
-  row-starts : (y : Lease) → All (λ x. prefix_of x ≡ prefix_of y → ⊥) here → figures.rowFor rows y ≡ figures.untoldRow y
+  row-starts : (y : Lease) → All (λ x. prefix_of x ≡ prefix_of y → ⊥) here → figures.row_for rows y ≡ figures.untold_row y
   row-starts y a = row_new rows y (found_none y here rows rows-match a)
 
   pub left-figures : (xs : List Lease) → FiguresAfter Unchanged now s (left s now xs)
@@ -120,14 +120,14 @@ module _ (s : State) (now : ℕ) (so : sound s.table ≡ true) (m : Matched s) w
       record {
         matched-before = m;
         matched-after = left-matches s now so m xs;
-        kept = λ x y r q b l a e. beside-map (figures.rowFor rows) ys y q a ∙ row_stays x y r b l e;
-        new = λ y q a others. beside-map (figures.rowFor rows) ys y q a ∙ row-starts y others;
+        kept = λ x y r q b l a e. beside-map (figures.row_for rows) ys y q a ∙ row_stays x y r b l e;
+        new = λ y q a others. beside-map (figures.row_for rows) ys y q a ∙ row-starts y others;
       }
 
 -- FIGURES THAT ARE TOLD
 
 -- One figure of a row, by its place in an entry.
-module _ (get : FigureRow → ℕ) (place : ℕ) (files : (e : Entry) (r : FigureRow) → get (figures.filed (figuresOf e.figures) r) ≡ newest (get r) (figureAt place e)) where
+module _ (get : FigureRow → ℕ) (place : ℕ) (files : (e : Entry) (r : FigureRow) → get (figures.filed (figures_of e.figures) r) ≡ newest (get r) (figure_at place e)) where
   told_more : (old new : ℕ) (ns : List ℕ) → last_of (newest old new) ns ≡ last_of old (cond (not (eqb new figures.untold)) (new ∷ ns) ns)
   told_more old new ns = go (eqb new figures.untold)
     where
@@ -138,21 +138,21 @@ module _ (get : FigureRow → ℕ) (place : ℕ) (files : (e : Entry) (r : Figur
   module _ (client : ℕ) (x : Lease) where
     -- The entry comes to the row if it names the lease.
     told-one : (b : Bool) (e : Entry) (ds : List Entry) (r : FigureRow)
-        → last_of (get (cond b (figures.filed (figuresOf e.figures) r) r)) (filter (λ n. not (eqb n figures.untold)) (map (figureAt place) ds))
-        ≡ last_of (get r) (filter (λ n. not (eqb n figures.untold)) (map (figureAt place) (cond b (e ∷ ds) ds)))
+        → last_of (get (cond b (figures.filed (figures_of e.figures) r) r)) (filter (λ n. not (eqb n figures.untold)) (map (figure_at place) ds))
+        ≡ last_of (get r) (filter (λ n. not (eqb n figures.untold)) (map (figure_at place) (cond b (e ∷ ds) ds)))
     told-one true e ds r =
-        let ns : List ℕ = filter (λ n. not (eqb n figures.untold)) (map (figureAt place) ds) in
-        ap (λ (n : ℕ). last_of n ns) (files e r) ∙ told_more (get r) (figureAt place e) ns
+        let ns : List ℕ = filter (λ n. not (eqb n figures.untold)) (map (figure_at place) ds) in
+        ap (λ (n : ℕ). last_of n ns) (files e r) ∙ told_more (get r) (figure_at place e) ns
     told-one false e ds r = refl
 
-    filed-told : x.client ≡ client → (es : List Entry) (r : FigureRow) → figures.ofLease? x r ≡ true → get (figures.filedBy es r) ≡ last_of (get r) (told client es x place)
+    filed-told : x.client ≡ client → (es : List Entry) (r : FigureRow) → figures.of_lease? x r ≡ true → get (figures.filed_by es r) ≡ last_of (get r) (told client es x place)
     filed-told own [] r o = refl
     filed-told own (e ∷ es) r o =
         filed-told own es _ (stays (figures.names? r e))
         ∙ told-one (figures.names? r e) e (filter (names? client x) es) r
-        ∙ ap (λ (b : Bool). last_of (get r) (filter (λ n. not (eqb n figures.untold)) (map (figureAt place) (cond b (e ∷ filter (names? client x) es) (filter (names? client x) es))))) named
+        ∙ ap (λ (b : Bool). last_of (get r) (filter (λ n. not (eqb n figures.untold)) (map (figure_at place) (cond b (e ∷ filter (names? client x) es) (filter (names? client x) es))))) named
       where
-        stays : (b : Bool) → figures.ofLease? x (cond b (figures.filed (figuresOf e.figures) r) r) ≡ true
+        stays : (b : Bool) → figures.of_lease? x (cond b (figures.filed (figures_of e.figures) r) r) ≡ true
         stays true = filed-of-lease e r x ∙ o
         stays false = o
 
@@ -165,18 +165,18 @@ module _ (get : FigureRow → ℕ) (place : ℕ) (files : (e : Entry) (r : Figur
     -- Another client's entries tell nothing of it.
     not-told : eqb x.client client ≡ false → (es : List Entry) → told client es x place ≡ []
     not-told other es =
-        ap (λ (ds : List Entry). filter (λ n. not (eqb n figures.untold)) (map (figureAt place) ds))
+        ap (λ (ds : List Entry). filter (λ n. not (eqb n figures.untold)) (map (figure_at place) ds))
         (filter_none (names? client x) es (all-every (λ e. ap (λ (b : Bool). b && and (eqb x.network e.network ∷ eqb x.length e.length ∷ [])) other) es))
 
-    taken-told : (es : List Entry) (r : FigureRow) → figures.ofLease? x r ≡ true
-        → get (cond (eqb x.client client) (figures.filedBy es r) r) ≡ last_of (get r) (told client es x place)
+    taken-told : (es : List Entry) (r : FigureRow) → figures.of_lease? x r ≡ true
+        → get (cond (eqb x.client client) (figures.filed_by es r) r) ≡ last_of (get r) (told client es x place)
     taken-told es r o =
         ⊎_elim
-        (λ (b : eqb x.client client ≡ true). ap get (cond-true (eqb x.client client) (figures.filedBy es r) r b) ∙ filed-told (eqb-true x.client client b) es r o)
-        (λ (b : eqb x.client client ≡ false). ap get (cond-false (eqb x.client client) (figures.filedBy es r) r b) ∙ ap (last_of (get r)) (sym (not-told b es)))
+        (λ (b : eqb x.client client ≡ true). ap get (cond-true (eqb x.client client) (figures.filed_by es r) r b) ∙ filed-told (eqb-true x.client client b) es r o)
+        (λ (b : eqb x.client client ≡ false). ap get (cond-false (eqb x.client client) (figures.filed_by es r) r b) ∙ ap (last_of (get r)) (sym (not-told b es)))
         (bool_cases (eqb x.client client))
 
-updated : (client : ℕ) (es : List Entry) (x : Lease) (r : FigureRow) → figures.ofLease? x r ≡ true → Updated client es x r (cond (eqb x.client client) (figures.filedBy es r) r)
+updated : (client : ℕ) (es : List Entry) (x : Lease) (r : FigureRow) → figures.of_lease? x r ≡ true → Updated client es x r (cond (eqb x.client client) (figures.filed_by es r) r)
 updated client es x r o = record {
   high-water = taken-told (λ q. q.high_water.0) 0 filed-high-water client x es r o;
   in_use = taken-told (λ q. q.in_use.0) 1 filed-in-use client x es r o;
@@ -208,32 +208,32 @@ any-replicate P (suc n) x (inr a) = any-replicate P n x a
 
 module _ (s : State) (now : ℕ) (c : Call) (so : sound s.table ≡ true) (m : Matched s) (named : c.client ≡ 0 → ⊥) where
   abbrev es : List Entry
-  es = usableEntries s.table c
+  es = usable_entries s.table c
 
   abbrev renews : Lease → Lease
-  renews x = cond (namedBy? c.client es x) (renew now s.table.term x) x
+  renews x = cond (named_by? c.client es x) (renew now s.table.term x) x
 
   renews-keeps : (x : Lease) → (prefix_of (renews x) ≡ prefix_of x) × ((renews x).client ≡ x.client)
-  renews-keeps x = go (namedBy? c.client es x)
+  renews-keeps x = go (named_by? c.client es x)
     where
       go : (b : Bool) → (prefix_of (cond b (renew now s.table.term x) x) ≡ prefix_of x) × ((cond b (renew now s.table.term x) x).client ≡ x.client)
       go true = (refl, refl)
       go false = (refl, refl)
 
-  abbrev takenRow : Lease → FigureRow
-  takenRow y = cond (eqb y.client c.client) (figures.filedBy es (figures.rowFor (rows s now so m) y)) (figures.rowFor (rows s now so m) y)
+  abbrev taken_row : Lease → FigureRow
+  taken_row y = cond (eqb y.client c.client) (figures.filed_by es (figures.row_for (rows s now so m) y)) (figures.row_for (rows s now so m) y)
 
   -- Each is one that was present, or an empty slot.
-  was-there : (y : Lease) (q : FigureRow) → RowOf (renewed s now c) y q → Any (λ x. renews x ≡ y) (present now s.table.leases) ⊎ (noLease ≡ y)
+  was-there : (y : Lease) (q : FigureRow) → RowOf (renewed s now c) y q → Any (λ x. renews x ≡ y) (present now s.table.leases) ⊎ (no_lease ≡ y)
   unfolding renewed store
   was-there y q b =
       let xs : List Lease = map renews (present now s.table.leases) in
-      ⊎_elim (λ a. inl (any-preimage renews (λ z. z ≡ y) (present now s.table.leases) a)) (λ a. inr (any-replicate (λ z. z ≡ y) (leaseSlots - length xs) noLease a))
-      (any_append (λ z. z ≡ y) xs (replicate (leaseSlots - length xs) noLease) (beside-member (renewedTable s now c).leases (renewed s now c).rows y q b))
+      ⊎_elim (λ a. inl (any-preimage renews (λ z. z ≡ y) (present now s.table.leases) a)) (λ a. inr (any-replicate (λ z. z ≡ y) (lease_slots - length xs) no_lease a))
+      (any_append (λ z. z ≡ y) xs (replicate (lease_slots - length xs) no_lease) (beside-member (renewed_table s now c).leases (renewed s now c).rows y q b))
 
-  row_is : (y : Lease) (q : FigureRow) → RowOf (renewed s now c) y q → q ≡ takenRow y
+  row_is : (y : Lease) (q : FigureRow) → RowOf (renewed s now c) y q → q ≡ taken_row y
   unfolding renewed figures.taken
-  row_is y q b = beside-map takenRow (renewedTable s now c).leases y q b
+  row_is y q b = beside-map taken_row (renewed_table s now c).leases y q b
 
   -- The lease of a prefix is the client's that had it.
   same-client : (x y : Lease) (r q : FigureRow) → RowOf s x r → now < x.expires → RowOf (renewed s now c) y q → prefix_of y ≡ prefix_of x → y.client ≡ x.client
@@ -247,22 +247,22 @@ module _ (s : State) (now : ℕ) (c : Call) (so : sound s.table ≡ true) (m : M
       let z = any-all (present now s.table.leases) w one in
       let same : z.0 ≡ x = z.2 (sym (renews-keeps z.0).0 ∙ ap prefix_of z.1 ∙ e) in
       ap (λ (v : Lease). v.client) (sym z.1) ∙ (renews-keeps z.0).1 ∙ ap (λ (v : Lease). v.client) same)
-      (λ (w : noLease ≡ y). absurd (omega (arith, long.2, ap (λ (v : Lease). v.length) long.1, ap (λ (v : Prefix). v.length) e, ap (λ (v : Lease). v.length) w)))
+      (λ (w : no_lease ≡ y). absurd (omega (arith, long.2, ap (λ (v : Lease). v.length) long.1, ap (λ (v : Prefix). v.length) e, ap (λ (v : Lease). v.length) w)))
       (was-there y q a)
 
   taken-kept : (x y : Lease) (r q : FigureRow) → RowOf s x r → now < x.expires → RowOf (renewed s now c) y q → prefix_of y ≡ prefix_of x → Updated c.client es x r q
   taken-kept x y r q b l a e =
-      let is : q ≡ cond (eqb x.client c.client) (figures.filedBy es r) r =
-      row_is y q a ∙ ap₂ (λ (n : ℕ) (v : FigureRow). cond (eqb n c.client) (figures.filedBy es v) v) (same-client x y r q b l a e) (row_stays s now so m x y r b l e) in
+      let is : q ≡ cond (eqb x.client c.client) (figures.filed_by es r) r =
+      row_is y q a ∙ ap₂ (λ (n : ℕ) (v : FigureRow). cond (eqb n c.client) (figures.filed_by es v) v) (same-client x y r q b l a e) (row_stays s now so m x y r b l e) in
       subst (Updated c.client es x r) (sym is) (updated c.client es x r (beside-of-lease s.table.leases s.rows x r m b))
 
-  taken-new : (y : Lease) (q : FigureRow) → RowOf (renewed s now c) y q → All (λ x. prefix_of x ≡ prefix_of y → ⊥) (present now s.table.leases) → q ≡ figures.untoldRow y
+  taken-new : (y : Lease) (q : FigureRow) → RowOf (renewed s now c) y q → All (λ x. prefix_of x ≡ prefix_of y → ⊥) (present now s.table.leases) → q ≡ figures.untold_row y
   taken-new y q a others =
       ⊎_elim
       (λ (w : Any (λ x. renews x ≡ y) (present now s.table.leases)).
       let z = any-all (present now s.table.leases) w others in
       absurd (z.2 (sym (renews-keeps z.0).0 ∙ ap prefix_of z.1)))
-      (λ (w : noLease ≡ y).
+      (λ (w : no_lease ≡ y).
       let other : eqb y.client c.client ≡ false = ne_eqb y.client c.client (λ same. named (sym same ∙ ap (λ (v : Lease). v.client) (sym w))) in
       row_is y q a ∙ cond-false (eqb y.client c.client) _ _ other ∙ row-starts s now so m y others)
       (was-there y q a)
@@ -274,29 +274,29 @@ module _ (s : State) (now : ℕ) (c : Call) (so : sound s.table ≡ true) (m : M
 
 module _ (s : State) (now : ℕ) (c : Call) where
   ask-figures : (ask s now c).answer.number ≡ 0 → FiguresAfter Unchanged now s (ask s now c).state
-  unfolding ask askRows
+  unfolding ask ask_rows
   ask-figures =
-      accepted-by (FiguresAfter Unchanged now s) (askRows s now c) (refusalPlace c.option) s c.reply _ (numbered-ask s now c)
+      accepted-by (FiguresAfter Unchanged now s) (ask_rows s now c) (refusal_place c.option) s c.reply _ (numbered-ask s now c)
       (λ r. left-figures s now (not-false (sound s.table) r.1.0) (not-false (figures.matches? s.table.leases s.rows) r.1.1.0) _)
 
-  take-figures : (take s now c).answer.number ≡ 0 → FiguresAfter (Updated c.client (usableEntries s.table c)) now s (take s now c).state
-  unfolding take takeRows
+  take-figures : (take s now c).answer.number ≡ 0 → FiguresAfter (Updated c.client (usable_entries s.table c)) now s (take s now c).state
+  unfolding take take_rows
   take-figures =
-      accepted-by (FiguresAfter (Updated c.client (usableEntries s.table c)) now s) (takeRows s now c) (refusalPlace c.option) s c.reply _ (numbered-take s now c)
+      accepted-by (FiguresAfter (Updated c.client (usable_entries s.table c)) now s) (take_rows s now c) (refusal_place c.option) s c.reply _ (numbered-take s now c)
       (λ r.
       renewed-figures s now c (not-false (sound s.table) r.1.0) (not-false (figures.matches? s.table.leases s.rows) r.1.1.0)
       (eqb-false c.client 0 r.1.1.1.0))
 
   release-figures : (release s now c).answer.number ≡ 0 → FiguresAfter Unchanged now s (release s now c).state
-  unfolding release releaseRows
+  unfolding release release_rows
   release-figures =
-      accepted-by (FiguresAfter Unchanged now s) (releaseRows s now c) (refusalPlace c.option) s c.reply _ (numbered-release s now c)
+      accepted-by (FiguresAfter Unchanged now s) (release_rows s now c) (refusal_place c.option) s c.reply _ (numbered-release s now c)
       (λ r. left-figures s now (not-false (sound s.table) r.0) (not-false (figures.matches? s.table.leases s.rows) r.1.0) _)
 
 mark-figures : (s : State) (now network len : ℕ) (d : Bool) → (mark s now network len d).answer.number ≡ 0 → FiguresAfter Unchanged now s (mark s now network len d).state
-unfolding mark markRows
+unfolding mark mark_rows
 mark-figures s now network len d =
-    accepted-by (FiguresAfter Unchanged now s) (markRows s now network len) (λ n. 0) s [] _ (numbered-mark s now network len)
+    accepted-by (FiguresAfter Unchanged now s) (mark_rows s now network len) (λ n. 0) s [] _ (numbered-mark s now network len)
     (λ r. left-figures s now (not-false (sound s.table) r.0) (not-false (figures.matches? s.table.leases s.rows) r.1.0) _)
 
 pub figures-kept : FiguresKept ledger
@@ -305,7 +305,7 @@ figures-kept = record { asks = ask-figures; takes = take-figures; releases = rel
 -- "open and load fill it"
 
 pub filled-untold : (t : LeaseTable) → AllUntold (filled t)
-filled-untold t = (filled-matches t.leases, (λ y q b. beside-map figures.untoldRow t.leases y q b))
+filled-untold t = (filled-matches t.leases, (λ y q b. beside-map figures.untold_row t.leases y q b))
 
 pub opens-untold : OpensUntold
-opens-untold networks lengths term defaultLength start e = subst AllUntold (sym (opened-is networks lengths term defaultLength start e).1) (filled-untold (fresh (given networks lengths) term defaultLength start))
+opens-untold networks lengths term default_length start e = subst AllUntold (sym (opened-is networks lengths term default_length start e).1) (filled-untold (fresh (given networks lengths) term default_length start))

@@ -9,22 +9,22 @@ use mathlib.Core.List.{List, [], ◌∷◌, ◌++◌, map, Permᴰ}
 use mathlib.Core.Option.{Option}
 use lib.Dec.{eqb}
 use lib.ListN.{take as up_to}
-use Rattle.lists.specs.Lists.{All, filter, concatMap, catMaybes}
+use Rattle.lists.specs.Lists.{All, filter, concat_map, cat_maybes}
 use Rattle.lists.proofs.ListLaws.{all_map}
 use Rattle.option.specs.Values.{Entry}
-use Rattle.option.specs.Contents.{entriesIn}
+use Rattle.option.specs.Contents.{entries_in}
 use Rattle.table.specs.declared.{Lease.Lease, LeaseTable.LeaseTable}
 use Rattle.table.specs.Table.{present, sound}
 use Rattle.ledger.specs.declared.Answer.{Answer}
 use Rattle.prefix.specs.declared.Prefix.{Prefix}
-use Rattle.ledger.specs.Ledger.{State, Call, askName, call, Result, Calls, heldAgain, narrowed, ask, ledger, namedBy?}
-use Rattle.ledger.specs.Demand3.{Server, wellFormed, asksOf, heldBefore, pairOff, confirmed, option220, replyEntries, inUse, leaseFor, RefusedRightly, Received, granted, received, afterAll, wellFormedCalls, made, AllGranted, Untouched, Demand3}
-use Rattle.ledger.specs.AskingTwice.{GivenAgain, grantedToRest, AsksTwice}
-use Rattle.ledger.specs.Histories.{Event, asked, taken, wasListed, returned, marked, saved, next, afterwards, Reachable, begun, called, NeverShared, leasesOf}
-use Rattle.ledger.specs.Conservation.{addressesOf, addressesIn, newlyMade, ifAccepted, endedAt, grantedBy, returnedBy, endedBy, summed, Conserved, FromLoad}
+use Rattle.ledger.specs.Ledger.{State, Call, ask_name, call, Result, Calls, held_again, narrowed, ask, ledger, named_by?}
+use Rattle.ledger.specs.Demand3.{Server, well_formed, asks_of, held_before, pair_off, confirmed, option220, reply_entries, in_use, lease_for, RefusedRightly, Received, granted, received, after_all, well_formed_calls, made, AllGranted, Untouched, Demand3}
+use Rattle.ledger.specs.AskingTwice.{GivenAgain, granted_to_rest, AsksTwice}
+use Rattle.ledger.specs.Histories.{Event, asked, taken, was_listed, returned, marked, saved, next, afterwards, Reachable, begun, called, NeverShared, leases_of}
+use Rattle.ledger.specs.Conservation.{addresses_of, addresses_in, newly_made, if_accepted, ended_at, granted_by, returned_by, ended_by, summed, Conserved, FromLoad}
 use Rattle.ledger.specs.ListDepends.{answered, DependsOnly}
 use Rattle.ledger.proofs.RowLaws.{first-number}
-use Rattle.ledger.proofs.CallLaws.{rowsFor, run-refused}
+use Rattle.ledger.proofs.CallLaws.{rows_for, run-refused}
 use Rattle.ledger.proofs.SoundKept.{no-overlap}
 use Rattle.ledger.proofs.HistoriesHold.{next-sound}
 use Rattle.ledger.proofs.Demand3Holds.{ill-formed-always, demand3}
@@ -43,40 +43,40 @@ pub record Follows {S : Type 0} (state_of : S → State) (s : S) (r : Result Sta
 -- DEMAND 3
 
 module _ {S : Type 0} (state_of : S → State) (server : Server S) (follows : (s : S) (now : ℕ) (c : Call) → Follows state_of s (ask (state_of s) now c) (server s now c)) where
-  entries-same : (s : S) (now : ℕ) (c : Call) → replyEntries (server s now c) ≡ replyEntries (ask (state_of s) now c)
+  entries-same : (s : S) (now : ℕ) (c : Call) → reply_entries (server s now c) ≡ reply_entries (ask (state_of s) now c)
   entries-same s now c =
       let f = follows s now c in
-      ap₂ (λ (a : Answer) (l : List ℕ). cond (eqb a.number 0) (entriesIn (option220 (up_to a.bytes l))) []) f.answer f.reply
+      ap₂ (λ (a : Answer) (l : List ℕ). cond (eqb a.number 0) (entries_in (option220 (up_to a.bytes l))) []) f.answer f.reply
 
   granted-same : (now : ℕ) (s : S) (c : Call) → granted state_of server now s c ≡ granted (λ t. t) ask now (state_of s) c
   unfolding granted
   granted-same now s c =
-      ap₂ (λ (u : State) (es : List Entry). map (confirmed now c.client u.table) (pairOff (state_of s).table (asksOf c) es)) (follows s now c).holds (entries-same s now c)
+      ap₂ (λ (u : State) (es : List Entry). map (confirmed now c.client u.table) (pair_off (state_of s).table (asks_of c) es)) (follows s now c).holds (entries-same s now c)
 
-  after_same : (now : ℕ) (cs : List Call) (s : S) → state_of (afterAll state_of server now s cs) ≡ afterAll (λ t. t) ask now (state_of s) cs
-  unfolding afterAll
+  after_same : (now : ℕ) (cs : List Call) (s : S) → state_of (after_all state_of server now s cs) ≡ after_all (λ t. t) ask now (state_of s) cs
+  unfolding after_all
   after_same now [] s = refl
-  after_same now (c ∷ cs) s = after_same now cs (server s now c).state ∙ ap (λ (u : State). afterAll (λ t. t) ask now u cs) (follows s now c).holds
+  after_same now (c ∷ cs) s = after_same now cs (server s now c).state ∙ ap (λ (u : State). after_all (λ t. t) ask now u cs) (follows s now c).holds
 
   -- What the well-formed calls of a list are granted, and what they made, from any f of a call and what it got.
   gathered : {B : Type 0} (first : State) (now : ℕ) (f : Received S → List B) (g : Received State → List B)
       → ((v : Received S) → f v ≡ g (record { call = v.call; got = state_of v.got })) → (cs : List Call) (s : S)
-      → concatMap f (filter (λ v. wellFormed now first v.call) (received state_of server now s cs))
-      ≡ concatMap g (filter (λ v. wellFormed now first v.call) (received (λ t. t) ask now (state_of s) cs))
+      → concat_map f (filter (λ v. well_formed now first v.call) (received state_of server now s cs))
+      ≡ concat_map g (filter (λ v. well_formed now first v.call) (received (λ t. t) ask now (state_of s) cs))
   unfolding received
   gathered {B} first now f g e [] s = refl
   gathered {B} first now f g e (c ∷ cs) s =
-      go (wellFormed now first c)
+      go (well_formed now first c)
       (gathered first now f g e cs (server s now c).state
-      ∙ ap (λ (u : State). concatMap g (filter (λ v. wellFormed now first v.call) (received (λ t. t) ask now u cs))) (follows s now c).holds)
+      ∙ ap (λ (u : State). concat_map g (filter (λ v. well_formed now first v.call) (received (λ t. t) ask now u cs))) (follows s now c).holds)
     where
       ours : List (Received S)
-      ours = filter (λ v. wellFormed now first v.call) (received state_of server now (server s now c).state cs)
+      ours = filter (λ v. well_formed now first v.call) (received state_of server now (server s now c).state cs)
 
       theirs : List (Received State)
-      theirs = filter (λ v. wellFormed now first v.call) (received (λ t. t) ask now (ask (state_of s) now c).state cs)
+      theirs = filter (λ v. well_formed now first v.call) (received (λ t. t) ask now (ask (state_of s) now c).state cs)
 
-      go : (b : Bool) → concatMap f ours ≡ concatMap g theirs → concatMap f (cond b (record { call = c; got = s } ∷ ours) ours) ≡ concatMap g (cond b (record { call = c; got = state_of s } ∷ theirs) theirs)
+      go : (b : Bool) → concat_map f ours ≡ concat_map g theirs → concat_map f (cond b (record { call = c; got = s } ∷ ours) ours) ≡ concat_map g (cond b (record { call = c; got = state_of s } ∷ theirs) theirs)
       go true rest = ap₂ (λ (a b : List B). a ++ b) (e (record { call = c; got = s })) rest
       go false rest = rest
 
@@ -90,20 +90,20 @@ module _ {S : Type 0} (state_of : S → State) (server : Server S) (follows : (s
     free = g.free;
     apart = g.apart;
     left =
-        subst (λ (l : List Lease). Permᴰ l (present now (state_of s).table.leases ++ concatMap (made state_of server now) (wellFormedCalls state_of server now s cs)))
+        subst (λ (l : List Lease). Permᴰ l (present now (state_of s).table.leases ++ concat_map (made state_of server now) (well_formed_calls state_of server now s cs)))
         (ap (λ (u : State). present now u.table.leases) (sym (after_same now cs s)))
-        (subst (λ (l : List Lease). Permᴰ (present now (afterAll (λ t. t) ask now (state_of s) cs).table.leases) (present now (state_of s).table.leases ++ l))
+        (subst (λ (l : List Lease). Permᴰ (present now (after_all (λ t. t) ask now (state_of s) cs).table.leases) (present now (state_of s).table.leases ++ l))
         (sym (gathered (state_of s) now (made state_of server now) (made (λ t. t) ask now)
-        (λ v. ap (λ (es : List (Option Entry)). map (leaseFor now v.call.client (askName v.call)) (catMaybes es)) (granted-same now v.got v.call)) cs s))
+        (λ v. ap (λ (es : List (Option Entry)). map (lease_for now v.call.client (ask_name v.call)) (cat_maybes es)) (granted-same now v.got v.call)) cs s))
         g.left);
   }
 
   -- A call that is not well-formed is refused by the ledger, so it leaves all as it was; and what later calls of the list get holds what the ledger's get.
-  untouched-one : (s : S) (now : ℕ) (c : Call) → wellFormed now (state_of s) c ≡ false → ((server s now c).state ≡ s) × ((server s now c).reply ≡ c.reply)
-  unfolding wellFormed
+  untouched-one : (s : S) (now : ℕ) (c : Call) → well_formed now (state_of s) c ≡ false → ((server s now c).state ≡ s) × ((server s now c).reply ≡ c.reply)
+  unfolding well_formed
   untouched-one s now c e =
       let r = run-refused now (state_of s) c e in
-      let z : eqb r.0 0 ≡ false = first-number (λ m. eqb m 0 ≡ false) (rowsFor now (state_of s) c) (numbered-before (state_of s) now c) r.0 r.1 in
+      let z : eqb r.0 0 ≡ false = first-number (λ m. eqb m 0 ≡ false) (rows_for now (state_of s) c) (numbered-before (state_of s) now c) r.0 r.1 in
       let f = follows s now c in
       (f.refused (λ k. eqb-false r.0 0 z (sym (ap (λ (q : Result State). q.answer.number) r.2) ∙ k)), f.reply ∙ ap (λ (q : Result State). q.reply) r.2)
 
@@ -117,17 +117,17 @@ module _ {S : Type 0} (state_of : S → State) (server : Server S) (follows : (s
 
   untouched : (s : S) (now : ℕ) (cs : List Call) → Untouched state_of server now s cs
   untouched s now cs =
-      let stays : (v : Received S) → (wellFormed now (state_of s) v.call ≡ false → wellFormed now (state_of v.got) v.call ≡ false)
-      → wellFormed now (state_of s) v.call ≡ false → ((server v.got now v.call).state ≡ v.got) × ((server v.got now v.call).reply ≡ v.call.reply) =
+      let stays : (v : Received S) → (well_formed now (state_of s) v.call ≡ false → well_formed now (state_of v.got) v.call ≡ false)
+      → well_formed now (state_of s) v.call ≡ false → ((server v.got now v.call).state ≡ v.got) × ((server v.got now v.call).reply ≡ v.call.reply) =
       λ v w e. untouched-one v.got now v.call (w e) in
       all_map stays (received state_of server now s cs)
-      (got_same (λ u c. wellFormed now (state_of s) c ≡ false → wellFormed now u c ≡ false) now cs s (ill-formed-always (state_of s) now cs))
+      (got_same (λ u c. well_formed now (state_of s) c ≡ false → well_formed now u c ≡ false) now cs s (ill-formed-always (state_of s) now cs))
 
   pub demand3-followed : Demand3 state_of server
   demand3-followed = record {
     sentence =
         λ s now c e. let t : LeaseTable = (state_of s).table in
-        subst (RefusedRightly (narrowed t c) (inUse now t) (asksOf c) (heldBefore now t c)) (sym (granted-same now s c)) (demand3.sentence (state_of s) now c e);
+        subst (RefusedRightly (narrowed t c) (in_use now t) (asks_of c) (held_before now t c)) (sym (granted-same now s c)) (demand3.sentence (state_of s) now c e);
     lists = λ s now ground cs so a f p. all-granted s now ground cs (demand3.lists (state_of s) now ground cs so a f p);
     untouched = untouched;
   }
@@ -136,13 +136,13 @@ module _ {S : Type 0} (state_of : S → State) (server : Server S) (follows : (s
 
   pub asks-twice-followed : AsksTwice state_of server
   asks-twice-followed = record {
-    given = λ s now c e. subst (GivenAgain (heldBefore now (state_of s).table c)) (sym (granted-same now s c)) (asks-twice.given (state_of s) now c e);
+    given = λ s now c e. subst (GivenAgain (held_before now (state_of s).table c)) (sym (granted-same now s c)) (asks-twice.given (state_of s) now c e);
     once = λ s now c e. asks-twice.once (state_of s) now c e;
     left =
-        λ s now c e. let hs : List (Option Lease) = heldBefore now (state_of s).table c in
-        let here : List Lease = heldAgain now (catMaybes hs) (present now (state_of s).table.leases) in
-        subst (λ (u : State). Permᴰ (present now u.table.leases) (here ++ map (leaseFor now c.client (askName c)) (grantedToRest hs (granted state_of server now s c)))) (sym (follows s now c).holds)
-        (subst (λ (es : List (Option Entry)). Permᴰ (present now (ask (state_of s) now c).state.table.leases) (here ++ map (leaseFor now c.client (askName c)) (grantedToRest hs es))) (sym (granted-same now s c))
+        λ s now c e. let hs : List (Option Lease) = held_before now (state_of s).table c in
+        let here : List Lease = held_again now (cat_maybes hs) (present now (state_of s).table.leases) in
+        subst (λ (u : State). Permᴰ (present now u.table.leases) (here ++ map (lease_for now c.client (ask_name c)) (granted_to_rest hs (granted state_of server now s c)))) (sym (follows s now c).holds)
+        (subst (λ (es : List (Option Entry)). Permᴰ (present now (ask (state_of s) now c).state.table.leases) (here ++ map (lease_for now c.client (ask_name c)) (granted_to_rest hs es))) (sym (granted-same now s c))
         (asks-twice.left (state_of s) now c e));
     accepted = λ s now c e k. ap (λ (a : Answer). a.number) (follows s now c).answer ∙ asks-twice.accepted (state_of s) now c e k;
   }
@@ -161,7 +161,7 @@ module _ {S : Type 0} (calls : Calls S) (follows : FollowsAll calls) where
   pub next-same : (s : S) (e : Event) → calls.state_of (next calls s e) ≡ next ledger (calls.state_of s) e
   next-same s (asked now c) = (follows.asks s now c).holds
   next-same s (taken now c) = (follows.takes s now c).holds
-  next-same s (wasListed now c) = (follows.lists s now c).holds
+  next-same s (was_listed now c) = (follows.lists s now c).holds
   next-same s (returned now c) = (follows.releases s now c).holds
   next-same s (marked now network len d) = (follows.marks s now network len d).holds
   next-same s saved = refl
@@ -182,33 +182,33 @@ module _ {S : Type 0} (calls : Calls S) (follows : FollowsAll calls) where
 
   -- CONSERVATION
 
-  granted-by : (s : S) (e : Event) → grantedBy calls s e ≡ grantedBy ledger (calls.state_of s) e
-  unfolding grantedBy
-  granted-by s (asked now c) = ap (λ (es : List Entry). addressesIn (newlyMade now (calls.state_of s).table es)) (entries-same calls.state_of calls.asks follows.asks s now c)
+  granted-by : (s : S) (e : Event) → granted_by calls s e ≡ granted_by ledger (calls.state_of s) e
+  unfolding granted_by
+  granted-by s (asked now c) = ap (λ (es : List Entry). addresses_in (newly_made now (calls.state_of s).table es)) (entries-same calls.state_of calls.asks follows.asks s now c)
   granted-by s (taken now c) = refl
-  granted-by s (wasListed now c) = refl
+  granted-by s (was_listed now c) = refl
   granted-by s (returned now c) = refl
   granted-by s (marked now network len d) = refl
   granted-by s saved = refl
 
-  returned-by : (s : S) (e : Event) → returnedBy calls s e ≡ returnedBy ledger (calls.state_of s) e
-  unfolding returnedBy
+  returned-by : (s : S) (e : Event) → returned_by calls s e ≡ returned_by ledger (calls.state_of s) e
+  unfolding returned_by
   returned-by s (asked now c) = refl
   returned-by s (taken now c) = refl
-  returned-by s (wasListed now c) = refl
+  returned-by s (was_listed now c) = refl
   returned-by s (returned now c) =
-      ap (λ (a : Answer). ifAccepted a (addressesOf (filter (namedBy? c.client (entriesIn c.option)) (present now (calls.state_of s).table.leases)))) (follows.releases s now c).answer
+      ap (λ (a : Answer). if_accepted a (addresses_of (filter (named_by? c.client (entries_in c.option)) (present now (calls.state_of s).table.leases)))) (follows.releases s now c).answer
   returned-by s (marked now network len d) = refl
   returned-by s saved = refl
 
-  ended_by : (s : S) (e : Event) → endedBy calls s e ≡ endedBy ledger (calls.state_of s) e
-  unfolding endedBy
-  ended_by s (asked now c) = ap (λ (a : Answer). ifAccepted a (endedAt now (calls.state_of s).table)) (follows.asks s now c).answer
-  ended_by s (taken now c) = ap (λ (a : Answer). ifAccepted a (endedAt now (calls.state_of s).table)) (follows.takes s now c).answer
-  ended_by s (wasListed now c) = refl
-  ended_by s (returned now c) = ap (λ (a : Answer). ifAccepted a (endedAt now (calls.state_of s).table)) (follows.releases s now c).answer
-  ended_by s (marked now network len d) = ap (λ (a : Answer). ifAccepted a (endedAt now (calls.state_of s).table)) (follows.marks s now network len d).answer
-  ended_by s saved = refl
+  ended_alike : (s : S) (e : Event) → ended_by calls s e ≡ ended_by ledger (calls.state_of s) e
+  unfolding ended_by
+  ended_alike s (asked now c) = ap (λ (a : Answer). if_accepted a (ended_at now (calls.state_of s).table)) (follows.asks s now c).answer
+  ended_alike s (taken now c) = ap (λ (a : Answer). if_accepted a (ended_at now (calls.state_of s).table)) (follows.takes s now c).answer
+  ended_alike s (was_listed now c) = refl
+  ended_alike s (returned now c) = ap (λ (a : Answer). if_accepted a (ended_at now (calls.state_of s).table)) (follows.releases s now c).answer
+  ended_alike s (marked now network len d) = ap (λ (a : Answer). if_accepted a (ended_at now (calls.state_of s).table)) (follows.marks s now network len d).answer
+  ended_alike s saved = refl
 
   summed_same : (f : S → Event → ℕ) (g : State → Event → ℕ) → ((s : S) (e : Event) → f s e ≡ g (calls.state_of s) e) → (es : List Event) (s : S) → summed calls f s es ≡ summed ledger g (calls.state_of s) es
   unfolding summed
@@ -218,13 +218,13 @@ module _ {S : Type 0} (calls : Calls S) (follows : FollowsAll calls) where
   -- The balance of a history is that of the ledger's.
   pub conserved-followed : (first : ℕ) (s : S) (es : List Event) → Conserved ledger first (calls.state_of s) es → Conserved calls first s es
   conserved-followed first s es c =
-      ap₂ ◌+◌ (ap₂ ◌+◌ (ap (λ (u : State). addressesOf (leasesOf u.table)) (afterwards-same es s)) (summed_same (returnedBy calls) (returnedBy ledger) returned-by es s))
-      (summed_same (endedBy calls) (endedBy ledger) ended_by es s)
+      ap₂ ◌+◌ (ap₂ ◌+◌ (ap (λ (u : State). addresses_of (leases_of u.table)) (afterwards-same es s)) (summed_same (returned_by calls) (returned_by ledger) returned-by es s))
+      (summed_same (ended_by calls) (ended_by ledger) ended_alike es s)
       ∙ c
-      ∙ ap (λ (n : ℕ). first + n) (sym (summed_same (grantedBy calls) (grantedBy ledger) granted-by es s))
+      ∙ ap (λ (n : ℕ). first + n) (sym (summed_same (granted_by calls) (granted_by ledger) granted-by es s))
 
   pub conservation-followed : FromLoad calls
-  conservation-followed s es so = conserved-followed (addressesOf (leasesOf (calls.state_of s).table)) s es (conservation (calls.state_of s) es so)
+  conservation-followed s es so = conserved-followed (addresses_of (leases_of (calls.state_of s).table)) s es (conservation (calls.state_of s) es so)
 
   -- WHAT A LIST DEPENDS ON
 

@@ -6,12 +6,12 @@ use mathlib.Core.Path.{◌≡◌, sym, ap, subst, ◌∙◌}
 use mathlib.Core.List.{List}
 use lib.ListN.{drop}
 use Rattle.lists.specs.Lists.{filter}
-use Rattle.option.specs.Values.{mostEntries}
+use Rattle.option.specs.Values.{most_entries}
 use Rattle.table.specs.Table.{present}
 use Rattle.ledger.specs.declared.Answer.{Answer}
-use Rattle.ledger.specs.Ledger.{State, askName, call, Result, result, Calls, found, usableEntries, returned, listedIn, ledger}
+use Rattle.ledger.specs.Ledger.{State, ask_name, call, Result, outcome, Calls, found, usable_entries, returned, listed_in, ledger}
 use Rattle.ledger.specs.Histories.{afterwards, begun, called}
-use Rattle.ledger.specs.ReadBack.{readIn, follows as followsIn, confirmation, page, TakesReadBack, SelectionReturned, ListsReadBack}
+use Rattle.ledger.specs.ReadBack.{read_in, follows as follows_in, confirmation, page, TakesReadBack, SelectionReturned, ListsReadBack}
 use Rattle.ledger.specs.Refusals.{UnchangedIfRefused, RefusalsLeave}
 use Rattle.ledger.specs.NothingBehind.{Same, Cleared, EndedForgotten, Clears}
 use Rattle.ledger.specs.FiguresKept.{Matched, Updated, Unchanged, FiguresAfter, FiguresKept, AlwaysMatched}
@@ -32,7 +32,7 @@ use Rattle.ledger.proofs.Following.{Follows, FollowsAll, next-same, afterwards-s
 
 module _ {S : Type 0} (state_of : S → State) (s : S) (r : Result State) (q : Result S) (f : Follows state_of s r q) where
   -- What it gives, with the state that it leaves, is what the ledger gives.
-  seen_same : result q.answer (state_of q.state) q.reply ≡ r
+  seen_same : outcome q.answer (state_of q.state) q.reply ≡ r
   seen_same = λ i. record { answer = f.answer i; state = f.holds i; reply = f.reply i }
 
   accepted-too : q.answer.number ≡ 0 → r.answer.number ≡ 0
@@ -68,13 +68,13 @@ module _ {S : Type 0} (calls : Calls S) (follows : FollowsAll calls) where
 
   pub takes-read-back-followed : TakesReadBack calls
   takes-read-back-followed s now c =
-      subst (λ (r : Result State). r.answer.number ≡ 0 → readIn r ≡ confirmation (found c.client (present now (state_of s).table.leases) (usableEntries (state_of s).table c)))
+      subst (λ (r : Result State). r.answer.number ≡ 0 → read_in r ≡ confirmation (found c.client (present now (state_of s).table.leases) (usable_entries (state_of s).table c)))
       (sym (seen_same state_of s _ _ (follows.takes s now c))) (take-reads-back (state_of s) now c)
 
   pub selection-returned-followed : SelectionReturned calls
   selection-returned-followed = record {
-    asks = λ s now c. subst (λ (r : Result State). r.answer.number ≡ 0 → followsIn r ≡ returned c.selection) (sym (seen_same state_of s _ _ (follows.asks s now c))) (selection-returned.asks (state_of s) now c);
-    takes = λ s now c. subst (λ (r : Result State). r.answer.number ≡ 0 → followsIn r ≡ returned c.selection) (sym (seen_same state_of s _ _ (follows.takes s now c))) (selection-returned.takes (state_of s) now c);
+    asks = λ s now c. subst (λ (r : Result State). r.answer.number ≡ 0 → follows_in r ≡ returned c.selection) (sym (seen_same state_of s _ _ (follows.asks s now c))) (selection-returned.asks (state_of s) now c);
+    takes = λ s now c. subst (λ (r : Result State). r.answer.number ≡ 0 → follows_in r ≡ returned c.selection) (sym (seen_same state_of s _ _ (follows.takes s now c))) (selection-returned.takes (state_of s) now c);
   }
 
   pub on-ground-followed : OnGround calls
@@ -86,7 +86,7 @@ module _ {S : Type 0} (calls : Calls S) (follows : FollowsAll calls) where
 
   pub lists-read-back-followed : ListsReadBack calls
   lists-read-back-followed s now c =
-      subst (λ (r : Result State). r.answer.number ≡ 0 → readIn r ≡ page (listedIn (state_of s).table now c.client c.option))
+      subst (λ (r : Result State). r.answer.number ≡ 0 → read_in r ≡ page (listed_in (state_of s).table now c.client c.option))
       (sym (seen_same state_of s _ _ (follows.lists s now c))) (list-reads-back (state_of s) now c)
 
   -- A REFUSAL LEAVES ALL AS IT WAS
@@ -130,7 +130,7 @@ module _ {S : Type 0} (calls : Calls S) (follows : FollowsAll calls) where
   pub figures-kept-followed : FiguresKept calls
   figures-kept-followed = record {
     asks = λ s now c. left-followed state_of s _ _ (follows.asks s now c) (FiguresAfter Unchanged now (state_of s)) (figures-kept.asks (state_of s) now c);
-    takes = λ s now c. left-followed state_of s _ _ (follows.takes s now c) (FiguresAfter (Updated c.client (usableEntries (state_of s).table c)) now (state_of s)) (figures-kept.takes (state_of s) now c);
+    takes = λ s now c. left-followed state_of s _ _ (follows.takes s now c) (FiguresAfter (Updated c.client (usable_entries (state_of s).table c)) now (state_of s)) (figures-kept.takes (state_of s) now c);
     releases = λ s now c. left-followed state_of s _ _ (follows.releases s now c) (FiguresAfter Unchanged now (state_of s)) (figures-kept.releases (state_of s) now c);
     marks = λ s now network len d. left-followed state_of s _ _ (follows.marks s now network len d) (FiguresAfter Unchanged now (state_of s)) (figures-kept.marks (state_of s) now network len d);
   }
@@ -139,7 +139,7 @@ module _ {S : Type 0} (calls : Calls S) (follows : FollowsAll calls) where
 
   pub names-kept-followed : NamesKept calls
   names-kept-followed = record {
-    asks = λ s now c. left-followed state_of s _ _ (follows.asks s now c) (NamesMade (askName c) now (state_of s)) (names-kept.asks (state_of s) now c);
+    asks = λ s now c. left-followed state_of s _ _ (follows.asks s now c) (NamesMade (ask_name c) now (state_of s)) (names-kept.asks (state_of s) now c);
     takes = λ s now c. left-followed state_of s _ _ (follows.takes s now c) (NamesStay now (state_of s)) (names-kept.takes (state_of s) now c);
     releases = λ s now c. left-followed state_of s _ _ (follows.releases s now c) (NamesStay now (state_of s)) (names-kept.releases (state_of s) now c);
     marks = λ s now network len d. left-followed state_of s _ _ (follows.marks s now network len d) (NamesStay now (state_of s)) (names-kept.marks (state_of s) now network len d);
@@ -157,8 +157,8 @@ module _ {S : Type 0} (calls : Calls S) (follows : FollowsAll calls) where
       let r = resumed-after-returns (state_of s) now later client option resuming es so l a e in
       let u : S = afterwards calls s es in
       let same : state_of u ≡ afterwards ledger (state_of s) es = afterwards-same calls follows es s in
-      let rest : listedIn (state_of u).table later client resuming ≡ filter r.keep (drop mostEntries (listedIn (state_of s).table now client option)) =
-      ap (λ (v : State). listedIn v.table later client resuming) same ∙ r.rest in
+      let rest : listed_in (state_of u).table later client resuming ≡ filter r.keep (drop most_entries (listed_in (state_of s).table now client option)) =
+      ap (λ (v : State). listed_in v.table later client resuming) same ∙ r.rest in
       record {
         keep = r.keep;
         there = ap (λ (v : State). present later v.table.leases) same ∙ r.there;

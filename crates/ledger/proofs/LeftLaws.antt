@@ -6,20 +6,20 @@ use mathlib.Core.Bool.{true}
 use mathlib.Core.List.{List}
 use Rattle.lists.specs.Lists.{All}
 use Rattle.table.specs.declared.{Lease.Lease, LeaseTable.LeaseTable}
-use Rattle.table.specs.Table.{poolsOf, present, sound, store}
+use Rattle.table.specs.Table.{pools_of, present, sound, store}
 use Rattle.table.proofs.TableLaws.{sound-fine, fine-long}
 use Rattle.figures.specs.Figures.{matches?}
 use Rattle.figures.proofs.RowsFollow.{followed-matches}
 use Rattle.figures.proofs.RowsFile.{taken-matches}
-use Rattle.ledger.specs.Ledger.{State, left, Call, usableEntries, renewNamed, renewed}
+use Rattle.ledger.specs.Ledger.{State, left, Call, usable_entries, renew_named, renewed}
 
 -- The table after an accepted take.
-abbrev pub renewedTable : State → ℕ → Call → LeaseTable
-renewedTable s now c = store s.table now (renewNamed now s.table.term c.client (usableEntries s.table c) (present now s.table.leases))
+abbrev pub renewed_table : State → ℕ → Call → LeaseTable
+renewed_table s now c = store s.table now (renew_named now s.table.term c.client (usable_entries s.table c) (present now s.table.leases))
 
 -- The leases of a sound table that are present are no empty slots.
 pub present-long : (t : LeaseTable) (now : ℕ) → sound t ≡ true → All (λ x. 1 ≤ x.length) (present now t.leases)
-present-long t now so = fine-long (poolsOf t) now 0 (present now t.leases) (sound-fine t so now)
+present-long t now so = fine-long (pools_of t) now 0 (present now t.leases) (sound-fine t so now)
 
 module _ (s : State) (now : ℕ) (so : sound s.table ≡ true) (m : matches? s.table.leases s.rows ≡ true) where
   pub left-matches : (xs : List Lease) → matches? (left s now xs).table.leases (left s now xs).rows ≡ true
@@ -28,4 +28,4 @@ module _ (s : State) (now : ℕ) (so : sound s.table ≡ true) (m : matches? s.t
 
   pub renewed-matches : (c : Call) → (c.client ≡ 0 → ⊥) → matches? (renewed s now c).table.leases (renewed s now c).rows ≡ true
   unfolding renewed
-  renewed-matches c named = taken-matches now c.client (usableEntries s.table c) s.table s.rows (renewedTable s now c) named m (present-long s.table now so)
+  renewed-matches c named = taken-matches now c.client (usable_entries s.table c) s.table s.rows (renewed_table s now c) named m (present-long s.table now so)

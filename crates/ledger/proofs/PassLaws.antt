@@ -18,11 +18,11 @@ use Rattle.lists.proofs.IndexLaws.{all-at}
 use Rattle.lists.proofs.MapLaws.{any-more}
 use Rattle.lists.proofs.FilterLaws.{filter-append, filter-yes, filter-no}
 use Rattle.table.specs.declared.{Lease.Lease, LeaseTable.LeaseTable}
-use Rattle.table.specs.Table.{noLease, present}
+use Rattle.table.specs.Table.{no_lease, present}
 use Rattle.option.specs.Contents.{Request}
-use Rattle.ledger.specs.Ledger.{heldBy?, heldFor?, firstThat, butFirst, again, rest_of, holdAgain, heldAgain, in_turn}
+use Rattle.ledger.specs.Ledger.{held_by?, held_for?, first_that, but_first, again, rest_of, hold_again, held_again, in_turn}
 use Rattle.ledger.specs.InnerAgain.{give}
-use Rattle.ledger.proofs.AgainLaws.{first-none, Fills, not-held, noneGiven, nothing-again}
+use Rattle.ledger.proofs.AgainLaws.{first-none, Fills, not-held, none_given, nothing-again}
 
 -- THE FIRST THAT PASSES, with one more at the end
 
@@ -30,31 +30,31 @@ module _ (f : Lease → Bool) (x : Lease) where
   abbrev more : List Lease → List Lease
   more xs = xs ++ (x ∷ [])
 
-  after-some : (xs : List Lease) (y : Lease) → firstThat f xs ≡ some y → (firstThat f (more xs) ≡ some y) × (butFirst f (more xs) ≡ more (butFirst f xs))
+  after-some : (xs : List Lease) (y : Lease) → first_that f xs ≡ some y → (first_that f (more xs) ≡ some y) × (but_first f (more xs) ≡ more (but_first f xs))
   after-some [] y e = absurd (some-ne-none y (sym e))
   after-some (z ∷ zs) y e =
       ⊎_elim
       (λ (b : f z ≡ true). (
-        cond-true (f z) (some z) (firstThat f (more zs)) b ∙ sym (cond-true (f z) (some z) (firstThat f zs) b) ∙ e,
-        cond-true (f z) (more zs) (z ∷ butFirst f (more zs)) b ∙ ap more (sym (cond-true (f z) zs (z ∷ butFirst f zs) b)),
+        cond-true (f z) (some z) (first_that f (more zs)) b ∙ sym (cond-true (f z) (some z) (first_that f zs) b) ∙ e,
+        cond-true (f z) (more zs) (z ∷ but_first f (more zs)) b ∙ ap more (sym (cond-true (f z) zs (z ∷ but_first f zs) b)),
       ))
       (λ (b : f z ≡ false).
-      let k = after-some zs y (sym (cond-false (f z) (some z) (firstThat f zs) b) ∙ e) in (
-        cond-false (f z) (some z) (firstThat f (more zs)) b ∙ k.0,
-        cond-false (f z) (more zs) (z ∷ butFirst f (more zs)) b ∙ ap (λ (l : List Lease). z ∷ l) k.1 ∙ ap more (sym (cond-false (f z) zs (z ∷ butFirst f zs) b)),
+      let k = after-some zs y (sym (cond-false (f z) (some z) (first_that f zs) b) ∙ e) in (
+        cond-false (f z) (some z) (first_that f (more zs)) b ∙ k.0,
+        cond-false (f z) (more zs) (z ∷ but_first f (more zs)) b ∙ ap (λ (l : List Lease). z ∷ l) k.1 ∙ ap more (sym (cond-false (f z) zs (z ∷ but_first f zs) b)),
       ))
       (bool_cases (f z))
 
   abbrev AfterNone : List Lease → Type 0
-  AfterNone xs = (firstThat f (more xs) ≡ cond (f x) (some x) none) × (butFirst f (more xs) ≡ cond (f x) xs (more xs)) × (butFirst f xs ≡ xs)
+  AfterNone xs = (first_that f (more xs) ≡ cond (f x) (some x) none) × (but_first f (more xs) ≡ cond (f x) xs (more xs)) × (but_first f xs ≡ xs)
 
   after_none : (xs : List Lease) → All (λ y. f y ≡ false) xs → AfterNone xs
   after_none [] a = (refl, refl, refl)
   after_none (z ∷ zs) a =
       let k = after_none zs a.1 in (
-        cond-false (f z) (some z) (firstThat f (more zs)) a.0 ∙ k.0,
-        cond-false (f z) (more zs) (z ∷ butFirst f (more zs)) a.0 ∙ ap (λ (l : List Lease). z ∷ l) k.1 ∙ among (f x),
-        cond-false (f z) zs (z ∷ butFirst f zs) a.0 ∙ ap (λ (l : List Lease). z ∷ l) k.2,
+        cond-false (f z) (some z) (first_that f (more zs)) a.0 ∙ k.0,
+        cond-false (f z) (more zs) (z ∷ but_first f (more zs)) a.0 ∙ ap (λ (l : List Lease). z ∷ l) k.1 ∙ among (f x),
+        cond-false (f z) zs (z ∷ but_first f zs) a.0 ∙ ap (λ (l : List Lease). z ∷ l) k.2,
       )
     where
       among : (b : Bool) → z ∷ cond b zs (more zs) ≡ cond b (z ∷ zs) (more (z ∷ zs))
@@ -64,17 +64,17 @@ module _ (f : Lease → Bool) (x : Lease) where
 -- ONE LEASE MORE
 
 module _ (t : LeaseTable) (client : ℕ) (x : Lease) where
-  give-step : (r : Request) (rs : List Request) (xs : List Lease) (g : Option Lease) → firstThat (heldFor? t client r) xs ≡ g
+  give-step : (r : Request) (rs : List Request) (xs : List Lease) (g : Option Lease) → first_that (held_for? t client r) xs ≡ g
       → ((ys : List Lease) → again t client (ys ++ (x ∷ [])) rs ≡ give t client x rs (again t client ys rs))
-      → firstThat (heldFor? t client r) (xs ++ (x ∷ [])) ∷ again t client (butFirst (heldFor? t client r) (xs ++ (x ∷ []))) rs
-      ≡ give t client x (r ∷ rs) (g ∷ again t client (butFirst (heldFor? t client r) xs) rs)
+      → first_that (held_for? t client r) (xs ++ (x ∷ [])) ∷ again t client (but_first (held_for? t client r) (xs ++ (x ∷ []))) rs
+      ≡ give t client x (r ∷ rs) (g ∷ again t client (but_first (held_for? t client r) xs) rs)
   unfolding give
   give-step r rs xs (some y) e k =
-      let f : Lease → Bool = heldFor? t client r in
+      let f : Lease → Bool = held_for? t client r in
       let a = after-some f x xs y e in
-      ap₂ (λ (g : Option Lease) (l : List Lease). g ∷ again t client l rs) a.0 a.1 ∙ ap (λ (l : List (Option Lease)). some y ∷ l) (k (butFirst f xs))
+      ap₂ (λ (g : Option Lease) (l : List Lease). g ∷ again t client l rs) a.0 a.1 ∙ ap (λ (l : List (Option Lease)). some y ∷ l) (k (but_first f xs))
   give-step r rs xs none e k =
-      let f : Lease → Bool = heldFor? t client r in
+      let f : Lease → Bool = held_for? t client r in
       let a = after_none f x xs (first-none f xs e) in
       ap₂ (λ (g : Option Lease) (l : List Lease). g ∷ again t client l rs) a.0 a.1
       ∙ given (f x)
@@ -87,16 +87,16 @@ module _ (t : LeaseTable) (client : ℕ) (x : Lease) where
   again-more : (rs : List Request) (xs : List Lease) → again t client (xs ++ (x ∷ [])) rs ≡ give t client x rs (again t client xs rs)
   unfolding again give
   again-more [] xs = refl
-  again-more (r ∷ rs) xs = give-step r rs xs (firstThat (heldFor? t client r) xs) refl (λ ys. again-more rs ys)
+  again-more (r ∷ rs) xs = give-step r rs xs (first_that (held_for? t client r) xs) refl (λ ys. again-more rs ys)
 
   -- A lease that another client has, or that is leased, goes to no request.
-  give-none : heldBy? client x ≡ false → (rs : List Request) (gs : List (Option Lease)) → give t client x rs gs ≡ gs
+  give-none : held_by? client x ≡ false → (rs : List Request) (gs : List (Option Lease)) → give t client x rs gs ≡ gs
   unfolding give
   give-none e [] gs = refl
   give-none e (r ∷ rs) [] = refl
   give-none e (r ∷ rs) (some y ∷ gs) = ap (λ (l : List (Option Lease)). some y ∷ l) (give-none e rs gs)
   give-none e (r ∷ rs) (none ∷ gs) =
-      cond-false (heldFor? t client r x) (some x ∷ gs) (none ∷ give t client x rs gs) (not-held t client r x e) ∙ ap (λ (l : List (Option Lease)). none ∷ l) (give-none e rs gs)
+      cond-false (held_for? t client r x) (some x ∷ gs) (none ∷ give t client x rs gs) (not-held t client r x e) ∙ ap (λ (l : List (Option Lease)). none ∷ l) (give-none e rs gs)
 
 -- What giving a lease does at a request: one that has a lease keeps it, and otherwise the lease is for it or not.
 module _ (t : LeaseTable) (client : ℕ) (x : Lease) (r : Request) (rs : List Request) where
@@ -104,18 +104,18 @@ module _ (t : LeaseTable) (client : ℕ) (x : Lease) (r : Request) (rs : List Re
   unfolding give
   give-past y gs = refl
 
-  pub give-here : (gs : List (Option Lease)) → heldFor? t client r x ≡ true → give t client x (r ∷ rs) (none ∷ gs) ≡ some x ∷ gs
+  pub give-here : (gs : List (Option Lease)) → held_for? t client r x ≡ true → give t client x (r ∷ rs) (none ∷ gs) ≡ some x ∷ gs
   unfolding give
-  give-here gs e = cond-true (heldFor? t client r x) (some x ∷ gs) (none ∷ give t client x rs gs) e
+  give-here gs e = cond-true (held_for? t client r x) (some x ∷ gs) (none ∷ give t client x rs gs) e
 
-  pub give-later : (gs : List (Option Lease)) → heldFor? t client r x ≡ false → give t client x (r ∷ rs) (none ∷ gs) ≡ none ∷ give t client x rs gs
+  pub give-later : (gs : List (Option Lease)) → held_for? t client r x ≡ false → give t client x (r ∷ rs) (none ∷ gs) ≡ none ∷ give t client x rs gs
   unfolding give
-  give-later gs e = cond-false (heldFor? t client r x) (some x ∷ gs) (none ∷ give t client x rs gs) e
+  give-later gs e = cond-false (held_for? t client r x) (some x ∷ gs) (none ∷ give t client x rs gs) e
 
 -- THE PASS over the leases of a table, ended ones among them: none is given at first; one that is present goes to the first request that has none and that it is for;
 -- one that has ended, that another client has or that is leased is passed over.
 
-pub pass-starts : (t : LeaseTable) (now client : ℕ) (rs : List Request) → again t client (present now []) rs ≡ noneGiven rs
+pub pass-starts : (t : LeaseTable) (now client : ℕ) (rs : List Request) → again t client (present now []) rs ≡ none_given rs
 unfolding present
 pass-starts t now client rs = nothing-again t client rs [] tt
 
@@ -133,7 +133,7 @@ module _ (t : LeaseTable) (now client : ℕ) (xs : List Lease) (x : Lease) (rs :
       ap (λ (ys : List Lease). again t client ys rs) (present-more ∙ ap (λ (ys : List Lease). present now xs ++ ys) (filter-yes here? x [] (lt-ltb now x.expires l)))
       ∙ again-more t client x rs (present now xs)
 
-  pub pass-skips : (now < x.expires → heldBy? client x ≡ false) → again t client (present now (xs ++ (x ∷ []))) rs ≡ again t client (present now xs) rs
+  pub pass-skips : (now < x.expires → held_by? client x ≡ false) → again t client (present now (xs ++ (x ∷ []))) rs ≡ again t client (present now xs) rs
   pass-skips k =
       ⊎_elim
       (λ (b : here? x ≡ true). let l : now < x.expires = ltb-true now x.expires b in pass-gives l ∙ give-none t client x (k l) rs (again t client (present now xs) rs))
@@ -162,11 +162,11 @@ module _ (gs : List (Option Lease)) (rs : List Request) (r : Request) (l : lengt
   rest-next = rest_more gs rs none r l
 
 module _ (now : ℕ) where
-  pub turn-again : (gs os : List (Option Lease)) (x : Lease) → Fills gs os → in_turn now (gs ++ (some x ∷ [])) os ≡ in_turn now gs os ++ (some (holdAgain now x) ∷ [])
+  pub turn-again : (gs os : List (Option Lease)) (x : Lease) → Fills gs os → in_turn now (gs ++ (some x ∷ [])) os ≡ in_turn now gs os ++ (some (hold_again now x) ∷ [])
   unfolding in_turn
   turn-again [] [] x f = refl
   turn-again [] (o ∷ os) x f = absurd f
-  turn-again (some y ∷ gs) os x f = ap (λ (l : List (Option Lease)). some (holdAgain now y) ∷ l) (turn-again gs os x f)
+  turn-again (some y ∷ gs) os x f = ap (λ (l : List (Option Lease)). some (hold_again now y) ∷ l) (turn-again gs os x f)
   turn-again (none ∷ gs) [] x f = absurd f
   turn-again (none ∷ gs) (o ∷ os) x f = ap (λ (l : List (Option Lease)). o ∷ l) (turn-again gs os x f)
 
@@ -174,7 +174,7 @@ module _ (now : ℕ) where
   unfolding in_turn
   turn-next [] [] o f = refl
   turn-next [] (p ∷ os) o f = absurd f
-  turn-next (some y ∷ gs) os o f = ap (λ (l : List (Option Lease)). some (holdAgain now y) ∷ l) (turn-next gs os o f)
+  turn-next (some y ∷ gs) os o f = ap (λ (l : List (Option Lease)). some (hold_again now y) ∷ l) (turn-next gs os o f)
   turn-next (none ∷ gs) [] o f = absurd f
   turn-next (none ∷ gs) (p ∷ os) o f = ap (λ (l : List (Option Lease)). p ∷ l) (turn-next gs os o f)
 
@@ -194,19 +194,19 @@ module _ (now : ℕ) (given : List Lease) where
       or-none true = refl
       or-none false = refl
 
-  others-stay : (x : Lease) (ys : List Lease) → All (λ y. x.network ≡ y.network → ⊥) ys → heldAgain now (with x) ys ≡ heldAgain now given ys
+  others-stay : (x : Lease) (ys : List Lease) → All (λ y. x.network ≡ y.network → ⊥) ys → held_again now (with x) ys ≡ held_again now given ys
   others-stay x [] a = refl
-  others-stay x (y ∷ ys) a = ap₂ (λ (b : Bool) (l : List Lease). cond b (holdAgain now y) y ∷ l) (unlike x y a.0) (others-stay x ys a.1)
+  others-stay x (y ∷ ys) a = ap₂ (λ (b : Bool) (l : List Lease). cond b (hold_again now y) y ∷ l) (unlike x y a.0) (others-stay x ys a.1)
 
   pub held-store : (xs : List Lease) (p : ℕ) → Pairwise (λ x y. x.network ≡ y.network → ⊥) xs → p < length xs
-      → heldAgain now (given ++ (get_or xs p noLease ∷ [])) xs ≡ set (heldAgain now given xs) p (holdAgain now (get_or xs p noLease))
+      → held_again now (given ++ (get_or xs p no_lease ∷ [])) xs ≡ set (held_again now given xs) p (hold_again now (get_or xs p no_lease))
   held-store [] p a l = absurd (omega arith)
   held-store (y ∷ ys) zero a l =
       ap₂ (λ (z : Lease) (zs : List Lease). z ∷ zs)
-      (cond-true (any? (same? y) (with y)) (holdAgain now y) y (any-more (same? y) given y ∙ or_right (any? (same? y) given) (same? y y) (eq-eqb y.network y.network refl)))
+      (cond-true (any? (same? y) (with y)) (hold_again now y) y (any-more (same? y) given y ∙ or_right (any? (same? y) given) (same? y y) (eq-eqb y.network y.network refl)))
       (others-stay y ys a.0)
   held-store (y ∷ ys) (suc p) a l =
-      let x : Lease = get_or ys p noLease in
-      ap₂ (λ (b : Bool) (zs : List Lease). cond b (holdAgain now y) y ∷ zs)
-      (unlike x y (λ e. all-at (λ z. y.network ≡ z.network → ⊥) ys a.0 p noLease (omega arith) (sym e)))
+      let x : Lease = get_or ys p no_lease in
+      ap₂ (λ (b : Bool) (zs : List Lease). cond b (hold_again now y) y ∷ zs)
+      (unlike x y (λ e. all-at (λ z. y.network ≡ z.network → ⊥) ys a.0 p no_lease (omega arith) (sym e)))
       (held-store ys p a.1 (omega arith))

@@ -16,21 +16,21 @@ use Rattle.lists.proofs.Tests.{and-of}
 use Rattle.lists.proofs.ListLaws.{all_append, all_map, all-image}
 use Rattle.lists.proofs.FilterLaws.{filter-all}
 use Rattle.prefix.specs.declared.Prefix.{Prefix}
-use Rattle.option.specs.Values.{mostEntries, Entry, SuboptionValue, information, accepted}
-use Rattle.option.specs.Reading.{readOption}
-use Rattle.option.specs.Writing.{optionBytes}
-use Rattle.option.specs.Writer.{entryWritable?, writable?}
+use Rattle.option.specs.Values.{most_entries, Entry, SuboptionValue, information, accepted}
+use Rattle.option.specs.Reading.{read_option}
+use Rattle.option.specs.Writing.{option_bytes}
+use Rattle.option.specs.Writer.{entry_writable?, writable?}
 use Rattle.option.proofs.WrittenReadsBack.{bytes-read-back}
 use Rattle.table.specs.declared.Lease.{Lease}
-use Rattle.table.specs.Table.{poolsOf, present, sound}
+use Rattle.table.specs.Table.{pools_of, present, sound}
 use Rattle.table.proofs.TableLaws.{Good, sound-fine}
 use Rattle.option_reply.specs.Reply.{entry_of}
-use Rattle.ledger.specs.Ledger.{State, Call, Row, first_of, byRows, accept, refusalPlace, nothing?, found, names?, usableEntries, returned, askRows, ask, takeRows, take, listedIn, listRows, list, ledger}
-use Rattle.ledger.specs.ReadBack.{readIn, follows, TakesReadBack, SelectionReturned, ListsReadBack}
+use Rattle.ledger.specs.Ledger.{State, Call, Row, first_of, by_rows, accept, refusal_place, nothing?, found, names?, usable_entries, returned, ask_rows, ask, take_rows, take, listed_in, list_rows, list, ledger}
+use Rattle.ledger.specs.ReadBack.{read_in, follows, TakesReadBack, SelectionReturned, ListsReadBack}
 use Rattle.ledger.specs.Demand3.{option220}
 use Rattle.ledger.proofs.RowLaws.{Numbered, first-none, accepted-none, numbered-ask, numbered-take, numbered-list}
 use Rattle.ledger.proofs.ReplyLaws.{entry-writable, reply-220, reply-follows}
-use Rattle.ledger.proofs.Counts.{upTo-all}
+use Rattle.ledger.proofs.Counts.{up_to-all}
 
 -- Each passes, so all do.
 and-all : {A : Type 0} (f : A → Bool) (xs : List A) → All (λ x. f x ≡ true) xs → all? f xs ≡ true
@@ -42,7 +42,7 @@ information-writable : (ps : List Prefix) (now : ℕ) (c s : Bool) (xs : List Le
 unfolding writable?
 information-writable ps now c s xs some good =
     and-of _ _ (le-leb 1 (length (map entry_of xs)) (omega (arith, length-map xs entry_of)))
-    (and-all entryWritable? (map entry_of xs) (all-image entry_of (λ e. entryWritable? e ≡ true) xs (all_map (λ x (g : Good ps now x). entry-writable ps now x g) xs good)))
+    (and-all entry_writable? (map entry_of xs) (all-image entry_of (λ e. entry_writable? e ≡ true) xs (all_map (λ x (g : Good ps now x). entry-writable ps now x g) xs good)))
 
 all_found : (ps : List Prefix) (now client : ℕ) (xs : List Lease) → All (Good ps now) xs → (es : List Entry) → All (Good ps now) (found client xs es)
 all_found ps now client xs a [] = tt
@@ -53,65 +53,65 @@ some_in : {A : Type 0} (xs : List A) → nothing? xs ≡ false → 1 ≤ length 
 some_in [] e = absurd (true≢false e)
 some_in (x ∷ xs) e = omega arith
 
-some-upTo : {A : Type 0} (n : ℕ) (xs : List A) → 1 ≤ n → 1 ≤ length xs → 1 ≤ length (up_to n xs)
-some-upTo zero xs low some = absurd (omega arith)
-some-upTo (suc n) [] low some = some
-some-upTo (suc n) (x ∷ xs) low some = omega arith
+some-up_to : {A : Type 0} (n : ℕ) (xs : List A) → 1 ≤ n → 1 ≤ length xs → 1 ≤ length (up_to n xs)
+some-up_to zero xs low some = absurd (omega arith)
+some-up_to (suc n) [] low some = some
+some-up_to (suc n) (x ∷ xs) low some = omega arith
 
 -- The suboptions that an accepted call writes, with the option `back` behind them, are those that the reader reads in its reply.
-written-reads-back : (rows : List Row) (place : ℕ → ℕ) (s t : State) (reply : List ℕ) (sub : SuboptionValue) (back bytes : List ℕ) → bytes ≡ optionBytes (sub ∷ []) ++ back → (count : ℕ) → Numbered rows
+written-reads-back : (rows : List Row) (place : ℕ → ℕ) (s t : State) (reply : List ℕ) (sub : SuboptionValue) (back bytes : List ℕ) → bytes ≡ option_bytes (sub ∷ []) ++ back → (count : ℕ) → Numbered rows
     → (first_of rows ≡ none → writable? sub ≡ true)
-    → let r = byRows rows place s reply (accept t bytes count reply) in
-    r.answer.number ≡ 0 → readIn r ≡ accepted (sub ∷ [])
+    → let r = by_rows rows place s reply (accept t bytes count reply) in
+    r.answer.number ≡ 0 → read_in r ≡ accepted (sub ∷ [])
 written-reads-back rows place s t reply sub back bytes e count numbered good z =
     let free : first_of rows ≡ none = accepted-none rows place s reply (accept t bytes count reply) numbered z in
     rw free
-    (subst (λ (w : List ℕ). readOption (option220 (up_to (length w) (w ++ drop (length w) reply))) ≡ accepted (sub ∷ [])) (sym e)
-    (ap readOption (reply-220 (sub ∷ []) back (drop (length (optionBytes (sub ∷ []) ++ back)) reply)) ∙ bytes-read-back (sub ∷ []) (omega arith) (good free, tt)))
+    (subst (λ (w : List ℕ). read_option (option220 (up_to (length w) (w ++ drop (length w) reply))) ≡ accepted (sub ∷ [])) (sym e)
+    (ap read_option (reply-220 (sub ∷ []) back (drop (length (option_bytes (sub ∷ []) ++ back)) reply)) ∙ bytes-read-back (sub ∷ []) (omega arith) (good free, tt)))
 
 -- And that option follows them.
 written-follows : (rows : List Row) (place : ℕ → ℕ) (s t : State) (reply : List ℕ) (subs : List SuboptionValue) (back : List ℕ) (count : ℕ) → Numbered rows
-    → let r = byRows rows place s reply (accept t (optionBytes subs ++ back) count reply) in
+    → let r = by_rows rows place s reply (accept t (option_bytes subs ++ back) count reply) in
     r.answer.number ≡ 0 → follows r ≡ back
 written-follows rows place s t reply subs back count numbered z =
-    let free : first_of rows ≡ none = accepted-none rows place s reply (accept t (optionBytes subs ++ back) count reply) numbered z in
-    rw free (reply-follows subs back (drop (length (optionBytes subs ++ back)) reply))
+    let free : first_of rows ≡ none = accepted-none rows place s reply (accept t (option_bytes subs ++ back) count reply) numbered z in
+    rw free (reply-follows subs back (drop (length (option_bytes subs ++ back)) reply))
 
 -- Where no row applies the table is sound, so every lease that is present is good.
-here-good : (s : State) (now : ℕ) → not (sound s.table) ≡ false → All (Good (poolsOf s.table) now) (present now s.table.leases)
+here-good : (s : State) (now : ℕ) → not (sound s.table) ≡ false → All (Good (pools_of s.table) now) (present now s.table.leases)
 here-good s now e = (sound-fine s.table (not-false (sound s.table) e) now).0
 
 pub take-reads-back : TakesReadBack ledger
-unfolding take takeRows
+unfolding take take_rows
 take-reads-back s now c =
-    let gs : List Lease = found c.client (present now s.table.leases) (usableEntries s.table c) in
-    written-reads-back (takeRows s now c) (refusalPlace c.option) s _ c.reply (information false false (map entry_of gs)) (returned c.selection) _ refl (length gs) (numbered-take s now c)
+    let gs : List Lease = found c.client (present now s.table.leases) (usable_entries s.table c) in
+    written-reads-back (take_rows s now c) (refusal_place c.option) s _ c.reply (information false false (map entry_of gs)) (returned c.selection) _ refl (length gs) (numbered-take s now c)
     (λ free.
-    let rows = first-none (takeRows s now c) free in
-    information-writable (poolsOf s.table) now false false gs (some_in gs rows.1.1.1.1.1.1.1.1.1.1.1.0)
-    (all_found (poolsOf s.table) now c.client (present now s.table.leases) (here-good s now rows.1.0) (usableEntries s.table c)))
+    let rows = first-none (take_rows s now c) free in
+    information-writable (pools_of s.table) now false false gs (some_in gs rows.1.1.1.1.1.1.1.1.1.1.1.0)
+    (all_found (pools_of s.table) now c.client (present now s.table.leases) (here-good s now rows.1.0) (usable_entries s.table c)))
 
 pub list-reads-back : ListsReadBack ledger
-unfolding list listRows
+unfolding list list_rows
 list-reads-back s now c =
-    let gs : List Lease = listedIn s.table now c.client c.option in
-    written-reads-back (listRows s now c) (refusalPlace c.option) s s c.reply (information true (ltb mostEntries (length gs)) (map entry_of (up_to mostEntries gs))) [] (optionBytes (information true (ltb mostEntries (length gs)) (map entry_of (up_to mostEntries gs)) ∷ []))
-    (sym (append-nil (optionBytes (information true (ltb mostEntries (length gs)) (map entry_of (up_to mostEntries gs)) ∷ [])))) (length (up_to mostEntries gs)) (numbered-list s now c)
+    let gs : List Lease = listed_in s.table now c.client c.option in
+    written-reads-back (list_rows s now c) (refusal_place c.option) s s c.reply (information true (ltb most_entries (length gs)) (map entry_of (up_to most_entries gs))) [] (option_bytes (information true (ltb most_entries (length gs)) (map entry_of (up_to most_entries gs)) ∷ []))
+    (sym (append-nil (option_bytes (information true (ltb most_entries (length gs)) (map entry_of (up_to most_entries gs)) ∷ [])))) (length (up_to most_entries gs)) (numbered-list s now c)
     (λ free.
-    let rows = first-none (listRows s now c) free in
-    information-writable (poolsOf s.table) now true (ltb mostEntries (length gs)) (up_to mostEntries gs) (some-upTo mostEntries gs (omega arith) (some_in gs rows.1.1.1.1.1.1.1.1.1.0))
-    (upTo-all (Good (poolsOf s.table) now) mostEntries gs (filter-all _ (Good (poolsOf s.table) now) (present now s.table.leases) (here-good s now rows.1.0))))
+    let rows = first-none (list_rows s now c) free in
+    information-writable (pools_of s.table) now true (ltb most_entries (length gs)) (up_to most_entries gs) (some-up_to most_entries gs (omega arith) (some_in gs rows.1.1.1.1.1.1.1.1.1.0))
+    (up_to-all (Good (pools_of s.table) now) most_entries gs (filter-all _ (Good (pools_of s.table) now) (present now s.table.leases) (here-good s now rows.1.0))))
 
 -- THE OPTION THAT CAME FOLLOWS, unaltered.
 
 module _ (s : State) (now : ℕ) (c : Call) where
   ask-follows : (ask s now c).answer.number ≡ 0 → follows (ask s now c) ≡ returned c.selection
   unfolding ask
-  ask-follows = written-follows (askRows s now c) (refusalPlace c.option) s _ c.reply _ (returned c.selection) _ (numbered-ask s now c)
+  ask-follows = written-follows (ask_rows s now c) (refusal_place c.option) s _ c.reply _ (returned c.selection) _ (numbered-ask s now c)
 
   take-follows : (take s now c).answer.number ≡ 0 → follows (take s now c) ≡ returned c.selection
   unfolding take
-  take-follows = written-follows (takeRows s now c) (refusalPlace c.option) s _ c.reply _ (returned c.selection) _ (numbered-take s now c)
+  take-follows = written-follows (take_rows s now c) (refusal_place c.option) s _ c.reply _ (returned c.selection) _ (numbered-take s now c)
 
 pub selection-returned : SelectionReturned ledger
 selection-returned = record { asks = ask-follows; takes = take-follows }

@@ -12,7 +12,7 @@ use lib.ListN.{length, get_or, take, drop, length-append}
 use lib.Dec.{leb, eqb}
 use borrow.Author.Tests.{leb-true, leb-false, eqb-true, eqb-false, not-true}
 use Rattle.lists.specs.Lists.{All}
-use Rattle.lists.specs.Walk.{Turn, more, stop, onTurn, walk}
+use Rattle.lists.specs.Walk.{Turn, more, stop, on_turn, walk}
 use Rattle.lists.proofs.Tests.{and-to}
 use Rattle.lists.proofs.IndexLaws.{all-at}
 use Rattle.lists.proofs.ListLaws.{all_append, all_left}
@@ -21,17 +21,17 @@ use Rattle.prefix.specs.Prefixes.{longest}
 use Rattle.option.specs.Values.{Entry, SuboptionValue, request, information, name, unknown, refused}
 use Rattle.option.specs.Rules.{final, fields?}
 use Rattle.option.specs.declared.Fault.TheVariants.{Framing}
-use Rattle.option.specs.Reading.{two, figuresAt, entry_at, read_entry, readEntries, End, whole, badAt, subEnd, subInside?, whenGood, readRequest, readInformation, readName, read_body, readSuboption, readSuboptions, ended, option?, readOption}
+use Rattle.option.specs.Reading.{two, figures_at, entry_at, read_entry, read_entries, End, whole, bad_at, sub_end, sub_inside?, when_good, read_request, read_information, read_name, read_body, read_suboption, read_suboptions, ended, option?, read_option}
 use Rattle.option.proofs.EntryLaws.{entry_read, weigh, walk-weight, entries-weight}
 use Rattle.option.proofs.SuboptionLaws.{good-read, suboption-read, suboption-moves, information-entries, option-long, body-stops}
-use Rattle.option.specs.Contents.{refuses?, place_in, suboptions, requests, entries, requestsIn, entriesIn, firstName, firstNameIn}
-use Rattle.ledger.specs.Ledger.{placed?, refusalPlace}
-use Rattle.ledger.proofs.Counts.{upTo-all}
+use Rattle.option.specs.Contents.{refuses?, place_in, suboptions, requests, entries, requests_in, entries_in, first_name, first_name_in}
+use Rattle.ledger.specs.Ledger.{placed?, refusal_place}
+use Rattle.ledger.proofs.Counts.{up_to-all}
 
 -- WHAT HOLDS OF EACH PIECE OF A WALK
 
 module _ {A B : Type 0} (P : A → Type 0) (turn : ℕ → Turn A B) (out : B) (p : (at : ℕ) (a : A) (next : ℕ) → turn at ≡ more a next → P a) where
-  turn-all : (at : ℕ) (t : Turn A B) (k : ℕ → List A × B) → turn at ≡ t → ((next : ℕ) → All P (k next).0) → All P (onTurn t k).0
+  turn-all : (at : ℕ) (t : Turn A B) (k : ℕ → List A × B) → turn at ≡ t → ((next : ℕ) → All P (k next).0) → All P (on_turn t k).0
   turn-all at (more a next) k e h = (p at a next e, h next)
   turn-all at (stop b) k e h = tt
 
@@ -51,36 +51,36 @@ module _ (P : SuboptionValue → Type 0) where
   cond-gives true t u p q = p
   cond-gives false t u p q = q
 
-  good-gives : (framed : Bool) (x : SuboptionValue) (at end : ℕ) → (fields? x ≡ true → P x) → Gives (whenGood framed x at end)
+  good-gives : (framed : Bool) (x : SuboptionValue) (at end : ℕ) → (fields? x ≡ true → P x) → Gives (when_good framed x at end)
   good-gives framed x at end p y next h = let g = good-read framed x at end y next h in subst P g.2 (p g.1)
 
   ended-all : (subs : List SuboptionValue) (e : End) → All P subs → All P (suboptions (ended subs e))
   ended-all subs whole a = a
-  ended-all subs (badAt fault place) a = tt
+  ended-all subs (bad_at fault place) a = tt
 
-  read_all : (s : List ℕ) → ((at : ℕ) → Gives (readSuboption s at)) → All P (suboptions (readOption s))
-  unfolding readOption readSuboptions
+  read_all : (s : List ℕ) → ((at : ℕ) → Gives (read_suboption s at)) → All P (suboptions (read_option s))
+  unfolding read_option read_suboptions
   read_all s p = go (option? s)
     where
-      go : (b : Bool) → All P (suboptions (cond b (ended (readSuboptions s 3).0 (readSuboptions s 3).1) (refused 6 0)))
-      go true = ended-all (readSuboptions s 3).0 (readSuboptions s 3).1 (walk-all P (readSuboption s) whole p (suc (length s)) 3)
+      go : (b : Bool) → All P (suboptions (cond b (ended (read_suboptions s 3).0 (read_suboptions s 3).1) (refused 6 0)))
+      go true = ended-all (read_suboptions s 3).0 (read_suboptions s 3).1 (walk-all P (read_suboption s) whole p (suc (length s)) 3)
       go false = tt
 
   -- By the kinds of suboptions.
   kinds-all : (s : List ℕ) → ((h i : Bool) (len : ℕ) → fields? (request h i len) ≡ true → P (request h i len)) → ((c t : Bool) (es : List Entry) → fields? (information c t es) ≡ true → P (information c t es))
-      → ((n i : ℕ) → fields? (name (take n (drop i s))) ≡ true → P (name (take n (drop i s)))) → P unknown → All P (suboptions (readOption s))
-  unfolding read_body readRequest readInformation readName
+      → ((n i : ℕ) → fields? (name (take n (drop i s))) ≡ true → P (name (take n (drop i s)))) → P unknown → All P (suboptions (read_option s))
+  unfolding read_body read_request read_information read_name
   kinds-all s a b d u =
       read_all s (λ at x next e.
-      let end : ℕ = subEnd s at in
+      let end : ℕ = sub_end s at in
       let number : ℕ = get_or s at 0 in
-      cond-gives (eqb number 1) (readRequest s at end) _ (good-gives _ _ at end (a _ _ _))
-      (cond-gives (eqb number 2) (readInformation s at end) _ (good-gives _ _ at end (b _ _ _))
-      (cond-gives (eqb number 3) (readName s at end) _ (good-gives _ _ at end (d (end - (at + 2)) (at + 2)))
+      cond-gives (eqb number 1) (read_request s at end) _ (good-gives _ _ at end (a _ _ _))
+      (cond-gives (eqb number 2) (read_information s at end) _ (good-gives _ _ at end (b _ _ _))
+      (cond-gives (eqb number 3) (read_name s at end) _ (good-gives _ _ at end (d (end - (at + 2)) (at + 2)))
       (λ y n h. let q : unknown ≡ y = cc in subst P q u)))
       x next (suboption-read s at x next e).body)
 
-pub fields_read : (s : List ℕ) → All (λ x. fields? x ≡ true) (suboptions (readOption s))
+pub fields_read : (s : List ℕ) → All (λ x. fields? x ≡ true) (suboptions (read_option s))
 unfolding fields?
 fields_read s = kinds-all (λ x. fields? x ≡ true) s (λ h i len e. e) (λ c t es e. e) (λ n i e. e) refl
 
@@ -93,8 +93,8 @@ requests-fields (name octets ∷ subs) a = requests-fields subs a.1
 requests-fields (unknown ∷ subs) a = requests-fields subs a.1
 
 -- "prefix length 0 to 30"
-pub requests-short : (s : List ℕ) → All (λ r. r.length ≤ longest) (requestsIn s)
-requests-short s = requests-fields (suboptions (readOption s)) (fields_read s)
+pub requests-short : (s : List ℕ) → All (λ r. r.length ≤ longest) (requests_in s)
+requests-short s = requests-fields (suboptions (read_option s)) (fields_read s)
 
 -- "Figures are 16-bit"
 
@@ -107,17 +107,17 @@ abbrev Figures16 : Entry → Type 0
 Figures16 e = All (λ n. n < 65536) e.figures
 
 figures-read : (s : List ℕ) → All (λ b. b < 256) s → (at : ℕ) → Figures16 (entry_at s at)
-unfolding entry_at figuresAt
-figures-read s a at = upTo-all (λ n. n < 65536) (get_or s (at + 6) 0 / 2) _ (two_at (at + 7), (two_at (at + 7 + 2), (two_at (at + 7 + 4), tt)))
+unfolding entry_at figures_at
+figures-read s a at = up_to-all (λ n. n < 65536) (get_or s (at + 6) 0 / 2) _ (two_at (at + 7), (two_at (at + 7 + 2), (two_at (at + 7 + 4), tt)))
   where
     two_at : (i : ℕ) → two s i < 65536
     two_at i = omega (arith, byte_at s a i, byte_at s a (i + 1))
 
-entries-read : (s : List ℕ) → All (λ b. b < 256) s → (end at : ℕ) → All Figures16 (readEntries s end at).0
-unfolding readEntries
+entries-read : (s : List ℕ) → All (λ b. b < 256) s → (end at : ℕ) → All Figures16 (read_entries s end at).0
+unfolding read_entries
 entries-read s a end at = walk-all Figures16 (read_entry s end) false (λ i e next h. subst Figures16 (entry_read s end i e next h).1 (figures-read s a i)) (suc end) at
 
-sub-figures : (s : List ℕ) → All (λ b. b < 256) s → (at : ℕ) (x : SuboptionValue) (next : ℕ) → readSuboption s at ≡ more x next → All Figures16 (entries (x ∷ []))
+sub-figures : (s : List ℕ) → All (λ b. b < 256) s → (at : ℕ) (x : SuboptionValue) (next : ℕ) → read_suboption s at ≡ more x next → All Figures16 (entries (x ∷ []))
 sub-figures s a at (request h i len) next e = tt
 sub-figures s a at (information c t es) next e =
     all_append Figures16 es [] (subst (λ (p : List Entry × Bool). All Figures16 p.0) (information-entries s at c t es next e).1 (entries-read s a next (at + 3))) tt
@@ -131,27 +131,27 @@ entries-figures (information c t es ∷ subs) a = all_append Figures16 es (entri
 entries-figures (name octets ∷ subs) a = entries-figures subs a.1
 entries-figures (unknown ∷ subs) a = entries-figures subs a.1
 
-pub figures-short : (s : List ℕ) → All (λ b. b < 256) s → All (λ e. All (λ n. n < 65536) e.figures) (entriesIn s)
-figures-short s a = entries-figures (suboptions (readOption s)) (read_all (λ x. All Figures16 (entries (x ∷ []))) s (sub-figures s a))
+pub figures-short : (s : List ℕ) → All (λ b. b < 256) s → All (λ e. All (λ n. n < 65536) e.figures) (entries_in s)
+figures-short s a = entries-figures (suboptions (read_option s)) (read_all (λ x. All Figures16 (entries (x ∷ []))) s (sub-figures s a))
 
 -- THE FIRST NAME is bytes of the option, and does not end in zero.
 
 abbrev NameBytes : SuboptionValue → Type 0
-NameBytes x = All (λ b. b < 256) (firstName (x ∷ []))
+NameBytes x = All (λ b. b < 256) (first_name (x ∷ []))
 
-first-bytes : (subs : List SuboptionValue) → All NameBytes subs → All (λ b. b < 256) (firstName subs)
+first-bytes : (subs : List SuboptionValue) → All NameBytes subs → All (λ b. b < 256) (first_name subs)
 first-bytes [] a = tt
 first-bytes (request h i len ∷ subs) a = first-bytes subs a.1
 first-bytes (information c t es ∷ subs) a = first-bytes subs a.1
 first-bytes (name octets ∷ subs) a = a.0
 first-bytes (unknown ∷ subs) a = first-bytes subs a.1
 
-pub name-bytes : (s : List ℕ) → All (λ b. b < 256) s → All (λ b. b < 256) (firstNameIn s)
+pub name-bytes : (s : List ℕ) → All (λ b. b < 256) s → All (λ b. b < 256) (first_name_in s)
 name-bytes s a =
-    first-bytes (suboptions (readOption s))
-    (kinds-all NameBytes s (λ h i len e. tt) (λ c t es e. tt) (λ n i e. upTo-all (λ b. b < 256) n (drop i s) (all_drop (λ b. b < 256) i s a)) tt)
+    first-bytes (suboptions (read_option s))
+    (kinds-all NameBytes s (λ h i len e. tt) (λ c t es e. tt) (λ n i e. up_to-all (λ b. b < 256) n (drop i s) (all_drop (λ b. b < 256) i s a)) tt)
 
-first_ends : (subs : List SuboptionValue) → All (λ x. fields? x ≡ true) subs → (k : ℕ) → length (firstName subs) ≡ suc k → get_or (firstName subs) k 0 ≡ 0 → ⊥
+first_ends : (subs : List SuboptionValue) → All (λ x. fields? x ≡ true) subs → (k : ℕ) → length (first_name subs) ≡ suc k → get_or (first_name subs) k 0 ≡ 0 → ⊥
 unfolding fields?
 first_ends [] a k e z = absurd (omega arith)
 first_ends (request h i len ∷ subs) a k e z = first_ends subs a.1 k e z
@@ -161,8 +161,8 @@ first_ends (name octets ∷ subs) a k e z =
     eqb-false (final octets) 0 (not-true (eqb (final octets) 0) a.0) (ap (λ (i : ℕ). get_or octets i 0) last ∙ z)
 first_ends (unknown ∷ subs) a k e z = first_ends subs a.1 k e z
 
-pub name-ends : (s : List ℕ) (k : ℕ) → length (firstNameIn s) ≡ suc k → get_or (firstNameIn s) k 0 ≡ 0 → ⊥
-name-ends s = first_ends (suboptions (readOption s)) (fields_read s)
+pub name-ends : (s : List ℕ) (k : ℕ) → length (first_name_in s) ≡ suc k → get_or (first_name_in s) k 0 ≡ 0 → ⊥
+name-ends s = first_ends (suboptions (read_option s)) (fields_read s)
 
 -- HOW MANY
 
@@ -181,18 +181,18 @@ cond-needs true at t u p q = p
 cond-needs false at t u p q = q
 
 body-needs : (number : ℕ) (s : List ℕ) (at end : ℕ) → Needs at (read_body number s at end)
-unfolding read_body readRequest readInformation readName
+unfolding read_body read_request read_information read_name
 body-needs number s at end =
-    cond-needs (eqb number 1) at (readRequest s at end) _
+    cond-needs (eqb number 1) at (read_request s at end) _
     (λ h i len next e. let g = good-read (eqb end (at + 4)) _ at end (request h i len) next e in omega (arith, eqb-true end (at + 4) g.0, g.3))
-    (cond-needs (eqb number 2) at (readInformation s at end) _
+    (cond-needs (eqb number 2) at (read_information s at end) _
     (λ h i len next e. let g = good-read _ _ at end (request h i len) next e in let w = g.2 in let z : ◌≡◌ {A = ℕ} 0 1 = cc in absurd (omega arith))
-    (cond-needs (eqb number 3) at (readName s at end) _
+    (cond-needs (eqb number 3) at (read_name s at end) _
     (λ h i len next e. let g = good-read _ _ at end (request h i len) next e in let w = g.2 in let z : ◌≡◌ {A = ℕ} 0 1 = cc in absurd (omega arith))
     (λ h i len next e. let z : ◌≡◌ {A = ℕ} 0 1 = cc in absurd (omega arith))))
 
-sub-weight : (s : List ℕ) (at : ℕ) (x : SuboptionValue) (next : ℕ) → readSuboption s at ≡ more x next → at + bytes_of x ≤ next
-sub-weight s at (request h i len) next e = omega (arith, body-needs (get_or s at 0) s at (subEnd s at) h i len next (suboption-read s at (request h i len) next e).body)
+sub-weight : (s : List ℕ) (at : ℕ) (x : SuboptionValue) (next : ℕ) → read_suboption s at ≡ more x next → at + bytes_of x ≤ next
+sub-weight s at (request h i len) next e = omega (arith, body-needs (get_or s at 0) s at (sub_end s at) h i len next (suboption-read s at (request h i len) next e).body)
 sub-weight s at (information c t es) next e =
     let r = information-entries s at c t es next e in
     omega (arith, entries-weight s next (at + 3) (omega (arith, r.0)), ap (λ (p : List Entry × Bool). length p.0) r.1)
@@ -216,7 +216,7 @@ entries-head (unknown ∷ subs) k = omega (arith, entries-head subs k)
 
 ended-weight : (subs : List SuboptionValue) (e : End) → weigh bytes_of (suboptions (ended subs e)) ≤ weigh bytes_of subs
 ended-weight subs whole = omega arith
-ended-weight subs (badAt fault place) = omega arith
+ended-weight subs (bad_at fault place) = omega arith
 
 short : (s : List ℕ) → All (λ b. b < 256) s → option? s ≡ true → length s ≤ 257
 unfolding option?
@@ -226,39 +226,39 @@ short s a e =
     let d = and-to (eqb (get_or s 1 0 + 2) (length s)) (leb 2 (get_or s 1 0)) c.1 in
     omega (arith, eqb-true (get_or s 1 0 + 2) (length s) d.0, all-at (λ v. v < 256) s a 1 0 (leb-true 2 (length s) b.0))
 
-few : (s : List ℕ) → length s ≤ 257 → 3 + weigh bytes_of (suboptions (readOption s)) ≤ 257
-unfolding readOption readSuboptions
+few : (s : List ℕ) → length s ≤ 257 → 3 + weigh bytes_of (suboptions (read_option s)) ≤ 257
+unfolding read_option read_suboptions
 few s l = go (option? s) refl
   where
-    go : (b : Bool) → option? s ≡ b → 3 + weigh bytes_of (suboptions (cond b (ended (readSuboptions s 3).0 (readSuboptions s 3).1) (refused 6 0))) ≤ 257
+    go : (b : Bool) → option? s ≡ b → 3 + weigh bytes_of (suboptions (cond b (ended (read_suboptions s 3).0 (read_suboptions s 3).1) (refused 6 0))) ≤ 257
     go true e =
         omega (
           arith,
-          ended-weight (readSuboptions s 3).0 (readSuboptions s 3).1,
-          walk-weight bytes_of (readSuboption s) whole (length s) (λ at x next e. (sub-weight s at x next e, (suboption-moves s at x next e).1)) (suc (length s)) 3 (omega (arith, option-long s e)),
+          ended-weight (read_suboptions s 3).0 (read_suboptions s 3).1,
+          walk-weight bytes_of (read_suboption s) whole (length s) (λ at x next e. (sub-weight s at x next e, (suboption-moves s at x next e).1)) (suc (length s)) 3 (omega (arith, option-long s e)),
         )
     go false e = omega arith
 
 -- An option holds at most 35 entries.
-pub entries-few : (s : List ℕ) → length s ≤ 257 → length (entriesIn s) ≤ 35
+pub entries-few : (s : List ℕ) → length s ≤ 257 → length (entries_in s) ≤ 35
 entries-few s l =
-    by_cases (dec_le 1 (length (entriesIn s)))
-    (λ h. omega (arith, few s l, entries-head (suboptions (readOption s)) h))
+    by_cases (dec_le 1 (length (entries_in s)))
+    (λ h. omega (arith, few s l, entries-head (suboptions (read_option s)) h))
     (λ h. omega arith)
 
 -- An option of bytes that is no refusal of row 6 has at most 257 bytes.
-pub option-short : (s : List ℕ) → All (λ b. b < 256) s → refuses? 6 (readOption s) ≡ false → length s ≤ 257
-unfolding readOption
+pub option-short : (s : List ℕ) → All (λ b. b < 256) s → refuses? 6 (read_option s) ≡ false → length s ≤ 257
+unfolding read_option
 option-short s a r = go (option? s) refl r
   where
-    go : (b : Bool) → option? s ≡ b → refuses? 6 (cond b (ended (readSuboptions s 3).0 (readSuboptions s 3).1) (refused 6 0)) ≡ false → length s ≤ 257
+    go : (b : Bool) → option? s ≡ b → refuses? 6 (cond b (ended (read_suboptions s 3).0 (read_suboptions s 3).1) (refused 6 0)) ≡ false → length s ≤ 257
     go true e f = short s a e
     go false e f = absurd (true≢false f)
 
 -- THE PLACE of a bad suboption lies in the option.
 
 module _ {A B : Type 0} (P : B → Type 0) (turn : ℕ → Turn A B) (out : B) (q : P out) (p : (at : ℕ) (b : B) → turn at ≡ stop b → P b) where
-  turn-reason : (at : ℕ) (t : Turn A B) (k : ℕ → List A × B) → turn at ≡ t → ((next : ℕ) → P (k next).1) → P (onTurn t k).1
+  turn-reason : (at : ℕ) (t : Turn A B) (k : ℕ → List A × B) → turn at ≡ t → ((next : ℕ) → P (k next).1) → P (on_turn t k).1
   turn-reason at (more a next) k e h = h next
   turn-reason at (stop b) k e h = p at b e
 
@@ -269,39 +269,39 @@ module _ {A B : Type 0} (P : B → Type 0) (turn : ℕ → Turn A B) (out : B) (
 
 abbrev Within : ℕ → End → Type 0
 Within n whole = Unit {0}
-Within n (badAt fault place) = place ≤ n
+Within n (bad_at fault place) = place ≤ n
 
-sub-stops : (s : List ℕ) (at : ℕ) (b : End) → readSuboption s at ≡ stop b → Within (length s) b
-unfolding readSuboption
-sub-stops s at b = go (leb (length s) at) (subInside? s at) refl b
+sub-stops : (s : List ℕ) (at : ℕ) (b : End) → read_suboption s at ≡ stop b → Within (length s) b
+unfolding read_suboption
+sub-stops s at b = go (leb (length s) at) (sub_inside? s at) refl b
   where
-    go : (p q : Bool) → leb (length s) at ≡ p → (b : End) → cond p (stop whole) (cond q (read_body (get_or s at 0) s at (subEnd s at)) (stop (badAt Framing at))) ≡ stop b → Within (length s) b
+    go : (p q : Bool) → leb (length s) at ≡ p → (b : End) → cond p (stop whole) (cond q (read_body (get_or s at 0) s at (sub_end s at)) (stop (bad_at Framing at))) ≡ stop b → Within (length s) b
     go true q l b e = let z : whole ≡ b = cc in subst (Within (length s)) z tt
-    go false true l b e = subst (Within (length s)) (sym (body-stops (get_or s at 0) s at (subEnd s at) b e).1) (omega (arith, leb-false (length s) at l))
-    go false false l b e = let z : badAt Framing at ≡ b = cc in subst (Within (length s)) z (omega (arith, leb-false (length s) at l))
+    go false true l b e = subst (Within (length s)) (sym (body-stops (get_or s at 0) s at (sub_end s at) b e).1) (omega (arith, leb-false (length s) at l))
+    go false false l b e = let z : bad_at Framing at ≡ b = cc in subst (Within (length s)) z (omega (arith, leb-false (length s) at l))
 
-pub place_inside : (s : List ℕ) → place_in (readOption s) ≤ length s
-unfolding readOption readSuboptions
+pub place_inside : (s : List ℕ) → place_in (read_option s) ≤ length s
+unfolding read_option read_suboptions
 place_inside s = go (option? s)
   where
     ended-place : (subs : List SuboptionValue) (e : End) → Within (length s) e → place_in (ended subs e) ≤ length s
     ended-place subs whole w = omega arith
-    ended-place subs (badAt fault place) w = w
+    ended-place subs (bad_at fault place) w = w
 
-    go : (b : Bool) → place_in (cond b (ended (readSuboptions s 3).0 (readSuboptions s 3).1) (refused 6 0)) ≤ length s
-    go true = ended-place (readSuboptions s 3).0 (readSuboptions s 3).1 (walk-reason (Within (length s)) (readSuboption s) whole tt (sub-stops s) (suc (length s)) 3)
+    go : (b : Bool) → place_in (cond b (ended (read_suboptions s 3).0 (read_suboptions s 3).1) (refused 6 0)) ≤ length s
+    go true = ended-place (read_suboptions s 3).0 (read_suboptions s 3).1 (walk-reason (Within (length s)) (read_suboption s) whole tt (sub-stops s) (suc (length s)) 3)
     go false = omega arith
 
 -- "7 also its place", and 16: at most 257.
-pub place_short : (s : List ℕ) → All (λ b. b < 256) s → (n : ℕ) → refusalPlace s n ≤ 257
-unfolding readOption
+pub place_short : (s : List ℕ) → All (λ b. b < 256) s → (n : ℕ) → refusal_place s n ≤ 257
+unfolding read_option
 place_short s a n = go (placed? n)
   where
-    at : (b : Bool) → option? s ≡ b → place_in (cond b (ended (readSuboptions s 3).0 (readSuboptions s 3).1) (refused 6 0)) ≤ length s
-        → place_in (cond b (ended (readSuboptions s 3).0 (readSuboptions s 3).1) (refused 6 0)) ≤ 257
+    at : (b : Bool) → option? s ≡ b → place_in (cond b (ended (read_suboptions s 3).0 (read_suboptions s 3).1) (refused 6 0)) ≤ length s
+        → place_in (cond b (ended (read_suboptions s 3).0 (read_suboptions s 3).1) (refused 6 0)) ≤ 257
     at true e l = omega (arith, short s a e)
     at false e l = omega arith
 
-    go : (b : Bool) → cond b (place_in (readOption s)) 0 ≤ 257
+    go : (b : Bool) → cond b (place_in (read_option s)) 0 ≤ 257
     go true = at (option? s) refl (place_inside s)
     go false = omega arith

@@ -20,15 +20,15 @@ use Rattle.lists.proofs.ListLaws.{all_map, all-every}
 use Rattle.prefix.specs.Prefixes.{end}
 use Rattle.prefix.proofs.PrefixLaws.{size-positive}
 use Rattle.option.specs.Values.{request, information}
-use Rattle.option.specs.Reading.{readOption}
+use Rattle.option.specs.Reading.{read_option}
 use Rattle.table.specs.declared.Lease.{Lease}
 use Rattle.table.specs.declared.LeaseTable.{LeaseTable}
-use Rattle.table.specs.Table.{leaseSlots, prefix_of, padded, present, sound, store}
+use Rattle.table.specs.Table.{lease_slots, prefix_of, padded, present, sound, store}
 use Rattle.table.proofs.Ascending.{Ascending, ascending-low}
 use Rattle.table.proofs.TableLaws.{sound-fine, present-padded}
-use Rattle.option.specs.Contents.{suboptions, entriesIn, lastNetwork, position}
-use Rattle.option_reply.specs.Reply.{mostEntries, entry_of}
-use Rattle.ledger.specs.Ledger.{State, left, Call, call, Result, ledger, namedBy?, above?, listed, listedIn, releaseRows, release}
+use Rattle.option.specs.Contents.{suboptions, entries_in, last_network, position}
+use Rattle.option_reply.specs.Reply.{most_entries, entry_of}
+use Rattle.ledger.specs.Ledger.{State, left, Call, call, Result, ledger, named_by?, above?, listed, listed_in, release_rows, release}
 use Rattle.ledger.specs.Histories.{Event, next, afterwards}
 use Rattle.ledger.specs.ReadBack.{page}
 use Rattle.ledger.specs.Resuming.{AllReturns, Continues, Resumes}
@@ -86,7 +86,7 @@ after_first client p from (x ∷ xs) g gs s e =
 
 -- After a page of n: exactly what remained.
 after-page : (n client : ℕ) (p : Option ℕ) (from : ℕ) (xs gs : List Lease) → Ascending prefix_of from xs → listed client p xs ≡ gs
-    → listed client (lastNetwork p (map entry_of (up_to n gs))) xs ≡ drop n gs
+    → listed client (last_network p (map entry_of (up_to n gs))) xs ≡ drop n gs
 after-page zero client p from xs gs s e = e
 after-page (suc n) client p from xs [] s e = e
 after-page (suc n) client p from xs (g ∷ gs) s e = after-page n client (some g.network) from xs gs s (after_first client p from xs g gs s e)
@@ -105,18 +105,18 @@ filter-swap p q xs = filter-filter q p xs ∙ filter_same (λ x. q x && p x) (λ
 resumed : (t u : LeaseTable) (now later client : ℕ) (option resuming : List ℕ) (keep : Lease → Bool) → sound t ≡ true
     → present later u.leases ≡ filter keep (present now t.leases)
     → Continues t now client option resuming
-    → listedIn u later client resuming ≡ filter keep (drop mostEntries (listedIn t now client option))
+    → listed_in u later client resuming ≡ filter keep (drop most_entries (listed_in t now client option))
 resumed t u now later client option resuming keep s k e =
-    let p : Option ℕ = position none (suboptions (readOption option)) in
+    let p : Option ℕ = position none (suboptions (read_option option)) in
     let xs : List Lease = present now t.leases in
-    let q : Option ℕ = lastNetwork p (map entry_of (up_to mostEntries (listed client p xs))) in
+    let q : Option ℕ = last_network p (map entry_of (up_to most_entries (listed client p xs))) in
     ap₂ (λ (o : Option ℕ) (l : List Lease). listed client o l) e k
     ∙ filter-swap (wanted client q) keep xs
-    ∙ ap (filter keep) (after-page mostEntries client p 0 xs (listed client p xs) (sound-fine t s now).1 refl)
+    ∙ ap (filter keep) (after-page most_entries client p 0 xs (listed client p xs) (sound-fine t s now).1 refl)
 
 -- The position of an option that asks for more and echoes a page: "the network of the last entry of the last Information with c and s set".
 pub echoed : (h : Bool) (len : ℕ) (p : Option ℕ) (g : Lease) (gs : List Lease)
-    → position none (request h true len ∷ information true true (map entry_of (g ∷ gs)) ∷ []) ≡ lastNetwork p (map entry_of (g ∷ gs))
+    → position none (request h true len ∷ information true true (map entry_of (g ∷ gs)) ∷ []) ≡ last_network p (map entry_of (g ∷ gs))
 echoed h len p g gs = refl
 
 -- RETURNS IN BETWEEN keep some of the leases, and change none of those.
@@ -128,7 +128,7 @@ ended-later : (now later : ℕ) (keep : Lease → Bool) (xs : List Lease)
     → present later (padded (filter keep (present now xs))) ≡ filter (λ x. ltb now x.expires && keep x) (present later xs)
 unfolding present
 ended-later now later keep xs =
-    present-padded later (leaseSlots - length (filter keep (present now xs))) (filter keep (present now xs))
+    present-padded later (lease_slots - length (filter keep (present now xs))) (filter keep (present now xs))
     ∙ ap (filter (λ x. ltb later x.expires)) (filter-filter (λ x. ltb now x.expires) keep xs)
     ∙ filter-swap (λ x. ltb later x.expires) (λ x. ltb now x.expires && keep x) xs
 
@@ -139,9 +139,9 @@ StillThere t now u later = (keep : Lease → Bool) × (present later u.leases �
 return-keeps : (s : State) (now : ℕ) (c : Call) (later : ℕ) → StillThere s.table later (release s now c).state.table later
 unfolding release store left
 return-keeps s now c later =
-    served-or-not (λ (r : Result State). StillThere s.table later r.state.table later) (releaseRows s now c) _ _
+    served-or-not (λ (r : Result State). StillThere s.table later r.state.table later) (release_rows s now c) _ _
     (λ n. ((λ x. true), all-kept (present later s.table.leases)))
-    (λ e. ((λ x. ltb now x.expires && not (namedBy? c.client (entriesIn c.option) x)), ended-later now later (λ x. not (namedBy? c.client (entriesIn c.option) x)) s.table.leases))
+    (λ e. ((λ x. ltb now x.expires && not (named_by? c.client (entries_in c.option) x)), ended-later now later (λ x. not (named_by? c.client (entries_in c.option) x)) s.table.leases))
 
 -- A history of returns.
 returns-keep : (es : List Event) → AllReturns es → (s : State) (later : ℕ) → StillThere s.table later (afterwards ledger s es).table later
@@ -165,6 +165,6 @@ resumed-after-returns s now later client option resuming es so l a e =
     let keep : Lease → Bool = λ x. ltb later x.expires && r.0 x in
     let k : present later u.table.leases ≡ filter keep (present now s.table.leases) =
     r.1 ∙ ap (filter r.0) (sym (present-later now later l s.table.leases)) ∙ filter-filter (λ x. ltb later x.expires) r.0 (present now s.table.leases) in
-    let q : listedIn u.table later client resuming ≡ filter keep (drop mostEntries (listedIn s.table now client option)) =
+    let q : listed_in u.table later client resuming ≡ filter keep (drop most_entries (listed_in s.table now client option)) =
     resumed s.table u.table now later client option resuming keep so k e in
     record { keep = keep; there = k; rest = q; told = λ reply z. list-reads-back u later (call client resuming reply) z ∙ ap page q }

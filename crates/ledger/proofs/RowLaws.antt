@@ -10,12 +10,12 @@ use native.Mathlib.Omega.{arith}
 use lib.ListN.{length}
 use lib.Dec.{eqb}
 use borrow.Author.Tests.{eqb-false}
-use Rattle.lists.specs.Lists.{All, catMaybes}
+use Rattle.lists.specs.Lists.{All, cat_maybes}
 use Rattle.lists.proofs.Tests.{bool_cases, cond-true, cond-false}
-use Rattle.option.specs.Writing.{optionBytes}
+use Rattle.option.specs.Writing.{option_bytes}
 use Rattle.table.specs.declared.Lease.{Lease}
 use Rattle.table.specs.Table.{present}
-use Rattle.ledger.specs.Ledger.{State, left, Call, byRows, Result, refuse, accept, Row, first_of, or_else, before, nothing?, refusalPlace, full, informationFor, returned, givesIn, leasesIn, askRows, ask, takeRows, listRows, releaseRows, markRows}
+use Rattle.ledger.specs.Ledger.{State, left, Call, by_rows, Result, refuse, accept, Row, first_of, or_else, before, nothing?, refusal_place, full, information_for, returned, gives_in, leases_in, ask_rows, ask, take_rows, list_rows, release_rows, mark_rows}
 use Rattle.ledger.specs.Demand3.{none?}
 
 pub first-none : (rows : List Row) → first_of rows ≡ none → All (λ (r : Row). r.1 ≡ false) rows
@@ -93,13 +93,13 @@ by-numbers Q P rows refusing accepting k a b = go (first_of rows) refl
     go none e = b e
     go (some n) e = a n (first-number Q rows k n e)
 
-pub by_rows : {R : Type 0} (P : R → Type 0) (rows : List Row) (refusing : ℕ → R) (accepting : R) → Numbered rows
+pub by_rows_lem : {R : Type 0} (P : R → Type 0) (rows : List Row) (refusing : ℕ → R) (accepting : R) → Numbered rows
     → ((n : ℕ) → eqb n 0 ≡ false → P (refusing n)) → (first_of rows ≡ none → P accepting) → P (or_else (first_of rows) refusing accepting)
-by_rows P rows refusing accepting k a b = by-numbers (λ m. eqb m 0 ≡ false) P rows refusing accepting k a b
+by_rows_lem P rows refusing accepting k a b = by-numbers (λ m. eqb m 0 ≡ false) P rows refusing accepting k a b
 
 -- A call that is accepted has no row that applies.
 pub accepted-none : {S : Type 0} (rows : List Row) (place : ℕ → ℕ) (s : S) (reply : List ℕ) (accepted : Result S) → Numbered rows
-    → (byRows rows place s reply accepted).answer.number ≡ 0 → first_of rows ≡ none
+    → (by_rows rows place s reply accepted).answer.number ≡ 0 → first_of rows ≡ none
 accepted-none rows place s reply accepted k z = go (first_of rows) refl z
   where
     go : (o : Option ℕ) → first_of rows ≡ o → (or_else o (λ number. refuse number (place number) s reply) accepted).answer.number ≡ 0 → first_of rows ≡ none
@@ -108,82 +108,82 @@ accepted-none rows place s reply accepted k z = go (first_of rows) refl z
 
 -- What is so of what it leaves if it is accepted.
 pub accepted-by : {S : Type 0} (P : S → Type 0) (rows : List Row) (place : ℕ → ℕ) (s : S) (reply : List ℕ) (accepted : Result S) → Numbered rows
-    → (All (λ (r : Row). r.1 ≡ false) rows → P accepted.state) → (byRows rows place s reply accepted).answer.number ≡ 0 → P (byRows rows place s reply accepted).state
+    → (All (λ (r : Row). r.1 ≡ false) rows → P accepted.state) → (by_rows rows place s reply accepted).answer.number ≡ 0 → P (by_rows rows place s reply accepted).state
 accepted-by {S} P rows place s reply accepted k f =
-    by_rows (λ (r : Result S). r.answer.number ≡ 0 → P r.state) rows _ _ k (λ n e z. absurd (eqb-false n 0 e z)) (λ e _. f (first-none rows e))
+    by_rows_lem (λ (r : Result S). r.answer.number ≡ 0 → P r.state) rows _ _ k (λ n e z. absurd (eqb-false n 0 e z)) (λ e _. f (first-none rows e))
 
-pub numbered-ask : (s : State) (now : ℕ) (c : Call) → Numbered (askRows s now c)
-unfolding askRows
+pub numbered-ask : (s : State) (now : ℕ) (c : Call) → Numbered (ask_rows s now c)
+unfolding ask_rows
 numbered-ask s now c = (refl, (refl, (refl, (refl, (refl, (refl, (refl, (refl, (refl, (refl, (refl, (refl, (refl, (refl, tt))))))))))))))
 
-pub numbered-take : (s : State) (now : ℕ) (c : Call) → Numbered (takeRows s now c)
-unfolding takeRows
+pub numbered-take : (s : State) (now : ℕ) (c : Call) → Numbered (take_rows s now c)
+unfolding take_rows
 numbered-take s now c = (refl, (refl, (refl, (refl, (refl, (refl, (refl, (refl, (refl, (refl, (refl, (refl, tt))))))))))))
 
-pub numbered-list : (s : State) (now : ℕ) (c : Call) → Numbered (listRows s now c)
-unfolding listRows
+pub numbered-list : (s : State) (now : ℕ) (c : Call) → Numbered (list_rows s now c)
+unfolding list_rows
 numbered-list s now c = (refl, (refl, (refl, (refl, (refl, (refl, (refl, (refl, (refl, (refl, tt))))))))))
 
-pub numbered-release : (s : State) (now : ℕ) (c : Call) → Numbered (releaseRows s now c)
-unfolding releaseRows
+pub numbered-release : (s : State) (now : ℕ) (c : Call) → Numbered (release_rows s now c)
+unfolding release_rows
 numbered-release s now c = (refl, (refl, (refl, (refl, (refl, (refl, (refl, (refl, (refl, (refl, tt))))))))))
 
-pub numbered-mark : (s : State) (now network len : ℕ) → Numbered (markRows s now network len)
-unfolding markRows
+pub numbered-mark : (s : State) (now network len : ℕ) → Numbered (mark_rows s now network len)
+unfolding mark_rows
 numbered-mark s now network len = (refl, (refl, (refl, (refl, (refl, tt)))))
 
 -- ASK: the rows before 9, and rows 9 and 10.
 
 -- What an ask answers whose rows before 9 do not apply, on the leases xs: `gs` are the leases granted, given again or new, and ys those that it leaves.
 -- `back` is the option that follows in the reply.
-abbrev pub answerAsk : State → ℕ → List ℕ → List ℕ → List Lease → List Lease → List Lease → Result State
-answerAsk s now back reply xs ys [] = refuse (cond (full xs) 9 10) 0 s reply
-answerAsk s now back reply xs ys (g ∷ gs) = accept (left s now ys) (optionBytes (map informationFor (g ∷ gs)) ++ back) (length (g ∷ gs)) reply
+abbrev pub answer_ask : State → ℕ → List ℕ → List ℕ → List Lease → List Lease → List Lease → Result State
+answer_ask s now back reply xs ys [] = refuse (cond (full xs) 9 10) 0 s reply
+answer_ask s now back reply xs ys (g ∷ gs) = accept (left s now ys) (option_bytes (map information_for (g ∷ gs)) ++ back) (length (g ∷ gs)) reply
 
 module _ (s : State) (now : ℕ) (c : Call) where
   xs : List Lease
   xs = present now s.table.leases
 
   ys : List Lease
-  ys = leasesIn s.table now c
+  ys = leases_in s.table now c
 
   abbrev back : List ℕ
   back = returned c.selection
 
   granted : List Lease
-  granted = catMaybes (givesIn s.table now c)
+  granted = cat_maybes (gives_in s.table now c)
 
   -- Rows 9 and 10.
-  abbrev ownRows : List Lease → List Row
-  ownRows gs = (9, nothing? gs && full xs) ∷ (10, nothing? gs) ∷ []
+  abbrev own_rows : List Lease → List Row
+  own_rows gs = (9, nothing? gs && full xs) ∷ (10, nothing? gs) ∷ []
 
-  rows_split : askRows s now c ≡ before 9 (askRows s now c) ++ ownRows granted
-  unfolding askRows xs granted
+  rows_split : ask_rows s now c ≡ before 9 (ask_rows s now c) ++ own_rows granted
+  unfolding ask_rows xs granted
   rows_split = refl
 
   own : (gs : List Lease)
-      → or_else (first_of (ownRows gs)) (λ number. refuse number (refusalPlace c.option number) s c.reply)
-      (accept (left s now ys) (optionBytes (map informationFor gs) ++ back) (length gs) c.reply)
-      ≡ answerAsk s now back c.reply xs ys gs
+      → or_else (first_of (own_rows gs)) (λ number. refuse number (refusal_place c.option number) s c.reply)
+      (accept (left s now ys) (option_bytes (map information_for gs) ++ back) (length gs) c.reply)
+      ≡ answer_ask s now back c.reply xs ys gs
   own (g ∷ gs) = refl
   own [] = go (full xs)
     where
       go : (b : Bool)
-          → or_else (cond b (some 9) (some 10)) (λ number. refuse number (refusalPlace c.option number) s c.reply)
-          (accept (left s now ys) (optionBytes (map informationFor []) ++ back) (length (map informationFor [])) c.reply)
+          → or_else (cond b (some 9) (some 10)) (λ number. refuse number (refusal_place c.option number) s c.reply)
+          (accept (left s now ys) (option_bytes (map information_for []) ++ back) (length (map information_for [])) c.reply)
           ≡ refuse (cond b 9 10) 0 s c.reply
       go true = refl
       go false = refl
 
   -- An ask by the row that applies to it.
   abbrev goes : Option ℕ → Result State
-  goes o = or_else o (λ number. refuse number (refusalPlace c.option number) s c.reply) (accept (left s now ys) (optionBytes (map informationFor granted) ++ back) (length granted) c.reply)
+  goes o = or_else o (λ number. refuse number (refusal_place c.option number) s c.reply) (accept (left s now ys) (option_bytes (map information_for granted) ++ back) (length granted) c.reply)
 
-  pub ask-served : first_of (before 9 (askRows s now c)) ≡ none
-      → ask s now c ≡ answerAsk s now (returned c.selection) c.reply (present now s.table.leases) (leasesIn s.table now c) (catMaybes (givesIn s.table now c))
+  pub ask-served : first_of (before 9 (ask_rows s now c)) ≡ none
+      → ask s now c ≡ answer_ask s now (returned c.selection) c.reply (present now s.table.leases) (leases_in s.table now c) (cat_maybes (gives_in s.table now c))
   unfolding ask xs ys granted
-  ask-served e = ap goes (ap first_of rows_split ∙ first-after (before 9 (askRows s now c)) (ownRows granted) e) ∙ own granted
+  ask-served e = ap goes (ap first_of rows_split ∙ first-after (before 9 (ask_rows s now c)) (own_rows granted) e) ∙ own granted
 
-  pub ask-refused : (n : ℕ) → first_of (before 9 (askRows s now c)) ≡ some n → ask s now c ≡ refuse n (refusalPlace c.option n) s c.reply
+  pub ask-refused : (n : ℕ) → first_of (before 9 (ask_rows s now c)) ≡ some n → ask s now c ≡ refuse n (refusal_place c.option n) s c.reply
   unfolding ask xs ys granted
-  ask-refused n e = ap goes (ap first_of rows_split ∙ first-before (before 9 (askRows s now c)) (ownRows granted) n e)
+  ask-refused n e = ap goes (ap first_of rows_split ∙ first-before (before 9 (ask_rows s now c)) (own_rows granted) n e)

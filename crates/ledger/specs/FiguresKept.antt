@@ -7,8 +7,8 @@ use Rattle.option.specs.Values.{Entry}
 use Rattle.table.specs.declared.Lease.{Lease}
 use Rattle.table.specs.Table.{prefix_of, present}
 use Rattle.figures.specs.declared.FigureRow.{FigureRow}
-use Rattle.figures.specs.Figures.{untold, untoldRow, matches?}
-use Rattle.ledger.specs.Ledger.{State, Call, Calls, names?, usableEntries, openTable}
+use Rattle.figures.specs.Figures.{untold, untold_row, matches?}
+use Rattle.ledger.specs.Ledger.{State, Call, Calls, names?, usable_entries, open_table}
 use Rattle.ledger.specs.Histories.{Reachable}
 
 -- ROWS OF A STATE
@@ -58,14 +58,14 @@ pub record FiguresAfter (Change : Lease → FigureRow → FigureRow → Type 0) 
   pub kept : (x y : Lease) (r q : FigureRow) → RowOf s x r → now < x.expires → RowOf u y q → prefix_of y ≡ prefix_of x → Change x r q
   -- "A new or loaded line starts with all three untold (0xffff)": one whose prefix no lease had that was present. Of an ended one at the same place nothing
   -- is left: "When a line is struck its row is cleared".
-  pub new : (y : Lease) (q : FigureRow) → RowOf u y q → All (λ x. prefix_of x ≡ prefix_of y → ⊥) (present now s.table.leases) → q ≡ untoldRow y
+  pub new : (y : Lease) (q : FigureRow) → RowOf u y q → All (λ x. prefix_of x ≡ prefix_of y → ⊥) (present now s.table.leases) → q ≡ untold_row y
 
 -- OF ANY CALLS on what holds a state. "Ask, take, return and mark take the sheet"; a list leaves all as it was.
 module _ {S : Type 0} (calls : Calls S) where
   pub record FiguresKept : Type 0 where
     pub asks : (s : S) (now : ℕ) (c : Call) → (calls.asks s now c).answer.number ≡ 0 → FiguresAfter Unchanged now (calls.state_of s) (calls.state_of (calls.asks s now c).state)
     pub takes : (s : S) (now : ℕ) (c : Call) → (calls.takes s now c).answer.number ≡ 0
-        → FiguresAfter (Updated c.client (usableEntries (calls.state_of s).table c)) now (calls.state_of s) (calls.state_of (calls.takes s now c).state)
+        → FiguresAfter (Updated c.client (usable_entries (calls.state_of s).table c)) now (calls.state_of s) (calls.state_of (calls.takes s now c).state)
     pub releases : (s : S) (now : ℕ) (c : Call) → (calls.releases s now c).answer.number ≡ 0
         → FiguresAfter Unchanged now (calls.state_of s) (calls.state_of (calls.releases s now c).state)
     pub marks : (s : S) (now network len : ℕ) (d : Bool) → (calls.marks s now network len d).answer.number ≡ 0
@@ -77,8 +77,8 @@ module _ {S : Type 0} (calls : Calls S) where
 
 -- "open and load fill it": rows that match, all untold.
 abbrev pub AllUntold : State → Type 0
-AllUntold s = Matched s × ((y : Lease) (q : FigureRow) → RowOf s y q → q ≡ untoldRow y)
+AllUntold s = Matched s × ((y : Lease) (q : FigureRow) → RowOf s y q → q ≡ untold_row y)
 
 abbrev pub OpensUntold : Type 0
-OpensUntold = (networks lengths : List ℕ) (term defaultLength start : ℕ) → (openTable networks lengths term defaultLength start).answer.number ≡ 0
-    → AllUntold (openTable networks lengths term defaultLength start).state
+OpensUntold = (networks lengths : List ℕ) (term default_length start : ℕ) → (open_table networks lengths term default_length start).answer.number ≡ 0
+    → AllUntold (open_table networks lengths term default_length start).state

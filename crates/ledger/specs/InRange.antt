@@ -2,15 +2,15 @@
 -- client and a time, 16 for a figure, 8 for a length and a byte, and 64 for eight octets of a name.
 use Rattle.std.specs.Prelude.{ℕ, ◌+◌, ◌≤◌, ◌<◌, Bool, List}
 use Rattle.lists.specs.Lists.{All}
-use Rattle.option.specs.Values.{longestOption}
-use Rattle.option.specs.Selection.{selectionSize}
+use Rattle.option.specs.Values.{longest_option}
+use Rattle.option.specs.Selection.{selection_size}
 use Rattle.names.specs.declared.Name.{Name}
 use Rattle.table.specs.declared.{Pool.Pool, Lease.Lease, LeaseTable.LeaseTable}
-use Rattle.table.specs.Table.{leaseSlots}
+use Rattle.table.specs.Table.{lease_slots}
 use Rattle.figures.specs.declared.FigureRow.{FigureRow}
 use Rattle.ledger.specs.declared.Answer.{Answer}
-use Rattle.ledger.specs.Ledger.{State, Call, Result, Calls, returned as returnedOption, openTable}
-use Rattle.ledger.specs.Histories.{Event, asked, taken, wasListed, returned, marked, saved, afterwards}
+use Rattle.ledger.specs.Ledger.{State, Call, Result, Calls, returned as returned_option, open_table}
+use Rattle.ledger.specs.Histories.{Event, asked, taken, was_listed, returned, marked, saved, afterwards}
 use Rattle.ledger.specs.Sizes.{Byte, Bytes}
 
 -- A number of 32 bits, and one of 16.
@@ -25,8 +25,8 @@ abbrev pub NameWord : ℕ → Type 0
 NameWord n = n < 18446744073709551616
 
 -- The highest number of a refusal: document 01 has numbers up to 14, the change requests (document 02) up to 25.
-abbrev pub highestNumber : ℕ
-highestNumber = 25
+abbrev pub highest_number : ℕ
+highest_number = 25
 
 -- WHAT A CALL IS GIVEN
 
@@ -67,17 +67,17 @@ pub record StateInRange (s : State) : Type 0 where
 pub record CallInRange (c : Call) : Type 0 where
   pub client : Word c.client
   pub option : Bytes c.option
-  pub selection : Bytes (returnedOption c.selection)
+  pub selection : Bytes (returned_option c.selection)
   pub reply : Bytes c.reply
 
 -- WHAT IT GIVES
 
 -- A place lies in an option, the bytes written fit the smallest reply buffer, and a count is one of leases.
 pub record AnswerInRange (a : Answer) : Type 0 where
-  pub number : a.number ≤ highestNumber
-  pub place : a.place ≤ longestOption
-  pub bytes : a.bytes ≤ longestOption + selectionSize
-  pub count : a.count ≤ leaseSlots
+  pub number : a.number ≤ highest_number
+  pub place : a.place ≤ longest_option
+  pub bytes : a.bytes ≤ longest_option + selection_size
+  pub count : a.count ≤ lease_slots
 
 -- `Fits`: what goes from call to call is in range.
 pub record ResultInRange {S : Type 0} (Fits : S → Type 0) (r : Result S) : Type 0 where
@@ -97,7 +97,7 @@ pub record InRange {S : Type 0} (Fits : S → Type 0) (calls : Calls S) : Type 0
 abbrev pub EventInRange : Event → Type 0
 EventInRange (asked now c) = CallInRange c
 EventInRange (taken now c) = CallInRange c
-EventInRange (wasListed now c) = CallInRange c
+EventInRange (was_listed now c) = CallInRange c
 EventInRange (returned now c) = CallInRange c
 EventInRange (marked now network len d) = Unit {0}
 EventInRange saved = Unit {0}
@@ -106,13 +106,13 @@ abbrev pub StaysInRange : {S : Type 0} → (S → Type 0) → Calls S → Type 0
 StaysInRange {S} Fits calls = (es : List Event) (s : S) → Fits s → All EventInRange es → Fits (afterwards calls s es)
 
 -- OPEN, which has no state before it.
-pub record OpenInRange (networks lengths : List ℕ) (term defaultLength start : ℕ) : Type 0 where
+pub record OpenInRange (networks lengths : List ℕ) (term default_length start : ℕ) : Type 0 where
   pub networks-are : All Word networks
   pub lengths-are : All Byte lengths
   pub term_is : Word term
-  pub default-is : Byte defaultLength
+  pub default-is : Byte default_length
   pub start_is : Word start
 
 abbrev pub OpensInRange : Type 0
-OpensInRange = (networks lengths : List ℕ) (term defaultLength start : ℕ) → OpenInRange networks lengths term defaultLength start
-    → ResultInRange StateInRange (openTable networks lengths term defaultLength start)
+OpensInRange = (networks lengths : List ℕ) (term default_length start : ℕ) → OpenInRange networks lengths term default_length start
+    → ResultInRange StateInRange (open_table networks lengths term default_length start)

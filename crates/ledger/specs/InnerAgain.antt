@@ -3,11 +3,11 @@
 use Rattle.lists.specs.Basics.{ℕ, cond, List, [], ◌∷◌, Option, none, some}
 use Rattle.table.specs.declared.{Lease.Lease, LeaseTable.LeaseTable}
 use Rattle.option.specs.Contents.{Request}
-use Rattle.ledger.specs.Ledger.{heldFor?}
+use Rattle.ledger.specs.Ledger.{held_for?}
 
 -- `gs` has what the requests have got so far.
 unfoldable pub give : LeaseTable → ℕ → Lease → List Request → List (Option Lease) → List (Option Lease)
 give t client x [] gs = gs
 give t client x (r ∷ rs) [] = []
 give t client x (r ∷ rs) (some y ∷ gs) = some y ∷ give t client x rs gs
-give t client x (r ∷ rs) (none ∷ gs) = let later = give t client x rs gs in cond (heldFor? t client r x) (some x ∷ gs) (none ∷ later)
+give t client x (r ∷ rs) (none ∷ gs) = let later = give t client x rs gs in cond (held_for? t client r x) (some x ∷ gs) (none ∷ later)

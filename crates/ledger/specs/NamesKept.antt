@@ -5,8 +5,8 @@ use Rattle.lists.specs.Lists.{All, Any}
 use Rattle.names.specs.declared.Name.{Name}
 use Rattle.table.specs.declared.Lease.{Lease}
 use Rattle.table.specs.Table.{prefix_of, present}
-use Rattle.ledger.specs.Ledger.{State, Call, Calls, askName}
-use Rattle.ledger.specs.Histories.{leasesOf}
+use Rattle.ledger.specs.Ledger.{State, Call, Calls, ask_name}
+use Rattle.ledger.specs.Histories.{leases_of}
 
 -- The leases of the state that are present, and all of it: an accepted call leaves no other.
 abbrev before : ℕ → State → List Lease
@@ -22,17 +22,17 @@ Keeps xs y = All (λ x. prefix_of x ≡ prefix_of y → y.name ≡ x.name) xs
 
 -- An accepted call at now, on s, that leaves u, and makes no lease.
 abbrev pub NamesStay : ℕ → State → State → Type 0
-NamesStay now s u = All (λ y. Stood (before now s) y × Keeps (before now s) y) (leasesOf u.table)
+NamesStay now s u = All (λ y. Stood (before now s) y × Keeps (before now s) y) (leases_of u.table)
 
 -- One that makes leases: "the same for all lines newly made by that message". Of an ended lease at the same place nothing is left: "Names go with a struck
 -- line".
 abbrev pub NamesMade : Name → ℕ → State → State → Type 0
-NamesMade name now s u = All (λ y. ((Stood (before now s) y → ⊥) → y.name ≡ name) × Keeps (before now s) y) (leasesOf u.table)
+NamesMade name now s u = All (λ y. ((Stood (before now s) y → ⊥) → y.name ≡ name) × Keeps (before now s) y) (leases_of u.table)
 
 -- OF ANY CALLS on what holds a state; a list leaves all as it was, as does a refusal.
 pub record NamesKept {S : Type 0} (calls : Calls S) : Type 0 where
   pub asks : (s : S) (now : ℕ) (c : Call) → (calls.asks s now c).answer.number ≡ 0
-      → NamesMade (askName c) now (calls.state_of s) (calls.state_of (calls.asks s now c).state)
+      → NamesMade (ask_name c) now (calls.state_of s) (calls.state_of (calls.asks s now c).state)
   pub takes : (s : S) (now : ℕ) (c : Call) → (calls.takes s now c).answer.number ≡ 0 → NamesStay now (calls.state_of s) (calls.state_of (calls.takes s now c).state)
   pub releases : (s : S) (now : ℕ) (c : Call) → (calls.releases s now c).answer.number ≡ 0
       → NamesStay now (calls.state_of s) (calls.state_of (calls.releases s now c).state)

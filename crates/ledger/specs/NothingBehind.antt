@@ -1,7 +1,7 @@
 -- A STRUCK LEASE LEAVES NOTHING BEHIND: states that differ only in leases that ended, and in their rows, are served alike, and freed slots are zero.
 use Rattle.std.specs.Prelude.{ℕ, ◌≡◌, Bool, true}
 use Rattle.table.specs.Table.{padded, present, sound}
-use Rattle.figures.specs.Figures.{matches?, keptRows}
+use Rattle.figures.specs.Figures.{matches?, kept_rows}
 use Rattle.ledger.specs.Ledger.{State, Call, Result, Calls}
 use Rattle.ledger.specs.Demand3.{Accepts}
 
@@ -18,7 +18,7 @@ pub record Alike (now : ℕ) (s u : State) : Type 0 where
   pub leases : present now s.table.leases ≡ present now u.table.leases
   pub matched₁ : matches? s.table.leases s.rows ≡ true
   pub matched₂ : matches? u.table.leases u.rows ≡ true
-  pub rows : keptRows now s.table.leases s.rows ≡ keptRows now u.table.leases u.rows
+  pub rows : kept_rows now s.table.leases s.rows ≡ kept_rows now u.table.leases u.rows
 
 -- The same answer and reply, and the same state left where the call is accepted.
 pub record Same {S : Type 0} (state_of : S → State) (r q : Result S) : Type 0 where

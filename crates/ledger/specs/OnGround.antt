@@ -5,17 +5,17 @@ use Rattle.lists.specs.Lists.{All, Any}
 use Rattle.prefix.specs.Prefixes.{end, Inside}
 use Rattle.option.specs.Reading.{four}
 use Rattle.table.specs.declared.LeaseTable.{LeaseTable}
-use Rattle.table.specs.Table.{poolsOf}
+use Rattle.table.specs.Table.{pools_of}
 use Rattle.ledger.specs.Ledger.{Call, Result, Calls, narrowed}
-use Rattle.ledger.specs.Demand3.{entryPrefix, replyEntries}
+use Rattle.ledger.specs.Demand3.{entry_prefix, reply_entries}
 
 -- Every entry of a reply lies inside a pool of the ground (a refusal has no entries).
 abbrev pub Within : {S : Type 0} → LeaseTable → Call → Result S → Type 0
-Within t c r = All (λ e. Any (Inside (entryPrefix e)) (poolsOf (narrowed t c))) (replyEntries r)
+Within t c r = All (λ e. Any (Inside (entry_prefix e)) (pools_of (narrowed t c))) (reply_entries r)
 
 -- And each pool of the ground of a call with the option contains its address.
 abbrev pub Contains : LeaseTable → Call → Type 0
-Contains t c = (s : List ℕ) → c.selection ≡ some s → All (λ p. (p.network ≤ four s 2) × (four s 2 < end p)) (poolsOf (narrowed t c))
+Contains t c = (s : List ℕ) → c.selection ≡ some s → All (λ p. (p.network ≤ four s 2) × (four s 2 < end p)) (pools_of (narrowed t c))
 
 module _ {S : Type 0} (calls : Calls S) where
   pub record OnGround : Type 0 where

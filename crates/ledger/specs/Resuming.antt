@@ -3,15 +3,15 @@
 use Rattle.std.specs.Prelude.{ℕ, ◌≤◌, ◌≡◌, Bool, true, List, map, drop, take as up_to}
 use Rattle.std.proofs.Math.Option.{none}
 use Rattle.lists.specs.Lists.{All, filter}
-use Rattle.option.specs.Values.{mostEntries}
-use Rattle.option.specs.Reading.{readOption}
-use Rattle.option.specs.Contents.{suboptions, lastNetwork, position}
+use Rattle.option.specs.Values.{most_entries}
+use Rattle.option.specs.Reading.{read_option}
+use Rattle.option.specs.Contents.{suboptions, last_network, position}
 use Rattle.option_reply.specs.Reply.{entry_of}
 use Rattle.table.specs.declared.{Lease.Lease, LeaseTable.LeaseTable}
 use Rattle.table.specs.Table.{present, sound}
-use Rattle.ledger.specs.Ledger.{Call, call, Calls, listedIn}
+use Rattle.ledger.specs.Ledger.{Call, call, Calls, listed_in}
 use Rattle.ledger.specs.Histories.{Event, returned, afterwards}
-use Rattle.ledger.specs.ReadBack.{readIn, page}
+use Rattle.ledger.specs.ReadBack.{read_in, page}
 
 -- A history of returns.
 abbrev pub AllReturns : List Event → Type 0
@@ -20,7 +20,7 @@ AllReturns es = All (λ e. (now : ℕ) × (c : Call) × (e ≡ returned now c)) 
 -- The second option's position is the last network of the page that the first list of a table showed.
 abbrev pub Continues : LeaseTable → ℕ → ℕ → List ℕ → List ℕ → Type 0
 Continues t now client option resuming =
-    position none (suboptions (readOption resuming)) ≡ lastNetwork (position none (suboptions (readOption option))) (map entry_of (up_to mostEntries (listedIn t now client option)))
+    position none (suboptions (read_option resuming)) ≡ last_network (position none (suboptions (read_option option))) (map entry_of (up_to most_entries (listed_in t now client option)))
 
 -- OF ANY CALLS on what holds a state.
 module _ {S : Type 0} (calls : Calls S) where
@@ -28,9 +28,9 @@ module _ {S : Type 0} (calls : Calls S) where
   pub record Resumed (s u : S) (now later client : ℕ) (option resuming : List ℕ) : Type 0 where
     pub keep : Lease → Bool
     pub there : present later (calls.state_of u).table.leases ≡ filter keep (present now (calls.state_of s).table.leases)
-    pub rest : listedIn (calls.state_of u).table later client resuming ≡ filter keep (drop mostEntries (listedIn (calls.state_of s).table now client option))
+    pub rest : listed_in (calls.state_of u).table later client resuming ≡ filter keep (drop most_entries (listed_in (calls.state_of s).table now client option))
     pub told : (reply : List ℕ) → (calls.lists u later (call client resuming reply)).answer.number ≡ 0
-        → readIn (calls.lists u later (call client resuming reply)) ≡ page (filter keep (drop mostEntries (listedIn (calls.state_of s).table now client option)))
+        → read_in (calls.lists u later (call client resuming reply)) ≡ page (filter keep (drop most_entries (listed_in (calls.state_of s).table now client option)))
 
   abbrev pub Resumes : Type 0
   Resumes = (s : S) (now later client : ℕ) (option resuming : List ℕ) (es : List Event) → sound (calls.state_of s).table ≡ true → now ≤ later → AllReturns es

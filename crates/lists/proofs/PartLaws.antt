@@ -8,23 +8,23 @@ use mathlib.Core.List.{List, [], ◌∷◌, ◌++◌, map, nil≢cons, head-eq_o
 use mathlib.Core.Option.{Option, none, some}
 use native.Mathlib.Omega.{arith}
 use lib.ListN.{length}
-use Rattle.lists.specs.Lists.{filter, catMaybes}
+use Rattle.lists.specs.Lists.{filter, cat_maybes}
 use Rattle.lists.proofs.Tests.{bool_cases, not-to, not-of}
 use Rattle.lists.proofs.FilterLaws.{filter-yes, filter-no}
 
-pub catMaybes-some : {A : Type 0} (ys : List A) → catMaybes (map some ys) ≡ ys
-catMaybes-some [] = refl
-catMaybes-some (y ∷ ys) = ap (λ (l : List _). y ∷ l) (catMaybes-some ys)
+pub cat_maybes-some : {A : Type 0} (ys : List A) → cat_maybes (map some ys) ≡ ys
+cat_maybes-some [] = refl
+cat_maybes-some (y ∷ ys) = ap (λ (l : List _). y ∷ l) (cat_maybes-some ys)
 
-pub catMaybes-append : {A : Type 0} (os ps : List (Option A)) → catMaybes (os ++ ps) ≡ catMaybes os ++ catMaybes ps
-catMaybes-append [] ps = refl
-catMaybes-append (none ∷ os) ps = catMaybes-append os ps
-catMaybes-append (some x ∷ os) ps = ap (λ (l : List _). x ∷ l) (catMaybes-append os ps)
+pub cat_maybes-append : {A : Type 0} (os ps : List (Option A)) → cat_maybes (os ++ ps) ≡ cat_maybes os ++ cat_maybes ps
+cat_maybes-append [] ps = refl
+cat_maybes-append (none ∷ os) ps = cat_maybes-append os ps
+cat_maybes-append (some x ∷ os) ps = ap (λ (l : List _). x ∷ l) (cat_maybes-append os ps)
 
-pub catMaybes-few : {A : Type 0} (os : List (Option A)) → length (catMaybes os) ≤ length os
-catMaybes-few [] = omega arith
-catMaybes-few (none ∷ os) = omega (arith, catMaybes-few os)
-catMaybes-few (some x ∷ os) = omega (arith, catMaybes-few os)
+pub cat_maybes-few : {A : Type 0} (os : List (Option A)) → length (cat_maybes os) ≤ length os
+cat_maybes-few [] = omega arith
+cat_maybes-few (none ∷ os) = omega (arith, cat_maybes-few os)
+cat_maybes-few (some x ∷ os) = omega (arith, cat_maybes-few os)
 
 -- Where two lists together lack nothing, neither does.
 pub split-some : {A : Type 0} (ps qs : List (Option A)) (gs : List A) → ps ++ qs ≡ map some gs

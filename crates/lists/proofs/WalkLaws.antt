@@ -5,11 +5,11 @@ use native.Mathlib.Omega.{arith}
 use mathlib.Core.Path.{◌≡◌, refl, ap, ◌∙◌}
 use mathlib.Core.List.{List, [], ◌∷◌, map}
 use Rattle.lists.specs.Lists.{All}
-use Rattle.lists.specs.Walk.{Turn, more, stop, onTurn, walk}
+use Rattle.lists.specs.Walk.{Turn, more, stop, on_turn, walk}
 use Rattle.lists.specs.Properties.{Placed, placed, Tiles}
 
 module _ {A B : Type 0} where
-  same_turn : (t : Turn A B) (k l : ℕ → List A × B) → ((a : A) (next : ℕ) → t ≡ more a next → k next ≡ l next) → onTurn t k ≡ onTurn t l
+  same_turn : (t : Turn A B) (k l : ℕ → List A × B) → ((a : A) (next : ℕ) → t ≡ more a next → k next ≡ l next) → on_turn t k ≡ on_turn t l
   same_turn (more a next) k l h = ap (λ (r : List A × B). (a ∷ r.0, r.1)) (h a next refl)
   same_turn (stop b) k l h = refl
 
@@ -26,7 +26,7 @@ module _ {A B : Type 0} where
         same_turn (turn at) (λ next. walk turn out f next) (λ next. walk turn out g next)
         (λ a next e. let m = moves at a next e in enough f g next m.1 (omega arith) (omega arith))
 
-    pub unroll : (at : ℕ) → at ≤ N → walk turn out (suc N) at ≡ onTurn (turn at) (λ next. walk turn out (suc N) next)
+    pub unroll : (at : ℕ) → at ≤ N → walk turn out (suc N) at ≡ on_turn (turn at) (λ next. walk turn out (suc N) next)
     unfolding walk
     unroll at le =
         same_turn (turn at) (λ next. walk turn out N next) (λ next. walk turn out (suc N) next)
@@ -34,10 +34,10 @@ module _ {A B : Type 0} where
 
     pub unroll-more : (at : ℕ) (a : A) (next : ℕ) → at ≤ N → turn at ≡ more a next
         → walk turn out (suc N) at ≡ (a ∷ (walk turn out (suc N) next).0, (walk turn out (suc N) next).1)
-    unroll-more at a next le e = unroll at le ∙ ap (λ (t : Turn A B). onTurn t (λ next. walk turn out (suc N) next)) e
+    unroll-more at a next le e = unroll at le ∙ ap (λ (t : Turn A B). on_turn t (λ next. walk turn out (suc N) next)) e
 
     pub unroll-stop : (at : ℕ) (b : B) → at ≤ N → turn at ≡ stop b → walk turn out (suc N) at ≡ ([], b)
-    unroll-stop at b le e = unroll at le ∙ ap (λ (t : Turn A B). onTurn t (λ next. walk turn out (suc N) next)) e
+    unroll-stop at b le e = unroll at le ∙ ap (λ (t : Turn A B). on_turn t (λ next. walk turn out (suc N) next)) e
 
 -- What a walk with positions says of a walk.
 module _ {A B : Type 0} (turn : ℕ → Turn A B) (out : B) where
@@ -46,7 +46,7 @@ module _ {A B : Type 0} (turn : ℕ → Turn A B) (out : B) where
 
   -- Its pieces are those of the walk.
   same-pieces : (t : Turn A B) (at : ℕ) (k : ℕ → List (Placed A) × B) (l : ℕ → List A × B) → ((next : ℕ) → map (λ (p : Placed A). p.piece) (k next).0 ≡ (l next).0)
-      → map (λ (p : Placed A). p.piece) (onTurn (placed at t) k).0 ≡ (onTurn t l).0
+      → map (λ (p : Placed A). p.piece) (on_turn (placed at t) k).0 ≡ (on_turn t l).0
   same-pieces (more a next) at k l h = ap (λ (r : List A). a ∷ r) (h next)
   same-pieces (stop b) at k l h = refl
 
@@ -60,7 +60,7 @@ module _ {A B : Type 0} (turn : ℕ → Turn A B) (out : B) where
   abbrev Given : Placed A → Type 0
   Given p = turn p.at ≡ more p.piece p.next
 
-  all-turn : (at : ℕ) (t : Turn A B) → turn at ≡ t → (k : ℕ → List (Placed A) × B) → ((next : ℕ) → All Given (k next).0) → All Given (onTurn (placed at t) k).0
+  all-turn : (at : ℕ) (t : Turn A B) → turn at ≡ t → (k : ℕ → List (Placed A) × B) → ((next : ℕ) → All Given (k next).0) → All Given (on_turn (placed at t) k).0
   all-turn at (more a next) e k h = (e, h next)
   all-turn at (stop b) e k h = tt
 
@@ -72,7 +72,7 @@ module _ {A B : Type 0} (turn : ℕ → Turn A B) (out : B) where
   -- If the walk ends well, and a turn does so only at the bound, the pieces tile what lies before it.
   module _ (N : ℕ) (moves : (at : ℕ) (a : A) (next : ℕ) → turn at ≡ more a next → (at < next) × (next ≤ N)) (good : B) (ends : (at : ℕ) → turn at ≡ stop good → N ≤ at) where
     tiles-turn : (at : ℕ) (t : Turn A B) → turn at ≡ t → (k : ℕ → List (Placed A) × B) (l : ℕ → List A × B) → at ≤ N
-        → ((next : ℕ) → at < next → next ≤ N → (l next).1 ≡ good → Tiles next (k next).0 N) → (onTurn t l).1 ≡ good → Tiles at (onTurn (placed at t) k).0 N
+        → ((next : ℕ) → at < next → next ≤ N → (l next).1 ≡ good → Tiles next (k next).0 N) → (on_turn t l).1 ≡ good → Tiles at (on_turn (placed at t) k).0 N
     tiles-turn at (more a next) e k l le h g = let m = moves at a next e in (refl, h next m.0 m.1 g)
     tiles-turn at (stop b) e k l le h g = let far = ends at (e ∙ ap stop g) in omega arith
 

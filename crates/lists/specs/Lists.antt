@@ -36,21 +36,21 @@ filter f [] = []
 filter f (x ∷ xs) = let rest = filter f xs in cond (f x) (x ∷ rest) rest
 
 -- The lists that f makes of the elements, one after the other.
-abbrev pub concatMap : {A B : Type 0} → (A → List B) → List A → List B
-concatMap f [] = []
-concatMap f (x ∷ xs) = f x ++ concatMap f xs
+abbrev pub concat_map : {A B : Type 0} → (A → List B) → List A → List B
+concat_map f [] = []
+concat_map f (x ∷ xs) = f x ++ concat_map f xs
 
 -- What is there of a list of what may be missing.
-abbrev pub catMaybes : {A : Type 0} → List (Option A) → List A
-catMaybes [] = []
-catMaybes (none ∷ xs) = catMaybes xs
-catMaybes (some x ∷ xs) = x ∷ catMaybes xs
+abbrev pub cat_maybes : {A : Type 0} → List (Option A) → List A
+cat_maybes [] = []
+cat_maybes (none ∷ xs) = cat_maybes xs
+cat_maybes (some x ∷ xs) = x ∷ cat_maybes xs
 
 -- x among the others: before the first with a larger key.
-unfoldable pub insertBy : {A : Type 0} → (A → ℕ) → A → List A → List A
-insertBy key x [] = x ∷ []
-insertBy key x (y ∷ ys) = let rest = insertBy key x ys in cond (ltb (key x) (key y)) (x ∷ y ∷ ys) (y ∷ rest)
+unfoldable pub insert_by : {A : Type 0} → (A → ℕ) → A → List A → List A
+insert_by key x [] = x ∷ []
+insert_by key x (y ∷ ys) = let rest = insert_by key x ys in cond (ltb (key x) (key y)) (x ∷ y ∷ ys) (y ∷ rest)
 
-unfoldable pub sortBy : {A : Type 0} → (A → ℕ) → List A → List A
-sortBy key [] = []
-sortBy key (x ∷ xs) = insertBy key x (sortBy key xs)
+unfoldable pub sort_by : {A : Type 0} → (A → ℕ) → List A → List A
+sort_by key [] = []
+sort_by key (x ∷ xs) = insert_by key x (sort_by key xs)

@@ -6,12 +6,12 @@ pub data Turn (A B : Type 0) : Type 0 where
   more : A → ℕ → Turn A B
   stop : B → Turn A B
 
-abbrev pub onTurn : {A B : Type 0} → Turn A B → (ℕ → List A × B) → List A × B
-onTurn (more a next) rest = let r = rest next in (a ∷ r.0, r.1)
-onTurn (stop b) rest = ([], b)
+abbrev pub on_turn : {A B : Type 0} → Turn A B → (ℕ → List A × B) → List A × B
+on_turn (more a next) rest = let r = rest next in (a ∷ r.0, r.1)
+on_turn (stop b) rest = ([], b)
 
 -- All the pieces from a position on, in at most so many turns, and the reason of the end. `out` is the reason where the turns run out,
 -- which does not happen if there are more of them than positions.
 unfoldable pub walk : {A B : Type 0} → (ℕ → Turn A B) → B → ℕ → ℕ → List A × B
 walk turn out zero at = ([], out)
-walk turn out (suc fuel) at = onTurn (turn at) (λ next. walk turn out fuel next)
+walk turn out (suc fuel) at = on_turn (turn at) (λ next. walk turn out fuel next)

@@ -17,8 +17,8 @@ use Rattle.lists.specs.Put.{put}
 use Rattle.lists.proofs.Tests.{bool_cases}
 use Rattle.lists.proofs.PutLaws.{put-more, put_front}
 use Rattle.names.specs.declared.Name.{Name}
-use Rattle.names.specs.Names.{octets, spells, nameOctets, nameIn, name_of, behind, withoutZeros, nameLength}
-use Rattle.names.specs.Inner.{wordLength}
+use Rattle.names.specs.Names.{octets, spells, name_octets, name_in, name_of, behind, without_zeros, name_length}
+use Rattle.names.specs.Inner.{word_length}
 use Rattle.names.proofs.NameLaws.{length-octets, without-short, without-zeros, without-behind, zero_word}
 
 -- EIGHT BYTES
@@ -67,8 +67,8 @@ drop-zeros zero k = let all : k - 0 ≡ k = omega arith in ap (λ (j : ℕ). rep
 drop-zeros (suc m) zero = let none : 0 - suc m ≡ 0 = omega arith in ap (λ (j : ℕ). replicate j 0) (sym none)
 drop-zeros (suc m) (suc k) = let fewer : suc k - suc m ≡ k - m = omega arith in drop-zeros m k ∙ ap (λ (j : ℕ). replicate j 0) (sym fewer)
 
-pub copied-name : (xs l : List ℕ) → l ≡ take (length xs) xs ++ drop (length xs) (replicate {A = ℕ} 24 0) → nameIn l ≡ name_of xs
-copied-name xs l e = ap nameIn (e ∙ ap₂ (λ (p q : List ℕ). p ++ q) (take-length xs) (drop-zeros (length xs) 24))
+pub copied-name : (xs l : List ℕ) → l ≡ take (length xs) xs ++ drop (length xs) (replicate {A = ℕ} 24 0) → name_in l ≡ name_of xs
+copied-name xs l e = ap name_in (e ∙ ap₂ (λ (p q : List ℕ). p ++ q) (take-length xs) (drop-zeros (length xs) 24))
 
 -- HOW MANY OCTETS A WORD HAS
 
@@ -107,25 +107,25 @@ module _ (n : ℕ) where
       omega (arith, same, one-most (n % 256) (omega arith))
   next-most (y ∷ ys) h = omega (arith, pow-suc 256 (suc (length ys)))
 
-octets-least : (k n : ℕ) → Left n (withoutZeros (octets (suc k) n))
-unfolding octets withoutZeros
+octets-least : (k n : ℕ) → Left n (without_zeros (octets (suc k) n))
+unfolding octets without_zeros
 octets-least zero n = one-least n
-octets-least (suc k) n = next-least n (withoutZeros (octets (suc k) (n / 256))) (octets-least k (n / 256))
+octets-least (suc k) n = next-least n (without_zeros (octets (suc k) (n / 256))) (octets-least k (n / 256))
 
-octets-most : (k n : ℕ) → n < 256 ^ suc k → n < 256 ^ length (withoutZeros (octets (suc k) n))
-unfolding octets withoutZeros
+octets-most : (k n : ℕ) → n < 256 ^ suc k → n < 256 ^ length (without_zeros (octets (suc k) n))
+unfolding octets without_zeros
 octets-most zero n h = one-most n h
-octets-most (suc k) n h = next-most n (withoutZeros (octets (suc k) (n / 256))) (octets-most k (n / 256) (omega (arith, pow-suc 256 (suc k))))
+octets-most (suc k) n h = next-most n (without_zeros (octets (suc k) (n / 256))) (octets-most k (n / 256) (omega (arith, pow-suc 256 (suc k))))
 
 -- A word of j octets is below 256 ^ j, and not below 256 ^ (j - 1).
 module _ (w : ℕ) where
-  pub word-short : wordLength w ≤ 8
+  pub word-short : word_length w ≤ 8
   word-short = omega (arith, without-short (octets 8 w), length-octets 8 w)
 
-  pub word-least : (j : ℕ) → wordLength w ≡ suc j → 256 ^ j ≤ w
+  pub word-least : (j : ℕ) → word_length w ≡ suc j → 256 ^ j ≤ w
   word-least = octets-least 7 w
 
-  pub word-most : w < 18446744073709551616 → w < 256 ^ wordLength w
+  pub word-most : w < 18446744073709551616 → w < 256 ^ word_length w
   word-most = octets-most 7 w
 
 -- Powers of 256 as powers of 2.
@@ -137,26 +137,26 @@ octets-bits (suc j) =
 
 -- The word's bits up to the highest that is set, in octets.
 module _ (w m : ℕ) (small : w < 18446744073709551616) where
-  bits_most : 2 ^ m ≤ 2 * w + 1 → m ≤ 8 * wordLength w
+  bits_most : 2 ^ m ≤ 2 * w + 1 → m ≤ 8 * word_length w
   bits_most h =
-      ⊎_elim (λ (b : leb m (8 * wordLength w) ≡ true). leb-true m (8 * wordLength w) b)
-      (λ (b : leb m (8 * wordLength w) ≡ false).
-      let more = leb-false m (8 * wordLength w) b in
-      absurd (omega (arith, h, word-most w small, octets-bits (wordLength w), pow-suc 2 (8 * wordLength w), pow_mono {i = suc (8 * wordLength w)} {j = m} more)))
-      (bool_cases (leb m (8 * wordLength w)))
+      ⊎_elim (λ (b : leb m (8 * word_length w) ≡ true). leb-true m (8 * word_length w) b)
+      (λ (b : leb m (8 * word_length w) ≡ false).
+      let more = leb-false m (8 * word_length w) b in
+      absurd (omega (arith, h, word-most w small, octets-bits (word_length w), pow-suc 2 (8 * word_length w), pow_mono {i = suc (8 * word_length w)} {j = m} more)))
+      (bool_cases (leb m (8 * word_length w)))
 
-  bits-least : w < 2 ^ m → (j : ℕ) → wordLength w ≡ suc j → 8 * j < m
+  bits-least : w < 2 ^ m → (j : ℕ) → word_length w ≡ suc j → 8 * j < m
   bits-least h j e =
       ⊎_elim (λ (b : ltb (8 * j) m ≡ true). ltb-true (8 * j) m b)
       (λ (b : ltb (8 * j) m ≡ false).
       let fewer = ltb-false (8 * j) m b in absurd (omega (arith, h, word-least w j e, octets-bits j, pow_mono {i = m} {j = 8 * j} fewer)))
       (bool_cases (ltb (8 * j) m))
 
-pub word-zeros : (w : ℕ) → w < 18446744073709551616 → 8 - count_leading_zeros 64 w / 8 ≡ wordLength w
+pub word-zeros : (w : ℕ) → w < 18446744073709551616 → 8 - count_leading_zeros 64 w / 8 ≡ word_length w
 word-zeros w small =
     let t = leading_length 64 w small in
-    let most : t.0 ≤ 8 * wordLength w = bits_most w t.0 small t.3 in
-    cases (count_leading_zeros 64 w) t.0 t.1 (wordLength w) (word-short w) most (bits-least w t.0 small t.2)
+    let most : t.0 ≤ 8 * word_length w = bits_most w t.0 small t.3 in
+    cases (count_leading_zeros 64 w) t.0 t.1 (word_length w) (word-short w) most (bits-least w t.0 small t.2)
   where
     cases : (z m : ℕ) → z + m ≡ 64 → (j : ℕ) → j ≤ 8 → m ≤ 8 * j → ((i : ℕ) → j ≡ suc i → 8 * i < m) → 8 - z / 8 ≡ j
     cases z m e zero h most least = omega arith
@@ -164,48 +164,48 @@ word-zeros w small =
 
 -- HOW MANY OCTETS A NAME HAS
 
-word_none : (w : ℕ) → w ≡ 0 → wordLength w ≡ 0
-unfolding octets withoutZeros
+word_none : (w : ℕ) → w ≡ 0 → word_length w ≡ 0
+unfolding octets without_zeros
 word_none w e = rw e
 
-word_some : (w : ℕ) → (w ≡ 0 → ⊥) → 0 < wordLength w
+word_some : (w : ℕ) → (w ≡ 0 → ⊥) → 0 < word_length w
 word_some w h =
-    ⊎_elim (λ (b : ltb 0 (wordLength w) ≡ true). ltb-true 0 (wordLength w) b)
-    (λ (b : ltb 0 (wordLength w) ≡ false).
-    let none = ltb-false 0 (wordLength w) b in absurd (h (zero_word w (omega arith))))
-    (bool_cases (ltb 0 (wordLength w)))
+    ⊎_elim (λ (b : ltb 0 (word_length w) ≡ true). ltb-true 0 (word_length w) b)
+    (λ (b : ltb 0 (word_length w) ≡ false).
+    let none = ltb-false 0 (word_length w) b in absurd (h (zero_word w (omega arith))))
+    (bool_cases (ltb 0 (word_length w)))
 
 module _ (n : Name) where
-  pub length-third : (n.third ≡ 0 → ⊥) → nameLength n ≡ 16 + wordLength n.third
-  unfolding nameOctets
+  pub length-third : (n.third ≡ 0 → ⊥) → name_length n ≡ 16 + word_length n.third
+  unfolding name_octets
   length-third h =
       let a = octets 8 n.first in
       let b = octets 8 n.second in
       let c = octets 8 n.third in
-      let inner : withoutZeros (b ++ c) ≡ b ++ withoutZeros c = without-behind b c (word_some n.third h) in
-      let size : length (withoutZeros (b ++ c)) ≡ 8 + wordLength n.third = ap length inner ∙ omega (arith, length-append b (withoutZeros c), length-octets 8 n.second) in
-      omega (arith, ap length (without-behind a (b ++ c) (omega arith)), length-append a (withoutZeros (b ++ c)), length-octets 8 n.first)
+      let inner : without_zeros (b ++ c) ≡ b ++ without_zeros c = without-behind b c (word_some n.third h) in
+      let size : length (without_zeros (b ++ c)) ≡ 8 + word_length n.third = ap length inner ∙ omega (arith, length-append b (without_zeros c), length-octets 8 n.second) in
+      omega (arith, ap length (without-behind a (b ++ c) (omega arith)), length-append a (without_zeros (b ++ c)), length-octets 8 n.first)
 
-  pub length-second : n.third ≡ 0 → (n.second ≡ 0 → ⊥) → nameLength n ≡ 8 + wordLength n.second
-  unfolding nameOctets
+  pub length-second : n.third ≡ 0 → (n.second ≡ 0 → ⊥) → name_length n ≡ 8 + word_length n.second
+  unfolding name_octets
   length-second e h =
       let a = octets 8 n.first in
       let b = octets 8 n.second in
       let c = octets 8 n.third in
-      let inner : withoutZeros (b ++ c) ≡ withoutZeros b = without-zeros b c (word_none n.third e) in
+      let inner : without_zeros (b ++ c) ≡ without_zeros b = without-zeros b c (word_none n.third e) in
       omega (
         arith,
         ap length (without-behind a (b ++ c) (omega (arith, ap length inner, word_some n.second h))),
-        length-append a (withoutZeros (b ++ c)),
+        length-append a (without_zeros (b ++ c)),
         ap length inner,
         length-octets 8 n.first,
       )
 
-  pub length-first : n.third ≡ 0 → n.second ≡ 0 → nameLength n ≡ wordLength n.first
-  unfolding nameOctets
+  pub length-first : n.third ≡ 0 → n.second ≡ 0 → name_length n ≡ word_length n.first
+  unfolding name_octets
   length-first e f =
       let a = octets 8 n.first in
       let b = octets 8 n.second in
       let c = octets 8 n.third in
-      let inner : withoutZeros (b ++ c) ≡ withoutZeros b = without-zeros b c (word_none n.third e) in
+      let inner : without_zeros (b ++ c) ≡ without_zeros b = without-zeros b c (word_none n.third e) in
       ap length (without-zeros a (b ++ c) (ap length inner ∙ word_none n.second f))

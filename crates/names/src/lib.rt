@@ -1,8 +1,8 @@
 // A lease's name (document 02, M-105): 0 to 24 octets, the last not zero.
 ghost use Rattle.std.specs.Prelude.{◌≡◌, ◌+◌, ◌≤◌, ◌<◌, length, take, drop};
 ghost use Rattle.lists.specs.Put.{put};
-ghost use Rattle.names.specs.Names.{noName, longestName, nameOctets, nameLength, nameIn, name_of, octets, spells};
-ghost use Rattle.names.specs.Inner.{wordLength};
+ghost use Rattle.names.specs.Names.{no_name, longest_name, name_octets, name_length, name_in, name_of, octets, spells};
+ghost use Rattle.names.specs.Inner.{word_length};
 
 // How many octets the longest name has.
 pub const LONGEST: usize = 24;
@@ -16,7 +16,7 @@ pub struct Name {
 }
 
 pub fn no_name() -> Name
-    ensures { result ≡ noName }
+    ensures { result ≡ no_name }
 {
     Name {
         first: 0,
@@ -66,7 +66,7 @@ pub fn put64(out: &mut [u8], at: usize, n: u64)
 
 // How many octets a word has up to its last that is not zero.
 fn word_length(w: u64) -> u8
-    ensures { result ≡ wordLength w }
+    ensures { result ≡ word_length w }
 {
     8 - (u64::leading_zeros(w) / 8) as u8
 }
@@ -75,8 +75,8 @@ fn word_length(w: u64) -> u8
 
 // The name in the 24 bytes from a position on.
 pub fn name_at(s: &[u8], at: usize) -> Name
-    requires { at + longestName ≤ length s.now }
-    ensures { result ≡ nameIn (drop at s.now) }
+    requires { at + longest_name ≤ length s.now }
+    ensures { result ≡ name_in (drop at s.now) }
 {
     Name {
         first: read64(s, at),
@@ -86,8 +86,8 @@ pub fn name_at(s: &[u8], at: usize) -> Name
 }
 
 pub fn put_name(out: &mut [u8], at: usize, n: Name)
-    requires { at + longestName ≤ length out.old }
-    ensures { out.new ≡ put out.old at (nameOctets n) }
+    requires { at + longest_name ≤ length out.old }
+    ensures { out.new ≡ put out.old at (name_octets n) }
 {
     put64(out, at, n.first);
     put64(out, at + 8, n.second);
@@ -96,7 +96,7 @@ pub fn put_name(out: &mut [u8], at: usize, n: Name)
 
 // How many octets a name has.
 pub fn length(n: Name) -> u8
-    ensures { result ≡ nameLength n }
+    ensures { result ≡ name_length n }
 {
     if n.third != 0 {
         return 16 + word_length(n.third);
@@ -109,7 +109,7 @@ pub fn length(n: Name) -> u8
 
 // The name of the n bytes from a position on.
 pub fn name_in(s: &[u8], at: usize, n: usize) -> Name
-    requires { (at + n ≤ length s.now) × (n ≤ longestName) }
+    requires { (at + n ≤ length s.now) × (n ≤ longest_name) }
     ensures { result ≡ name_of (take n (drop at s.now)) }
 {
     let mut array = [0u8; LONGEST];
@@ -120,7 +120,7 @@ pub fn name_in(s: &[u8], at: usize, n: usize) -> Name
 
 // The 24 octets of a name.
 pub fn octets(n: Name) -> [u8; LONGEST]
-    ensures { result ≡ nameOctets n }
+    ensures { result ≡ name_octets n }
 {
     let mut out = [0u8; LONGEST];
     put_name(&mut out, 0, n);

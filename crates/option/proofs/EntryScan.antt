@@ -12,11 +12,11 @@ use Rattle.lists.specs.Put.{put}
 use Rattle.lists.specs.Walk.{more, stop}
 use Rattle.lists.proofs.PutLaws.{put-nothing, length-put, set_more}
 use Rattle.option.specs.Values.{Entry}
-use Rattle.option.specs.Rules.{entryFields?}
-use Rattle.option.specs.Reading.{read_entry, readEntries}
-use Rattle.option.specs.Contents.{lastNetwork}
+use Rattle.option.specs.Rules.{entry_fields?}
+use Rattle.option.specs.Reading.{read_entry, read_entries}
+use Rattle.option.specs.Contents.{last_network}
 use Rattle.option.specs.Answers.{last_of, InColumns}
-use Rattle.option.specs.Inner.{scanOf}
+use Rattle.option.specs.Inner.{scan_of}
 use Rattle.option.specs.declared.Scan.{Scan}
 use Rattle.option.proofs.EntryLaws.{entry-moves, entries-more, entries-stop}
 
@@ -27,18 +27,18 @@ pub record Scanning (s : List ℕ) (at end from : ℕ) (ns ls : List ℕ) (at' e
   pub within : at' ≤ end
   pub counted : n ≡ from + length done
   pub moved : length done + at ≤ at'
-  pub read : readEntries s end at ≡ (done ++ (readEntries s end at').0, (readEntries s end at').1)
-  pub good : fields ≡ all? entryFields? done
+  pub read : read_entries s end at ≡ (done ++ (read_entries s end at').0, (read_entries s end at').1)
+  pub good : fields ≡ all? entry_fields? done
   pub final : last ≡ last_of done
   pub networks : ns' ≡ put ns from (map (λ e. e.network) done)
   pub lengths : ls' ≡ put ls from (map (λ e. e.length) done)
 
 -- One entry more.
-all_more : (xs : List Entry) (x : Entry) → all? entryFields? (xs ++ x ∷ []) ≡ (all? entryFields? xs && entryFields? x)
-all_more [] x = and-true (entryFields? x)
-all_more (y ∷ xs) x = ap (λ (b : Bool). entryFields? y && b) (all_more xs x) ∙ sym (and_assoc (entryFields? y) (all? entryFields? xs) (entryFields? x))
+all_more : (xs : List Entry) (x : Entry) → all? entry_fields? (xs ++ x ∷ []) ≡ (all? entry_fields? xs && entry_fields? x)
+all_more [] x = and-true (entry_fields? x)
+all_more (y ∷ xs) x = ap (λ (b : Bool). entry_fields? y && b) (all_more xs x) ∙ sym (and_assoc (entry_fields? y) (all? entry_fields? xs) (entry_fields? x))
 
-last_more : (p : Option ℕ) (xs : List Entry) (x : Entry) → lastNetwork p (xs ++ x ∷ []) ≡ some x.network
+last_more : (p : Option ℕ) (xs : List Entry) (x : Entry) → last_network p (xs ++ x ∷ []) ≡ some x.network
 last_more p [] x = refl
 last_more p (y ∷ xs) x = last_more (some y.network) xs x
 
@@ -72,7 +72,7 @@ module _ (s : List ℕ) (at end from : ℕ) (ns ls : List ℕ) where
     turn-same : read_entry s end' at' ≡ read_entry s end at'
     turn-same = ap (λ (m : ℕ). read_entry s m at') h.same
 
-    pub scanning-more : (e : Entry) (next end'' : ℕ) → read_entry s end' at' ≡ more e next → end'' ≡ end' → (f : Bool) → f ≡ (fields && entryFields? e) → (v l : ℕ) → v ≡ e.network → l ≡ e.length
+    pub scanning-more : (e : Entry) (next end'' : ℕ) → read_entry s end' at' ≡ more e next → end'' ≡ end' → (f : Bool) → f ≡ (fields && entry_fields? e) → (v l : ℕ) → v ≡ e.network → l ≡ e.length
         → (ns'' ls'' : List ℕ) → ns'' ≡ set ns' n v → ls'' ≡ set ls' n l → Scanning s at end from ns ls next end'' (n + 1) f v ns'' ls''
     scanning-more e next end'' t same f ef v l ev el ns'' ls'' en es =
         let turn : read_entry s end at' ≡ more e next = sym turn-same ∙ t in
@@ -87,26 +87,26 @@ module _ (s : List ℕ) (at end from : ℕ) (ns ls : List ℕ) where
           read =
               h.read
               ∙ ap (λ (q : List Entry × Bool). (h.done ++ q.0, q.1)) r
-              ∙ ap (λ (es : List Entry). (es, (readEntries s end next).1)) (sym (append_assoc h.done (e ∷ []) (readEntries s end next).0));
-          good = ef ∙ ap (λ (b : Bool). b && entryFields? e) h.good ∙ sym (all_more h.done e);
+              ∙ ap (λ (es : List Entry). (es, (read_entries s end next).1)) (sym (append_assoc h.done (e ∷ []) (read_entries s end next).0));
+          good = ef ∙ ap (λ (b : Bool). b && entry_fields? e) h.good ∙ sym (all_more h.done e);
           final = ev ∙ ap (λ (o : Option ℕ). get_or o 0) (sym (last_more none h.done e));
           networks = column-more (λ e. e.network) ns ns' ns'' from n v h.done e h.networks h.counted ev en;
           lengths = column-more (λ e. e.length) ls ls' ls'' from n l h.done e h.lengths h.counted el es;
         }
 
     module _ (b : Bool) (t : read_entry s end' at' ≡ stop b) where
-      all_read : readEntries s end at ≡ (h.done, b)
+      all_read : read_entries s end at ≡ (h.done, b)
       all_read =
           h.read
           ∙ ap (λ (q : List Entry × Bool). (h.done ++ q.0, q.1)) (entries-stop s end at' h.within b (sym turn-same ∙ t))
           ∙ ap (λ (es : List Entry). (es, b)) (append-nil h.done)
 
-      pub scanning-stop : ◌≡◌ {A = Scan} (record { framed = b; fields = fields; count = n - from; last = last }) (scanOf (readEntries s end at))
+      pub scanning-stop : ◌≡◌ {A = Scan} (record { framed = b; fields = fields; count = n - from; last = last }) (scan_of (read_entries s end at))
       scanning-stop =
           let count : n - from ≡ length h.done = omega (arith, h.counted) in
           rw (h.good, h.final, count, all_read) refl
 
-      pub scanning-stored : InColumns (readEntries s end at).0 from ns ls ns' ls'
+      pub scanning-stored : InColumns (read_entries s end at).0 from ns ls ns' ls'
       scanning-stored = (
         h.networks ∙ ap (λ (q : List Entry × Bool). put ns from (map (λ e. e.network) q.0)) (sym all_read),
         h.lengths ∙ ap (λ (q : List Entry × Bool). put ls from (map (λ e. e.length) q.0)) (sym all_read),

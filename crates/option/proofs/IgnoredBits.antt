@@ -14,9 +14,9 @@ use Rattle.lists.specs.Walk.{more}
 use Rattle.lists.specs.Properties.{Placed, Tiles}
 use Rattle.lists.proofs.Tests.{and-to}
 use Rattle.option.specs.Values.{Entry, SuboptionValue, unknown, accepted}
-use Rattle.option.specs.Reading.{End, whole, bit1, bit2, two, four, figuresAt, entryFramed?, entry_at, entryEnd, read_entry, readEntries, subEnd, subInside?, readRequest, readInformation, readName, read_body, readSuboption, readSuboptions, readOption}
-use Rattle.option.specs.Writing.{flags, optionHead, optionBytes}
-use Rattle.option.specs.Places.{placedSuboptions, placedEntries, SameFrom, SameEntry, SameBody, SameSuboption, SameButIgnored}
+use Rattle.option.specs.Reading.{End, whole, bit1, bit2, two, four, figures_at, entry_framed?, entry_at, entry_end, read_entry, read_entries, sub_end, sub_inside?, read_request, read_information, read_name, read_body, read_suboption, read_suboptions, read_option}
+use Rattle.option.specs.Writing.{flags, option_head, option_bytes}
+use Rattle.option.specs.Places.{placed_suboptions, placed_entries, SameFrom, SameEntry, SameBody, SameSuboption, SameButIgnored}
 use Rattle.option.proofs.RuleLaws.{option-of}
 use Rattle.option_entry.proofs.FigureLaws.{figures-none, figures-one, figures-two, figures-three}
 use Rattle.option.proofs.EntryLaws.{entry_read, entries-more, entries-stop}
@@ -43,7 +43,7 @@ module _ (s t : List ℕ) where
       simp (e₀, e₁, e₂, e₃)
 
   -- Figures, by how many bytes there are of them.
-  figures-same : (at n : ℕ) → SameFrom s t at (at + n) → figuresAt s at n ≡ figuresAt t at n
+  figures-same : (at n : ℕ) → SameFrom s t at (at + n) → figures_at s at n ≡ figures_at t at n
   figures-same at n same = go (leb 2 n) (leb 4 n) (leb 6 n) refl refl refl
     where
       part : (k : ℕ) → k + 2 ≤ n → SameFrom s t (at + k) (at + n)
@@ -58,7 +58,7 @@ module _ (s t : List ℕ) where
       third : 6 ≤ n → two s (at + 4) ≡ two t (at + 4)
       third h = two-same (at + 4) (at + n) (part 4 (omega arith)) (omega arith)
 
-      go : (a b c : Bool) → leb 2 n ≡ a → leb 4 n ≡ b → leb 6 n ≡ c → figuresAt s at n ≡ figuresAt t at n
+      go : (a b c : Bool) → leb 2 n ≡ a → leb 4 n ≡ b → leb 6 n ≡ c → figures_at s at n ≡ figures_at t at n
       go false b c ea eb ec = let h = leb-false 2 n ea in figures-none s at n h ∙ sym (figures-none t at n h)
       go true false c ea eb ec =
           let h = leb-true 2 n ea in
@@ -79,21 +79,21 @@ module _ (s t : List ℕ) where
   module _ (size : length s ≡ length t) where
     -- An entry reads as the same.
     entry-same : (end : ℕ) (p : Placed Entry) → read_entry s end p.at ≡ more p.piece p.next → SameEntry s t p → read_entry t end p.at ≡ more p.piece p.next
-    unfolding read_entry entryFramed? entry_at
+    unfolding read_entry entry_framed? entry_at
     entry-same end p given same =
         let at = p.at in
         let r = entry_read s end at p.piece p.next given in
         let f = r.0 in
-        let next : entryEnd s at ≡ p.next = r.2 in
+        let next : entry_end s at ≡ p.next = r.2 in
         let inside : end ≤ length t = omega (arith, f.inside) in
         let head : at + 7 ≤ end = f.head in
         let before : at < end = omega arith in
         let stat : get_or s (at + 6) 0 ≡ get_or t (at + 6) 0 = same.figures (at + 6) (omega arith) (omega arith) in
         let even : get_or t (at + 6) 0 % 2 ≡ 0 = ap (λ (x : ℕ). x % 2) (sym stat) ∙ f.even in
-        let ends : entryEnd t at ≡ p.next = ap (λ (x : ℕ). at + 7 + x) (sym stat) ∙ next in
+        let ends : entry_end t at ≡ p.next = ap (λ (x : ℕ). at + 7 + x) (sym stat) ∙ next in
         let fits : p.next ≤ end = omega (arith, f.whole) in
-        let figures : figuresAt s (at + 7) (get_or s (at + 6) 0) ≡ figuresAt t (at + 7) (get_or t (at + 6) 0) =
-        figures-same (at + 7) (get_or s (at + 6) 0) (λ k a b. same.figures k (omega arith) (omega arith)) ∙ ap (figuresAt t (at + 7)) stat in
+        let figures : figures_at s (at + 7) (get_or s (at + 6) 0) ≡ figures_at t (at + 7) (get_or t (at + 6) 0) =
+        figures-same (at + 7) (get_or s (at + 6) 0) (λ k a b. same.figures k (omega arith) (omega arith)) ∙ ap (figures_at t (at + 7)) stat in
         let value : entry_at t at ≡ p.piece =
         simp (
           sym (four_same at (at + 5) same.prefix (omega arith)),
@@ -105,7 +105,7 @@ module _ (s t : List ℕ) where
         simp (lt-leb _ _ before, le-leb _ _ inside, le-leb _ _ head, eq-eqb _ _ even, ends, le-leb _ _ fits, value)
 
     entries-same : (end : ℕ) → end ≤ length s → (ps : List (Placed Entry)) (at : ℕ) → at ≤ end → Tiles at ps end
-        → All (λ (p : Placed Entry). read_entry s end p.at ≡ more p.piece p.next) ps → All (SameEntry s t) ps → readEntries t end at ≡ (pieces_of ps, true)
+        → All (λ (p : Placed Entry). read_entry s end p.at ≡ more p.piece p.next) ps → All (SameEntry s t) ps → read_entries t end at ≡ (pieces_of ps, true)
     unfolding read_entry
     entries-same end fits [] at le tiles given same =
         let here : end ≤ at = omega arith in
@@ -119,23 +119,23 @@ module _ (s t : List ℕ) where
     -- A suboption reads as the same.
     module _ (at : ℕ) (x : SuboptionValue) (next : ℕ) where
       body_same : (one two three : Bool) (end : ℕ) → end ≤ length s
-          → cond one (readRequest s at end) (cond two (readInformation s at end) (cond three (readName s at end) (more unknown end))) ≡ more x next → SameBody s t at next x
-          → cond one (readRequest t at end) (cond two (readInformation t at end) (cond three (readName t at end) (more unknown end))) ≡ more x next
-      unfolding readRequest readInformation readName
+          → cond one (read_request s at end) (cond two (read_information s at end) (cond three (read_name s at end) (more unknown end))) ≡ more x next → SameBody s t at next x
+          → cond one (read_request t at end) (cond two (read_information t at end) (cond three (read_name t at end) (more unknown end))) ≡ more x next
+      unfolding read_request read_information read_name
       body_same true two three end fits h same =
           let g = good-read _ _ at end x next h in
           let b = subst (SameBody s t at next) (sym g.2) same in
           simp (sym (bit1-same _ _ b.0), sym (bit2-same _ _ b.0), sym b.1) h
       body_same false true three end fits h same =
           let g = good-read _ _ at end x next h in
-          let f = and-to (ltb (at + 3) end) (readEntries s end (at + 3)).1 g.0 in
+          let f = and-to (ltb (at + 3) end) (read_entries s end (at + 3)).1 g.0 in
           let some : at + 3 < end = ltb-true (at + 3) end f.0 in
           let le : at + 3 ≤ end = omega arith in
           let b = subst (SameBody s t at next) (sym g.2) same in
-          let es : List (Placed Entry) = placedEntries s end (at + 3) in
-          let entries : All (SameEntry s t) es = subst (λ (n : ℕ). All (SameEntry s t) (placedEntries s n (at + 3))) (sym g.3) b.1 in
+          let es : List (Placed Entry) = placed_entries s end (at + 3) in
+          let entries : All (SameEntry s t) es = subst (λ (n : ℕ). All (SameEntry s t) (placed_entries s n (at + 3))) (sym g.3) b.1 in
           let there = entries-same end fits es (at + 3) le (tiled-entries s end (at + 3) le f.1) (given-entries s end (at + 3) le f.1) entries in
-          let here : (pieces_of es, true) ≡ readEntries s end (at + 3) = ap₂ (λ (l : List Entry) (y : Bool). (l, y)) (placed-entries s end (at + 3) le f.1) (sym f.1) in
+          let here : (pieces_of es, true) ≡ read_entries s end (at + 3) = ap₂ (λ (l : List Entry) (y : Bool). (l, y)) (placed-entries s end (at + 3) le f.1) (sym f.1) in
           simp (there ∙ here, sym (bit1-same _ _ b.0), sym (bit2-same _ _ b.0)) h
       body_same false false true end fits h same =
           let g = good-read _ _ at end x next h in
@@ -152,24 +152,24 @@ module _ (s t : List ℕ) where
           simp octets h
       body_same false false false end fits h same = h
 
-    suboption-same : (p : Placed SuboptionValue) → readSuboption s p.at ≡ more p.piece p.next → SameSuboption s t p
-        → readSuboption t p.at ≡ more p.piece p.next
-    unfolding readSuboption subInside? read_body
+    suboption-same : (p : Placed SuboptionValue) → read_suboption s p.at ≡ more p.piece p.next → SameSuboption s t p
+        → read_suboption t p.at ≡ more p.piece p.next
+    unfolding read_suboption sub_inside? read_body
     suboption-same p given same =
         let at = p.at in
         let r = suboption-read s at p.piece p.next given in
         let head : at + 2 ≤ length t = omega (arith, r.head) in
         let before : at < length t = omega arith in
-        let ends : subEnd t at ≡ subEnd s at = ap (λ (n : ℕ). at + 2 + n) (sym same.len) in
-        let fits : subEnd s at ≤ length t = omega (arith, r.fits) in
+        let ends : sub_end t at ≡ sub_end s at = ap (λ (n : ℕ). at + 2 + n) (sym same.len) in
+        let fits : sub_end s at ≤ length t = omega (arith, r.fits) in
         let n : ℕ = get_or s at 0 in
-        let body = body_same at p.piece p.next (eqb n 1) (eqb n 2) (eqb n 3) (subEnd s at) r.fits r.body same.body in
+        let body = body_same at p.piece p.next (eqb n 1) (eqb n 2) (eqb n 3) (sub_end s at) r.fits r.body same.body in
         simp (lt-leb _ _ before, le-leb _ _ head, ends, le-leb _ _ fits, sym same.number) body
 
     suboptions-same : (ps : List (Placed SuboptionValue)) (at : ℕ) → at ≤ length s → Tiles at ps (length s)
-        → All (λ (p : Placed SuboptionValue). readSuboption s p.at ≡ more p.piece p.next) ps → All (SameSuboption s t) ps
-        → readSuboptions t at ≡ (pieces_of ps, whole)
-    unfolding readSuboption
+        → All (λ (p : Placed SuboptionValue). read_suboption s p.at ≡ more p.piece p.next) ps → All (SameSuboption s t) ps
+        → read_suboptions t at ≡ (pieces_of ps, whole)
+    unfolding read_suboption
     suboptions-same [] at le tiles given same =
         let here : length t ≤ at = omega arith in
         suboptions-stop t at (omega arith) whole (simp (le-leb _ _ here))
@@ -177,18 +177,18 @@ module _ (s t : List ℕ) where
         let r = suboption-same p given.0 same.0 in
         let m = suboption-moves s p.at p.piece p.next given.0 in
         let tail = suboptions-same ps p.next m.1 tiles.1 given.1 same.1 in
-        suboptions-more t at (omega arith) p.piece p.next (ap (readSuboption t) (sym tiles.0) ∙ r)
+        suboptions-more t at (omega arith) p.piece p.next (ap (read_suboption t) (sym tiles.0) ∙ r)
         ∙ ap (λ (y : List SuboptionValue × End). (p.piece ∷ y.0, y.1)) tail
 
 -- "Undefined flag bits are ignored on reading": an option that differs from an accepted one at most in them reads as the same list.
-pub ignored-bits-read-the-same : (s t : List ℕ) (subs : List SuboptionValue) → readOption s ≡ accepted subs → SameButIgnored s t → readOption t ≡ accepted subs
-unfolding readOption
+pub ignored-bits-read-the-same : (s t : List ℕ) (subs : List SuboptionValue) → read_option s ≡ accepted subs → SameButIgnored s t → read_option t ≡ accepted subs
+unfolding read_option
 ignored-bits-read-the-same s t subs h same =
     let a = accepted-read s subs h in
     let j = never-joined s subs h in
     let start : 3 ≤ length s = omega (arith, a.len, a.some) in
-    let read : readSuboptions t 3 ≡ (subs, whole) =
-    suboptions-same s t same.size (placedSuboptions s) 3 start j.tiles j.given same.suboptions ∙ ap (λ (l : List SuboptionValue). (l, whole)) j.pieces in
+    let read : read_suboptions t 3 ≡ (subs, whole) =
+    suboptions-same s t same.size (placed_suboptions s) 3 start j.tiles j.given same.suboptions ∙ ap (λ (l : List SuboptionValue). (l, whole)) j.pieces in
     let two-long : 2 ≤ length t = omega (arith, same.size) in
     let code : get_or t 0 0 ≡ 220 = sym same.code ∙ a.code in
     let len : get_or t 1 0 + 2 ≡ length t = ap (λ (n : ℕ). n + 2) (sym same.len) ∙ a.len ∙ same.size in
@@ -202,6 +202,6 @@ written-flags true false = omega arith
 written-flags false true = omega arith
 written-flags false false = omega arith
 
-pub written-option-flags : (subs : List SuboptionValue) → get_or (optionBytes subs) 2 0 ≡ 0
-unfolding optionBytes optionHead
+pub written-option-flags : (subs : List SuboptionValue) → get_or (option_bytes subs) 2 0 ≡ 0
+unfolding option_bytes option_head
 written-option-flags subs = refl

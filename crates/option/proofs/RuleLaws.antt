@@ -15,9 +15,9 @@ use Rattle.prefix.specs.declared.Checked.TheVariants.{Good, BadLength, Misaligne
 use Rattle.prefix.specs.Prefixes.{prefix, Aligned, aligned?, shortest, longest}
 use Rattle.prefix.proofs.PrefixLaws.{aligned-to, aligned-of}
 use Rattle.option.specs.Values.{Entry, SuboptionValue, request, information, name, unknown}
-use Rattle.option.specs.Rules.{block?, final, entryFields?, fields?}
+use Rattle.option.specs.Rules.{block?, final, entry_fields?, fields?}
 use Rattle.option.specs.Reading.{option?}
-use Rattle.option.specs.Writer.{entryWritable?, writable?}
+use Rattle.option.specs.Writer.{entry_writable?, writable?}
 use Rattle.option.specs.Selection.{selection?}
 
 -- Rule 4: a block.
@@ -31,16 +31,16 @@ block_to true true p h = (refl, refl)
 block_to true false p h = let z : ◌≡◌ {A = Bool} false true = h in let y : ◌≡◌ {A = ℕ} 0 1 = cc in absurd (omega arith)
 block_to false c p h = let z : ◌≡◌ {A = Bool} false true = h in let y : ◌≡◌ {A = ℕ} 0 1 = cc in absurd (omega arith)
 
-pub entry-fields-to : (e : Entry) → entryFields? e ≡ true → Block e.network e.length
-unfolding entryFields?
+pub entry-fields-to : (e : Entry) → entry_fields? e ≡ true → Block e.network e.length
+unfolding entry_fields?
 entry-fields-to e h =
     let p = prefix e.network e.length in
     let t = block_to (leb shortest e.length && leb e.length longest) (aligned? p) p h in
     let r = and-to (leb shortest e.length) (leb e.length longest) t.0 in
     record { short = leb-true _ _ r.0; long = leb-true _ _ r.1; aligned = aligned-to p t.1 }
 
-pub entry-fields-of : (e : Entry) → Block e.network e.length → entryFields? e ≡ true
-unfolding entryFields?
+pub entry-fields-of : (e : Entry) → Block e.network e.length → entry_fields? e ≡ true
+unfolding entry_fields?
 entry-fields-of e b = simp (le-leb _ _ b.short, le-leb _ _ b.long, aligned-of (prefix e.network e.length) b.aligned)
 
 -- Rules 3, 4 and 5 of a suboption's fields.
@@ -53,26 +53,26 @@ FieldsKept unknown = Unit {0}
 pub fields-to : (x : SuboptionValue) → fields? x ≡ true → FieldsKept x
 unfolding fields?
 fields-to (request h i l) e = leb-true _ _ e
-fields-to (information c s entries) e = all?-to entryFields? entry-fields-to entries e
+fields-to (information c s entries) e = all?-to entry_fields? entry-fields-to entries e
 fields-to (name octets) e = eqb-false _ _ (not-true _ e)
 fields-to unknown e = tt
 
 pub fields-of : (x : SuboptionValue) → FieldsKept x → fields? x ≡ true
 unfolding fields?
 fields-of (request h i l) k = le-leb _ _ k
-fields-of (information c s entries) k = all?-of entryFields? entry-fields-of entries k
+fields-of (information c s entries) k = all?-of entry_fields? entry-fields-of entries k
 fields-of (name octets) k = simp (ne_eqb _ _ k)
 fields-of unknown k = refl
 
 -- What can be written.
-pub entry-writable-of : (e : Entry) → length e.figures ≤ 3 → Block e.network e.length → entryWritable? e ≡ true
-unfolding entryWritable?
+pub entry-writable-of : (e : Entry) → length e.figures ≤ 3 → Block e.network e.length → entry_writable? e ≡ true
+unfolding entry_writable?
 entry-writable-of e few b = and-of _ _ (le-leb _ _ few) (entry-fields-of e b)
 
-pub entry-writable-to : (e : Entry) → entryWritable? e ≡ true → (length e.figures ≤ 3) × Block e.network e.length
-unfolding entryWritable?
+pub entry-writable-to : (e : Entry) → entry_writable? e ≡ true → (length e.figures ≤ 3) × Block e.network e.length
+unfolding entry_writable?
 entry-writable-to e w =
-    let t = and-to (leb (length e.figures) 3) (entryFields? e) w in
+    let t = and-to (leb (length e.figures) 3) (entry_fields? e) w in
     (leb-true _ _ t.0, entry-fields-to e t.1)
 
 -- Row 13: a suboption that keeps the rules, with one or more entries, of at most three figures each, or one or more octets.
@@ -86,8 +86,8 @@ pub writable-to : (x : SuboptionValue) → writable? x ≡ true → Writable x
 unfolding writable?
 writable-to (request h i l) w = fields-to (request h i l) w
 writable-to (information c s entries) w =
-    let t = and-to (leb 1 (length entries)) (all? entryWritable? entries) w in
-    (leb-true _ _ t.0, all?-to entryWritable? entry-writable-to entries t.1)
+    let t = and-to (leb 1 (length entries)) (all? entry_writable? entries) w in
+    (leb-true _ _ t.0, all?-to entry_writable? entry-writable-to entries t.1)
 writable-to (name octets) w =
     let t = and-to (leb 1 (length octets)) (fields? (name octets)) w in
     (leb-true _ _ t.0, fields-to (name octets) t.1)
@@ -97,7 +97,7 @@ pub writable-of : (x : SuboptionValue) → Writable x → writable? x ≡ true
 unfolding writable?
 writable-of (request h i l) k = fields-of (request h i l) k
 writable-of (information c s entries) k =
-    and-of _ _ (le-leb _ _ k.0) (all?-of entryWritable? (λ e b. entry-writable-of e b.0 b.1) entries k.1)
+    and-of _ _ (le-leb _ _ k.0) (all?-of entry_writable? (λ e b. entry-writable-of e b.0 b.1) entries k.1)
 writable-of (name octets) k = and-of _ _ (le-leb _ _ k.0) (fields-of (name octets) k.1)
 writable-of unknown k = absurd k
 

@@ -9,8 +9,8 @@ use Rattle.lists.specs.Walk.{Turn, more, stop}
 use Rattle.lists.proofs.PutLaws.{put-nothing}
 use Rattle.lists.proofs.WalkLaws.{more-not-stop}
 use Rattle.option.specs.Values.{Entry, SuboptionValue}
-use Rattle.option.specs.Reading.{End, whole, badAt, whenGood, readRequest, readName}
-use Rattle.option.specs.Answers.{suboptionOf, cursorAt, step_of, entriesOf, InColumns, Stores}
+use Rattle.option.specs.Reading.{End, whole, bad_at, when_good, read_request, read_name}
+use Rattle.option.specs.Answers.{suboption_of, cursor_at, step_of, entries_of, InColumns, Stores}
 use Rattle.option.specs.Inner.{body_of}
 use Rattle.option.specs.declared.Fault.{Fault}
 use Rattle.option.specs.declared.Fault.TheVariants.{Framing, Field}
@@ -21,9 +21,9 @@ use Rattle.option.specs.declared.Body.TheVariants as body
 use Rattle.option.proofs.SuboptionLaws.{good-read, good-not-whole, EndsAt, StopsAt}
 
 module _ {t : Turn SuboptionValue End} {from : ℕ} {ns ls ns' ls' : List ℕ} where
-  stores-bad : (fault : Fault) (place : ℕ) → t ≡ stop (badAt fault place) → Stores t from ns ls ns' ls'
+  stores-bad : (fault : Fault) (place : ℕ) → t ≡ stop (bad_at fault place) → Stores t from ns ls ns' ls'
   stores-bad fault place h = record {
-    stored = λ x next k. absurd (more-not-stop x next (badAt fault place) (sym k ∙ h));
+    stored = λ x next k. absurd (more-not-stop x next (bad_at fault place) (sym k ∙ h));
     kept = λ k. let z : ◌≡◌ {A = ℕ} 0 1 = cc in absurd (omega arith);
   }
 
@@ -31,10 +31,10 @@ module _ {t : Turn SuboptionValue End} {from : ℕ} {ns ls ns' ls' : List ℕ} w
   stores_as e k = subst (λ (t : Turn SuboptionValue End). Stores t from ns ls ns' ls') (sym e) k
 
   -- A body that is bad, a good one, and one by another name.
-  pub body-bad : (fault : Fault) (at : ℕ) → t ≡ stop (badAt fault at) → (body_of at (stop (badAt fault at)) ≡ body_of at t) × Stores t from ns ls ns' ls'
+  pub body-bad : (fault : Fault) (at : ℕ) → t ≡ stop (bad_at fault at) → (body_of at (stop (bad_at fault at)) ≡ body_of at t) × Stores t from ns ls ns' ls'
   body-bad fault at h = (ap (body_of at) (sym h), stores-bad fault at h)
 
-  pub body-good : (at : ℕ) (r : Body) (x : SuboptionValue) (next : ℕ) → t ≡ more x next → r ≡ body.Good (suboptionOf x at next) → InColumns (entriesOf x) from ns ls ns' ls'
+  pub body-good : (at : ℕ) (r : Body) (x : SuboptionValue) (next : ℕ) → t ≡ more x next → r ≡ body.Good (suboption_of x at next) → InColumns (entries_of x) from ns ls ns' ls'
       → (r ≡ body_of at t) × Stores t from ns ls ns' ls'
   body-good at r x next h e k = (
     e ∙ ap (body_of at) (sym h),
@@ -42,7 +42,7 @@ module _ {t : Turn SuboptionValue End} {from : ℕ} {ns ls ns' ls' : List ℕ} w
       stored = λ y last j.
           let both : more x next ≡ more y last = sym h ∙ j in
           let same : x ≡ y = cc in
-          subst (λ (z : SuboptionValue). InColumns (entriesOf z) from ns ls ns' ls') same k;
+          subst (λ (z : SuboptionValue). InColumns (entries_of z) from ns ls ns' ls') same k;
       kept = λ j. absurd (more-not-stop x next whole (sym h ∙ j));
     },
   )
@@ -51,38 +51,38 @@ module _ {t : Turn SuboptionValue End} {from : ℕ} {ns ls ns' ls' : List ℕ} w
   body-as at r e h k = (h ∙ ap (body_of at) (sym e), stores_as e k)
 
   -- A step that finds no whole suboption, and one that goes by the body.
-  pub step-bad : (at : ℕ) → t ≡ stop (badAt Framing at) → (step.Bad Framing at ≡ step_of at t) × Stores t from ns ls ns' ls'
+  pub step-bad : (at : ℕ) → t ≡ stop (bad_at Framing at) → (step.Bad Framing at ≡ step_of at t) × Stores t from ns ls ns' ls'
   step-bad at h = (ap (step_of at) (sym h), stores-bad Framing at h)
 
   pub step-good : {u : Turn SuboptionValue End} (at end : ℕ) (f : Suboption) → t ≡ u → EndsAt end u → body.Good f ≡ body_of at u → Stores u from ns ls ns' ls'
-      → (step.Piece f (cursorAt end) ≡ step_of at t) × Stores t from ns ls ns' ls'
+      → (step.Piece f (cursor_at end) ≡ step_of at t) × Stores t from ns ls ns' ls'
   step-good {u} at end f e ends h k = (go u ends h ∙ ap (step_of at) (sym e), stores_as e k)
     where
-      go : (u : Turn SuboptionValue End) → EndsAt end u → body.Good f ≡ body_of at u → step.Piece f (cursorAt end) ≡ step_of at u
+      go : (u : Turn SuboptionValue End) → EndsAt end u → body.Good f ≡ body_of at u → step.Piece f (cursor_at end) ≡ step_of at u
       go (more x next) ends h =
           let same : end ≡ next = ends x next refl in
-          let fields : f ≡ suboptionOf x at next = cc in
-          ap₂ (λ (f : Suboption) (n : ℕ). step.Piece f (cursorAt n)) fields same
+          let fields : f ≡ suboption_of x at next = cc in
+          ap₂ (λ (f : Suboption) (n : ℕ). step.Piece f (cursor_at n)) fields same
       go (stop whole) ends h = let z : ◌≡◌ {A = ℕ} 0 1 = cc in absurd (omega arith)
-      go (stop (badAt Framing p)) ends h = let z : ◌≡◌ {A = ℕ} 0 1 = cc in absurd (omega arith)
-      go (stop (badAt Field p)) ends h = let z : ◌≡◌ {A = ℕ} 0 1 = cc in absurd (omega arith)
+      go (stop (bad_at Framing p)) ends h = let z : ◌≡◌ {A = ℕ} 0 1 = cc in absurd (omega arith)
+      go (stop (bad_at Field p)) ends h = let z : ◌≡◌ {A = ℕ} 0 1 = cc in absurd (omega arith)
 
-  pub step-none : {u : Turn SuboptionValue End} (fault : Fault) (at : ℕ) → t ≡ u → StopsAt at u → body_of at (stop (badAt fault at)) ≡ body_of at u → Stores u from ns ls ns' ls'
+  pub step-none : {u : Turn SuboptionValue End} (fault : Fault) (at : ℕ) → t ≡ u → StopsAt at u → body_of at (stop (bad_at fault at)) ≡ body_of at u → Stores u from ns ls ns' ls'
       → (step.Bad fault at ≡ step_of at t) × Stores t from ns ls ns' ls'
   step-none {u} fault at e stops h k = (go u stops h ∙ ap (step_of at) (sym e), stores_as e k)
     where
-      same : (f g : Fault) → body_of at (stop (badAt f at)) ≡ body_of at (stop (badAt g at)) → step.Bad f at ≡ step.Bad g at
+      same : (f g : Fault) → body_of at (stop (bad_at f at)) ≡ body_of at (stop (bad_at g at)) → step.Bad f at ≡ step.Bad g at
       same Framing Framing h = refl
       same Framing Field h = let z : ◌≡◌ {A = ℕ} 0 1 = cc in absurd (omega arith)
       same Field Framing h = let z : ◌≡◌ {A = ℕ} 0 1 = cc in absurd (omega arith)
       same Field Field h = refl
 
-      good : (f : Fault) (x : Suboption) → body_of at (stop (badAt f at)) ≡ body.Good x → ⊥
+      good : (f : Fault) (x : Suboption) → body_of at (stop (bad_at f at)) ≡ body.Good x → ⊥
       good Framing x h = let z : ◌≡◌ {A = ℕ} 0 1 = cc in omega arith
       good Field x h = let z : ◌≡◌ {A = ℕ} 0 1 = cc in omega arith
 
-      go : (u : Turn SuboptionValue End) → StopsAt at u → body_of at (stop (badAt fault at)) ≡ body_of at u → step.Bad fault at ≡ step_of at u
-      go (more x next) stops h = absurd (good fault (suboptionOf x at next) h)
+      go : (u : Turn SuboptionValue End) → StopsAt at u → body_of at (stop (bad_at fault at)) ≡ body_of at u → step.Bad fault at ≡ step_of at u
+      go (more x next) stops h = absurd (good fault (suboption_of x at next) h)
       go (stop b) stops h =
           let s = stops b refl in
           same fault s.0 (h ∙ ap (λ (b : End). body_of at (stop b)) s.1) ∙ ap (λ (b : End). step_of at (stop b)) (sym s.1)
@@ -96,18 +96,18 @@ module _ (from : ℕ) (ns ls : List ℕ) where
   pub columns-kept : InColumns [] from ns ls ns ls
   columns-kept = (sym (put-nothing ns from), sym (put-nothing ls from))
 
-  kept : (framed : Bool) (x : SuboptionValue) (at end : ℕ) → entriesOf x ≡ [] → Stores (whenGood framed x at end) from ns ls ns ls
+  kept : (framed : Bool) (x : SuboptionValue) (at end : ℕ) → entries_of x ≡ [] → Stores (when_good framed x at end) from ns ls ns ls
   kept framed x at end e = record {
     stored = λ y next h.
-        let none : entriesOf y ≡ [] = ap entriesOf (sym (good-read framed x at end y next h).2) ∙ e in
+        let none : entries_of y ≡ [] = ap entries_of (sym (good-read framed x at end y next h).2) ∙ e in
         subst (λ (es : List Entry). InColumns es from ns ls ns ls) (sym none) columns-kept;
     kept = λ k. absurd (good-not-whole framed x at end k);
   }
 
-  pub request-kept : (s : List ℕ) (at end : ℕ) → Stores (readRequest s at end) from ns ls ns ls
-  unfolding readRequest
+  pub request-kept : (s : List ℕ) (at end : ℕ) → Stores (read_request s at end) from ns ls ns ls
+  unfolding read_request
   request-kept s at end = kept _ _ at end refl
 
-  pub name-kept : (s : List ℕ) (at end : ℕ) → Stores (readName s at end) from ns ls ns ls
-  unfolding readName
+  pub name-kept : (s : List ℕ) (at end : ℕ) → Stores (read_name s at end) from ns ls ns ls
+  unfolding read_name
   name-kept s at end = kept _ _ at end refl

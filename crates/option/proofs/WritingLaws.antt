@@ -6,56 +6,56 @@ use mathlib.Core.Path.{◌≡◌, refl, ◌∙◌}
 use mathlib.Core.Bool.{Bool}
 use mathlib.Core.List.{List, [], ◌∷◌, ◌++◌}
 use lib.ListN.{length, length-append}
-use Rattle.lists.specs.Lists.{concatMap}
+use Rattle.lists.specs.Lists.{concat_map}
 use Rattle.lists.proofs.ListLaws.{all-every}
-use Rattle.lists.proofs.ConcatMapLaws.{concatMap-append, concatMap-one, length-concatMap}
+use Rattle.lists.proofs.ConcatMapLaws.{concat_map-append, concat_map-one, length-concat_map}
 use Rattle.option.specs.Values.{Entry, SuboptionValue, information}
-use Rattle.option.specs.Writing.{twoBytes, fourBytes, entryHead, entryBytes, entriesBytes, informationHead, suboptionBytes, suboptionsBytes, optionHead, optionBytes}
+use Rattle.option.specs.Writing.{two_bytes, four_bytes, entry_head, entry_bytes, entries_bytes, information_head, suboption_bytes, suboptions_bytes, option_head, option_bytes}
 
-pub figures-length : (fs : List ℕ) → length (concatMap twoBytes fs) ≡ 2 * length fs
-unfolding twoBytes
-figures-length fs = length-concatMap twoBytes 2 fs (all-every (λ x. refl) fs)
+pub figures-length : (fs : List ℕ) → length (concat_map two_bytes fs) ≡ 2 * length fs
+unfolding two_bytes
+figures-length fs = length-concat_map two_bytes 2 fs (all-every (λ x. refl) fs)
 
-pub entry-head-length : (network length' : ℕ) (h d : Bool) (stat : ℕ) → length (entryHead network length' h d stat) ≡ 7
-unfolding entryHead fourBytes
+pub entry-head-length : (network length' : ℕ) (h d : Bool) (stat : ℕ) → length (entry_head network length' h d stat) ≡ 7
+unfolding entry_head four_bytes
 entry-head-length network length' h d stat = refl
 
-pub entry_length : (e : Entry) → length (entryBytes e) ≡ 7 + 2 * length e.figures
-unfolding entryBytes
+pub entry_length : (e : Entry) → length (entry_bytes e) ≡ 7 + 2 * length e.figures
+unfolding entry_bytes
 entry_length e =
-    let head = entryHead e.network e.length e.h e.d (2 * length e.figures) in
-    length-append head (concatMap twoBytes e.figures)
+    let head = entry_head e.network e.length e.h e.d (2 * length e.figures) in
+    length-append head (concat_map two_bytes e.figures)
     ∙ omega (arith, entry-head-length e.network e.length e.h e.d (2 * length e.figures), figures-length e.figures)
 
-pub entries_none : entriesBytes [] ≡ []
-unfolding entriesBytes
+pub entries_none : entries_bytes [] ≡ []
+unfolding entries_bytes
 entries_none = refl
 
-pub entries-append : (xs ys : List Entry) → entriesBytes (xs ++ ys) ≡ entriesBytes xs ++ entriesBytes ys
-unfolding entriesBytes
-entries-append xs ys = concatMap-append entryBytes xs ys
+pub entries-append : (xs ys : List Entry) → entries_bytes (xs ++ ys) ≡ entries_bytes xs ++ entries_bytes ys
+unfolding entries_bytes
+entries-append xs ys = concat_map-append entry_bytes xs ys
 
-pub entries-one : (e : Entry) → entriesBytes (e ∷ []) ≡ entryBytes e
-unfolding entriesBytes
-entries-one e = concatMap-one entryBytes e
+pub entries-one : (e : Entry) → entries_bytes (e ∷ []) ≡ entry_bytes e
+unfolding entries_bytes
+entries-one e = concat_map-one entry_bytes e
 
-pub suboptions-none : suboptionsBytes [] ≡ []
-unfolding suboptionsBytes
+pub suboptions-none : suboptions_bytes [] ≡ []
+unfolding suboptions_bytes
 suboptions-none = refl
 
 -- "Repeated suboptions are never joined": what is written of a list is what is written of its parts, one after the other.
-pub suboptions-append : (xs ys : List SuboptionValue) → suboptionsBytes (xs ++ ys) ≡ suboptionsBytes xs ++ suboptionsBytes ys
-unfolding suboptionsBytes
-suboptions-append xs ys = concatMap-append suboptionBytes xs ys
+pub suboptions-append : (xs ys : List SuboptionValue) → suboptions_bytes (xs ++ ys) ≡ suboptions_bytes xs ++ suboptions_bytes ys
+unfolding suboptions_bytes
+suboptions-append xs ys = concat_map-append suboption_bytes xs ys
 
-pub suboptions-one : (x : SuboptionValue) → suboptionsBytes (x ∷ []) ≡ suboptionBytes x
-unfolding suboptionsBytes
-suboptions-one x = concatMap-one suboptionBytes x
+pub suboptions-one : (x : SuboptionValue) → suboptions_bytes (x ∷ []) ≡ suboption_bytes x
+unfolding suboptions_bytes
+suboptions-one x = concat_map-one suboption_bytes x
 
-pub information-length : (c s : Bool) (es : List Entry) → length (suboptionBytes (information c s es)) ≡ 3 + length (entriesBytes es)
-unfolding suboptionBytes informationHead
+pub information-length : (c s : Bool) (es : List Entry) → length (suboption_bytes (information c s es)) ≡ 3 + length (entries_bytes es)
+unfolding suboption_bytes information_head
 information-length c s es = omega arith
 
-pub option-length : (subs : List SuboptionValue) → length (optionBytes subs) ≡ 3 + length (suboptionsBytes subs)
-unfolding optionBytes optionHead
+pub option-length : (subs : List SuboptionValue) → length (option_bytes subs) ≡ 3 + length (suboptions_bytes subs)
+unfolding option_bytes option_head
 option-length subs = omega arith

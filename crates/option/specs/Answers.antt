@@ -3,11 +3,11 @@ use Rattle.std.specs.Prelude.{ℕ, ◌+◌, ◌≡◌, cond, List, [], map, leng
 use Rattle.std.proofs.Math.Option.{none, get_or}
 use Rattle.lists.specs.Put.{put}
 use Rattle.lists.specs.Walk.{Turn, more, stop}
-pub use Rattle.option_entry.specs.Steps.{figuresOf, fields_of, entriesFrom, entryStepOf}
+pub use Rattle.option_entry.specs.Steps.{figures_of, fields_of, entries_from, entry_step_of}
 use Rattle.option.specs.Values.{Entry, SuboptionValue, request, information, name, unknown, Outcome, refused, accepted}
-use Rattle.option.specs.Reading.{End, whole, badAt}
+use Rattle.option.specs.Reading.{End, whole, bad_at}
 use Rattle.option.specs.declared.Fault.TheVariants.{Framing, Field}
-use Rattle.option.specs.Contents.{lastNetwork}
+use Rattle.option.specs.Contents.{last_network}
 use Rattle.option.specs.Selection as selection
 use Rattle.option.specs.declared.{Selection.Selection, Suboption.Suboption, Cursor.Cursor, Step.Step, Checked.Checked}
 use Rattle.option.specs.declared.Selection.TheVariants as selected
@@ -17,42 +17,42 @@ use Rattle.option.specs.declared.Checked.TheVariants.{Good, NotTheOption, BadSub
 
 -- The network of the last entry; 0 if there is none.
 abbrev pub last_of : List Entry → ℕ
-last_of es = get_or (lastNetwork none es) 0
+last_of es = get_or (last_network none es) 0
 
 -- A suboption whose number byte is at `at` and that ends before `end`.
-abbrev pub suboptionOf : SuboptionValue → ℕ → ℕ → Suboption
-suboptionOf (request h i length) at end = Request (record { h = h; i = i; length = length; at = at })
-suboptionOf (information c s entries) at end =
-    Information (record { c = c; s = s; at = at; entries = entriesFrom (at + 3) end; count = length entries; last = last_of entries })
-suboptionOf (name octets) at end = Name (record { at = at; start = at + 2; end = end })
-suboptionOf unknown at end = Unknown (record { at = at; end = end })
+abbrev pub suboption_of : SuboptionValue → ℕ → ℕ → Suboption
+suboption_of (request h i length) at end = Request (record { h = h; i = i; length = length; at = at })
+suboption_of (information c s entries) at end =
+    Information (record { c = c; s = s; at = at; entries = entries_from (at + 3) end; count = length entries; last = last_of entries })
+suboption_of (name octets) at end = Name (record { at = at; start = at + 2; end = end })
+suboption_of unknown at end = Unknown (record { at = at; end = end })
 
-abbrev pub cursorAt : ℕ → Cursor
-cursorAt at = record { at = at }
+abbrev pub cursor_at : ℕ → Cursor
+cursor_at at = record { at = at }
 
 abbrev pub step_of : ℕ → Turn SuboptionValue End → Step
-step_of at (more x next) = step.Piece (suboptionOf x at next) (cursorAt next)
+step_of at (more x next) = step.Piece (suboption_of x at next) (cursor_at next)
 step_of at (stop whole) = step.End
-step_of at (stop (badAt fault place)) = step.Bad fault place
+step_of at (stop (bad_at fault place)) = step.Bad fault place
 
 -- Networks and lengths of entries, stored in two columns from a place on.
 abbrev pub InColumns : List Entry → ℕ → List ℕ → List ℕ → List ℕ → List ℕ → Type 0
 InColumns es from ns ls ns' ls' = (ns' ≡ put ns from (map (λ e. e.network) es)) × (ls' ≡ put ls from (map (λ e. e.length) es))
 
-abbrev pub entriesOf : SuboptionValue → List Entry
-entriesOf (request h i length) = []
-entriesOf (information c s entries) = entries
-entriesOf (name octets) = []
-entriesOf unknown = []
+abbrev pub entries_of : SuboptionValue → List Entry
+entries_of (request h i length) = []
+entries_of (information c s entries) = entries
+entries_of (name octets) = []
+entries_of unknown = []
 
 -- What a step leaves of lent columns: at the end they are as they were; of a bad suboption nothing is said.
 pub record Stores (t : Turn SuboptionValue End) (from : ℕ) (ns ls ns' ls' : List ℕ) : Type 0 where
-  pub stored : (x : SuboptionValue) (next : ℕ) → t ≡ more x next → InColumns (entriesOf x) from ns ls ns' ls'
+  pub stored : (x : SuboptionValue) (next : ℕ) → t ≡ more x next → InColumns (entries_of x) from ns ls ns' ls'
   pub kept : t ≡ stop whole → (ns' ≡ ns) × (ls' ≡ ls)
 
-abbrev pub checkedOf : Outcome → Checked
-checkedOf (accepted subs) = Good
-checkedOf (refused number place) = cond (eqb number 6) NotTheOption (BadSuboption (cond (eqb number 7) Framing Field) place)
+abbrev pub checked_of : Outcome → Checked
+checked_of (accepted subs) = Good
+checked_of (refused number place) = cond (eqb number 6) NotTheOption (BadSuboption (cond (eqb number 7) Framing Field) place)
 
 abbrev pub place_of : Checked → ℕ
 place_of Good = 0
@@ -60,6 +60,6 @@ place_of NotTheOption = 0
 place_of (BadSuboption fault place) = place
 
 -- The same of option 118: what the paper says for each answer.
-abbrev pub selectedBy : Selection → selection.Selected
-selectedBy (selected.Address a) = selection.address a
-selectedBy selected.NotTheOption = selection.refused 6
+abbrev pub selected_by : Selection → selection.Selected
+selected_by (selected.Address a) = selection.address a
+selected_by selected.NotTheOption = selection.refused 6

@@ -1,7 +1,7 @@
 -- What calls look at in an option 220: its requests, its entries, its first name, and the position from which a list goes on.
 use Rattle.lists.specs.Basics.{ℕ, Bool, false, cond, ◌&&◌, List, [], ◌∷◌, ◌++◌, Option, some, eqb}
 use Rattle.option.specs.Values.{Entry, SuboptionValue, request, information, name, unknown, Outcome, refused, accepted}
-use Rattle.option.specs.Reading.{readOption}
+use Rattle.option.specs.Reading.{read_option}
 
 -- REQUESTS AND ENTRIES
 
@@ -38,35 +38,35 @@ entries (information c s es ∷ subs) = es ++ entries subs
 entries (name octets ∷ subs) = entries subs
 entries (unknown ∷ subs) = entries subs
 
-abbrev pub requestsIn : List ℕ → List Request
-requestsIn option = requests (suboptions (readOption option))
+abbrev pub requests_in : List ℕ → List Request
+requests_in option = requests (suboptions (read_option option))
 
-abbrev pub entriesIn : List ℕ → List Entry
-entriesIn option = entries (suboptions (readOption option))
+abbrev pub entries_in : List ℕ → List Entry
+entries_in option = entries (suboptions (read_option option))
 
 -- THE NAME OF AN ASK
 
 -- "from the first Name suboption of the ask": its octets, and none where there is no Name.
-abbrev pub firstName : List SuboptionValue → List ℕ
-firstName [] = []
-firstName (request h i length ∷ subs) = firstName subs
-firstName (information c s es ∷ subs) = firstName subs
-firstName (name octets ∷ subs) = octets
-firstName (unknown ∷ subs) = firstName subs
+abbrev pub first_name : List SuboptionValue → List ℕ
+first_name [] = []
+first_name (request h i length ∷ subs) = first_name subs
+first_name (information c s es ∷ subs) = first_name subs
+first_name (name octets ∷ subs) = octets
+first_name (unknown ∷ subs) = first_name subs
 
-abbrev pub firstNameIn : List ℕ → List ℕ
-firstNameIn option = firstName (suboptions (readOption option))
+abbrev pub first_name_in : List ℕ → List ℕ
+first_name_in option = first_name (suboptions (read_option option))
 
 -- THE POSITION OF A LIST
 
 -- "The position is the network of the last entry of the last Information with c and s set". `earlier`: the one before these entries or suboptions.
-abbrev pub lastNetwork : Option ℕ → List Entry → Option ℕ
-lastNetwork earlier [] = earlier
-lastNetwork earlier (e ∷ es) = lastNetwork (some e.network) es
+abbrev pub last_network : Option ℕ → List Entry → Option ℕ
+last_network earlier [] = earlier
+last_network earlier (e ∷ es) = last_network (some e.network) es
 
 abbrev pub position : Option ℕ → List SuboptionValue → Option ℕ
 position earlier [] = earlier
 position earlier (request h i length ∷ subs) = position earlier subs
-position earlier (information c s es ∷ subs) = position (cond (c && s) (lastNetwork earlier es) earlier) subs
+position earlier (information c s es ∷ subs) = position (cond (c && s) (last_network earlier es) earlier) subs
 position earlier (name octets ∷ subs) = position earlier subs
 position earlier (unknown ∷ subs) = position earlier subs

@@ -4,18 +4,18 @@ use Rattle.lists.specs.Lists.{All}
 use Rattle.lists.specs.Walk.{walk}
 use Rattle.lists.specs.Properties.{Placed, placed}
 use Rattle.option.specs.Values.{Entry, SuboptionValue, request, information, name, unknown}
-use Rattle.option.specs.Reading.{whole, read_entry, readSuboption}
+use Rattle.option.specs.Reading.{whole, read_entry, read_suboption}
 
 -- The elements of a list are bytes.
 abbrev pub Bytes : List ℕ → Type 0
 Bytes s = (k : ℕ) → get_or s k 0 < 256
 
 -- The suboptions of an option, and the entries from `at` on of an information that ends at `end`, each with its place and the place after it.
-unfoldable pub placedSuboptions : List ℕ → List (Placed SuboptionValue)
-placedSuboptions s = (walk (λ at. placed at (readSuboption s at)) whole (suc (length s)) 3).0
+unfoldable pub placed_suboptions : List ℕ → List (Placed SuboptionValue)
+placed_suboptions s = (walk (λ at. placed at (read_suboption s at)) whole (suc (length s)) 3).0
 
-unfoldable pub placedEntries : List ℕ → ℕ → ℕ → List (Placed Entry)
-placedEntries s end at = (walk (λ at. placed at (read_entry s end at)) false (suc end) at).0
+unfoldable pub placed_entries : List ℕ → ℕ → ℕ → List (Placed Entry)
+placed_entries s end at = (walk (λ at. placed at (read_entry s end at)) false (suc end) at).0
 
 -- "no unknown suboption, no ignored bit set and no figure past the third": of an entry, of a suboption, and of the option, whose own flags are
 -- all ignored.
@@ -25,7 +25,7 @@ pub record PlainEntry (s : List ℕ) (p : Placed Entry) : Type 0 where
 
 abbrev pub PlainAs : List ℕ → ℕ → ℕ → SuboptionValue → Type 0
 PlainAs s at next (request h i length) = get_or s (at + 2) 0 < 4
-PlainAs s at next (information c t entries) = (get_or s (at + 2) 0 < 4) × All (PlainEntry s) (placedEntries s next (at + 3))
+PlainAs s at next (information c t entries) = (get_or s (at + 2) 0 < 4) × All (PlainEntry s) (placed_entries s next (at + 3))
 PlainAs s at next (name octets) = Unit {0}
 PlainAs s at next unknown = ⊥
 
@@ -34,7 +34,7 @@ PlainSuboption s p = PlainAs s p.at p.next p.piece
 
 pub record PlainOption (s : List ℕ) : Type 0 where
   pub bits : get_or s 2 0 ≡ 0
-  pub suboptions : All (PlainSuboption s) (placedSuboptions s)
+  pub suboptions : All (PlainSuboption s) (placed_suboptions s)
 
 -- Rule 6: "Undefined flag bits are ignored on reading .., also in the option's own flags". Two options that differ at most in such bits: the bytes
 -- of each suboption of the first are those of the second, but for flags, of which the two low bits are the same; nothing is said of the option's
@@ -55,7 +55,7 @@ pub record SameEntry (s t : List ℕ) (p : Placed Entry) : Type 0 where
 
 abbrev pub SameBody : List ℕ → List ℕ → ℕ → ℕ → SuboptionValue → Type 0
 SameBody s t at next (request h i length) = SameBits s t (at + 2) × SameByte s t (at + 3)
-SameBody s t at next (information c f entries) = SameBits s t (at + 2) × All (SameEntry s t) (placedEntries s next (at + 3))
+SameBody s t at next (information c f entries) = SameBits s t (at + 2) × All (SameEntry s t) (placed_entries s next (at + 3))
 SameBody s t at next (name octets) = SameFrom s t (at + 2) next
 SameBody s t at next unknown = Unit {0}
 
@@ -68,4 +68,4 @@ pub record SameButIgnored (s t : List ℕ) : Type 0 where
   pub size : length s ≡ length t
   pub code : SameByte s t 0
   pub len : SameByte s t 1
-  pub suboptions : All (SameSuboption s t) (placedSuboptions s)
+  pub suboptions : All (SameSuboption s t) (placed_suboptions s)

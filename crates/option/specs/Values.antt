@@ -3,16 +3,16 @@ use Rattle.lists.specs.Basics.{ℕ, Bool, List}
 pub use Rattle.option_entry.specs.Entries.{Entry}
 
 -- Len is a byte, and leaves out Code and Len: no option is longer.
-abbrev pub longestOption : ℕ
-longestOption = 257
+abbrev pub longest_option : ℕ
+longest_option = 257
 
 -- "the option has 1 to 25 requests"
-abbrev pub mostRequests : ℕ
-mostRequests = 25
+abbrev pub most_requests : ℕ
+most_requests = 25
 
 -- No option has more entries, and no reply shows more: "at most 35".
-abbrev pub mostEntries : ℕ
-mostEntries = 35
+abbrev pub most_entries : ℕ
+most_entries = 35
 
 -- "Each suboption read is a request, an information, a name or an unknown one"
 pub data SuboptionValue : Type 0 where

@@ -1,29 +1,29 @@
 // Options 220 (RFC 6656) and 118 (RFC 3011), read from bytes.
 ghost use Rattle.std.specs.Prelude.{◌≡◌, true, ◌&&◌, ◌+◌, ◌≤◌, ◌<◌, length, set};
-ghost use Rattle.option.specs.Values.{longestOption};
+ghost use Rattle.option.specs.Values.{longest_option};
 ghost use Rattle.option.specs.Reading.{
   option?,
-  readEntries,
-  readRequest,
-  readInformation,
-  readName,
+  read_entries,
+  read_request,
+  read_information,
+  read_name,
   read_body,
-  readSuboption,
-  readSuboptions,
-  faultNumber,
+  read_suboption,
+  read_suboptions,
+  fault_number,
   ended,
-  readOption,
+  read_option,
 };
 ghost use Rattle.option.specs.Answers.{
-  cursorAt,
+  cursor_at,
   step_of,
-  checkedOf,
-  selectedBy,
+  checked_of,
+  selected_by,
   InColumns,
   Stores,
 };
-ghost use Rattle.option.specs.Inner.{scanOf, body_of};
-ghost use Rattle.option.specs.Selection.{readSelection};
+ghost use Rattle.option.specs.Inner.{scan_of, body_of};
+ghost use Rattle.option.specs.Selection.{read_selection};
 
 use option_entry::wide;
 pub use option_entry::{EntryCursor, EntryFields, EntryStep, Figures};
@@ -167,8 +167,8 @@ fn scan_entries(
     lengths: &mut [u8],
 ) -> Scan
     requires { (at ≤ end) × (from ≤ at) }
-    ensures value { result ≡ scanOf (readEntries s.now end at) }
-    ensures in_columns { InColumns (readEntries s.now end at).0 from networks.old lengths.old networks.new lengths.new }
+    ensures value { result ≡ scan_of (read_entries s.now end at) }
+    ensures in_columns { InColumns (read_entries s.now end at).0 from networks.old lengths.old networks.new lengths.new }
 {
     let mut cursor = EntryCursor { at, end };
     let mut n = from;
@@ -207,7 +207,7 @@ fn scan_entries(
 // A request whose number byte is at a place and that ends before `end`: framing, then fields.
 fn request_at(s: &[u8], at: usize, end: usize) -> Body
     requires { (at + 2 ≤ end) × (end ≤ length s.now) }
-    ensures { result ≡ body_of at (readRequest s.now at end) }
+    ensures { result ≡ body_of at (read_request s.now at end) }
 {
     if end != at + 4 {
         return Body::BadFraming;
@@ -235,8 +235,8 @@ fn information_at(
     lengths: &mut [u8],
 ) -> Body
     requires { (at + 2 ≤ end) × (end ≤ length s.now) × (from ≤ at) }
-    ensures value { result ≡ body_of at (readInformation s.now at end) }
-    ensures stores { Stores (readInformation s.now at end) from networks.old lengths.old networks.new lengths.new }
+    ensures value { result ≡ body_of at (read_information s.now at end) }
+    ensures stores { Stores (read_information s.now at end) from networks.old lengths.old networks.new lengths.new }
 {
     if end <= at + 3 {
         return Body::BadFraming;
@@ -262,7 +262,7 @@ fn information_at(
 // A name, likewise.
 fn name_at(s: &[u8], at: usize, end: usize) -> Body
     requires { (at + 2 ≤ end) × (end ≤ length s.now) }
-    ensures { result ≡ body_of at (readName s.now at end) }
+    ensures { result ≡ body_of at (read_name s.now at end) }
 {
     if end <= at + 2 {
         return Body::BadFraming;
@@ -302,7 +302,7 @@ fn body_at(
 impl Fault {
     // The number of its row.
     pub fn number(self) -> u32
-        ensures { result ≡ faultNumber self }
+        ensures { result ≡ fault_number self }
     {
         match self {
             Fault::Framing => 7,
@@ -314,7 +314,7 @@ impl Fault {
 impl Cursor {
     // The place of an option's first suboption.
     pub fn first() -> Cursor
-        ensures { result ≡ cursorAt 3 }
+        ensures { result ≡ cursor_at 3 }
     {
         Cursor { at: 3 }
     }
@@ -323,8 +323,8 @@ impl Cursor {
     // the columns, after the `from` that these have, as the entries are tested; a bad suboption may leave some there.
     pub fn step_into(self, s: &[u8], from: usize, networks: &mut [u32], lengths: &mut [u8]) -> Step
         requires { from ≤ self.at }
-        ensures value { result ≡ step_of self.at (readSuboption s.now self.at) }
-        ensures stores { Stores (readSuboption s.now self.at) from networks.old lengths.old networks.new lengths.new }
+        ensures value { result ≡ step_of self.at (read_suboption s.now self.at) }
+        ensures stores { Stores (read_suboption s.now self.at) from networks.old lengths.old networks.new lengths.new }
     {
         let at = self.at;
         if s.len() <= at {
@@ -346,7 +346,7 @@ impl Cursor {
 
     // The same with no columns.
     pub fn step(self, s: &[u8]) -> Step
-        ensures { result ≡ step_of self.at (readSuboption s.now self.at) }
+        ensures { result ≡ step_of self.at (read_suboption s.now self.at) }
     {
         let mut networks = [0u32; 1];
         let mut lengths = [0u8; 1];
@@ -357,7 +357,7 @@ impl Cursor {
 // The check of the suboptions.
 fn check_suboptions(s: &[u8]) -> Checked
     requires { 3 ≤ length s.now }
-    ensures { result ≡ checkedOf (ended (readSuboptions s.now 3).0 (readSuboptions s.now 3).1) }
+    ensures { result ≡ checked_of (ended (read_suboptions s.now 3).0 (read_suboptions s.now 3).1) }
 {
     let mut cursor = Cursor::first();
     loop {
@@ -377,7 +377,7 @@ fn check_suboptions(s: &[u8]) -> Checked
 
 // Row 6: whether these bytes are an option 220.
 pub fn is_option(s: &[u8]) -> bool
-    ensures { (result ≡ option? s.now) × (result ≡ true → length s.now ≤ longestOption) }
+    ensures { (result ≡ option? s.now) × (result ≡ true → length s.now ≤ longest_option) }
 {
     if s.len() < 2 {
         return false;
@@ -397,7 +397,7 @@ pub fn is_option(s: &[u8]) -> bool
 
 // The check of a whole option, in one pass: the first refusal in row order.
 pub fn check_option(s: &[u8]) -> Checked
-    ensures { result ≡ checkedOf (readOption s.now) }
+    ensures { result ≡ checked_of (read_option s.now) }
 {
     if !is_option(s) {
         return Checked::NotTheOption;
@@ -407,7 +407,7 @@ pub fn check_option(s: &[u8]) -> Checked
 
 // Option 118: the address of the subnet that is asked for. The address is answered as it stands.
 pub fn read_selection(s: &[u8]) -> Selection
-    ensures { selectedBy result ≡ readSelection s.now }
+    ensures { selected_by result ≡ read_selection s.now }
 {
     if s.len() < 2 {
         return Selection::NotTheOption;

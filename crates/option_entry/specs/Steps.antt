@@ -4,16 +4,16 @@ use Rattle.lists.specs.Walk.{Turn, more, stop}
 use Rattle.option_entry.specs.declared.{EntryFields.EntryFields, EntryCursor.EntryCursor, EntryStep.EntryStep}
 use Rattle.option_entry.specs.declared.EntryStep.TheVariants as entry-step
 use Rattle.option_entry.specs.Entries.{Entry}
-pub use Rattle.option_entry.specs.Entries.{figuresOf}
+pub use Rattle.option_entry.specs.Entries.{figures_of}
 
 abbrev pub fields_of : Entry → EntryFields
-fields_of e = record { network = e.network; length = e.length; h = e.h; d = e.d; figures = figuresOf e.figures }
+fields_of e = record { network = e.network; length = e.length; h = e.h; d = e.d; figures = figures_of e.figures }
 
 -- The places of the entries from `at` to `end`.
-abbrev pub entriesFrom : ℕ → ℕ → EntryCursor
-entriesFrom at end = record { at = at; end = end }
+abbrev pub entries_from : ℕ → ℕ → EntryCursor
+entries_from at end = record { at = at; end = end }
 
-abbrev pub entryStepOf : ℕ → Turn Entry Bool → EntryStep
-entryStepOf end (more e next) = entry-step.Entry (fields_of e) (entriesFrom next end)
-entryStepOf end (stop true) = entry-step.End
-entryStepOf end (stop false) = entry-step.Cut
+abbrev pub entry_step_of : ℕ → Turn Entry Bool → EntryStep
+entry_step_of end (more e next) = entry-step.Entry (fields_of e) (entries_from next end)
+entry_step_of end (stop true) = entry-step.End
+entry_step_of end (stop false) = entry-step.Cut

@@ -1,7 +1,7 @@
 // An entry of an information of option 220 (RFC 6656, section 3.2.1), read from bytes.
 ghost use Rattle.std.specs.Prelude.{◌≡◌, ◌+◌, ◌≤◌, ◌<◌, length};
-ghost use Rattle.option_entry.specs.Entries.{two, four, figuresAt, read_entry};
-ghost use Rattle.option_entry.specs.Steps.{figuresOf, entryStepOf};
+ghost use Rattle.option_entry.specs.Entries.{two, four, figures_at, read_entry};
+ghost use Rattle.option_entry.specs.Steps.{figures_of, entry_step_of};
 
 // A type for each figure, so that one is never taken for another.
 #[derive(Drop)]
@@ -85,7 +85,7 @@ pub fn four_at(s: &[u8], at: usize) -> u32
 // The figures in n bytes from a position on, of which the first three count.
 fn figures_at(s: &[u8], at: usize, n: usize) -> Figures
     requires { at + n ≤ length s.now }
-    ensures { result ≡ figuresOf (figuresAt s.now at n) }
+    ensures { result ≡ figures_of (figures_at s.now at n) }
 {
     if n < 2 {
         return Figures {
@@ -122,7 +122,7 @@ fn figures_at(s: &[u8], at: usize, n: usize) -> Figures
 impl EntryCursor {
     // What stands at the cursor. The walk goes by the framing alone: the fields are as they stand.
     pub fn step(self, s: &[u8]) -> EntryStep
-        ensures { result ≡ entryStepOf self.end (read_entry s.now self.end self.at) }
+        ensures { result ≡ entry_step_of self.end (read_entry s.now self.end self.at) }
     {
         let at = self.at;
         let end = self.end;

@@ -10,16 +10,16 @@ use lib.ListN.{length, get_or, take, drop, length-append, length-take, length-ma
 use lib.Seq.{drop-cons, get_or-take}
 use lib.Dec.{leb}
 use borrow.Author.Tests.{leb-true, leb-false, le-leb, lt-leb, eq-eqb, ne_eqb}
-use Rattle.lists.specs.Lists.{all?, concatMap}
+use Rattle.lists.specs.Lists.{all?, concat_map}
 use Rattle.prefix.specs.Prefixes.{checked}
 use Rattle.option.specs.Values.{Entry, SuboptionValue, information}
-use Rattle.option.specs.Rules.{block?, final, entryFields?, fields?}
-use Rattle.option.specs.Writing.{entryBytes, entriesBytes, suboptionBytes, suboptionsBytes}
-use Rattle.option.specs.Writer.{entryWritable?, writable?}
+use Rattle.option.specs.Rules.{block?, final, entry_fields?, fields?}
+use Rattle.option.specs.Writing.{entry_bytes, entries_bytes, suboption_bytes, suboptions_bytes}
+use Rattle.option.specs.Writer.{entry_writable?, writable?}
 use Rattle.option_entry.specs.declared.EntryFields.{EntryFields}
 use Rattle.option.proofs.WritingLaws.{information-length}
-use Rattle.option_measure.specs.Lists.{entry_of, part, informationIn, nameIn, listed, value_at}
-use Rattle.option_measure.specs.Measuring.{measureOf, measureOne, measureList}
+use Rattle.option_measure.specs.Lists.{entry_of, part, information_in, name_in, listed, value_at}
+use Rattle.option_measure.specs.Measuring.{measure_of, measure_one, measure_list}
 use Rattle.option_measure.specs.declared.InformationItem.{InformationItem}
 use Rattle.option_measure.specs.declared.NameItem.{NameItem}
 use Rattle.option_measure.specs.declared.Slot.{Slot}
@@ -51,17 +51,17 @@ outside-left true n h = let z : ◌≡◌ {A = ℕ} 0 1 = cc in absurd (omega ar
 outside-left false n h = refl
 
 module _ {A : Type 0} (good : A → Bool) (bytes : A → List ℕ) where
-  first_good : (x : A) (xs : List A) (b : Bool) → all? good xs ≡ b → good x ≡ true → measureOf good bytes (x ∷ xs) ≡ plus (length (bytes x)) (cond b (Bytes (length (concatMap bytes xs))) Outside)
-  unfolding measureOf
-  first_good x xs true e h = simp (h, e) (ap Bytes (length-append (bytes x) (concatMap bytes xs)))
+  first_good : (x : A) (xs : List A) (b : Bool) → all? good xs ≡ b → good x ≡ true → measure_of good bytes (x ∷ xs) ≡ plus (length (bytes x)) (cond b (Bytes (length (concat_map bytes xs))) Outside)
+  unfolding measure_of
+  first_good x xs true e h = simp (h, e) (ap Bytes (length-append (bytes x) (concat_map bytes xs)))
   first_good x xs false e h = simp (h, e)
 
-  measure-first : (x : A) (xs : List A) → good x ≡ true → measureOf good bytes (x ∷ xs) ≡ plus (length (bytes x)) (measureOf good bytes xs)
-  unfolding measureOf
+  measure-first : (x : A) (xs : List A) → good x ≡ true → measure_of good bytes (x ∷ xs) ≡ plus (length (bytes x)) (measure_of good bytes xs)
+  unfolding measure_of
   measure-first x xs h = first_good x xs (all? good xs) refl h
 
-  measure-bad : (x : A) (xs : List A) → good x ≡ false → measureOf good bytes (x ∷ xs) ≡ Outside
-  unfolding measureOf
+  measure-bad : (x : A) (xs : List A) → good x ≡ false → measure_of good bytes (x ∷ xs) ≡ Outside
+  unfolding measure_of
   measure-bad x xs h = simp h
 
   -- From the element at i on, by what that element is.
@@ -70,82 +70,82 @@ module _ {A : Type 0} (good : A → Bool) (bytes : A → List ℕ) where
     rest = drop-cons l i d h ∙ ap (λ (k : ℕ). get_or l i d ∷ drop k l) (sym (add-one i))
 
     pub measure-more : (x : A) (k : ℕ) → get_or l i d ≡ x → good x ≡ true → length (bytes x) ≡ k
-        → plus n (measureOf good bytes (drop i l)) ≡ plus (n + k) (measureOf good bytes (drop (i + 1) l))
+        → plus n (measure_of good bytes (drop i l)) ≡ plus (n + k) (measure_of good bytes (drop (i + 1) l))
     measure-more x k e g s =
-        ap (λ (r : List A). plus n (measureOf good bytes r)) (rest ∙ ap (λ (y : A). y ∷ drop (i + 1) l) e)
+        ap (λ (r : List A). plus n (measure_of good bytes r)) (rest ∙ ap (λ (y : A). y ∷ drop (i + 1) l) e)
         ∙ ap (plus n) (measure-first x (drop (i + 1) l) g)
-        ∙ plus-plus n (length (bytes x)) (measureOf good bytes (drop (i + 1) l))
-        ∙ ap (λ (m : ℕ). plus (n + m) (measureOf good bytes (drop (i + 1) l))) s
+        ∙ plus-plus n (length (bytes x)) (measure_of good bytes (drop (i + 1) l))
+        ∙ ap (λ (m : ℕ). plus (n + m) (measure_of good bytes (drop (i + 1) l))) s
 
-    pub measure-stop : (x : A) → get_or l i d ≡ x → good x ≡ false → plus n (measureOf good bytes (drop i l)) ≡ Outside
+    pub measure-stop : (x : A) → get_or l i d ≡ x → good x ≡ false → plus n (measure_of good bytes (drop i l)) ≡ Outside
     measure-stop x e g =
-        ap (λ (r : List A). plus n (measureOf good bytes r)) (rest ∙ ap (λ (y : A). y ∷ drop (i + 1) l) e)
+        ap (λ (r : List A). plus n (measure_of good bytes r)) (rest ∙ ap (λ (y : A). y ∷ drop (i + 1) l) e)
         ∙ ap (plus n) (measure-bad x (drop (i + 1) l) g)
 
-  pub measure-end : (l : List A) (i n : ℕ) → length l ≤ i → plus n (measureOf good bytes (drop i l)) ≡ Bytes n
-  unfolding measureOf
+  pub measure-end : (l : List A) (i n : ℕ) → length l ≤ i → plus n (measure_of good bytes (drop i l)) ≡ Bytes n
+  unfolding measure_of
   measure-end l i n h =
       let e : n + 0 ≡ n = omega arith in
-      ap (λ (r : List A). plus n (measureOf good bytes r)) (drop_of_length-le l h) ∙ ap Bytes e
+      ap (λ (r : List A). plus n (measure_of good bytes r)) (drop_of_length-le l h) ∙ ap Bytes e
 
-  pub measured-bytes : (l : List A) (n : ℕ) → measureOf good bytes l ≡ Bytes n → (all? good l ≡ true) × (length (concatMap bytes l) ≡ n)
-  unfolding measureOf
-  measured-bytes l n h = bytes-picked (all? good l) (length (concatMap bytes l)) n h
+  pub measured-bytes : (l : List A) (n : ℕ) → measure_of good bytes l ≡ Bytes n → (all? good l ≡ true) × (length (concat_map bytes l) ≡ n)
+  unfolding measure_of
+  measured-bytes l n h = bytes-picked (all? good l) (length (concat_map bytes l)) n h
 
-  pub measured-outside : (l : List A) → measureOf good bytes l ≡ Outside → all? good l ≡ false
-  unfolding measureOf
-  measured-outside l h = outside-left (all? good l) (length (concatMap bytes l)) h
+  pub measured-outside : (l : List A) → measure_of good bytes l ≡ Outside → all? good l ≡ false
+  unfolding measure_of
+  measured-outside l h = outside-left (all? good l) (length (concat_map bytes l)) h
 
 -- When an entry can be written.
 module _ (e : EntryFields) where
-  pub entry-writable : e.figures.count ≤ 3 → block? (checked e.network e.length) ≡ true → entryWritable? (entry_of e) ≡ true
-  unfolding entryWritable? entryFields? entry_of
+  pub entry-writable : e.figures.count ≤ 3 → block? (checked e.network e.length) ≡ true → entry_writable? (entry_of e) ≡ true
+  unfolding entry_writable? entry_fields? entry_of
   entry-writable few block = simp (figures-count e.figures, le-leb _ _ few, block)
 
-  pub entry-many : 3 < e.figures.count → entryWritable? (entry_of e) ≡ false
-  unfolding entryWritable? entryFields? entry_of
+  pub entry-many : 3 < e.figures.count → entry_writable? (entry_of e) ≡ false
+  unfolding entry_writable? entry_fields? entry_of
   entry-many many = simp (figures-count e.figures, lt-leb _ _ many)
 
-  pub entry-no-block : block? (checked e.network e.length) ≡ false → entryWritable? (entry_of e) ≡ false
-  unfolding entryWritable? entryFields? entry_of
+  pub entry-no-block : block? (checked e.network e.length) ≡ false → entry_writable? (entry_of e) ≡ false
+  unfolding entry_writable? entry_fields? entry_of
   entry-no-block block = simp (block, and-false)
 
 -- An information.
 module _ (entries : List EntryFields) (f : InformationItem) where
-  pub information-unplaced : 64 < f.first + f.count → Outside ≡ measureOne (informationIn entries f)
-  unfolding informationIn measureOne writable?
+  pub information-unplaced : 64 < f.first + f.count → Outside ≡ measure_one (information_in entries f)
+  unfolding information_in measure_one writable?
   information-unplaced h = simp (lt-leb _ _ h)
 
   module _ (placed : f.first + f.count ≤ 64) where
-    pub information-empty : f.count ≡ 0 → Outside ≡ measureOne (informationIn entries f)
-    unfolding informationIn measureOne writable?
+    pub information-empty : f.count ≡ 0 → Outside ≡ measure_one (information_in entries f)
+    unfolding information_in measure_one writable?
     information-empty h = let p : f.first + 0 ≤ 64 = omega arith in simp (h, le-leb _ _ p)
 
     abbrev es : List Entry
     es = map entry_of (part f.first f.count entries)
 
-    pub information-measured : (n : ℕ) → length entries ≡ 64 → 1 ≤ f.count → measureOf entryWritable? entryBytes es ≡ Bytes n → Bytes (3 + n) ≡ measureOne (informationIn entries f)
-    unfolding informationIn measureOne writable? entriesBytes
+    pub information-measured : (n : ℕ) → length entries ≡ 64 → 1 ≤ f.count → measure_of entry_writable? entry_bytes es ≡ Bytes n → Bytes (3 + n) ≡ measure_one (information_in entries f)
+    unfolding information_in measure_one writable? entries_bytes
     information-measured n full some h =
-        let t = measured-bytes entryWritable? entryBytes es n h in
+        let t = measured-bytes entry_writable? entry_bytes es n h in
         let c : length es ≡ f.count = length-map-part entry_of entries f.first f.count (omega arith) in
         let one : 1 ≤ length es = omega arith in
-        let size : 3 + n ≡ length (suboptionBytes (information f.c f.s es)) = sym (information-length f.c f.s es ∙ ap (λ (k : ℕ). 3 + k) t.1) in
+        let size : 3 + n ≡ length (suboption_bytes (information f.c f.s es)) = sym (information-length f.c f.s es ∙ ap (λ (k : ℕ). 3 + k) t.1) in
         ap Bytes size ∙ simp (le-leb _ _ placed, le-leb _ _ one, t.0)
 
-    pub information-outside : measureOf entryWritable? entryBytes es ≡ Outside → Outside ≡ measureOne (informationIn entries f)
-    unfolding informationIn measureOne writable?
-    information-outside h = simp (le-leb _ _ placed, measured-outside entryWritable? entryBytes es h, and-false)
+    pub information-outside : measure_of entry_writable? entry_bytes es ≡ Outside → Outside ≡ measure_one (information_in entries f)
+    unfolding information_in measure_one writable?
+    information-outside h = simp (le-leb _ _ placed, measured-outside entry_writable? entry_bytes es h, and-false)
 
 -- A name.
 module _ (octets : List ℕ) (n : NameItem) where
-  pub name-unplaced : 256 < n.first + n.count → Outside ≡ measureOne (nameIn octets n)
-  unfolding nameIn measureOne writable?
+  pub name-unplaced : 256 < n.first + n.count → Outside ≡ measure_one (name_in octets n)
+  unfolding name_in measure_one writable?
   name-unplaced h = simp (lt-leb _ _ h)
 
   module _ (full : length octets ≡ 256) (placed : n.first + n.count ≤ 256) where
-    pub name-empty : n.count ≡ 0 → Outside ≡ measureOne (nameIn octets n)
-    unfolding nameIn measureOne writable?
+    pub name-empty : n.count ≡ 0 → Outside ≡ measure_one (name_in octets n)
+    unfolding name_in measure_one writable?
     name-empty h = let p : n.first + 0 ≤ 256 = omega arith in simp (h, le-leb _ _ p)
 
     count : length (part n.first n.count octets) ≡ n.count
@@ -158,28 +158,28 @@ module _ (octets : List ℕ) (n : NameItem) where
         ∙ part_at octets n.first n.count (n.count - 1) 0 (omega arith)
         ∙ ap (λ (k : ℕ). get_or octets k 0) p
 
-    pub name-zero : 1 ≤ n.count → get_or octets (n.first + n.count - 1) 0 ≡ 0 → Outside ≡ measureOne (nameIn octets n)
-    unfolding nameIn measureOne writable? fields?
+    pub name-zero : 1 ≤ n.count → get_or octets (n.first + n.count - 1) 0 ≡ 0 → Outside ≡ measure_one (name_in octets n)
+    unfolding name_in measure_one writable? fields?
     name-zero some h = simp (le-leb _ _ placed, last some, eq-eqb _ _ h, and-false)
 
-    pub name-measured : 1 ≤ n.count → (get_or octets (n.first + n.count - 1) 0 ≡ 0 → ⊥) → Bytes (2 + n.count) ≡ measureOne (nameIn octets n)
-    unfolding nameIn measureOne writable? fields? suboptionBytes
+    pub name-measured : 1 ≤ n.count → (get_or octets (n.first + n.count - 1) 0 ≡ 0 → ⊥) → Bytes (2 + n.count) ≡ measure_one (name_in octets n)
+    unfolding name_in measure_one writable? fields? suboption_bytes
     name-measured some h =
         let one : 1 ≤ length (part n.first n.count octets) = omega (arith, count) in
         let size : 2 + n.count ≡ suc (suc (length (part n.first n.count octets))) = omega (arith, count) in
         ap Bytes size ∙ simp (le-leb _ _ placed, le-leb _ _ one, last some, ne_eqb _ _ h)
 
-pub measured-one : (x : SuboptionValue) (k : ℕ) → measureOne x ≡ Bytes k → (writable? x ≡ true) × (length (suboptionBytes x) ≡ k)
-unfolding measureOne
-measured-one x k h = bytes-picked (writable? x) (length (suboptionBytes x)) k h
+pub measured-one : (x : SuboptionValue) (k : ℕ) → measure_one x ≡ Bytes k → (writable? x ≡ true) × (length (suboption_bytes x) ≡ k)
+unfolding measure_one
+measured-one x k h = bytes-picked (writable? x) (length (suboption_bytes x)) k h
 
-pub measured-none : (x : SuboptionValue) → measureOne x ≡ Outside → writable? x ≡ false
-unfolding measureOne
-measured-none x h = outside-left (writable? x) (length (suboptionBytes x)) h
+pub measured-none : (x : SuboptionValue) → measure_one x ≡ Outside → writable? x ≡ false
+unfolding measure_one
+measured-none x h = outside-left (writable? x) (length (suboption_bytes x)) h
 
 -- A list that has suboptions is measured as they are.
-pub measure-list : (subs : List SuboptionValue) → 1 ≤ length subs → measureList subs ≡ measureOf writable? suboptionBytes subs
-unfolding measureList measureOf suboptionsBytes
+pub measure-list : (subs : List SuboptionValue) → 1 ≤ length subs → measure_list subs ≡ measure_of writable? suboption_bytes subs
+unfolding measure_list measure_of suboptions_bytes
 measure-list subs h = simp (le-leb _ _ h)
 
 -- A turn of the loop that measures entries.
@@ -194,16 +194,16 @@ module _ (es : List EntryFields) (first count : ℕ) (fits : first + count ≤ l
   inside = omega (arith, length-map-part entry_of es first count fits)
 
   pub entries-more : e.figures.count ≤ 3 → block? (checked e.network e.length) ≡ true
-      → plus n (measureOf entryWritable? entryBytes (drop i l)) ≡ plus (n + (7 + 2 * e.figures.count)) (measureOf entryWritable? entryBytes (drop (i + 1) l))
+      → plus n (measure_of entry_writable? entry_bytes (drop i l)) ≡ plus (n + (7 + 2 * e.figures.count)) (measure_of entry_writable? entry_bytes (drop (i + 1) l))
   entries-more few block =
-      measure-more entryWritable? entryBytes l i n (entry_of d) inside (entry_of e) (7 + 2 * e.figures.count)
+      measure-more entry_writable? entry_bytes l i n (entry_of d) inside (entry_of e) (7 + 2 * e.figures.count)
       (map-part-at entry_of es first count i d h) (entry-writable e few block) (omega (arith, entry_next 0 e))
 
-  pub entries-many : 3 < e.figures.count → plus n (measureOf entryWritable? entryBytes (drop i l)) ≡ Outside
-  entries-many many = measure-stop entryWritable? entryBytes l i n (entry_of d) inside (entry_of e) (map-part-at entry_of es first count i d h) (entry-many e many)
+  pub entries-many : 3 < e.figures.count → plus n (measure_of entry_writable? entry_bytes (drop i l)) ≡ Outside
+  entries-many many = measure-stop entry_writable? entry_bytes l i n (entry_of d) inside (entry_of e) (map-part-at entry_of es first count i d h) (entry-many e many)
 
-  pub entries-no-block : block? (checked e.network e.length) ≡ false → plus n (measureOf entryWritable? entryBytes (drop i l)) ≡ Outside
-  entries-no-block block = measure-stop entryWritable? entryBytes l i n (entry_of d) inside (entry_of e) (map-part-at entry_of es first count i d h) (entry-no-block e block)
+  pub entries-no-block : block? (checked e.network e.length) ≡ false → plus n (measure_of entry_writable? entry_bytes (drop i l)) ≡ Outside
+  entries-no-block block = measure-stop entry_writable? entry_bytes l i n (entry_of d) inside (entry_of e) (map-part-at entry_of es first count i d h) (entry-no-block e block)
 
 -- A turn of the loop that measures items.
 module _ (items : List Slot) (count : ℕ) (fits : count ≤ length items) (entries : List EntryFields) (octets : List ℕ) (i n : ℕ) (d : Slot) (h : i < count) where
@@ -216,25 +216,25 @@ module _ (items : List Slot) (count : ℕ) (fits : count ≤ length items) (entr
   within : i < length subs
   within = simp (length-map, length-take) (omega arith)
 
-  pub items_more : (k : ℕ) → measureOne (value_at entries octets (get_or items i d)) ≡ Bytes k
-      → plus n (measureOf writable? suboptionBytes (drop i subs)) ≡ plus (n + k) (measureOf writable? suboptionBytes (drop (i + 1) subs))
+  pub items_more : (k : ℕ) → measure_one (value_at entries octets (get_or items i d)) ≡ Bytes k
+      → plus n (measure_of writable? suboption_bytes (drop i subs)) ≡ plus (n + k) (measure_of writable? suboption_bytes (drop (i + 1) subs))
   items_more k m =
       let t = measured-one (value_at entries octets (get_or items i d)) k m in
-      measure-more writable? suboptionBytes subs i n (value_at entries octets d) within (value_at entries octets (get_or items i d)) k there t.0 t.1
+      measure-more writable? suboption_bytes subs i n (value_at entries octets d) within (value_at entries octets (get_or items i d)) k there t.0 t.1
 
-  pub items-outside : measureOne (value_at entries octets (get_or items i d)) ≡ Outside → plus n (measureOf writable? suboptionBytes (drop i subs)) ≡ Outside
+  pub items-outside : measure_one (value_at entries octets (get_or items i d)) ≡ Outside → plus n (measure_of writable? suboption_bytes (drop i subs)) ≡ Outside
   items-outside m =
-      measure-stop writable? suboptionBytes subs i n (value_at entries octets d) within (value_at entries octets (get_or items i d)) there
+      measure-stop writable? suboption_bytes subs i n (value_at entries octets d) within (value_at entries octets (get_or items i d)) there
       (measured-none (value_at entries octets (get_or items i d)) m)
 
 -- The items that are listed, by their count.
 module _ (items : List Slot) (count : ℕ) (entries : List EntryFields) (octets : List ℕ) where
-  pub listed-none : 96 < count → Outside ≡ measureList (listed items count entries octets)
-  unfolding listed measureList
+  pub listed-none : 96 < count → Outside ≡ measure_list (listed items count entries octets)
+  unfolding listed measure_list
   listed-none h = simp (lt-leb _ _ h)
 
-  pub listed-empty : count ≡ 0 → Outside ≡ measureList (listed items count entries octets)
-  unfolding listed measureList
+  pub listed-empty : count ≡ 0 → Outside ≡ measure_list (listed items count entries octets)
+  unfolding listed measure_list
   listed-empty h = simp h
 
   pub listed-all : count ≤ 96 → listed items count entries octets ≡ map (value_at entries octets) (take count items)
@@ -242,13 +242,13 @@ module _ (items : List Slot) (count : ℕ) (entries : List EntryFields) (octets 
   listed-all h = simp (le-leb _ _ h)
 
   pub listed-measured : 1 ≤ count → count ≤ 96 → count ≤ length items
-      → measureList (listed items count entries octets) ≡ measureOf writable? suboptionBytes (map (value_at entries octets) (take count items))
+      → measure_list (listed items count entries octets) ≡ measure_of writable? suboption_bytes (map (value_at entries octets) (take count items))
   listed-measured some most fits =
       let one : 1 ≤ length (map (value_at entries octets) (take count items)) = simp (length-map, length-take) (omega arith) in
-      ap measureList (listed-all most) ∙ measure-list (map (value_at entries octets) (take count items)) one
+      ap measure_list (listed-all most) ∙ measure-list (map (value_at entries octets) (take count items)) one
 
 -- A list that can be written counts no more items than the array has.
-pub listed-few : (items : List Slot) (count : ℕ) (entries : List EntryFields) (octets : List ℕ) (n : ℕ) → measureList (listed items count entries octets) ≡ Bytes n → count ≤ 96
+pub listed-few : (items : List Slot) (count : ℕ) (entries : List EntryFields) (octets : List ℕ) (n : ℕ) → measure_list (listed items count entries octets) ≡ Bytes n → count ≤ 96
 listed-few items count entries octets n m = go (leb count 96) refl
   where
     go : (b : Bool) → leb count 96 ≡ b → count ≤ 96

@@ -1,18 +1,18 @@
 // A list of suboptions as the writer is given it, and how long it is when written, if it can be.
 ghost use Rattle.std.specs.Prelude.{◌≡◌, map, ◌+◌, ◌≤◌};
 ghost use Rattle.option.specs.Values.{request};
-ghost use Rattle.option.specs.Writing.{entryBytes};
-ghost use Rattle.option.specs.Writer.{entryWritable?};
+ghost use Rattle.option.specs.Writing.{entry_bytes};
+ghost use Rattle.option.specs.Writer.{entry_writable?};
 ghost use Rattle.option_measure.specs.Lists.{
-  entrySlots,
+  entry_slots,
   entry_of,
   part,
-  informationIn,
-  nameIn,
+  information_in,
+  name_in,
   value_of,
   listed,
 };
-ghost use Rattle.option_measure.specs.Measuring.{measureOf, measureOne, measureList, Short};
+ghost use Rattle.option_measure.specs.Measuring.{measure_of, measure_one, measure_list, Short};
 
 use option::EntryFields;
 
@@ -77,8 +77,8 @@ pub enum Measured {
 
 // The length of entries of the list, if all of them can be written.
 fn measure_entries(entries: [EntryFields; ENTRY_SLOTS], first: usize, count: usize) -> Measured
-    requires { first + count ≤ entrySlots }
-    ensures { (result ≡ measureOf entryWritable? entryBytes (map entry_of (part first count entries))) × Short 832 result }
+    requires { first + count ≤ entry_slots }
+    ensures { (result ≡ measure_of entry_writable? entry_bytes (map entry_of (part first count entries))) × Short 832 result }
 {
     let mut n: usize = 0;
     let mut i: usize = 0;
@@ -99,7 +99,7 @@ fn measure_entries(entries: [EntryFields; ENTRY_SLOTS], first: usize, count: usi
 }
 
 fn measure_request(r: RequestItem) -> Measured
-    ensures { (result ≡ measureOne (request r.h r.i r.length)) × Short 900 result }
+    ensures { (result ≡ measure_one (request r.h r.i r.length)) × Short 900 result }
 {
     if prefix::Prefix::LONGEST < r.length {
         return Measured::Outside;
@@ -108,7 +108,7 @@ fn measure_request(r: RequestItem) -> Measured
 }
 
 fn measure_information(f: InformationItem, entries: [EntryFields; ENTRY_SLOTS]) -> Measured
-    ensures { (result ≡ measureOne (informationIn entries f)) × Short 900 result }
+    ensures { (result ≡ measure_one (information_in entries f)) × Short 900 result }
 {
     let first = f.first;
     let count = f.count;
@@ -128,7 +128,7 @@ fn measure_information(f: InformationItem, entries: [EntryFields; ENTRY_SLOTS]) 
 }
 
 fn measure_name(n: NameItem, octets: [u8; OCTET_SLOTS]) -> Measured
-    ensures { (result ≡ measureOne (nameIn octets n)) × Short 900 result }
+    ensures { (result ≡ measure_one (name_in octets n)) × Short 900 result }
 {
     let first = n.first;
     let count = n.count;
@@ -153,7 +153,7 @@ fn measure_item(
     entries: [EntryFields; ENTRY_SLOTS],
     octets: [u8; OCTET_SLOTS],
 ) -> Measured
-    ensures { (result ≡ measureOne (value_of entries octets item)) × Short 900 result }
+    ensures { (result ≡ measure_one (value_of entries octets item)) × Short 900 result }
 {
     match item {
         Item::Request(r) => measure_request(r),
@@ -170,7 +170,7 @@ pub fn measure_items(
     entries: [EntryFields; ENTRY_SLOTS],
     octets: [u8; OCTET_SLOTS],
 ) -> Measured
-    ensures { (result ≡ measureList (listed items count entries octets)) × Short 86400 result }
+    ensures { (result ≡ measure_list (listed items count entries octets)) × Short 86400 result }
 {
     if ITEM_SLOTS < count {
         return Measured::Outside;

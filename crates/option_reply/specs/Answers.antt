@@ -1,14 +1,14 @@
 -- The writer's answers and the buffer after them, from what the definitions of writing say, and document 01's number for each.
 use Rattle.std.specs.Prelude.{ℕ, cond, List, length, eqb}
 use Rattle.lists.specs.Put.{put}
-use Rattle.option.specs.Writing.{Writing, refusedWith, written}
+use Rattle.option.specs.Writing.{Writing, refused_with, written}
 use Rattle.option_reply.specs.declared.Written.{Written}
 use Rattle.option_reply.specs.declared.Written.TheVariants.{Bytes, OutsideRules, TooLong}
 
 -- Bytes that are written go to the start of the buffer, and what stands after them stays. A refusal changes nothing.
 unfoldable pub into : Writing → List ℕ → Written × List ℕ
 into (written bytes) buffer = (Bytes (length bytes), put buffer 0 bytes)
-into (refusedWith number) buffer = (cond (eqb number 13) OutsideRules TooLong, buffer)
+into (refused_with number) buffer = (cond (eqb number 13) OutsideRules TooLong, buffer)
 
 -- Document 01's number for each answer; 0 is no refusal. The value of an accepted one is the number of bytes written.
 abbrev pub number_of : Written → ℕ

@@ -2,15 +2,15 @@
 ghost use Rattle.std.specs.Prelude.{◌≡◌, ◌+◌, ◌*◌, ◌≤◌, ◌<◌, length};
 ghost use Rattle.lists.specs.Put.{put};
 ghost use Rattle.option.specs.Writing.{
-  fourBytes,
+  four_bytes,
   flags,
-  entryHead,
-  informationHead,
-  optionHead,
+  entry_head,
+  information_head,
+  option_head,
 };
-ghost use Rattle.option.specs.Selection.{writeSelection};
+ghost use Rattle.option.specs.Selection.{write_selection};
 ghost use Rattle.option_reply.specs.Answers.{into};
-ghost use Rattle.option.specs.Values.{mostEntries};
+ghost use Rattle.option.specs.Values.{most_entries};
 
 pub use option::{MOST_ENTRIES, store};
 use table::Lease;
@@ -37,7 +37,7 @@ pub fn flags_byte(b: bool, a: bool) -> u8
 // A number of 32 bits, high byte first. Here and below the bound on `at` keeps sums within range.
 fn put_four(buf: &mut [u8], at: usize, n: u32)
     requires { at < 9223372036854775808 }
-    ensures { buf.new ≡ put buf.old at (fourBytes n) }
+    ensures { buf.new ≡ put buf.old at (four_bytes n) }
 {
     store(buf, at, (n / 16777216) as u8);
     store(buf, at + 1, (n / 65536 % 256) as u8);
@@ -49,7 +49,7 @@ fn put_four(buf: &mut [u8], at: usize, n: u32)
 
 // Code, Len and the option's flags, at the start.
 pub fn put_option_head(buf: &mut [u8], len: u8)
-    ensures { buf.new ≡ put buf.old 0 (optionHead len) }
+    ensures { buf.new ≡ put buf.old 0 (option_head len) }
 {
     store(buf, 0, 220);
     store(buf, 1, len);
@@ -58,7 +58,7 @@ pub fn put_option_head(buf: &mut [u8], len: u8)
 
 // Number, Len and flags of an information.
 pub fn put_information_head(buf: &mut [u8], at: usize, len: u8, c: bool, s: bool)
-    ensures { buf.new ≡ put buf.old at (informationHead len c s) }
+    ensures { buf.new ≡ put buf.old at (information_head len c s) }
 {
     if buf.len() <= at {
         return;
@@ -70,7 +70,7 @@ pub fn put_information_head(buf: &mut [u8], at: usize, len: u8, c: bool, s: bool
 
 // An entry up to its figures, of which stat-len counts the bytes; 0 is an entry without figures.
 pub fn put_entry(buf: &mut [u8], at: usize, network: u32, length: u8, h: bool, d: bool, stat: u8)
-    ensures { buf.new ≡ put buf.old at (entryHead network length h d stat) }
+    ensures { buf.new ≡ put buf.old at (entry_head network length h d stat) }
 {
     if buf.len() <= at {
         return;
@@ -86,7 +86,7 @@ pub fn put_entry(buf: &mut [u8], at: usize, network: u32, length: u8, h: bool, d
 // A lease as an entry without figures. The reply has room for it, so no byte is tested.
 pub fn put_lease(reply: &mut [u8], at: usize, x: Lease)
     requires { at + 7 ≤ length reply.old }
-    ensures { reply.new ≡ put reply.old at (entryHead x.network x.length x.h x.d 0) }
+    ensures { reply.new ≡ put reply.old at (entry_head x.network x.length x.h x.d 0) }
 {
     let network = x.network;
     reply[at] = (network / 16777216) as u8;
@@ -100,9 +100,9 @@ pub fn put_lease(reply: &mut [u8], at: usize, x: Lease)
 
 // Code and Len of the option and the head of its information, before the entries of n leases; the bytes of the whole reply.
 pub fn put_heads(reply: &mut [u8], n: usize, c: bool, s: bool) -> usize
-    requires { n ≤ mostEntries }
+    requires { n ≤ most_entries }
     ensures value { result ≡ 7 * n + 6 }
-    ensures reply_after { reply.new ≡ put (put reply.old 0 (optionHead (7 * n + 4))) 3 (informationHead (7 * n + 1) c s) }
+    ensures reply_after { reply.new ≡ put (put reply.old 0 (option_head (7 * n + 4))) 3 (information_head (7 * n + 1) c s) }
 {
     put_option_head(reply, (7 * n + 4) as u8);
     put_information_head(reply, 3, (7 * n + 1) as u8, c, s);
@@ -113,7 +113,7 @@ pub fn put_heads(reply: &mut [u8], n: usize, c: bool, s: bool) -> usize
 
 // An address, at the start of the buffer.
 pub fn write_selection(address: u32, buf: &mut [u8]) -> Written
-    ensures { (result, buf.new) ≡ into (writeSelection (length buf.old) address) buf.old }
+    ensures { (result, buf.new) ≡ into (write_selection (length buf.old) address) buf.old }
 {
     if buf.len() < 6 {
         return Written::TooLong;

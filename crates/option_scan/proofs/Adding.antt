@@ -12,13 +12,13 @@ use Rattle.lists.specs.Put.{put}
 use Rattle.lists.proofs.PutLaws.{put-nothing, put_one}
 use Rattle.lists.proofs.FilterLaws.{filter-append}
 use Rattle.option.specs.Values.{Entry, SuboptionValue, request, information, name, unknown}
-use Rattle.option.specs.Contents.{Request, requests, entries, lastNetwork, position}
-use Rattle.option.specs.Answers.{suboptionOf, last_of}
+use Rattle.option.specs.Contents.{Request, requests, entries, last_network, position}
+use Rattle.option.specs.Answers.{suboption_of, last_of}
 use Rattle.option.specs.declared.RequestFields.{RequestFields}
 use Rattle.option.specs.declared.Suboption.{Suboption}
 use Rattle.option_scan.specs.declared.Tally.{Tally}
-use Rattle.option_scan.specs.Scanned.{flagOf}
-use Rattle.option_scan.specs.Inner.{withSuboption, requestColumn, Added}
+use Rattle.option_scan.specs.Scanned.{flag_of}
+use Rattle.option_scan.specs.Inner.{with_suboption, request_column, Added}
 
 -- What suboptions have, one after the other.
 pub requests-append : (xs ys : List SuboptionValue) → requests (xs ++ ys) ≡ requests xs ++ requests ys
@@ -38,7 +38,7 @@ entries-append (unknown ∷ xs) ys = entries-append xs ys
 position-append : (p : Option ℕ) (xs ys : List SuboptionValue) → position p (xs ++ ys) ≡ position (position p xs) ys
 position-append p [] ys = refl
 position-append p (request h i l ∷ xs) ys = position-append p xs ys
-position-append p (information c s es ∷ xs) ys = position-append (cond (c && s) (lastNetwork p es) p) xs ys
+position-append p (information c s es ∷ xs) ys = position-append (cond (c && s) (last_network p es) p) xs ys
 position-append p (name o ∷ xs) ys = position-append p xs ys
 position-append p (unknown ∷ xs) ys = position-append p xs ys
 
@@ -52,7 +52,7 @@ tally qs es p a n = record {
   requests = length qs;
   listing = length (filter (λ q. q.i) qs);
   entries = length es;
-  resumes = flagOf (some? p);
+  resumes = flag_of (some? p);
   position = get_or p 0;
   name = a;
   name_bytes = n;
@@ -70,27 +70,27 @@ tally-append : (subs : List SuboptionValue) (x : SuboptionValue) (a n : ℕ)
 tally-append subs x a n = rw (requests-append subs (x ∷ []), entries-append subs (x ∷ []), position-append none subs (x ∷ []))
 
 -- One request more.
-count-one : (i : Bool) (q : Request) → length (cond i (q ∷ []) []) ≡ flagOf i
+count-one : (i : Bool) (q : Request) → length (cond i (q ∷ []) []) ≡ flag_of i
 count-one true q = refl
 count-one false q = refl
 
-listing-more : (qs : List Request) (q : Request) → length (filter (λ q. q.i) (qs ++ q ∷ [])) ≡ length (filter (λ q. q.i) qs) + flagOf q.i
+listing-more : (qs : List Request) (q : Request) → length (filter (λ q. q.i) (qs ++ q ∷ [])) ≡ length (filter (λ q. q.i) qs) + flag_of q.i
 listing-more qs q =
     ap length (filter-append (λ q. q.i) qs (q ∷ []))
     ∙ length-append (filter (λ q. q.i) qs) (filter (λ q. q.i) (q ∷ []))
     ∙ ap (λ (n : ℕ). length (filter (λ q. q.i) qs) + n) (count-one q.i q)
 
 -- One information more: its last entry is the position, if it has c and s.
-last_some : (x : ℕ) (es : List Entry) → some? (lastNetwork (some x) es) ≡ true
+last_some : (x : ℕ) (es : List Entry) → some? (last_network (some x) es) ≡ true
 last_some x [] = refl
 last_some x (e ∷ es) = last_some e.network es
 
-resumes-more : (b : Bool) (p : Option ℕ) (es : List Entry) → 0 < length es → cond b 1 (flagOf (some? p)) ≡ flagOf (some? (cond b (lastNetwork p es) p))
+resumes-more : (b : Bool) (p : Option ℕ) (es : List Entry) → 0 < length es → cond b 1 (flag_of (some? p)) ≡ flag_of (some? (cond b (last_network p es) p))
 resumes-more true p [] h = absurd (omega arith)
-resumes-more true p (e ∷ es) h = sym (ap flagOf (last_some e.network es))
+resumes-more true p (e ∷ es) h = sym (ap flag_of (last_some e.network es))
 resumes-more false p es h = refl
 
-position-more : (b : Bool) (p : Option ℕ) (es : List Entry) → 0 < length es → cond b (last_of es) (get_or p 0) ≡ get_or (cond b (lastNetwork p es) p) 0
+position-more : (b : Bool) (p : Option ℕ) (es : List Entry) → 0 < length es → cond b (last_of es) (get_or p 0) ≡ get_or (cond b (last_network p es) p) 0
 position-more true p [] h = absurd (omega arith)
 position-more true p (e ∷ es) h = refl
 position-more false p es h = refl
@@ -102,7 +102,7 @@ Filled (information c s es) = 0 < length es
 Filled (name octets) = 0 < length octets
 Filled unknown = Unit {0}
 
-pub tally-more : (subs : List SuboptionValue) (a n : ℕ) (x : SuboptionValue) (at next : ℕ) → Filled x → Counted (subs ++ x ∷ []) (withSuboption (tally_of subs a n) (suboptionOf x at next))
+pub tally-more : (subs : List SuboptionValue) (a n : ℕ) (x : SuboptionValue) (at next : ℕ) → Filled x → Counted (subs ++ x ∷ []) (with_suboption (tally_of subs a n) (suboption_of x at next))
 tally-more subs a n (request h i l) at next k =
     let qs : List Request = requests subs in
     let q : Request = record { h = h; i = i; length = l } in
@@ -116,13 +116,13 @@ tally-more subs a n (name o) at next k = sym (tally-append subs (name o) _ _ ∙
 tally-more subs a n unknown at next k = sym (tally-append subs unknown a n ∙ rw (append-nil (requests subs), append-nil (entries subs)))
 
 -- What goes into the columns of requests.
-pub lengths-column : (x : SuboptionValue) (at next : ℕ) → requestColumn (λ f. f.length) (suboptionOf x at next) ≡ map (λ q. q.length) (requests (x ∷ []))
+pub lengths-column : (x : SuboptionValue) (at next : ℕ) → request_column (λ f. f.length) (suboption_of x at next) ≡ map (λ q. q.length) (requests (x ∷ []))
 lengths-column (request h i l) at next = refl
 lengths-column (information c s es) at next = refl
 lengths-column (name o) at next = refl
 lengths-column unknown at next = refl
 
-pub flags-column : (x : SuboptionValue) (at next : ℕ) → requestColumn (λ f. flagOf f.h) (suboptionOf x at next) ≡ map (λ q. flagOf q.h) (requests (x ∷ []))
+pub flags-column : (x : SuboptionValue) (at next : ℕ) → request_column (λ f. flag_of f.h) (suboption_of x at next) ≡ map (λ q. flag_of q.h) (requests (x ∷ []))
 flags-column (request h i l) at next = refl
 flags-column (information c s es) at next = refl
 flags-column (name o) at next = refl
@@ -134,15 +134,15 @@ stored_one l l' n v w e ev = e ∙ ap (set l n) ev ∙ sym (put_one l n w)
 
 -- A suboption by another name; and one that is no request.
 abbrev NoRequest : Suboption → Type 0
-NoRequest x = (g : RequestFields → ℕ) → requestColumn g x ≡ []
+NoRequest x = (g : RequestFields → ℕ) → request_column g x ≡ []
 
 module _ {m r : Tally} {ls hs ls' hs' : List ℕ} where
   pub added-as : {x y : Suboption} → x ≡ y → Added m y ls hs r ls' hs' → Added m x ls hs r ls' hs'
   added-as e h = subst (λ (x : Suboption). Added m x ls hs r ls' hs') (sym e) h
 
-pub added_none : {m r : Tally} {ls hs : List ℕ} (x : Suboption) → NoRequest x → r ≡ withSuboption m x → Added m x ls hs r ls hs
+pub added_none : {m r : Tally} {ls hs : List ℕ} (x : Suboption) → NoRequest x → r ≡ with_suboption m x → Added m x ls hs r ls hs
 added_none {m} {r} {ls} {hs} x none_of e = record {
   tally = e;
   lengths = sym (ap (put ls m.requests) (none_of (λ f. f.length)) ∙ put-nothing ls m.requests);
-  flags = sym (ap (put hs m.requests) (none_of (λ f. flagOf f.h)) ∙ put-nothing hs m.requests);
+  flags = sym (ap (put hs m.requests) (none_of (λ f. flag_of f.h)) ∙ put-nothing hs m.requests);
 }

@@ -11,14 +11,14 @@ use borrow.Author.Tests.{eqb-true, eqb-false}
 use Rattle.lists.specs.Lists.{All}
 use Rattle.lists.specs.Walk.{more}
 use Rattle.option.specs.Values.{SuboptionValue, request, information, name, unknown, accepted}
-use Rattle.option.specs.Reading.{readOption, readSuboption}
-use Rattle.option.specs.Contents.{suboptions, firstName, firstNameIn}
-use Rattle.option.specs.Answers.{suboptionOf}
+use Rattle.option.specs.Reading.{read_option, read_suboption}
+use Rattle.option.specs.Contents.{suboptions, first_name, first_name_in}
+use Rattle.option.specs.Answers.{suboption_of}
 use Rattle.option.proofs.SuboptionLaws.{suboption-moves, name-octets}
 use Rattle.option_scan.specs.declared.Contents.{Contents}
 use Rattle.option_scan.specs.declared.Tally.{Tally}
 use Rattle.option_scan.specs.Scanned.{Columns, Stands, Reads}
-use Rattle.option_scan.specs.Inner.{withSuboption}
+use Rattle.option_scan.specs.Inner.{with_suboption}
 use Rattle.option_scan.proofs.Adding.{Filled}
 
 -- The first of two lists that has an element.
@@ -34,11 +34,11 @@ first-none : (xs : List ℕ) → first_of xs [] ≡ xs
 first-none [] = refl
 first-none (x ∷ xs) = refl
 
-name-append : (xs ys : List SuboptionValue) → All Filled xs → firstName (xs ++ ys) ≡ first_of (firstName xs) (firstName ys)
+name-append : (xs ys : List SuboptionValue) → All Filled xs → first_name (xs ++ ys) ≡ first_of (first_name xs) (first_name ys)
 name-append [] ys h = refl
 name-append (request a i l ∷ xs) ys h = name-append xs ys h.1
 name-append (information c s es ∷ xs) ys h = name-append xs ys h.1
-name-append (name o ∷ xs) ys h = sym (first_some o (firstName ys) h.0)
+name-append (name o ∷ xs) ys h = sym (first_some o (first_name ys) h.0)
 name-append (unknown ∷ xs) ys h = name-append xs ys h.1
 
 -- A part has as many octets as it says.
@@ -48,7 +48,7 @@ stands-length {s} {at} {n} {xs} h =
     sym size ∙ ap length h.part
 
 -- A name that is read.
-pub name-stands : (s : List ℕ) (at : ℕ) (o : List ℕ) (next : ℕ) → readSuboption s at ≡ more (name o) next → Stands s (at + 2) (next - (at + 2)) o
+pub name-stands : (s : List ℕ) (at : ℕ) (o : List ℕ) (next : ℕ) → read_suboption s at ≡ more (name o) next → Stands s (at + 2) (next - (at + 2)) o
 name-stands s at o next t =
     let q = name-octets s at o next t in
     record { within = omega (arith, q.0, (suboption-moves s at (name o) next t).1); part = q.1 }
@@ -65,28 +65,28 @@ module _ (s : List ℕ) (at n : ℕ) (xs : List ℕ) (start k : ℕ) (ys : List 
       subst (Stands s at n) (sym (first_some xs ys (omega (arith, stands-length h, some)))) h
 
 -- One suboption more.
-module _ (s : List ℕ) (m : Tally) (subs : List SuboptionValue) (h : Stands s m.name m.name_bytes (firstName subs)) (filled : All Filled subs) (at : ℕ) where
-  same : (x : SuboptionValue) → firstName (x ∷ []) ≡ [] → Stands s m.name m.name_bytes (firstName (subs ++ x ∷ []))
+module _ (s : List ℕ) (m : Tally) (subs : List SuboptionValue) (h : Stands s m.name m.name_bytes (first_name subs)) (filled : All Filled subs) (at : ℕ) where
+  same : (x : SuboptionValue) → first_name (x ∷ []) ≡ [] → Stands s m.name m.name_bytes (first_name (subs ++ x ∷ []))
   same x e =
       subst (Stands s m.name m.name_bytes)
-      (sym (name-append subs (x ∷ []) filled ∙ ap (first_of (firstName subs)) e ∙ first-none (firstName subs))) h
+      (sym (name-append subs (x ∷ []) filled ∙ ap (first_of (first_name subs)) e ∙ first-none (first_name subs))) h
 
-  pub named_more : (x : SuboptionValue) (next : ℕ) → readSuboption s at ≡ more x next
-      → Stands s (withSuboption m (suboptionOf x at next)).name (withSuboption m (suboptionOf x at next)).name_bytes (firstName (subs ++ x ∷ []))
+  pub named_more : (x : SuboptionValue) (next : ℕ) → read_suboption s at ≡ more x next
+      → Stands s (with_suboption m (suboption_of x at next)).name (with_suboption m (suboption_of x at next)).name_bytes (first_name (subs ++ x ∷ []))
   named_more (request a i l) next t = same (request a i l) refl
   named_more (information c f es) next t = same (information c f es) refl
   named_more (name o) next t =
       subst (Stands s _ _) (sym (name-append subs (name o ∷ []) filled))
-      (filed s m.name m.name_bytes (firstName subs) (at + 2) (next - (at + 2)) o h (name-stands s at o next t) _ refl)
+      (filed s m.name m.name_bytes (first_name subs) (at + 2) (next - (at + 2)) o h (name-stands s at o next t) _ refl)
   named_more unknown next t = same unknown refl
 
 -- What a caller tests: the octets of the first name of an option that is accepted are this many.
-module _ {option : List ℕ} {r : Contents} {c : Columns} (reads : Reads option r c) {subs : List SuboptionValue} (e : readOption option ≡ accepted subs) where
-  pub name-length : r.name_bytes ≡ length (firstName subs)
+module _ {option : List ℕ} {r : Contents} {c : Columns} (reads : Reads option r c) {subs : List SuboptionValue} (e : read_option option ≡ accepted subs) where
+  pub name-length : r.name_bytes ≡ length (first_name subs)
   name-length = stands-length (reads.named subs e)
 
-  pub name_in : Stands option r.name r.name_bytes (firstNameIn option)
-  name_in = subst (Stands option _ _) (sym (ap (λ o. firstName (suboptions o)) e)) (reads.named subs e)
+  pub name_in : Stands option r.name r.name_bytes (first_name_in option)
+  name_in = subst (Stands option _ _) (sym (ap (λ o. first_name (suboptions o)) e)) (reads.named subs e)
 
-  pub name-length-in : r.name_bytes ≡ length (firstNameIn option)
+  pub name-length-in : r.name_bytes ≡ length (first_name_in option)
   name-length-in = stands-length name_in

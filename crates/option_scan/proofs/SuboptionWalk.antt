@@ -15,10 +15,10 @@ use Rattle.lists.specs.Walk.{more, stop}
 use Rattle.lists.proofs.ListLaws.{all_append}
 use Rattle.lists.proofs.FilterLaws.{filter-fewer}
 use Rattle.lists.proofs.PutLaws.{put-nothing, put-more, put_front}
-use Rattle.option.specs.Values.{longestOption, Entry, SuboptionValue, request, information, name, unknown, refused, accepted}
-use Rattle.option.specs.Reading.{End, whole, badAt, faultNumber, option?, readOption, readSuboption, readSuboptions, ended}
-use Rattle.option.specs.Contents.{requests, entries, position, firstName}
-use Rattle.option.specs.Answers.{suboptionOf, entriesOf, InColumns, checkedOf}
+use Rattle.option.specs.Values.{longest_option, Entry, SuboptionValue, request, information, name, unknown, refused, accepted}
+use Rattle.option.specs.Reading.{End, whole, bad_at, fault_number, option?, read_option, read_suboption, read_suboptions, ended}
+use Rattle.option.specs.Contents.{requests, entries, position, first_name}
+use Rattle.option.specs.Answers.{suboption_of, entries_of, InColumns, checked_of}
 use Rattle.option.specs.declared.Fault.{Fault}
 use Rattle.option.specs.declared.Checked.TheVariants.{Good, NotTheOption, BadSuboption}
 use Rattle.option.specs.declared.Suboption.{Suboption}
@@ -26,8 +26,8 @@ use Rattle.option.proofs.EntryLaws.{entries-weight, entries-some}
 use Rattle.option.proofs.SuboptionLaws.{suboption-moves, suboptions-more, suboptions-stop, information-entries, name-octets, checked-ended}
 use Rattle.option_scan.specs.declared.Contents.{Contents}
 use Rattle.option_scan.specs.declared.Tally.{Tally}
-use Rattle.option_scan.specs.Scanned.{Columns, columns, flagOf, position_of, ScannedOf, Stands, NamedIn, Long, Reads}
-use Rattle.option_scan.specs.Inner.{noTally, withSuboption, requestColumn, Small, Forward, Added, contentsOf}
+use Rattle.option_scan.specs.Scanned.{Columns, columns, flag_of, position_of, ScannedOf, Stands, NamedIn, Long, Reads}
+use Rattle.option_scan.specs.Inner.{no_tally, with_suboption, request_column, Small, Forward, Added, contents_of}
 use Rattle.option_scan.proofs.Adding.{requests-append, entries-append, some?, Counted, Filled, tally-more, lengths-column, flags-column}
 use Rattle.option_scan.proofs.Naming.{stands-length, name-stands, named_more}
 
@@ -36,18 +36,18 @@ pub record Reading (s : List ℕ) (at : ℕ) (m : Tally) (c₀ c : Columns) : Ty
   pub done : List SuboptionValue
   pub start : 3 ≤ at
   pub within : at ≤ length s
-  pub read : readSuboptions s 3 ≡ (done ++ (readSuboptions s at).0, (readSuboptions s at).1)
+  pub read : read_suboptions s 3 ≡ (done ++ (read_suboptions s at).0, (read_suboptions s at).1)
   pub counted : Counted done m
   pub filled : All Filled done
-  pub named : Stands s m.name m.name_bytes (firstName done)
+  pub named : Stands s m.name m.name_bytes (first_name done)
   pub fewer : length (requests done) ≤ at
   pub few : 7 * length (entries done) ≤ at - 6
-  pub askLengths : c.askLengths ≡ put c₀.askLengths 0 (map (λ q. q.length) (requests done))
-  pub askH : c.askH ≡ put c₀.askH 0 (map (λ q. flagOf q.h) (requests done))
+  pub asked_lengths : c.asked_lengths ≡ put c₀.asked_lengths 0 (map (λ q. q.length) (requests done))
+  pub asked_h : c.asked_h ≡ put c₀.asked_h 0 (map (λ q. flag_of q.h) (requests done))
   pub networks : c.networks ≡ put c₀.networks 0 (map (λ e. e.network) (entries done))
   pub lengths : c.lengths ≡ put c₀.lengths 0 (map (λ e. e.length) (entries done))
 
-pub reading-none : (s : List ℕ) (at : ℕ) (m : Tally) (c : Columns) → 3 ≤ length s → at ≡ 3 → m ≡ noTally → Reading s at m c c
+pub reading-none : (s : List ℕ) (at : ℕ) (m : Tally) (c : Columns) → 3 ≤ length s → at ≡ 3 → m ≡ no_tally → Reading s at m c c
 reading-none s at m c h place e = subst (λ (at : ℕ). Reading s at m c c) (sym place) (subst (λ (m : Tally). Reading s 3 m c c) (sym e) (record {
   done = [];
   start = omega arith;
@@ -58,14 +58,14 @@ reading-none s at m c h place e = subst (λ (at : ℕ). Reading s at m c c) (sym
   named = record { within = omega arith; part = refl };
   fewer = omega arith;
   few = omega arith;
-  askLengths = sym (put-nothing c.askLengths 0);
-  askH = sym (put-nothing c.askH 0);
+  asked_lengths = sym (put-nothing c.asked_lengths 0);
+  asked_h = sym (put-nothing c.asked_h 0);
   networks = sym (put-nothing c.networks 0);
   lengths = sym (put-nothing c.lengths 0);
 }))
 
 -- What a suboption that is read needs of the option's bytes.
-some-filled : (s : List ℕ) (at : ℕ) (x : SuboptionValue) (next : ℕ) → readSuboption s at ≡ more x next → Filled x
+some-filled : (s : List ℕ) (at : ℕ) (x : SuboptionValue) (next : ℕ) → read_suboption s at ≡ more x next → Filled x
 some-filled s at (request h i l) next t = tt
 some-filled s at (information c f es) next t =
     let r = information-entries s at c f es next t in
@@ -73,7 +73,7 @@ some-filled s at (information c f es) next t =
 some-filled s at (name o) next t = omega (arith, (name-octets s at o next t).0, stands-length (name-stands s at o next t))
 some-filled s at unknown next t = tt
 
-entries-need : (s : List ℕ) (at : ℕ) (x : SuboptionValue) (next n : ℕ) → readSuboption s at ≡ more x next → 3 ≤ at → 7 * n ≤ at - 6 → 7 * (n + length (entries (x ∷ []))) ≤ next - 6
+entries-need : (s : List ℕ) (at : ℕ) (x : SuboptionValue) (next n : ℕ) → read_suboption s at ≡ more x next → 3 ≤ at → 7 * n ≤ at - 6 → 7 * (n + length (entries (x ∷ []))) ≤ next - 6
 entries-need s at (request h i l) next n t start le = omega (arith, (suboption-moves s at (request h i l) next t).0)
 entries-need s at (information c f es) next n t start le =
     let r = information-entries s at c f es next t in
@@ -88,13 +88,13 @@ requests-need (name o) = omega arith
 requests-need unknown = omega arith
 
 -- A name that is read starts before its end.
-forward : (s : List ℕ) (at : ℕ) (x : SuboptionValue) (next : ℕ) → readSuboption s at ≡ more x next → Forward (suboptionOf x at next)
+forward : (s : List ℕ) (at : ℕ) (x : SuboptionValue) (next : ℕ) → read_suboption s at ≡ more x next → Forward (suboption_of x at next)
 forward s at (request h i l) next t = tt
 forward s at (information c f es) next t = tt
 forward s at (name o) next t = omega (arith, (name-octets s at o next t).0)
 forward s at unknown next t = tt
 
-entries-one : (x : SuboptionValue) → entries (x ∷ []) ≡ entriesOf x
+entries-one : (x : SuboptionValue) → entries (x ∷ []) ≡ entries_of x
 entries-one (request h i l) = refl
 entries-one (information c f es) = append-nil es
 entries-one (name o) = refl
@@ -118,10 +118,10 @@ module _ (s : List ℕ) (at : ℕ) (m : Tally) (c₀ c : Columns) (h : Reading s
   pub reading-fewer : m.entries ≤ at
   reading-fewer = omega (arith, count_entries, h.few)
 
-  module _ (x : SuboptionValue) (next : ℕ) (t : readSuboption s at ≡ more x next) (f : Suboption) (e : f ≡ suboptionOf x at next) where
-    tally-is : Counted (h.done ++ x ∷ []) (withSuboption m f)
+  module _ (x : SuboptionValue) (next : ℕ) (t : read_suboption s at ≡ more x next) (f : Suboption) (e : f ≡ suboption_of x at next) where
+    tally-is : Counted (h.done ++ x ∷ []) (with_suboption m f)
     tally-is =
-        subst (Counted (h.done ++ x ∷ [])) (sym (ap₂ withSuboption h.counted e))
+        subst (Counted (h.done ++ x ∷ [])) (sym (ap₂ with_suboption h.counted e))
         (tally-more h.done m.name m.name_bytes x at next (some-filled s at x next t))
 
     entries-are : 7 * length (entries (h.done ++ x ∷ [])) ≤ next - 6
@@ -129,7 +129,7 @@ module _ (s : List ℕ) (at : ℕ) (m : Tally) (c₀ c : Columns) (h : Reading s
         omega (arith, entries-need s at x next (length (entries h.done)) t h.start h.few, ap length (entries-append h.done (x ∷ [])), length-append (entries h.done) (entries (x ∷ [])))
 
     -- What the sums need to stay within range.
-    pub reading_small : length s ≤ longestOption → Small m × ((withSuboption m f).entries < 9223372036854775808) × Forward f
+    pub reading_small : length s ≤ longest_option → Small m × ((with_suboption m f).entries < 9223372036854775808) × Forward f
     reading_small short = (
       record {
         requests = omega (arith, count-requests, h.fewer, h.within);
@@ -140,8 +140,8 @@ module _ (s : List ℕ) (at : ℕ) (m : Tally) (c₀ c : Columns) (h : Reading s
     )
 
     pub reading-more : (r : Tally) (d : Columns)
-        → Added m f c.askLengths c.askH r d.askLengths d.askH
-        → InColumns (entriesOf x) m.entries c.networks c.lengths d.networks d.lengths → Reading s next r c₀ d
+        → Added m f c.asked_lengths c.asked_h r d.asked_lengths d.asked_h
+        → InColumns (entries_of x) m.entries c.networks c.lengths d.networks d.lengths → Reading s next r c₀ d
     reading-more r d added stored =
         let moves = suboption-moves s at x next t in
         let rest = suboptions-more s at h.within x next t in
@@ -153,21 +153,21 @@ module _ (s : List ℕ) (at : ℕ) (m : Tally) (c₀ c : Columns) (h : Reading s
           read =
               h.read
               ∙ ap (λ (q : List SuboptionValue × End). (h.done ++ q.0, q.1)) rest
-              ∙ ap (λ (subs : List SuboptionValue). (subs, (readSuboptions s next).1)) (sym (append_assoc h.done (x ∷ []) (readSuboptions s next).0));
+              ∙ ap (λ (subs : List SuboptionValue). (subs, (read_suboptions s next).1)) (sym (append_assoc h.done (x ∷ []) (read_suboptions s next).0));
           counted = subst (Counted (h.done ++ x ∷ [])) (sym added.tally) tally-is;
           filled = all_append Filled h.done (x ∷ []) h.filled (some-filled s at x next t, tt);
           named =
-              subst (λ (v : Tally). Stands s v.name v.name_bytes (firstName (h.done ++ x ∷ []))) (sym (added.tally ∙ ap (withSuboption m) e))
+              subst (λ (v : Tally). Stands s v.name v.name_bytes (first_name (h.done ++ x ∷ []))) (sym (added.tally ∙ ap (with_suboption m) e))
               (named_more s m h.done h.named h.filled at x next t);
           fewer =
               omega (arith, h.fewer, moves.0, requests-need x, ap length (requests-append h.done (x ∷ [])), length-append (requests h.done) (requests (x ∷ [])));
           few = entries-are;
-          askLengths =
-              column-more (λ q. q.length) _ _ _ _ (requests h.done) (requests (x ∷ [])) _ _ h.askLengths count-requests
-              (ap (requestColumn (λ f. f.length)) e ∙ lengths-column x at next) (requests-append h.done (x ∷ [])) added.lengths;
-          askH =
-              column-more (λ q. flagOf q.h) _ _ _ _ (requests h.done) (requests (x ∷ [])) _ _ h.askH count-requests
-              (ap (requestColumn (λ f. flagOf f.h)) e ∙ flags-column x at next) (requests-append h.done (x ∷ [])) added.flags;
+          asked_lengths =
+              column-more (λ q. q.length) _ _ _ _ (requests h.done) (requests (x ∷ [])) _ _ h.asked_lengths count-requests
+              (ap (request_column (λ f. f.length)) e ∙ lengths-column x at next) (requests-append h.done (x ∷ [])) added.lengths;
+          asked_h =
+              column-more (λ q. flag_of q.h) _ _ _ _ (requests h.done) (requests (x ∷ [])) _ _ h.asked_h count-requests
+              (ap (request_column (λ f. flag_of f.h)) e ∙ flags-column x at next) (requests-append h.done (x ∷ [])) added.flags;
           networks =
               column-more (λ e. e.network) _ _ _ _ (entries h.done) (entries (x ∷ [])) _ _ h.networks count_entries
               (ap (map (λ e. e.network)) (sym one)) (entries-append h.done (x ∷ [])) stored.0;
@@ -182,69 +182,69 @@ column-scanned f l l₁ n xs e en fits =
     let size : length (map f xs) ≡ length xs = length-map xs f in
     ap₂ take (en ∙ sym size) (e ∙ put_front (map f xs) l (omega arith)) ∙ take_at (map f xs) _ _ refl
 
-position-scanned : (p : Option ℕ) → cond (eqb (flagOf (some? p)) 1) (some (get_or p 0)) none ≡ p
+position-scanned : (p : Option ℕ) → cond (eqb (flag_of (some? p)) 1) (some (get_or p 0)) none ≡ p
 position-scanned none = refl
 position-scanned (some x) = refl
 
 module _ (s : List ℕ) where
-  pub read-other : (m : Tally) (r : Contents) (c : Columns) → option? s ≡ false → r ≡ contentsOf m NotTheOption → Reads s r c
-  unfolding readOption
+  pub read-other : (m : Tally) (r : Contents) (c : Columns) → option? s ≡ false → r ≡ contents_of m NotTheOption → Reads s r c
+  unfolding read_option
   read-other m r c h n =
-      let refusal : readOption s ≡ refused 6 0 = rw h refl in
+      let refusal : read_option s ≡ refused 6 0 = rw h refl in
       record {
-        checked = ap (λ (r : Contents). r.checked) n ∙ sym (ap checkedOf refusal);
+        checked = ap (λ (r : Contents). r.checked) n ∙ sym (ap checked_of refusal);
         holds = λ subs e. let z : ◌≡◌ {A = ℕ} 0 1 = cc in absurd (omega arith);
         named = λ subs e. let z : ◌≡◌ {A = ℕ} 0 1 = cc in absurd (omega arith);
       }
 
   module _ (at : ℕ) (m : Tally) (c₀ c : Columns) (h : Reading s at m c₀ c) (yes : option? s ≡ true) (r : Contents) where
     -- The option reads as its suboptions do.
-    read_as : (e : End) → readSuboption s at ≡ stop e → readOption s ≡ ended h.done e
-    unfolding readOption
+    read_as : (e : End) → read_suboption s at ≡ stop e → read_option s ≡ ended h.done e
+    unfolding read_option
     read_as e t =
-        let all : readSuboptions s 3 ≡ (h.done, e) =
+        let all : read_suboptions s 3 ≡ (h.done, e) =
         h.read
         ∙ ap (λ (q : List SuboptionValue × End). (h.done ++ q.0, q.1)) (suboptions-stop s at h.within e t)
         ∙ ap (λ (subs : List SuboptionValue). (subs, e)) (append-nil h.done) in
         rw (yes, all)
 
-    pub reading-bad : (fault : Fault) (place : ℕ) → readSuboption s at ≡ stop (badAt fault place) → r ≡ contentsOf m (BadSuboption fault place) → (d : Columns) → Reads s r d
+    pub reading-bad : (fault : Fault) (place : ℕ) → read_suboption s at ≡ stop (bad_at fault place) → r ≡ contents_of m (BadSuboption fault place) → (d : Columns) → Reads s r d
     reading-bad fault place t n d =
-        let refusal : readOption s ≡ refused (faultNumber fault) place = read_as (badAt fault place) t in
+        let refusal : read_option s ≡ refused (fault_number fault) place = read_as (bad_at fault place) t in
         record {
-          checked = ap (λ (r : Contents). r.checked) n ∙ sym (ap checkedOf refusal ∙ checked-ended h.done (badAt fault place));
+          checked = ap (λ (r : Contents). r.checked) n ∙ sym (ap checked_of refusal ∙ checked-ended h.done (bad_at fault place));
           holds = λ subs e. let z : ◌≡◌ {A = ℕ} 0 1 = cc in absurd (omega arith);
           named = λ subs e. let z : ◌≡◌ {A = ℕ} 0 1 = cc in absurd (omega arith);
         }
 
-    module _ (short : length s ≤ longestOption) (long : Long c₀) where
-      done-scanned : ScannedOf (contentsOf m Good) c h.done
+    module _ (short : length s ≤ longest_option) (long : Long c₀) where
+      done-scanned : ScannedOf (contents_of m Good) c h.done
       done-scanned =
           let k = count-requests s at m c₀ c h in
           let l = count_entries s at m c₀ c h in
-          let few : 7 * length (entries h.done) ≤ longestOption - 6 = omega (arith, h.few, h.within) in
+          let few : 7 * length (entries h.done) ≤ longest_option - 6 = omega (arith, h.few, h.within) in
           record {
             requests = k;
             listing = ap (λ (m : Tally). m.listing) h.counted;
-            askLengths = λ q. column-scanned (λ q. q.length) _ _ _ (requests h.done) h.askLengths k (omega (arith, long.askLengths));
-            askH = λ q. column-scanned (λ q. flagOf q.h) _ _ _ (requests h.done) h.askH k (omega (arith, long.askH));
+            asked_lengths = λ q. column-scanned (λ q. q.length) _ _ _ (requests h.done) h.asked_lengths k (omega (arith, long.asked_lengths));
+            asked_h = λ q. column-scanned (λ q. flag_of q.h) _ _ _ (requests h.done) h.asked_h k (omega (arith, long.asked_h));
             entries = l;
             few = omega arith;
             networks = column-scanned (λ e. e.network) _ _ _ (entries h.done) h.networks l (omega (arith, long.networks));
             lengths = column-scanned (λ e. e.length) _ _ _ (entries h.done) h.lengths l (omega (arith, long.lengths));
-            position = ap (λ (m : Tally). position_of (contentsOf m Good)) h.counted ∙ position-scanned (position none h.done);
+            position = ap (λ (m : Tally). position_of (contents_of m Good)) h.counted ∙ position-scanned (position none h.done);
           }
 
-      pub reading-all : readSuboption s at ≡ stop whole → r ≡ contentsOf m Good → (ns ls : List ℕ) → (ns ≡ c.networks) × (ls ≡ c.lengths) → Reads s r (columns c.askLengths c.askH ns ls)
+      pub reading-all : read_suboption s at ≡ stop whole → r ≡ contents_of m Good → (ns ls : List ℕ) → (ns ≡ c.networks) × (ls ≡ c.lengths) → Reads s r (columns c.asked_lengths c.asked_h ns ls)
       reading-all t n ns ls kept =
-          let acceptance : readOption s ≡ accepted h.done = read_as whole t in
-          let same : columns c.askLengths c.askH ns ls ≡ c = ap₂ (λ (ns ls : List ℕ). columns c.askLengths c.askH ns ls) kept.0 kept.1 in
+          let acceptance : read_option s ≡ accepted h.done = read_as whole t in
+          let same : columns c.asked_lengths c.asked_h ns ls ≡ c = ap₂ (λ (ns ls : List ℕ). columns c.asked_lengths c.asked_h ns ls) kept.0 kept.1 in
           subst (Reads s r) (sym same) (record {
-            checked = ap (λ (r : Contents). r.checked) n ∙ sym (ap checkedOf acceptance);
+            checked = ap (λ (r : Contents). r.checked) n ∙ sym (ap checked_of acceptance);
             holds = λ subs f.
                 let same : h.done ≡ subs = cc in
                 subst (ScannedOf r c) same (subst (λ (r : Contents). ScannedOf r c h.done) (sym n) done-scanned);
             named = λ subs f.
                 let same : h.done ≡ subs = cc in
-                subst (λ (subs : List SuboptionValue). NamedIn s r (firstName subs)) same (subst (λ (r : Contents). NamedIn s r (firstName h.done)) (sym n) h.named);
+                subst (λ (subs : List SuboptionValue). NamedIn s r (first_name subs)) same (subst (λ (r : Contents). NamedIn s r (first_name h.done)) (sym n) h.named);
           })

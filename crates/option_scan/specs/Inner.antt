@@ -4,16 +4,16 @@ use Rattle.lists.specs.Put.{put}
 use Rattle.option.specs.declared.{Checked.Checked, RequestFields.RequestFields, InformationFields.InformationFields, NameFields.NameFields, Suboption.Suboption}
 use Rattle.option.specs.declared.Suboption.TheVariants.{Request, Information, Name, Unknown}
 use Rattle.option_scan.specs.declared.{Contents.Contents, Tally.Tally}
-use Rattle.option_scan.specs.Scanned.{flagOf}
+use Rattle.option_scan.specs.Scanned.{flag_of}
 
 -- What is counted, with one more suboption.
-abbrev pub noTally : Tally
-noTally = record { requests = 0; listing = 0; entries = 0; resumes = 0; position = 0; name = 0; name_bytes = 0 }
+abbrev pub no_tally : Tally
+no_tally = record { requests = 0; listing = 0; entries = 0; resumes = 0; position = 0; name = 0; name_bytes = 0 }
 
-abbrev pub withRequest : Tally → RequestFields → Tally
-withRequest m f = record {
+abbrev pub with_request : Tally → RequestFields → Tally
+with_request m f = record {
   requests = m.requests + 1;
-  listing = m.listing + flagOf f.i;
+  listing = m.listing + flag_of f.i;
   entries = m.entries;
   resumes = m.resumes;
   position = m.position;
@@ -21,8 +21,8 @@ withRequest m f = record {
   name_bytes = m.name_bytes;
 }
 
-abbrev pub withInformation : Tally → InformationFields → Tally
-withInformation m f = record {
+abbrev pub with_information : Tally → InformationFields → Tally
+with_information m f = record {
   requests = m.requests;
   listing = m.listing;
   entries = m.entries + f.count;
@@ -32,8 +32,8 @@ withInformation m f = record {
   name_bytes = m.name_bytes;
 }
 
-abbrev pub withName : Tally → NameFields → Tally
-withName m f = record {
+abbrev pub with_name : Tally → NameFields → Tally
+with_name m f = record {
   requests = m.requests;
   listing = m.listing;
   entries = m.entries;
@@ -43,24 +43,24 @@ withName m f = record {
   name_bytes = cond (eqb m.name_bytes 0) (f.end - f.start) m.name_bytes;
 }
 
-abbrev pub withSuboption : Tally → Suboption → Tally
-withSuboption m (Request f) = withRequest m f
-withSuboption m (Information f) = withInformation m f
-withSuboption m (Name f) = withName m f
-withSuboption m (Unknown f) = m
+abbrev pub with_suboption : Tally → Suboption → Tally
+with_suboption m (Request f) = with_request m f
+with_suboption m (Information f) = with_information m f
+with_suboption m (Name f) = with_name m f
+with_suboption m (Unknown f) = m
 
 -- What goes into a column of requests.
-abbrev pub requestColumn : (RequestFields → ℕ) → Suboption → List ℕ
-requestColumn g (Request f) = g f ∷ []
-requestColumn g (Information f) = []
-requestColumn g (Name f) = []
-requestColumn g (Unknown f) = []
+abbrev pub request_column : (RequestFields → ℕ) → Suboption → List ℕ
+request_column g (Request f) = g f ∷ []
+request_column g (Information f) = []
+request_column g (Name f) = []
+request_column g (Unknown f) = []
 
 -- A suboption is counted, and if it is a request, its length and h go into the columns.
 pub record Added (m : Tally) (x : Suboption) (ls hs : List ℕ) (r : Tally) (ls' hs' : List ℕ) : Type 0 where
-  pub tally : r ≡ withSuboption m x
-  pub lengths : ls' ≡ put ls m.requests (requestColumn (λ f. f.length) x)
-  pub flags : hs' ≡ put hs m.requests (requestColumn (λ f. flagOf f.h) x)
+  pub tally : r ≡ with_suboption m x
+  pub lengths : ls' ≡ put ls m.requests (request_column (λ f. f.length) x)
+  pub flags : hs' ≡ put hs m.requests (request_column (λ f. flag_of f.h) x)
 
 -- Sums stay within range.
 pub record Small (m : Tally) : Type 0 where
@@ -75,8 +75,8 @@ Forward (Name f) = f.start ≤ f.end
 Forward (Unknown f) = Unit {0}
 
 -- As it is answered.
-abbrev pub contentsOf : Tally → Checked → Contents
-contentsOf m checked = record {
+abbrev pub contents_of : Tally → Checked → Contents
+contents_of m checked = record {
   checked = checked;
   requests = m.requests;
   listing = m.listing;

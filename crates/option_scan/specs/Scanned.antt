@@ -2,25 +2,25 @@
 use Rattle.std.specs.Prelude.{ℕ, ◌+◌, ◌≤◌, ◌≡◌, Bool, cond, List, map, length, take, drop}
 use Rattle.std.proofs.Math.Option.{Option, none, some}
 use Rattle.lists.specs.Lists.{filter}
-use Rattle.option.specs.Values.{mostRequests, mostEntries, Entry, SuboptionValue, accepted}
-use Rattle.option.specs.Reading.{readOption}
-use Rattle.option.specs.Answers.{checkedOf}
+use Rattle.option.specs.Values.{most_requests, most_entries, Entry, SuboptionValue, accepted}
+use Rattle.option.specs.Reading.{read_option}
+use Rattle.option.specs.Answers.{checked_of}
 use Rattle.option.specs.Contents as contents
 use Rattle.option_scan.specs.declared.Contents.{Contents}
 
 -- The lent columns: lengths and h of the requests, networks and lengths of the entries.
 pub record Columns : Type 0 where
-  pub askLengths : List ℕ
-  pub askH : List ℕ
+  pub asked_lengths : List ℕ
+  pub asked_h : List ℕ
   pub networks : List ℕ
   pub lengths : List ℕ
 
 abbrev pub columns : List ℕ → List ℕ → List ℕ → List ℕ → Columns
-columns askLengths askH networks lengths = record { askLengths = askLengths; askH = askH; networks = networks; lengths = lengths }
+columns asked_lengths asked_h networks lengths = record { asked_lengths = asked_lengths; asked_h = asked_h; networks = networks; lengths = lengths }
 
 -- A flag as a column has it.
-abbrev pub flagOf : Bool → ℕ
-flagOf b = cond b 1 0
+abbrev pub flag_of : Bool → ℕ
+flag_of b = cond b 1 0
 
 abbrev pub position_of : Contents → Option ℕ
 position_of r = cond r.resumes (some r.position) none
@@ -30,10 +30,10 @@ position_of r = cond r.resumes (some r.position) none
 pub record Scanned (r : Contents) (c : Columns) (qs : List contents.Request) (es : List Entry) (p : Option ℕ) : Type 0 where
   pub requests : r.requests ≡ length qs
   pub listing : r.listing ≡ length (filter (λ q. q.i) qs)
-  pub askLengths : r.requests ≤ mostRequests → take r.requests c.askLengths ≡ map (λ q. q.length) qs
-  pub askH : r.requests ≤ mostRequests → take r.requests c.askH ≡ map (λ q. flagOf q.h) qs
+  pub asked_lengths : r.requests ≤ most_requests → take r.requests c.asked_lengths ≡ map (λ q. q.length) qs
+  pub asked_h : r.requests ≤ most_requests → take r.requests c.asked_h ≡ map (λ q. flag_of q.h) qs
   pub entries : r.entries ≡ length es
-  pub few : r.entries ≤ mostEntries
+  pub few : r.entries ≤ most_entries
   pub networks : take r.entries c.networks ≡ map (λ e. e.network) es
   pub lengths : take r.entries c.lengths ≡ map (λ e. e.length) es
   pub position : position_of r ≡ p
@@ -53,13 +53,13 @@ NamedIn option r octets = Stands option r.name r.name_bytes octets
 
 -- The columns have room for the requests of an ask and for the entries of an option.
 pub record Long (c : Columns) : Type 0 where
-  pub askLengths : mostRequests ≤ length c.askLengths
-  pub askH : mostRequests ≤ length c.askH
-  pub networks : mostEntries ≤ length c.networks
-  pub lengths : mostEntries ≤ length c.lengths
+  pub asked_lengths : most_requests ≤ length c.asked_lengths
+  pub asked_h : most_requests ≤ length c.asked_h
+  pub networks : most_entries ≤ length c.networks
+  pub lengths : most_entries ≤ length c.lengths
 
 -- WHAT `read` ANSWERS: rows 6, 7 and 16, and all that the calls look at in an option that is accepted.
 pub record Reads (option : List ℕ) (r : Contents) (c : Columns) : Type 0 where
-  pub checked : r.checked ≡ checkedOf (readOption option)
-  pub holds : (subs : List SuboptionValue) → readOption option ≡ accepted subs → ScannedOf r c subs
-  pub named : (subs : List SuboptionValue) → readOption option ≡ accepted subs → NamedIn option r (contents.firstName subs)
+  pub checked : r.checked ≡ checked_of (read_option option)
+  pub holds : (subs : List SuboptionValue) → read_option option ≡ accepted subs → ScannedOf r c subs
+  pub named : (subs : List SuboptionValue) → read_option option ≡ accepted subs → NamedIn option r (contents.first_name subs)

@@ -1,18 +1,18 @@
 // What the calls look at in an option 220, checked and read in one pass over its bytes into lent columns.
 ghost use Rattle.std.specs.Prelude.{◌≡◌, true, ◌+◌, ◌≤◌, ◌<◌, length};
-ghost use Rattle.option.specs.Values.{longestOption};
+ghost use Rattle.option.specs.Values.{longest_option};
 ghost use Rattle.option.specs.Reading.{option?};
 ghost use Rattle.option.specs.declared.Suboption.TheVariants as Suboption;
-ghost use Rattle.option_scan.specs.Scanned.{columns, flagOf, Long, Reads};
+ghost use Rattle.option_scan.specs.Scanned.{columns, flag_of, Long, Reads};
 ghost use Rattle.option_scan.specs.Inner.{
-  noTally,
-  withInformation,
-  withName,
-  withSuboption,
+  no_tally,
+  with_information,
+  with_name,
+  with_suboption,
   Added,
   Small,
   Forward,
-  contentsOf,
+  contents_of,
 };
 
 use option::{Checked, Cursor, InformationFields, NameFields, RequestFields, Step, Suboption};
@@ -48,7 +48,7 @@ struct Tally {
 }
 
 fn nothing() -> Tally
-    ensures { result ≡ noTally }
+    ensures { result ≡ no_tally }
 {
     Tally {
         requests: 0,
@@ -63,7 +63,7 @@ fn nothing() -> Tally
 
 // A flag as a number.
 fn flag(b: bool) -> u8
-    ensures { result ≡ flagOf b }
+    ensures { result ≡ flag_of b }
 {
     if b { 1 } else { 0 }
 }
@@ -90,7 +90,7 @@ fn add_request(m: Tally, f: RequestFields, asks: &mut [u8], h: &mut [u8]) -> Tal
 // An information, whose entries the step has stored: with c and s its last entry is the position of a list.
 fn add_information(m: Tally, f: InformationFields) -> Tally
     requires { m.entries + f.count < 9223372036854775808 }
-    ensures { result ≡ withInformation m f }
+    ensures { result ≡ with_information m f }
 {
     let entries = m.entries + f.count;
     if f.c {
@@ -120,7 +120,7 @@ fn add_information(m: Tally, f: InformationFields) -> Tally
 // A name: the first one counts. A good one has an octet, so that no octets are no name.
 fn add_name(m: Tally, f: NameFields) -> Tally
     requires { f.start ≤ f.end }
-    ensures { result ≡ withName m f }
+    ensures { result ≡ with_name m f }
 {
     if m.name_bytes != 0 {
         return m;
@@ -138,7 +138,7 @@ fn add_name(m: Tally, f: NameFields) -> Tally
 
 // A suboption. Unknown ones have no effect.
 fn add(m: Tally, x: Suboption, asks: &mut [u8], h: &mut [u8]) -> Tally
-    requires { Small m × ((withSuboption m x).entries < 9223372036854775808) × Forward x }
+    requires { Small m × ((with_suboption m x).entries < 9223372036854775808) × Forward x }
     ensures { Added m x asks.old h.old result asks.new h.new }
 {
     match x {
@@ -150,7 +150,7 @@ fn add(m: Tally, x: Suboption, asks: &mut [u8], h: &mut [u8]) -> Tally
 }
 
 fn contents_of(m: Tally, checked: Checked) -> Contents
-    ensures { result ≡ contentsOf m checked }
+    ensures { result ≡ contents_of m checked }
 {
     Contents {
         checked,
@@ -172,7 +172,7 @@ fn read_suboptions(
     networks: &mut [u32],
     lengths: &mut [u8],
 ) -> Contents
-    requires { (option? s.now ≡ true) × (length s.now ≤ longestOption) × Long (columns asks.old h.old networks.old lengths.old) }
+    requires { (option? s.now ≡ true) × (length s.now ≤ longest_option) × Long (columns asks.old h.old networks.old lengths.old) }
     ensures { Reads s.now result (columns asks.new h.new networks.new lengths.new) }
 {
     let mut tally = nothing();

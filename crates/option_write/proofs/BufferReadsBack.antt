@@ -10,9 +10,9 @@ use lib.Seq.{take_at, drop_at}
 use lib.Dec.{eqb}
 use Rattle.lists.proofs.PutLaws.{put_front}
 use Rattle.option.specs.Values.{SuboptionValue, accepted}
-use Rattle.option.specs.Reading.{readOption}
-use Rattle.option.specs.Writing.{Writing, refusedWith, written}
-use Rattle.option.specs.Writer.{writeOption}
+use Rattle.option.specs.Reading.{read_option}
+use Rattle.option.specs.Writing.{Writing, refused_with, written}
+use Rattle.option.specs.Writer.{write_option}
 use Rattle.option.proofs.WrittenReadsBack.{wrote, written-reads-back}
 use Rattle.option_reply.specs.Answers.{into}
 use Rattle.option_reply.specs.declared.Written.{Written}
@@ -24,9 +24,9 @@ refused-not-bytes false n h = let z : ◌≡◌ {A = ℕ} 0 1 = cc in omega arit
 
 module _ (subs : List SuboptionValue) (buffer after : List ℕ) (n : ℕ) where
   abbrev Claim : Type 0
-  Claim = (readOption (take n after) ≡ accepted subs) × (drop n after ≡ drop n buffer)
+  Claim = (read_option (take n after) ≡ accepted subs) × (drop n after ≡ drop n buffer)
 
-  by_answer : (w : Writing) → writeOption (length buffer) subs ≡ w → into w buffer ≡ (Bytes n, after) → Claim
+  by_answer : (w : Writing) → write_option (length buffer) subs ≡ w → into w buffer ≡ (Bytes n, after) → Claim
   unfolding into
   by_answer (written bytes) e h =
       let counted : Bytes (length bytes) ≡ Bytes n = ap (λ (r : Written × List ℕ). r.0) h in
@@ -34,12 +34,12 @@ module _ (subs : List SuboptionValue) (buffer after : List ℕ) (n : ℕ) where
       let w = wrote (length buffer) subs bytes e in
       let fits : length bytes ≤ length buffer = omega (arith, w.fits, ap length w.same) in
       let list : after ≡ bytes ++ drop (length bytes) buffer = sym (ap (λ (r : Written × List ℕ). r.1) h) ∙ put_front bytes buffer fits in (
-        ap (λ (l : List ℕ). readOption (take n l)) list
-            ∙ ap readOption (take_at bytes (drop (length bytes) buffer) n size)
+        ap (λ (l : List ℕ). read_option (take n l)) list
+            ∙ ap read_option (take_at bytes (drop (length bytes) buffer) n size)
             ∙ written-reads-back (length buffer) subs bytes e,
         ap (drop n) list ∙ drop_at bytes (drop (length bytes) buffer) n size ∙ ap (λ (k : ℕ). drop k buffer) size,
       )
-  by_answer (refusedWith number) e h = absurd (refused-not-bytes (eqb number 13) n (ap (λ (r : Written × List ℕ). r.0) h))
+  by_answer (refused_with number) e h = absurd (refused-not-bytes (eqb number 13) n (ap (λ (r : Written × List ℕ). r.0) h))
 
-  pub buffer-reads-back : into (writeOption (length buffer) subs) buffer ≡ (Bytes n, after) → (readOption (take n after) ≡ accepted subs) × (drop n after ≡ drop n buffer)
-  buffer-reads-back h = by_answer (writeOption (length buffer) subs) refl h
+  pub buffer-reads-back : into (write_option (length buffer) subs) buffer ≡ (Bytes n, after) → (read_option (take n after) ≡ accepted subs) × (drop n after ≡ drop n buffer)
+  buffer-reads-back h = by_answer (write_option (length buffer) subs) refl h

@@ -14,16 +14,16 @@ use Rattle.lists.specs.Lists.{all?}
 use Rattle.lists.specs.Put.{put}
 use Rattle.lists.proofs.Tests.{and-to}
 use Rattle.lists.proofs.PutLaws.{put-more, put-before}
-use Rattle.lists.proofs.ConcatMapLaws.{length-concatMap-at}
+use Rattle.lists.proofs.ConcatMapLaws.{length-concat_map-at}
 use Rattle.option.specs.Values.{Entry, SuboptionValue, information, name, unknown}
-use Rattle.option.specs.Writing.{entriesBytes, informationHead, suboptionBytes, suboptionsBytes, optionHead, optionBytes}
-use Rattle.option.specs.Writer.{entryWritable?, writable?, writeOption}
+use Rattle.option.specs.Writing.{entries_bytes, information_head, suboption_bytes, suboptions_bytes, option_head, option_bytes}
+use Rattle.option.specs.Writer.{entry_writable?, writable?, write_option}
 use Rattle.option_entry.specs.declared.EntryFields.{EntryFields}
 use Rattle.option.proofs.WritingLaws.{information-length, option-length, suboptions-append, suboptions-one}
-use Rattle.option_measure.specs.Lists.{entrySlots, octetSlots, entry_of, part, informationIn, nameIn, value_at}
+use Rattle.option_measure.specs.Lists.{entry_slots, octet_slots, entry_of, part, information_in, name_in, value_at}
 use Rattle.option_reply.specs.Answers.{into}
-use Rattle.option_measure.specs.Measuring.{measureList}
-use Rattle.option_write.specs.Inner.{suboptionsAt, mostBytes, Fitting, FittingList, PutAt}
+use Rattle.option_measure.specs.Measuring.{measure_list}
+use Rattle.option_write.specs.Inner.{suboptions_at, most_bytes, Fitting, FittingList, PutAt}
 use Rattle.option_measure.specs.declared.InformationItem.{InformationItem}
 use Rattle.option_measure.specs.declared.NameItem.{NameItem}
 use Rattle.option_measure.specs.declared.Slot.{Slot}
@@ -42,44 +42,44 @@ module _ (entries : List EntryFields) (f : InformationItem) where
   es = map entry_of (part f.first f.count entries)
 
   pub record InformationFitting : Type 0 where
-    pub placed : f.first + f.count ≤ entrySlots
-    pub value : informationIn entries f ≡ information f.c f.s es
-    pub good : all? entryWritable? es ≡ true
-    pub short : 3 + length (entriesBytes es) ≤ mostBytes
+    pub placed : f.first + f.count ≤ entry_slots
+    pub value : information_in entries f ≡ information f.c f.s es
+    pub good : all? entry_writable? es ≡ true
+    pub short : 3 + length (entries_bytes es) ≤ most_bytes
 
-  in_place : (b : Bool) → leb (f.first + f.count) entrySlots ≡ b → Fitting (informationIn entries f) → InformationFitting
-  unfolding informationIn writable?
+  in_place : (b : Bool) → leb (f.first + f.count) entry_slots ≡ b → Fitting (information_in entries f) → InformationFitting
+  unfolding information_in writable?
   in_place true e r =
-      let v : informationIn entries f ≡ information f.c f.s es = simp e in
+      let v : information_in entries f ≡ information f.c f.s es = simp e in
       let good : writable? (information f.c f.s es) ≡ true = sym (ap writable? v) ∙ r.good in
-      let size : length (suboptionBytes (informationIn entries f)) ≡ 3 + length (entriesBytes es) = ap (λ (x : SuboptionValue). length (suboptionBytes x)) v ∙ information-length f.c f.s es in
+      let size : length (suboption_bytes (information_in entries f)) ≡ 3 + length (entries_bytes es) = ap (λ (x : SuboptionValue). length (suboption_bytes x)) v ∙ information-length f.c f.s es in
       record {
-        placed = leb-true (f.first + f.count) entrySlots e;
+        placed = leb-true (f.first + f.count) entry_slots e;
         value = v;
-        good = (and-to (leb 1 (length es)) (all? entryWritable? es) good).1;
+        good = (and-to (leb 1 (length es)) (all? entry_writable? es) good).1;
         short = omega (arith, r.short);
       }
   in_place false e r =
-      let v : informationIn entries f ≡ unknown = simp e in
+      let v : information_in entries f ≡ unknown = simp e in
       let z : false ≡ true = sym (ap writable? v) ∙ r.good in
       let y : ◌≡◌ {A = ℕ} 0 1 = cc in absurd (omega arith)
 
-  pub information-fitting : Fitting (informationIn entries f) → InformationFitting
-  information-fitting r = in_place (leb (f.first + f.count) entrySlots) refl r
+  pub information-fitting : Fitting (information_in entries f) → InformationFitting
+  information-fitting r = in_place (leb (f.first + f.count) entry_slots) refl r
 
-  pub information-put : (l l₁ l₂ : List ℕ) (at end len : ℕ) → InformationFitting → l₁ ≡ put l (at + 3) (entriesBytes es) → end ≡ at + 3 + length (entriesBytes es)
-      → len ≡ end - at - 2 → l₂ ≡ put l₁ at (informationHead len f.c f.s) → PutAt l l₂ at end (suboptionBytes (informationIn entries f))
-  unfolding suboptionBytes informationHead
+  pub information-put : (l l₁ l₂ : List ℕ) (at end len : ℕ) → InformationFitting → l₁ ≡ put l (at + 3) (entries_bytes es) → end ≡ at + 3 + length (entries_bytes es)
+      → len ≡ end - at - 2 → l₂ ≡ put l₁ at (information_head len f.c f.s) → PutAt l l₂ at end (suboption_bytes (information_in entries f))
+  unfolding suboption_bytes information_head
   information-put l l₁ l₂ at end len r e₁ ee el e₂ =
-      let w = entriesBytes es in
+      let w = entries_bytes es in
       let n : len ≡ 1 + length w = omega arith in
       record {
         stored =
             e₂
-            ∙ ap₂ (λ (k : List ℕ) (m : ℕ). put k at (informationHead m f.c f.s)) e₁ n
-            ∙ put-before (informationHead (1 + length w) f.c f.s) l at w
-            ∙ ap (λ (x : SuboptionValue). put l at (suboptionBytes x)) (sym r.value);
-        place = omega (arith, ap (λ (x : SuboptionValue). length (suboptionBytes x)) r.value, information-length f.c f.s es);
+            ∙ ap₂ (λ (k : List ℕ) (m : ℕ). put k at (information_head m f.c f.s)) e₁ n
+            ∙ put-before (information_head (1 + length w) f.c f.s) l at w
+            ∙ ap (λ (x : SuboptionValue). put l at (suboption_bytes x)) (sym r.value);
+        place = omega (arith, ap (λ (x : SuboptionValue). length (suboption_bytes x)) r.value, information-length f.c f.s es);
       }
 
 -- A name, likewise.
@@ -88,35 +88,35 @@ module _ (octets : List ℕ) (n : NameItem) where
   os = part n.first n.count octets
 
   pub record NameFitting : Type 0 where
-    pub placed : n.first + n.count ≤ octetSlots
-    pub value : nameIn octets n ≡ name os
-    pub short : 2 + length os ≤ mostBytes
+    pub placed : n.first + n.count ≤ octet_slots
+    pub value : name_in octets n ≡ name os
+    pub short : 2 + length os ≤ most_bytes
 
-  named : (b : Bool) → leb (n.first + n.count) octetSlots ≡ b → Fitting (nameIn octets n) → NameFitting
-  unfolding nameIn writable? suboptionBytes
+  named : (b : Bool) → leb (n.first + n.count) octet_slots ≡ b → Fitting (name_in octets n) → NameFitting
+  unfolding name_in writable? suboption_bytes
   named true e r =
-      let v : nameIn octets n ≡ name os = simp e in
-      let size : length (suboptionBytes (nameIn octets n)) ≡ suc (suc (length os)) = ap (λ (x : SuboptionValue). length (suboptionBytes x)) v in
-      record { placed = leb-true (n.first + n.count) octetSlots e; value = v; short = omega (arith, r.short) }
+      let v : name_in octets n ≡ name os = simp e in
+      let size : length (suboption_bytes (name_in octets n)) ≡ suc (suc (length os)) = ap (λ (x : SuboptionValue). length (suboption_bytes x)) v in
+      record { placed = leb-true (n.first + n.count) octet_slots e; value = v; short = omega (arith, r.short) }
   named false e r =
-      let v : nameIn octets n ≡ unknown = simp e in
+      let v : name_in octets n ≡ unknown = simp e in
       let z : false ≡ true = sym (ap writable? v) ∙ r.good in
       let y : ◌≡◌ {A = ℕ} 0 1 = cc in absurd (omega arith)
 
-  pub name-fitting : Fitting (nameIn octets n) → NameFitting
-  name-fitting r = named (leb (n.first + n.count) octetSlots) refl r
+  pub name-fitting : Fitting (name_in octets n) → NameFitting
+  name-fitting r = named (leb (n.first + n.count) octet_slots) refl r
 
-  pub name-put : (l l₁ l₂ l₃ : List ℕ) (at : ℕ) → length octets ≡ octetSlots → NameFitting → l₁ ≡ set l at 3 → l₂ ≡ set l₁ (at + 1) n.count → l₃ ≡ put l₂ (at + 2) os
-      → PutAt l l₃ at (at + 2 + n.count) (suboptionBytes (nameIn octets n))
-  unfolding suboptionBytes
+  pub name-put : (l l₁ l₂ l₃ : List ℕ) (at : ℕ) → length octets ≡ octet_slots → NameFitting → l₁ ≡ set l at 3 → l₂ ≡ set l₁ (at + 1) n.count → l₃ ≡ put l₂ (at + 2) os
+      → PutAt l l₃ at (at + 2 + n.count) (suboption_bytes (name_in octets n))
+  unfolding suboption_bytes
   name-put l l₁ l₂ l₃ at full r e₁ e₂ e₃ =
       let c : length os ≡ n.count = length_part octets n.first n.count (omega (arith, r.placed)) in
-      let size : length (suboptionBytes (nameIn octets n)) ≡ suc (suc (length os)) = ap (λ (x : SuboptionValue). length (suboptionBytes x)) r.value in
+      let size : length (suboption_bytes (name_in octets n)) ≡ suc (suc (length os)) = ap (λ (x : SuboptionValue). length (suboption_bytes x)) r.value in
       record {
         stored =
             put-more l l₂ l₃ at (3 ∷ n.count ∷ []) (at + 2) os (two-stores l l₁ l₂ at 3 n.count e₁ e₂) refl e₃
             ∙ ap (λ (k : ℕ). put l at (3 ∷ k ∷ os)) (sym c)
-            ∙ ap (λ (x : SuboptionValue). put l at (suboptionBytes x)) (sym r.value);
+            ∙ ap (λ (x : SuboptionValue). put l at (suboption_bytes x)) (sym r.value);
         place = omega arith;
       }
 
@@ -126,88 +126,88 @@ module _ (items : List Slot) (entries : List EntryFields) (octets : List ℕ) wh
   up_to k = map (value_at entries octets) (take k items)
 
   pub item-fitting : (count : ℕ) → count ≤ length items → FittingList (up_to count) → (i : ℕ) (d : Slot) → i < count → Fitting (value_at entries octets (get_or items i d))
-  unfolding suboptionsBytes
+  unfolding suboptions_bytes
   item-fitting count fits r i d h =
       let v = value_at entries octets in
       let there : get_or (up_to count) i (v d) ≡ v (get_or items i d) = get_or-map v (take count items) i d ∙ ap v (get_or-take count items i d h) in
       let within : i < length (up_to count) = simp (length-map, length-take) (omega arith) in
-      let one = length-concatMap-at suboptionBytes (up_to count) i (v d) within in
+      let one = length-concat_map-at suboption_bytes (up_to count) i (v d) within in
       record {
         good = sym (ap writable? there) ∙ all?-at writable? (up_to count) r.good i (v d) within;
-        short = omega (arith, r.short, ap (λ (x : SuboptionValue). length (suboptionBytes x)) there);
+        short = omega (arith, r.short, ap (λ (x : SuboptionValue). length (suboption_bytes x)) there);
       }
 
-  items_more : (i : ℕ) (d : Slot) → i < length items → suboptionsBytes (up_to (i + 1)) ≡ suboptionsBytes (up_to i) ++ suboptionBytes (value_at entries octets (get_or items i d))
+  items_more : (i : ℕ) (d : Slot) → i < length items → suboptions_bytes (up_to (i + 1)) ≡ suboptions_bytes (up_to i) ++ suboption_bytes (value_at entries octets (get_or items i d))
   items_more i d h =
       let v = value_at entries octets in
-      ap (λ (n : ℕ). suboptionsBytes (up_to n)) (add-one i)
-      ∙ ap (λ (l : List Slot). suboptionsBytes (map v l)) (take-suc items i d h)
-      ∙ ap suboptionsBytes (map-append v (take i items) (get_or items i d ∷ []))
+      ap (λ (n : ℕ). suboptions_bytes (up_to n)) (add-one i)
+      ∙ ap (λ (l : List Slot). suboptions_bytes (map v l)) (take-suc items i d h)
+      ∙ ap suboptions_bytes (map-append v (take i items) (get_or items i d ∷ []))
       ∙ suboptions-append (up_to i) (v (get_or items i d) ∷ [])
-      ∙ ap (λ (l : List ℕ). suboptionsBytes (up_to i) ++ l) (suboptions-one (v (get_or items i d)))
+      ∙ ap (λ (l : List ℕ). suboptions_bytes (up_to i) ++ l) (suboptions-one (v (get_or items i d)))
 
   pub record Turned (l l₂ : List ℕ) (p₂ i : ℕ) : Type 0 where
-    pub bytes : l₂ ≡ put l suboptionsAt (suboptionsBytes (up_to (i + 1)))
-    pub place : p₂ ≡ suboptionsAt + length (suboptionsBytes (up_to (i + 1)))
-    pub short : p₂ ≤ suboptionsAt + mostBytes * (i + 1)
+    pub bytes : l₂ ≡ put l suboptions_at (suboptions_bytes (up_to (i + 1)))
+    pub place : p₂ ≡ suboptions_at + length (suboptions_bytes (up_to (i + 1)))
+    pub short : p₂ ≤ suboptions_at + most_bytes * (i + 1)
 
   pub turned : (l l₁ l₂ : List ℕ) (p p₂ i : ℕ) (d : Slot) → i < length items → Fitting (value_at entries octets (get_or items i d))
-      → l₁ ≡ put l suboptionsAt (suboptionsBytes (up_to i)) → p ≡ suboptionsAt + length (suboptionsBytes (up_to i)) → p ≤ suboptionsAt + mostBytes * i
-      → PutAt l₁ l₂ p p₂ (suboptionBytes (value_at entries octets (get_or items i d))) → Turned l l₂ p₂ i
+      → l₁ ≡ put l suboptions_at (suboptions_bytes (up_to i)) → p ≡ suboptions_at + length (suboptions_bytes (up_to i)) → p ≤ suboptions_at + most_bytes * i
+      → PutAt l₁ l₂ p p₂ (suboption_bytes (value_at entries octets (get_or items i d))) → Turned l l₂ p₂ i
   turned l l₁ l₂ p p₂ i d h r e₁ ep le e₂ =
-      let before : List ℕ = suboptionsBytes (up_to i) in
-      let w : List ℕ = suboptionBytes (value_at entries octets (get_or items i d)) in
+      let before : List ℕ = suboptions_bytes (up_to i) in
+      let w : List ℕ = suboption_bytes (value_at entries octets (get_or items i d)) in
       let m = items_more i d h in
-      let n : length (suboptionsBytes (up_to (i + 1))) ≡ length before + length w = ap length m ∙ length-append before w in
+      let n : length (suboptions_bytes (up_to (i + 1))) ≡ length before + length w = ap length m ∙ length-append before w in
       record {
-        bytes = put-more l l₁ l₂ suboptionsAt before p w e₁ ep e₂.stored ∙ ap (put l suboptionsAt) (sym m);
+        bytes = put-more l l₁ l₂ suboptions_at before p w e₁ ep e₂.stored ∙ ap (put l suboptions_at) (sym m);
         place = omega (arith, e₂.place);
         short = omega (arith, e₂.place, r.short);
       }
 
 -- The answer, from what was measured.
 module _ (subs : List SuboptionValue) (buffer : List ℕ) where
-  pub answer-outside : measureList subs ≡ Outside → ◌≡◌ {A = Written × List ℕ} (written_as.OutsideRules, buffer) (into (writeOption (length buffer) subs) buffer)
-  unfolding measureList writeOption into
-  answer-outside m = simp (outside-left (leb 1 (length subs) && all? writable? subs) (length (suboptionsBytes subs)) m)
+  pub answer-outside : measure_list subs ≡ Outside → ◌≡◌ {A = Written × List ℕ} (written_as.OutsideRules, buffer) (into (write_option (length buffer) subs) buffer)
+  unfolding measure_list write_option into
+  answer-outside m = simp (outside-left (leb 1 (length subs) && all? writable? subs) (length (suboptions_bytes subs)) m)
 
-  module _ (n : ℕ) (m : measureList subs ≡ Bytes n) where
-    told : ((leb 1 (length subs) && all? writable? subs) ≡ true) × (length (suboptionsBytes subs) ≡ n)
-    unfolding measureList
-    told = bytes-picked (leb 1 (length subs) && all? writable? subs) (length (suboptionsBytes subs)) n m
+  module _ (n : ℕ) (m : measure_list subs ≡ Bytes n) where
+    told : ((leb 1 (length subs) && all? writable? subs) ≡ true) × (length (suboptions_bytes subs) ≡ n)
+    unfolding measure_list
+    told = bytes-picked (leb 1 (length subs) && all? writable? subs) (length (suboptions_bytes subs)) n m
 
-    pub answer-long : mostBytes < n → ◌≡◌ {A = Written × List ℕ} (written_as.TooLong, buffer) (into (writeOption (length buffer) subs) buffer)
-    unfolding writeOption into
+    pub answer-long : most_bytes < n → ◌≡◌ {A = Written × List ℕ} (written_as.TooLong, buffer) (into (write_option (length buffer) subs) buffer)
+    unfolding write_option into
     answer-long h =
         let t = told in
-        let long : mostBytes + 1 < 1 + length (suboptionsBytes subs) = omega (arith, t.1) in
+        let long : most_bytes + 1 < 1 + length (suboptions_bytes subs) = omega (arith, t.1) in
         simp (t.0, lt-leb _ _ long, and-false)
 
-    pub answer-full : length buffer < n + suboptionsAt → ◌≡◌ {A = Written × List ℕ} (written_as.TooLong, buffer) (into (writeOption (length buffer) subs) buffer)
-    unfolding writeOption into
+    pub answer-full : length buffer < n + suboptions_at → ◌≡◌ {A = Written × List ℕ} (written_as.TooLong, buffer) (into (write_option (length buffer) subs) buffer)
+    unfolding write_option into
     answer-full h =
         let t = told in
-        let full : length buffer < length (optionBytes subs) = omega (arith, t.1, option-length subs) in
+        let full : length buffer < length (option_bytes subs) = omega (arith, t.1, option-length subs) in
         simp (t.0, lt-leb _ _ full)
 
-    pub list-fitting : n ≤ mostBytes → FittingList subs
+    pub list-fitting : n ≤ most_bytes → FittingList subs
     list-fitting h = let t = told in record { good = (and-to (leb 1 (length subs)) (all? writable? subs) t.0).1; short = omega (arith, t.1) }
 
-    pub answer-written : (l₁ l₂ : List ℕ) (xs : List SuboptionValue) → subs ≡ xs → n ≤ mostBytes → n + suboptionsAt ≤ length buffer → l₁ ≡ put buffer 0 (optionHead (n + 1)) → l₂ ≡ put l₁ suboptionsAt (suboptionsBytes xs)
-        → ◌≡◌ {A = Written × List ℕ} (written_as.Bytes (n + suboptionsAt), l₂) (into (writeOption (length buffer) subs) buffer)
-    unfolding writeOption into optionBytes optionHead
+    pub answer-written : (l₁ l₂ : List ℕ) (xs : List SuboptionValue) → subs ≡ xs → n ≤ most_bytes → n + suboptions_at ≤ length buffer → l₁ ≡ put buffer 0 (option_head (n + 1)) → l₂ ≡ put l₁ suboptions_at (suboptions_bytes xs)
+        → ◌≡◌ {A = Written × List ℕ} (written_as.Bytes (n + suboptions_at), l₂) (into (write_option (length buffer) subs) buffer)
+    unfolding write_option into option_bytes option_head
     answer-written l₁ l₂ xs same small room e₁ e₂ =
         let t = told in
         let size = option-length subs in
-        let fits : length (optionBytes subs) ≤ length buffer = omega (arith, t.1) in
-        let len : 1 + length (suboptionsBytes subs) ≤ mostBytes + 1 = omega (arith, t.1) in
-        let head : n + 1 ≡ 1 + length (suboptionsBytes subs) = omega (arith, t.1) in
-        let count : n + suboptionsAt ≡ length (optionBytes subs) = omega (arith, t.1) in
-        let stored : l₂ ≡ put buffer 0 (optionBytes subs) =
-        put-more buffer l₁ l₂ 0 (optionHead (n + 1)) suboptionsAt (suboptionsBytes xs) e₁ refl e₂
-        ∙ ap (λ (l : List SuboptionValue). put buffer 0 (optionHead (n + 1) ++ suboptionsBytes l)) (sym same)
-        ∙ ap (λ (k : ℕ). put buffer 0 (optionHead k ++ suboptionsBytes subs)) head in
+        let fits : length (option_bytes subs) ≤ length buffer = omega (arith, t.1) in
+        let len : 1 + length (suboptions_bytes subs) ≤ most_bytes + 1 = omega (arith, t.1) in
+        let head : n + 1 ≡ 1 + length (suboptions_bytes subs) = omega (arith, t.1) in
+        let count : n + suboptions_at ≡ length (option_bytes subs) = omega (arith, t.1) in
+        let stored : l₂ ≡ put buffer 0 (option_bytes subs) =
+        put-more buffer l₁ l₂ 0 (option_head (n + 1)) suboptions_at (suboptions_bytes xs) e₁ refl e₂
+        ∙ ap (λ (l : List SuboptionValue). put buffer 0 (option_head (n + 1) ++ suboptions_bytes l)) (sym same)
+        ∙ ap (λ (k : ℕ). put buffer 0 (option_head k ++ suboptions_bytes subs)) head in
         ap₂ (λ (k : ℕ) (l : List ℕ). (written_as.Bytes k, l)) count stored ∙ simp (t.0, le-leb _ _ fits, le-leb _ _ len)
 
-pub put_as : (l l₂ : List ℕ) (at next : ℕ) (x y : SuboptionValue) → x ≡ y → PutAt l l₂ at next (suboptionBytes y) → PutAt l l₂ at next (suboptionBytes x)
-put_as l l₂ at next x y e p = subst (λ (z : SuboptionValue). PutAt l l₂ at next (suboptionBytes z)) (sym e) p
+pub put_as : (l l₂ : List ℕ) (at next : ℕ) (x y : SuboptionValue) → x ≡ y → PutAt l l₂ at next (suboption_bytes y) → PutAt l l₂ at next (suboption_bytes x)
+put_as l l₂ at next x y e p = subst (λ (z : SuboptionValue). PutAt l l₂ at next (suboption_bytes z)) (sym e) p

@@ -6,11 +6,11 @@ use mathlib.Core.Path.{◌≡◌, refl, ap}
 use mathlib.Core.List.{List, [], ◌∷◌}
 use lib.ListN.{length}
 use Rattle.option.specs.Values.{Entry}
-use Rattle.option.specs.Answers.{figuresOf, fields_of}
-use Rattle.option_measure.specs.Lists.{figuresIn, entry_of}
+use Rattle.option.specs.Answers.{figures_of, fields_of}
+use Rattle.option_measure.specs.Lists.{figures_in, entry_of}
 
-figures-back : (fs : List ℕ) → length fs ≤ 3 → figuresIn (figuresOf fs) ≡ fs
-unfolding figuresIn
+figures-back : (fs : List ℕ) → length fs ≤ 3 → figures_in (figures_of fs) ≡ fs
+unfolding figures_in
 figures-back [] h = refl
 figures-back (a ∷ []) h = refl
 figures-back (a ∷ b ∷ []) h = refl

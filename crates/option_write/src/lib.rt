@@ -1,24 +1,24 @@
 // Option 220 (RFC 6656): a whole list of suboptions, written into a buffer; nothing is written before all of it has been measured.
 ghost use Rattle.std.specs.Prelude.{◌≡◌, true, map, ◌+◌, ◌*◌, ◌≤◌, ◌<◌, length, take};
-ghost use Rattle.lists.specs.Lists.{all?, concatMap};
+ghost use Rattle.lists.specs.Lists.{all?, concat_map};
 ghost use Rattle.lists.specs.Put.{put};
-ghost use Rattle.option.specs.Writing.{twoBytes, requestBytes, entryBytes, entriesBytes, suboptionBytes, suboptionsBytes};
-ghost use Rattle.option.specs.Writer.{entryWritable?, writeOption};
+ghost use Rattle.option.specs.Writing.{two_bytes, request_bytes, entry_bytes, entries_bytes, suboption_bytes, suboptions_bytes};
+ghost use Rattle.option.specs.Writer.{entry_writable?, write_option};
 ghost use Rattle.option_measure.specs.Lists.{
-  itemSlots,
-  entrySlots,
-  octetSlots,
-  figuresIn,
+  item_slots,
+  entry_slots,
+  octet_slots,
+  figures_in,
   entry_of,
   part,
-  informationIn,
-  nameIn,
+  information_in,
+  name_in,
   value_of,
   value_at,
-  suboptionsOf,
+  suboptions_of,
 };
 ghost use Rattle.option_reply.specs.Answers.{into};
-ghost use Rattle.option_write.specs.Inner.{suboptionsAt, Fitting, FittingList, PutAt};
+ghost use Rattle.option_write.specs.Inner.{suboptions_at, Fitting, FittingList, PutAt};
 
 use option::{EntryFields, Figures, LONGEST_OPTION};
 use option_measure::{ENTRY_SLOTS, ITEM_SLOTS, Measured, OCTET_SLOTS};
@@ -35,7 +35,7 @@ const MOST_BYTES: usize = LONGEST_OPTION - SUBOPTIONS;
 // A number of 16 bits, high byte first.
 fn put_two(buf: &mut [u8], at: usize, n: u16)
     requires { at < 9223372036854775808 }
-    ensures { buf.new ≡ put buf.old at (twoBytes n) }
+    ensures { buf.new ≡ put buf.old at (two_bytes n) }
 {
     option_reply::store(buf, at, (n / 256) as u8);
     option_reply::store(buf, at + 1, (n % 256) as u8);
@@ -43,7 +43,7 @@ fn put_two(buf: &mut [u8], at: usize, n: u16)
 
 fn put_figures(buf: &mut [u8], at: usize, f: Figures)
     requires { (at < 4611686018427387904) × (f.count ≤ 3) }
-    ensures { buf.new ≡ put buf.old at (concatMap twoBytes (figuresIn f)) }
+    ensures { buf.new ≡ put buf.old at (concat_map two_bytes (figures_in f)) }
 {
     let n = f.count;
     if n == 0 {
@@ -63,7 +63,7 @@ fn put_figures(buf: &mut [u8], at: usize, f: Figures)
 // An entry with its figures; the place after it.
 fn put_full_entry(buf: &mut [u8], at: usize, e: EntryFields) -> usize
     requires { (at ≤ 1000000) × (e.figures.count ≤ 3) }
-    ensures { (buf.new ≡ put buf.old at (entryBytes (entry_of e))) × (result ≡ at + length (entryBytes (entry_of e))) }
+    ensures { (buf.new ≡ put buf.old at (entry_bytes (entry_of e))) × (result ≡ at + length (entry_bytes (entry_of e))) }
 {
     let f = e.figures;
     let n = f.count;
@@ -80,8 +80,8 @@ fn put_entries(
     first: usize,
     count: usize,
 ) -> usize
-    requires { (at ≤ 100000) × (first + count ≤ entrySlots) × (all? entryWritable? (map entry_of (part first count entries)) ≡ true) }
-    ensures { (buf.new ≡ put buf.old at (entriesBytes (map entry_of (part first count entries)))) × (result ≡ at + length (entriesBytes (map entry_of (part first count entries)))) }
+    requires { (at ≤ 100000) × (first + count ≤ entry_slots) × (all? entry_writable? (map entry_of (part first count entries)) ≡ true) }
+    ensures { (buf.new ≡ put buf.old at (entries_bytes (map entry_of (part first count entries)))) × (result ≡ at + length (entries_bytes (map entry_of (part first count entries)))) }
 {
     let mut p = at;
     let mut i: usize = 0;
@@ -95,7 +95,7 @@ fn put_entries(
 
 // Octets of the list.
 fn put_octets(buf: &mut [u8], at: usize, octets: [u8; OCTET_SLOTS], first: usize, count: usize)
-    requires { (at ≤ 1000000) × (first + count ≤ octetSlots) }
+    requires { (at ≤ 1000000) × (first + count ≤ octet_slots) }
     ensures { buf.new ≡ put buf.old at (part first count octets) }
 {
     let mut i: usize = 0;
@@ -107,7 +107,7 @@ fn put_octets(buf: &mut [u8], at: usize, octets: [u8; OCTET_SLOTS], first: usize
 
 fn put_request(buf: &mut [u8], at: usize, r: RequestItem)
     requires { at ≤ 1000000 }
-    ensures { buf.new ≡ put buf.old at (requestBytes r.h r.i r.length) }
+    ensures { buf.new ≡ put buf.old at (request_bytes r.h r.i r.length) }
 {
     option_reply::store(buf, at, 1);
     option_reply::store(buf, at + 1, 2);
@@ -122,8 +122,8 @@ fn put_information(
     f: InformationItem,
     entries: [EntryFields; ENTRY_SLOTS],
 ) -> usize
-    requires { (at ≤ 90000) × Fitting (informationIn entries f) }
-    ensures { PutAt buf.old buf.new at result (suboptionBytes (informationIn entries f)) }
+    requires { (at ≤ 90000) × Fitting (information_in entries f) }
+    ensures { PutAt buf.old buf.new at result (suboption_bytes (information_in entries f)) }
 {
     let first = f.first;
     let count = f.count;
@@ -134,8 +134,8 @@ fn put_information(
 
 // A name; the place after it.
 fn put_name(buf: &mut [u8], at: usize, n: NameItem, octets: [u8; OCTET_SLOTS]) -> usize
-    requires { (at ≤ 90000) × Fitting (nameIn octets n) }
-    ensures { PutAt buf.old buf.new at result (suboptionBytes (nameIn octets n)) }
+    requires { (at ≤ 90000) × Fitting (name_in octets n) }
+    ensures { PutAt buf.old buf.new at result (suboption_bytes (name_in octets n)) }
 {
     let first = n.first;
     let count = n.count;
@@ -154,7 +154,7 @@ fn put_item(
     octets: [u8; OCTET_SLOTS],
 ) -> usize
     requires { (at ≤ 90000) × Fitting (value_of entries octets item) }
-    ensures { PutAt buf.old buf.new at result (suboptionBytes (value_of entries octets item)) }
+    ensures { PutAt buf.old buf.new at result (suboption_bytes (value_of entries octets item)) }
 {
     match item {
         Item::Request(r) => {
@@ -175,8 +175,8 @@ fn put_items(
     entries: [EntryFields; ENTRY_SLOTS],
     octets: [u8; OCTET_SLOTS],
 )
-    requires { (count ≤ itemSlots) × FittingList (map (value_at entries octets) (take count items)) }
-    ensures { buf.new ≡ put buf.old suboptionsAt (suboptionsBytes (map (value_at entries octets) (take count items))) }
+    requires { (count ≤ item_slots) × FittingList (map (value_at entries octets) (take count items)) }
+    ensures { buf.new ≡ put buf.old suboptions_at (suboptions_bytes (map (value_at entries octets) (take count items))) }
 {
     let mut p: usize = SUBOPTIONS;
     let mut i: usize = 0;
@@ -190,7 +190,7 @@ fn put_items(
 
 // Option 220: all of a list of suboptions, at the start of the buffer. Everything is checked before the first byte is written.
 pub fn write_option(list: SuboptionList, buf: &mut [u8]) -> Written
-    ensures { (result, buf.new) ≡ into (writeOption (length buf.old) (suboptionsOf list)) buf.old }
+    ensures { (result, buf.new) ≡ into (write_option (length buf.old) (suboptions_of list)) buf.old }
 {
     let count = list.count;
     let items = list.items;

@@ -3,8 +3,8 @@ ghost use Rattle.std.specs.Prelude.{◌≡◌, ◌+◌, ◌%◌, ◌≤◌, ◌<
 ghost use Rattle.prefix.specs.Prefixes.{
   size as size_of,
   end as end_of,
-  lower as lowerOf,
-  upper as upperOf,
+  lower as lower_of,
+  upper as upper_of,
   checked,
   block?,
   longest,
@@ -80,7 +80,7 @@ impl Prefix {
     // The lower half of a prefix that is not of the longest length.
     pub fn lower(self) -> Prefix
         requires { self.length < longest }
-        ensures { result ≡ lowerOf self }
+        ensures { result ≡ lower_of self }
     {
         Prefix {
             network: self.network,
@@ -91,7 +91,7 @@ impl Prefix {
     // The upper half of a prefix that is not of the longest length and lies in the address space.
     pub fn upper(self) -> Prefix
         requires { (self.length < longest) × (end_of self ≤ 4294967296) }
-        ensures { result ≡ upperOf self }
+        ensures { result ≡ upper_of self }
     {
         let length = self.length + 1;
         let network = (self.network as u64) + size(length);

@@ -25,8 +25,8 @@ use Rattle.free_space.specs.Space.{unused?}
 use Rattle.free_space.specs.Grant.{covered?, walk}
 use Rattle.free_space.proofs.WalkLaws.{unused-to, unused-of, covered-to, walk-unused, walk-covered, walk-halves}
 use Rattle.sheet_text.specs.declared.Used.{Used}
-use Rattle.sheet_text.specs.Sheet.{Row, usedRow, freeRow, usedIn, freeIn, prefixUsed, usedAt, rowsIn}
-use Rattle.sheet_text.specs.InnerScan.{Scan, clear?, both, freeScan, usedScan, scan}
+use Rattle.sheet_text.specs.Sheet.{Row, used_row, free_row, used_in, free_in, prefix_used, used_at, rows_in}
+use Rattle.sheet_text.specs.InnerScan.{Scan, clear?, both, free_scan, used_scan, scan}
 use Rattle.sheet_text.proofs.ShowLaws.{used-append, free-append, length-used, length-free, scan-clear, scan-here, scan-split, clear-not, clear-yes}
 
 -- LISTS BY INDEX
@@ -48,18 +48,18 @@ any?-map-at f g (x ∷ xs) d (suc k) h e = or_right (f (g x)) (any? f (map g xs)
 -- THE CLAUSES OF THE DEFINITION
 
 module _ (xs : List Used) (p : Prefix) where
-  rows-unused : (left : ℕ) → unused? (map prefixUsed xs) p ≡ true → rowsIn xs left p ≡ freeRow p ∷ []
-  unfolding rowsIn
+  rows-unused : (left : ℕ) → unused? (map prefix_used xs) p ≡ true → rows_in xs left p ≡ free_row p ∷ []
+  unfolding rows_in
   rows-unused zero e = rw e refl
   rows-unused (suc left) e = rw e refl
 
-  rows-used : (left : ℕ) (x : Used) → unused? (map prefixUsed xs) p ≡ false → usedAt p xs ≡ some x → rowsIn xs left p ≡ usedRow x ∷ []
-  unfolding rowsIn
+  rows-used : (left : ℕ) (x : Used) → unused? (map prefix_used xs) p ≡ false → used_at p xs ≡ some x → rows_in xs left p ≡ used_row x ∷ []
+  unfolding rows_in
   rows-used zero x e f = rw (e, f) refl
   rows-used (suc left) x e f = rw (e, f) refl
 
-  rows-halves : (left : ℕ) → unused? (map prefixUsed xs) p ≡ false → usedAt p xs ≡ none → rowsIn xs (suc left) p ≡ rowsIn xs left (lower p) ++ rowsIn xs left (upper p)
-  unfolding rowsIn
+  rows-halves : (left : ℕ) → unused? (map prefix_used xs) p ≡ false → used_at p xs ≡ none → rows_in xs (suc left) p ≡ rows_in xs left (lower p) ++ rows_in xs left (upper p)
+  unfolding rows_in
   rows-halves left e f = rw (e, f) refl
 
 abbrev Same : Prefix → Used → Type 0
@@ -73,16 +73,16 @@ same_not p x h =
     not-true⇒false (same? p x)
     (λ e. let t = and-to (eqb x.network p.network) (eqb x.length p.length) e in h (eqb-true _ _ t.0, eqb-true _ _ t.1))
 
-used-first : (p : Prefix) (xs : List Used) (d : Used) (i : ℕ) → i < length xs → ((k : ℕ) → k < i → Same p (get_or xs k d) → ⊥) → Same p (get_or xs i d) → usedAt p xs ≡ some (get_or xs i d)
+used-first : (p : Prefix) (xs : List Used) (d : Used) (i : ℕ) → i < length xs → ((k : ℕ) → k < i → Same p (get_or xs k d) → ⊥) → Same p (get_or xs i d) → used_at p xs ≡ some (get_or xs i d)
 used-first p [] d i h f s = absurd (omega arith)
-used-first p (x ∷ xs) d zero h f s = cond-true (same? p x) (some x) (usedAt p xs) (and-of _ _ (eq-eqb _ _ s.0) (eq-eqb _ _ s.1))
+used-first p (x ∷ xs) d zero h f s = cond-true (same? p x) (some x) (used_at p xs) (and-of _ _ (eq-eqb _ _ s.0) (eq-eqb _ _ s.1))
 used-first p (x ∷ xs) d (suc i) h f s =
-    cond-false (same? p x) (some x) (usedAt p xs) (same_not p x (f 0 (omega arith))) ∙ used-first p xs d i (omega arith) (λ k l. f (suc k) (omega arith)) s
+    cond-false (same? p x) (some x) (used_at p xs) (same_not p x (f 0 (omega arith))) ∙ used-first p xs d i (omega arith) (λ k l. f (suc k) (omega arith)) s
 
-used-none : (p : Prefix) (xs : List Used) (d : Used) → ((k : ℕ) → k < length xs → Same p (get_or xs k d) → ⊥) → usedAt p xs ≡ none
+used-none : (p : Prefix) (xs : List Used) (d : Used) → ((k : ℕ) → k < length xs → Same p (get_or xs k d) → ⊥) → used_at p xs ≡ none
 used-none p [] d f = refl
 used-none p (x ∷ xs) d f =
-    cond-false (same? p x) (some x) (usedAt p xs) (same_not p x (f 0 (omega arith))) ∙ used-none p xs d (λ k l. f (suc k) (omega arith))
+    cond-false (same? p x) (some x) (used_at p xs) (same_not p x (f 0 (omega arith))) ∙ used-none p xs d (λ k l. f (suc k) (omega arith))
 
 -- Free rows of two halves with a used row.
 few-both : (m a b u x y f : ℕ) → u ≡ a + b → f ≡ x + y → 1 ≤ u → x ≤ m * a + 1 → y ≤ m * b + 1 → f ≤ suc m * u + 1
@@ -95,12 +95,12 @@ few-both m a b u x y f eu ef h i j =
 -- The leases are blocks, and ascend without overlap.
 pub record Blocks (xs : List Used) (d : Used) : Type 0 where
   pub long : (k : ℕ) → k < length xs → (get_or xs k d).length ≤ longest
-  pub aligned : (k : ℕ) → k < length xs → Aligned (prefixUsed (get_or xs k d))
-  pub ascend : (j k : ℕ) → j < k → k < length xs → end (prefixUsed (get_or xs j d)) ≤ (get_or xs k d).network
+  pub aligned : (k : ℕ) → k < length xs → Aligned (prefix_used (get_or xs k d))
+  pub ascend : (j k : ℕ) → j < k → k < length xs → end (prefix_used (get_or xs j d)) ≤ (get_or xs k d).network
 
 module _ (xs : List Used) (d : Used) (blocks : Blocks xs d) where
   abbrev at : ℕ → Prefix
-  at k = prefixUsed (get_or xs k d)
+  at k = prefix_used (get_or xs k d)
 
   -- The leases before i end up to the address c, and those from i on start there or later.
   pub record Cursor (i c : ℕ) : Type 0 where
@@ -113,11 +113,11 @@ module _ (xs : List Used) (d : Used) (blocks : Blocks xs d) where
   Tidy p = (k : ℕ) → k < length xs → Apart p (at k) ⊎ Inside (at k) p
 
   pub record Scanned (left : ℕ) (p : Prefix) (i : ℕ) (s : Scan) : Type 0 where
-    pub rows : s.rows ≡ rowsIn xs left p
+    pub rows : s.rows ≡ rows_in xs left p
     pub cursor : Cursor s.next (end p)
-    pub used : drop i xs ≡ usedIn s.rows ++ drop s.next xs
-    pub free : freeIn s.rows ≡ walk (map prefixUsed xs) (suc (suc left)) p
-    pub few : length (freeIn s.rows) ≤ left * length (usedIn s.rows) + 1
+    pub used : drop i xs ≡ used_in s.rows ++ drop s.next xs
+    pub free : free_in s.rows ≡ walk (map prefix_used xs) (suc (suc left)) p
+    pub few : length (free_in s.rows) ≤ left * length (used_in s.rows) + 1
 
   module _ (left : ℕ) (p : Prefix) (i : ℕ) (level : p.length + left ≡ longest) (aligned : Aligned p) (tidy : Tidy p) (cursor : Cursor i p.network) where
     -- p is free.
@@ -128,19 +128,19 @@ module _ (xs : List Used) (d : Used) (blocks : Blocks xs d) where
           (λ l. let e : k ≡ i = omega arith in subst (λ (j : ℕ). end p ≤ (get_or xs j d).network) (sym e) (clear (omega arith)))
           (λ l. omega (arith, clear (omega arith), blocks.ascend i k (omega arith) lt, size-positive (get_or xs i d).length))
 
-      apart-p : All (Apart p) (map prefixUsed xs)
-      apart-p = all-map-of prefixUsed (Apart p) xs d (λ k lt. by_cases (dec_le i k) (λ h. inl (after-p k h lt)) (λ h. inr (cursor.before k (omega arith))))
+      apart-p : All (Apart p) (map prefix_used xs)
+      apart-p = all-map-of prefix_used (Apart p) xs d (λ k lt. by_cases (dec_le i k) (λ h. inl (after-p k h lt)) (λ h. inr (cursor.before k (omega arith))))
 
-      scanned-free : Scanned left p i (freeScan p i)
+      scanned-free : Scanned left p i (free_scan p i)
       scanned-free = record {
-        rows = sym (rows-unused xs p left (unused-of (map prefixUsed xs) p apart-p));
+        rows = sym (rows-unused xs p left (unused-of (map prefix_used xs) p apart-p));
         cursor = record {
           bound = cursor.bound;
           before = λ k h. omega (arith, cursor.before k h, size-positive p.length);
           later = after-p;
         };
         used = refl;
-        free = sym (walk-unused (map prefixUsed xs) (suc (suc left)) p apart-p);
+        free = sym (walk-unused (map prefix_used xs) (suc (suc left)) p apart-p);
         few = omega arith;
       }
 
@@ -153,8 +153,8 @@ module _ (xs : List Used) (d : Used) (blocks : Blocks xs d) where
       lies : Inside (at i) p
       lies = ⊎_elim (λ h. absurd (shares h)) (λ h. h) (tidy i lt)
 
-      taken : unused? (map prefixUsed xs) p ≡ false
-      taken = not-true⇒false (unused? (map prefixUsed xs) p) (λ e. shares (all-map-at prefixUsed (Apart p) xs d (unused-to (map prefixUsed xs) p e) i lt))
+      taken : unused? (map prefix_used xs) p ≡ false
+      taken = not-true⇒false (unused? (map prefix_used xs) p) (λ e. shares (all-map-at prefix_used (Apart p) xs d (unused-to (map prefix_used xs) p e) i lt))
 
       -- Of the leases before it none is p.
       earlier : (k : ℕ) → k < i → Same p (get_or xs k d) → ⊥
@@ -171,7 +171,7 @@ module _ (xs : List Used) (d : Used) (blocks : Blocks xs d) where
         same : Same p (get_or xs i d)
         same = (omega (arith, covers.0, lies.0), omega (arith, same-order, blocks.long i lt))
 
-        scanned-used : Scanned left p i (usedScan (get_or xs i d) i)
+        scanned-used : Scanned left p i (used_scan (get_or xs i d) i)
         scanned-used = record {
           rows = sym (rows-used xs p left (get_or xs i d) taken (used-first p xs d i lt earlier same));
           cursor = record {
@@ -184,8 +184,8 @@ module _ (xs : List Used) (d : Used) (blocks : Blocks xs d) where
           };
           used = drop_at xs i d lt;
           free =
-              sym (walk-covered (map prefixUsed xs) (suc (suc left)) p taken
-              (any?-map-at (inside? p) prefixUsed xs d i lt (inside_of p (at i) covers)));
+              sym (walk-covered (map prefix_used xs) (suc (suc left)) p taken
+              (any?-map-at (inside? p) prefix_used xs d i lt (inside_of p (at i) covers)));
           few = omega arith;
         }
 
@@ -209,14 +209,14 @@ module _ (xs : List Used) (d : Used) (blocks : Blocks xs d) where
             absurd (none_is k l (omega (arith, c.0, h.0), omega (arith, e, blocks.long k l))))
             (λ g. omega arith)
 
-        not_covered : covered? (map prefixUsed xs) p ≡ false
+        not_covered : covered? (map prefix_used xs) p ≡ false
         not_covered =
-            not-true⇒false (covered? (map prefixUsed xs) p)
+            not-true⇒false (covered? (map prefix_used xs) p)
             (λ e.
-            let no : All (λ q. Inside p q → ⊥) (map prefixUsed xs) =
-            all-map-of prefixUsed (λ q. Inside p q → ⊥) xs d (λ k l h.
+            let no : All (λ q. Inside p q → ⊥) (map prefix_used xs) =
+            all-map-of prefix_used (λ q. Inside p q → ⊥) xs d (λ k l h.
             ⊎_elim (λ a. apart-absurd p (at k) h a) (λ g. omega (arith, smaller k l g, inside-order p (at k) h)) (tidy k l)) in
-            let t = any-all (map prefixUsed xs) (covered-to (map prefixUsed xs) p e) no in
+            let t = any-all (map prefix_used xs) (covered-to (map prefix_used xs) p e) no in
             t.2 t.1)
 
         shorter : p.length < longest
@@ -236,11 +236,11 @@ module _ (xs : List Used) (d : Used) (blocks : Blocks xs d) where
             (λ h. ⊎_elim (λ u. inl (inr u.1)) inr (half k l h)) (tidy k l)
 
         module _ (rest : ℕ) (low high : Scan) (first : Scanned rest (lower p) i low) (second : Scanned rest (upper p) low.next high) where
-          halves-used : drop i xs ≡ usedIn (low.rows ++ high.rows) ++ drop high.next xs
+          halves-used : drop i xs ≡ used_in (low.rows ++ high.rows) ++ drop high.next xs
           halves-used =
               first.used
-              ∙ ap (λ (l : List Used). usedIn low.rows ++ l) second.used
-              ∙ sym (append_assoc (usedIn low.rows) (usedIn high.rows) (drop high.next xs))
+              ∙ ap (λ (l : List Used). used_in low.rows ++ l) second.used
+              ∙ sym (append_assoc (used_in low.rows) (used_in high.rows) (drop high.next xs))
               ∙ ap (λ (l : List Used). l ++ drop high.next xs) (sym (used-append low.rows high.rows))
 
           halves-end : end (upper p) ≡ end p
@@ -250,13 +250,13 @@ module _ (xs : List Used) (d : Used) (blocks : Blocks xs d) where
           halves-later k h l = omega (arith, halves-end, second.cursor.later k h l)
 
           -- The lease that starts in p is one of the used rows.
-          some-used : 1 ≤ length (usedIn (low.rows ++ high.rows))
+          some-used : 1 ≤ length (used_in (low.rows ++ high.rows))
           some-used =
               by_cases (dec_le high.next i)
               (λ h. absurd (omega (arith, halves-later i h lt)))
-              (λ h. omega (arith, ap length halves-used, length-append (usedIn (low.rows ++ high.rows)) (drop high.next xs), length-drop i xs, length-drop high.next xs, second.cursor.bound))
+              (λ h. omega (arith, ap length halves-used, length-append (used_in (low.rows ++ high.rows)) (drop high.next xs), length-drop i xs, length-drop high.next xs, second.cursor.bound))
 
-          halves-few : length (freeIn (low.rows ++ high.rows)) ≤ suc rest * length (usedIn (low.rows ++ high.rows)) + 1
+          halves-few : length (free_in (low.rows ++ high.rows)) ≤ suc rest * length (used_in (low.rows ++ high.rows)) + 1
           halves-few = few-both rest _ _ _ _ _ _ (length-used low.rows high.rows) (length-free low.rows high.rows) some-used first.few second.few
 
           scanned-both : Scanned (suc rest) p i (both low high)
@@ -271,7 +271,7 @@ module _ (xs : List Used) (d : Used) (blocks : Blocks xs d) where
             free =
                 free-append low.rows high.rows
                 ∙ ap₂ (λ (a b : List Prefix). a ++ b) first.free second.free
-                ∙ sym (walk-halves (map prefixUsed xs) (suc (suc rest)) p taken not_covered);
+                ∙ sym (walk-halves (map prefix_used xs) (suc (suc rest)) p taken not_covered);
             few = halves-few;
           }
 

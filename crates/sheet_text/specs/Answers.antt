@@ -2,10 +2,10 @@
 use Rattle.lists.specs.Basics.{ℕ, not, cond, List, ◌++◌, Option, none, some, length, drop, ltb}
 use Rattle.table.specs.declared.LeaseTable.{LeaseTable}
 use Rattle.table.specs.Table.{sound}
-use Rattle.image.specs.Reading.{loadSaved}
+use Rattle.image.specs.Reading.{load_saved}
 use Rattle.sheet_text.specs.declared.SheetAnswer.{SheetAnswer}
 use Rattle.sheet_text.specs.declared.SheetAnswer.TheVariants.{Written, NotSound, TooSmall}
-use Rattle.sheet_text.specs.Sheet.{sheetText}
+use Rattle.sheet_text.specs.Sheet.{sheet_text}
 
 -- The sheet into a buffer; a refusal leaves "the old bytes everywhere", and bytes after those written keep their content.
 abbrev pub into : List ℕ → List ℕ → SheetAnswer × List ℕ
@@ -13,13 +13,13 @@ into text buffer =
     cond (ltb (length buffer) (length text)) (TooSmall, buffer)
     (Written (length text), text ++ drop (length text) buffer)
 
-unfoldable pub sheetOf : LeaseTable → List ℕ → SheetAnswer × List ℕ
-sheetOf t buffer = cond (not (sound t)) (NotSound, buffer) (into (sheetText t) buffer)
+unfoldable pub sheet_of : LeaseTable → List ℕ → SheetAnswer × List ℕ
+sheet_of t buffer = cond (not (sound t)) (NotSound, buffer) (into (sheet_text t) buffer)
 
 -- Of an image, in either form: "for load and the sheet, the saved bytes only"; "The sheet reads both".
-abbrev pub sheetOfLoaded : Option LeaseTable → List ℕ → SheetAnswer × List ℕ
-sheetOfLoaded none buffer = (NotSound, buffer)
-sheetOfLoaded (some t) buffer = sheetOf t buffer
+abbrev pub sheet_of_loaded : Option LeaseTable → List ℕ → SheetAnswer × List ℕ
+sheet_of_loaded none buffer = (NotSound, buffer)
+sheet_of_loaded (some t) buffer = sheet_of t buffer
 
-unfoldable pub sheetOfImage : List ℕ → List ℕ → SheetAnswer × List ℕ
-sheetOfImage saved buffer = sheetOfLoaded (loadSaved saved) buffer
+unfoldable pub sheet_of_image : List ℕ → List ℕ → SheetAnswer × List ℕ
+sheet_of_image saved buffer = sheet_of_loaded (load_saved saved) buffer

@@ -2,56 +2,56 @@
 use Rattle.std.specs.Prelude.{ℕ, ◌+◌, ◌-◌, ◌*◌, ◌++◌, length}
 use Rattle.text.specs.Ascii.{ascii}
 use Rattle.prefix.specs.Prefixes.{longest}
-use Rattle.names.specs.Names.{longestName}
-use Rattle.table.specs.Table.{poolSlots, leaseSlots}
+use Rattle.names.specs.Names.{longest_name}
+use Rattle.table.specs.Table.{pool_slots, lease_slots}
 
 -- The longest prefix, and the longest number of 32 bits.
-abbrev pub prefixMost : ℕ
-prefixMost = length (ascii "255.255.255.252/30")
+abbrev pub prefix_most : ℕ
+prefix_most = length (ascii "255.255.255.252/30")
 
-abbrev pub numberMost : ℕ
-numberMost = length (ascii "4294967295")
+abbrev pub number_most : ℕ
+number_most = length (ascii "4294967295")
 
 -- The marks of a prefix, and the words of each row.
-abbrev pub prefixMarks : ℕ
-prefixMarks = length (ascii ".../")
+abbrev pub prefix_marks : ℕ
+prefix_marks = length (ascii ".../")
 
-abbrev pub usedWords : ℕ
-usedWords = length (ascii "used " ++ ascii " station " ++ ascii " until " ++ ascii "\n")
+abbrev pub used_words : ℕ
+used_words = length (ascii "used " ++ ascii " station " ++ ascii " until " ++ ascii "\n")
 
-abbrev pub freeWords : ℕ
-freeWords = length (ascii "free " ++ ascii "\n")
+abbrev pub free_words : ℕ
+free_words = length (ascii "free " ++ ascii "\n")
 
-abbrev pub headWords : ℕ
-headWords = length (ascii "sheet lines=" ++ ascii " free=" ++ ascii "\n")
+abbrev pub head_words : ℕ
+head_words = length (ascii "sheet lines=" ++ ascii " free=" ++ ascii "\n")
 
 -- A name, with its word.
-abbrev pub nameMost : ℕ
-nameMost = length (ascii " name ") + longestName
+abbrev pub name_most : ℕ
+name_most = length (ascii " name ") + longest_name
 
-abbrev pub usedMost : ℕ
-usedMost = usedWords + prefixMost + 2 * numberMost + nameMost
+abbrev pub used_most : ℕ
+used_most = used_words + prefix_most + 2 * number_most + name_most
 
-abbrev pub freeMost : ℕ
-freeMost = freeWords + prefixMost
+abbrev pub free_most : ℕ
+free_most = free_words + prefix_most
 
 -- A pool has a length of 8 or more, a lease one of 30 or less: 22 free rows for each lease, and one for each pool.
 abbrev pub halvings : ℕ
 halvings = longest - 8
 
-abbrev pub mostFree : ℕ
-mostFree = halvings * leaseSlots + poolSlots
+abbrev pub most_free : ℕ
+most_free = halvings * lease_slots + pool_slots
 
 -- How many digits the numbers of leases and of free rows have.
-abbrev pub leaseDigits : ℕ
-leaseDigits = 4
+abbrev pub lease_digits : ℕ
+lease_digits = 4
 
-abbrev pub freeDigits : ℕ
-freeDigits = 5
+abbrev pub free_digits : ℕ
+free_digits = 5
 
-abbrev pub headMost : ℕ
-headMost = headWords + leaseDigits + freeDigits
+abbrev pub head_most : ℕ
+head_most = head_words + lease_digits + free_digits
 
 -- A buffer of this many bytes holds the sheet of every sound table.
-abbrev pub sheetSize : ℕ
-sheetSize = headMost + usedMost * leaseSlots + freeMost * mostFree
+abbrev pub sheet_size : ℕ
+sheet_size = head_most + used_most * lease_slots + free_most * most_free

@@ -1,33 +1,33 @@
 // The sheet of an image's lease table, as text into a lent buffer. The leases are read where they stand in the image.
 ghost use Rattle.std.specs.Prelude.{◌≡◌, ◌+◌, ◌-◌, ◌*◌, ◌≤◌, ◌<◌, length, ltb};
 ghost use Rattle.prefix.specs.Prefixes.{longest, end};
-ghost use Rattle.table.specs.Table.{leaseSlots};
+ghost use Rattle.table.specs.Table.{lease_slots};
 ghost use Rattle.image.specs.declared.Form.TheVariants.{First};
-ghost use Rattle.image.specs.Image.{headSize, poolSize, leaseSize};
+ghost use Rattle.image.specs.Image.{head_size, pool_size, lease_size};
 ghost use Rattle.text.specs.Wrote.{Wrote};
-ghost use Rattle.sheet_text.specs.Sheet.{prefixText, shown, nameRow, usedRow, freeRow, freeIn, rows, rowText, headText, sheetText};
-ghost use Rattle.sheet_text.specs.Answers.{into, sheetOfImage};
-ghost use Rattle.sheet_text.specs.SheetSizes.{sheetSize};
+ghost use Rattle.sheet_text.specs.Sheet.{prefix_text, shown, name_row, used_row, free_row, free_in, rows, row_text, head_text, sheet_text};
+ghost use Rattle.sheet_text.specs.Answers.{into, sheet_of_image};
+ghost use Rattle.sheet_text.specs.SheetSizes.{sheet_size};
 ghost use Rattle.sheet_text.specs.InnerScan.{
-  prefixSize,
-  usedSize,
-  freeSize,
-  headTextSize,
+  prefix_size,
+  used_size,
+  free_size,
+  head_text_size,
   Fits,
-  leaseShown,
-  poolShown,
-  poolsShown,
+  lease_shown,
+  pool_shown,
+  pools_shown,
   SoundSaved,
   OfSaved,
   SoundImage,
   OfTable,
   clear?,
-  scanOf,
-  scanHalves,
-  scanAll,
+  scan_of,
+  scan_halves,
+  scan_all,
   Showed,
   ScanReady,
-  scanText,
+  scan_text,
   ReadyAll,
 };
 
@@ -89,7 +89,7 @@ pub const SHEET: usize = FIRST_ROW + USED_ROW * LEASES + FREE_ROW * MOST_FREE;
 
 // A buffer that holds the sheet of every sound table.
 pub fn buffer() -> [u8; SHEET]
-    ensures { sheetSize ≡ length result }
+    ensures { sheet_size ≡ length result }
 {
     [0; SHEET]
 }
@@ -104,9 +104,9 @@ pub enum SheetAnswer {
 // ROWS AS TEXT. Each writer puts its bytes from a place on, where the buffer has room for them, and answers the place after them.
 
 fn put_prefix(out: &mut [u8], at: usize, p: Prefix) -> usize
-    requires { at + prefixSize p ≤ length out.old }
-    ensures wrote { Wrote out.old at (prefixText p) out.new result }
-    ensures value { result ≡ at + prefixSize p }
+    requires { at + prefix_size p ≤ length out.old }
+    ensures wrote { Wrote out.old at (prefix_text p) out.new result }
+    ensures value { result ≡ at + prefix_size p }
 {
     let n = p.network;
     let a = text::decimal(out, at, n / 16777216);
@@ -141,8 +141,8 @@ fn shown(octet: u8) -> u8
 
 // A name at the end of a row, nothing where there is none.
 fn put_name(out: &mut [u8], at: usize, name: Name) -> usize
-    requires { at + length (nameRow name) ≤ length out.old }
-    ensures { Wrote out.old at (nameRow name) out.new result }
+    requires { at + length (name_row name) ≤ length out.old }
+    ensures { Wrote out.old at (name_row name) out.new result }
 {
     let n = names::length(name) as usize;
     if n == 0 {
@@ -159,8 +159,8 @@ fn put_name(out: &mut [u8], at: usize, name: Name) -> usize
 }
 
 fn put_used(out: &mut [u8], at: usize, x: Used) -> usize
-    requires { at + usedSize x ≤ length out.old }
-    ensures { Wrote out.old at (rowText (usedRow x)) out.new result }
+    requires { at + used_size x ≤ length out.old }
+    ensures { Wrote out.old at (row_text (used_row x)) out.new result }
 {
     let word = text::put(out, at, &USED);
     let p = Prefix {
@@ -177,8 +177,8 @@ fn put_used(out: &mut [u8], at: usize, x: Used) -> usize
 }
 
 fn put_free(out: &mut [u8], at: usize, p: Prefix) -> usize
-    requires { at + freeSize p ≤ length out.old }
-    ensures { Wrote out.old at (rowText (freeRow p)) out.new result }
+    requires { at + free_size p ≤ length out.old }
+    ensures { Wrote out.old at (row_text (free_row p)) out.new result }
 {
     let word = text::put(out, at, &FREE);
     let place = put_prefix(out, word, p);
@@ -187,8 +187,8 @@ fn put_free(out: &mut [u8], at: usize, p: Prefix) -> usize
 
 // The first row.
 fn put_head(out: &mut [u8], leases: u32, free: u32) -> usize
-    requires { headTextSize leases free ≤ length out.old }
-    ensures { Wrote out.old 0 (headText leases free) out.new result }
+    requires { head_text_size leases free ≤ length out.old }
+    ensures { Wrote out.old 0 (head_text leases free) out.new result }
 {
     let lines = text::put(out, 0, &LINES);
     let count = text::decimal(out, lines, leases);
@@ -200,8 +200,8 @@ fn put_head(out: &mut [u8], leases: u32, free: u32) -> usize
 // ROWS SHOWN. Each of these writes into a buffer that has room, or into an empty one, and then only tells how long the text is.
 
 fn show_free(out: &mut [u8], at: usize, p: Prefix) -> usize
-    requires { Fits out.old at (rowText (freeRow p)) }
-    ensures { Wrote out.old at (rowText (freeRow p)) out.new result }
+    requires { Fits out.old at (row_text (free_row p)) }
+    ensures { Wrote out.old at (row_text (free_row p)) out.new result }
 {
     if out.len() == 0 {
         let mut row = [0u8; ANY_ROW];
@@ -211,8 +211,8 @@ fn show_free(out: &mut [u8], at: usize, p: Prefix) -> usize
 }
 
 fn show_used(out: &mut [u8], at: usize, x: Used) -> usize
-    requires { Fits out.old at (rowText (usedRow x)) }
-    ensures { Wrote out.old at (rowText (usedRow x)) out.new result }
+    requires { Fits out.old at (row_text (used_row x)) }
+    ensures { Wrote out.old at (row_text (used_row x)) out.new result }
 {
     if out.len() == 0 {
         let mut row = [0u8; ANY_ROW];
@@ -223,8 +223,8 @@ fn show_used(out: &mut [u8], at: usize, x: Used) -> usize
 
 // What the image shows of its i-th lease.
 fn lease(image: &[u8], base: usize, i: usize) -> Used
-    requires { base + leaseSize * i + leaseSize ≤ length image.now }
-    ensures { result ≡ leaseShown image.now base i }
+    requires { base + lease_size * i + lease_size ≤ length image.now }
+    ensures { result ≡ lease_shown image.now base i }
 {
     let x = image_records::lease_at(image, base + LEASE * i);
     let name = x.name;
@@ -245,8 +245,8 @@ fn wide(x: u32) -> u64
 
 // None of the n leases is left, or the next one starts at or after the end of the prefix.
 fn is_free(image: &[u8], base: usize, n: usize, i: usize, p: Prefix) -> bool
-    requires { base + leaseSize * n ≤ length image.now }
-    ensures { result ≡ clear? n (end p) i (leaseShown image.now base i).network }
+    requires { base + lease_size * n ≤ length image.now }
+    ensures { result ≡ clear? n (end p) i (lease_shown image.now base i).network }
 {
     if n <= i {
         return true;
@@ -265,8 +265,8 @@ fn show_prefix(
     at: usize,
     p: Prefix,
 ) -> usize
-    requires { ScanReady image.now base n out.old at p (scanOf (leaseShown image.now base) n p next.old) }
-    ensures { Showed out.old at (scanOf (leaseShown image.now base) n p next.old) out.new result next.new }
+    requires { ScanReady image.now base n out.old at p (scan_of (lease_shown image.now base) n p next.old) }
+    ensures { Showed out.old at (scan_of (lease_shown image.now base) n p next.old) out.new result next.new }
 {
     let i = *next;
     if is_free(image, base, n, i, p) {
@@ -291,8 +291,8 @@ fn show_halves(
     at: usize,
     p: Prefix,
 ) -> usize
-    requires { (p.length < longest) × ScanReady image.now base n out.old at p (scanHalves (leaseShown image.now base) n p next.old) }
-    ensures { Showed out.old at (scanHalves (leaseShown image.now base) n p next.old) out.new result next.new }
+    requires { (p.length < longest) × ScanReady image.now base n out.old at p (scan_halves (lease_shown image.now base) n p next.old) }
+    ensures { Showed out.old at (scan_halves (lease_shown image.now base) n p next.old) out.new result next.new }
 {
     let low = p.lower();
     let high = p.upper();
@@ -302,8 +302,8 @@ fn show_halves(
 
 // The j-th pool.
 fn pool(image: &[u8], j: usize) -> Prefix
-    requires { headSize + poolSize * j + poolSize ≤ length image.now }
-    ensures { result ≡ poolShown image.now j }
+    requires { head_size + pool_size * j + pool_size ≤ length image.now }
+    ensures { result ≡ pool_shown image.now j }
 {
     table::pool_prefix(image::pool_at(image, HEAD + POOL * j))
 }
@@ -311,7 +311,7 @@ fn pool(image: &[u8], j: usize) -> Prefix
 // Shows the first k pools.
 fn show_pools(out: &mut [u8], image: &[u8], base: usize, n: usize, k: usize, from: usize) -> usize
     requires { ReadyAll image.now base n k out.old from }
-    ensures { Wrote out.old from (scanText (scanAll (leaseShown image.now base) n (poolsShown image.now k) 0)) out.new result }
+    ensures { Wrote out.old from (scan_text (scan_all (lease_shown image.now base) n (pools_shown image.now k) 0)) out.new result }
 {
     let mut next: usize = 0;
     let mut at = from;
@@ -328,15 +328,15 @@ fn show_pools(out: &mut [u8], image: &[u8], base: usize, n: usize, k: usize, fro
 // How many rows are free: the whole free blocks. The first row has the number, so it is told before a row is written.
 fn free_rows(image: &[u8], k: usize, n: usize) -> u32
     requires { SoundImage image.now k n }
-    ensures { OfTable image.now (λ t. result ≡ length (freeIn (rows t))) }
+    ensures { OfTable image.now (λ t. result ≡ length (free_in (rows t))) }
 {
     counts::total(image_counts::counts_in(image, k, n))
 }
 
 // Whether so many bytes are too few. They are enough if they are with every row as long as rows get; else the rows are measured.
 fn too_small(room: usize, image: &[u8], k: usize, n: usize, free: u32) -> bool
-    requires { SoundImage image.now k n × OfTable image.now (λ t. free ≡ length (freeIn (rows t))) }
-    ensures { OfTable image.now (λ t. result ≡ ltb room (length (sheetText t))) }
+    requires { SoundImage image.now k n × OfTable image.now (λ t. free ≡ length (free_in (rows t))) }
+    ensures { OfTable image.now (λ t. result ≡ ltb room (length (sheet_text t))) }
 {
     if FIRST_ROW + USED_ROW * n + FREE_ROW * (free as usize) <= room {
         return false;
@@ -349,7 +349,7 @@ fn too_small(room: usize, image: &[u8], k: usize, n: usize, free: u32) -> bool
 
 fn write_sheet(image: &[u8], k: usize, n: usize, out: &mut [u8]) -> SheetAnswer
     requires { SoundImage image.now k n }
-    ensures { OfTable image.now (λ t. (result, out.new) ≡ into (sheetText t) out.old) }
+    ensures { OfTable image.now (λ t. (result, out.new) ≡ into (sheet_text t) out.old) }
 {
     let free = free_rows(image, k, n);
     if too_small(out.len(), image, k, n, free) {
@@ -363,7 +363,7 @@ fn write_sheet(image: &[u8], k: usize, n: usize, out: &mut [u8]) -> SheetAnswer
 // An image of the first form is shown as it is in the second.
 fn write_first(saved: &[u8], k: usize, n: usize, out: &mut [u8]) -> SheetAnswer
     requires { SoundSaved First saved.now k n }
-    ensures { OfSaved First saved.now (λ t. (result, out.new) ≡ into (sheetText t) out.old) }
+    ensures { OfSaved First saved.now (λ t. (result, out.new) ≡ into (sheet_text t) out.old) }
 {
     let mut image = [0u8; FULL_IMAGE];
     let size = image_forms::widen(saved, k, n, &mut image);
@@ -372,7 +372,7 @@ fn write_first(saved: &[u8], k: usize, n: usize, out: &mut [u8]) -> SheetAnswer
 
 // The sheet of an image, in either form, into a buffer; the bytes after it stay, and a refusal leaves all of them.
 pub fn sheet_of_image(saved: &[u8], out: &mut [u8]) -> SheetAnswer
-    ensures { (result, out.new) ≡ sheetOfImage saved.now out.old }
+    ensures { (result, out.new) ≡ sheet_of_image saved.now out.old }
 {
     let form = image::form_of(saved);
     let summary = image_check::check_in(form, saved, 0);

@@ -9,11 +9,11 @@ use native.Mathlib.Omega.{arith}
 use lib.ListN.{length, replicate}
 use lib.Dec.{leb, ltb}
 use borrow.Author.Tests.{leb-true, le-leb, ltb-true, ltb-false}
-use Rattle.lists.specs.Lists.{All, Pairwise, all?, filter, insertBy, sortBy}
+use Rattle.lists.specs.Lists.{All, Pairwise, all?, filter, insert_by, sort_by}
 use Rattle.lists.proofs.Tests.{bool_cases, and-to, and-of, cond-true, cond-false, not-of, not-to}
 use Rattle.lists.proofs.ListLaws.{all_map}
 use Rattle.lists.proofs.FilterLaws.{filter-yes, filter-no}
-use Rattle.lists.proofs.SortingLaws.{insertBy-before, insertBy-after, sortBy-all}
+use Rattle.lists.proofs.SortingLaws.{insert_by-before, insert_by-after, sort_by-all}
 use Rattle.prefix.specs.declared.Prefix.{Prefix}
 use Rattle.prefix.specs.Prefixes.{end, Apart}
 use Rattle.prefix.proofs.PrefixLaws.{size-positive}
@@ -74,26 +74,26 @@ module _ {A : Type 0} (pre : A → Prefix) where
 
   -- Inserted by its network among others, with which it shares no address.
   pub ascending-insert : (from : ℕ) (x : A) (ys : List A) → from ≤ (pre x).network → All (λ y. Apart (pre x) (pre y)) ys → Ascending pre from ys
-      → Ascending pre from (insertBy (λ y. (pre y).network) x ys)
-  unfolding insertBy
+      → Ascending pre from (insert_by (λ y. (pre y).network) x ys)
+  unfolding insert_by
   ascending-insert from x [] l a s = (l, tt)
   ascending-insert from x (y ∷ ys) l a s =
       let key : A → ℕ = λ z. (pre z).network in
       ⊎_elim
       (λ (h : ltb (key x) (key y) ≡ true).
-      subst (Ascending pre from) (sym (insertBy-before key x y ys h)) (l, (apart_below (pre x) (pre y) a.0 (ltb-true (key x) (key y) h), s.1)))
+      subst (Ascending pre from) (sym (insert_by-before key x y ys h)) (l, (apart_below (pre x) (pre y) a.0 (ltb-true (key x) (key y) h), s.1)))
       (λ (h : ltb (key x) (key y) ≡ false).
-      subst (Ascending pre from) (sym (insertBy-after key x y ys h))
+      subst (Ascending pre from) (sym (insert_by-after key x y ys h))
       (s.0, ascending-insert (end (pre y)) x ys (apart_above (pre x) (pre y) a.0 (ltb-false (key x) (key y) h)) a.1 s.1))
       (bool_cases (ltb (key x) (key y)))
 
   -- Sorted by network, where no two share an address.
-  pub ascending-sort : (xs : List A) → Pairwise (λ x y. Apart (pre x) (pre y)) xs → Ascending pre 0 (sortBy (λ y. (pre y).network) xs)
-  unfolding sortBy
+  pub ascending-sort : (xs : List A) → Pairwise (λ x y. Apart (pre x) (pre y)) xs → Ascending pre 0 (sort_by (λ y. (pre y).network) xs)
+  unfolding sort_by
   ascending-sort [] a = tt
   ascending-sort (x ∷ xs) a =
       let key : A → ℕ = λ z. (pre z).network in
-      ascending-insert 0 x (sortBy key xs) (omega arith) (sortBy-all key (λ y. Apart (pre x) (pre y)) xs a.0) (ascending-sort xs a.1)
+      ascending-insert 0 x (sort_by key xs) (omega arith) (sort_by-all key (λ y. Apart (pre x) (pre y)) xs a.0) (ascending-sort xs a.1)
 
 -- What the test says of the slots: those that are used pass `ok` and ascend, and nothing but empty slots is behind them.
 pub record Slots {A : Type 0} (none? ok : A → Bool) (pre : A → Prefix) (blank : A) (from : ℕ) (xs : List A) : Type 0 where

@@ -1,9 +1,9 @@
 -- Open: the table that pools, a term, a default length and a start time make.
 use Rattle.lists.specs.Basics.{ℕ, Bool, true, ◌&&◌, List, [], ◌∷◌, length, replicate, leb, ltb, eqb}
-use Rattle.lists.specs.Lists.{and, all?, sortBy}
+use Rattle.lists.specs.Lists.{and, all?, sort_by}
 use Rattle.prefix.specs.Prefixes.{apart?}
 use Rattle.table.specs.declared.{Pool.Pool, LeaseTable.LeaseTable}
-use Rattle.table.specs.Table.{poolSlots, leaseSlots, noLease, poolPrefix, headOk, poolOk, paddedPools}
+use Rattle.table.specs.Table.{pool_slots, lease_slots, no_lease, pool_prefix, head_ok, pool_ok, padded_pools}
 
 -- The pools that are given as networks and lengths, one of each at each place.
 unfoldable pub given : List ℕ → List ℕ → List Pool
@@ -12,47 +12,47 @@ given (n ∷ networks) [] = []
 given (n ∷ networks) (l ∷ lengths) = record { network = n; length = l } ∷ given networks lengths
 
 -- "shares no address with another root"
-abbrev pub apartFrom? : Pool → List Pool → Bool
-apartFrom? p ps = all? (λ q. apart? (poolPrefix p) (poolPrefix q)) ps
+abbrev pub apart_from? : Pool → List Pool → Bool
+apart_from? p ps = all? (λ q. apart? (pool_prefix p) (pool_prefix q)) ps
 
-unfoldable pub poolsApart? : List Pool → Bool
-poolsApart? [] = true
-poolsApart? (p ∷ ps) = apartFrom? p ps && poolsApart? ps
+unfoldable pub pools_apart? : List Pool → Bool
+pools_apart? [] = true
+pools_apart? (p ∷ ps) = apart_from? p ps && pools_apart? ps
 
-abbrev pub poolNetwork : Pool → ℕ
-poolNetwork p = p.network
+abbrev pub pool_network : Pool → ℕ
+pool_network p = p.network
 
 -- Pools "any order given", ascending by network.
-abbrev pub sortPools : List Pool → List Pool
-sortPools ps = sortBy poolNetwork ps
+abbrev pub sort_pools : List Pool → List Pool
+sort_pools ps = sort_by pool_network ps
 
 -- The pools given keep the rules of pools.
-abbrev pub poolsOk : List Pool → Bool
-poolsOk ps = all? poolOk ps && poolsApart? ps
+abbrev pub pools_ok : List Pool → Bool
+pools_ok ps = all? pool_ok ps && pools_apart? ps
 
 -- Row 12: "roots, term, default length or start time (above 4,292,375,295) outside the rules". "A book holds 1 to 8 roots".
-abbrev pub openRules : List ℕ → List ℕ → ℕ → ℕ → ℕ → List Bool
-openRules networks lengths term defaultLength start =
+abbrev pub open_rules : List ℕ → List ℕ → ℕ → ℕ → ℕ → List Bool
+open_rules networks lengths term default_length start =
     eqb (length networks) (length lengths)
     ∷ ltb 0 (length networks)
-    ∷ leb (length networks) poolSlots
-    ∷ headOk term defaultLength start
-    ∷ poolsOk (given networks lengths)
+    ∷ leb (length networks) pool_slots
+    ∷ head_ok term default_length start
+    ∷ pools_ok (given networks lengths)
     ∷ []
 
-unfoldable pub openOk : List ℕ → List ℕ → ℕ → ℕ → ℕ → Bool
-openOk networks lengths term defaultLength start = and (openRules networks lengths term defaultLength start)
+unfoldable pub open_ok : List ℕ → List ℕ → ℕ → ℕ → ℕ → Bool
+open_ok networks lengths term default_length start = and (open_rules networks lengths term default_length start)
 
 -- A table with pools and no lease: "A fresh book has 256 empty lines, all zero", read as 1,024.
-abbrev pub withPools : List Pool → ℕ → ℕ → ℕ → LeaseTable
-withPools ps term defaultLength start = record {
-  pools = paddedPools ps;
-  leases = replicate leaseSlots noLease;
+abbrev pub with_pools : List Pool → ℕ → ℕ → ℕ → LeaseTable
+with_pools ps term default_length start = record {
+  pools = padded_pools ps;
+  leases = replicate lease_slots no_lease;
   term = term;
-  default_length = defaultLength;
+  default_length = default_length;
   last = start;
 }
 
 -- "roots (any order given), term, default length and a start time make a book"
 abbrev pub fresh : List Pool → ℕ → ℕ → ℕ → LeaseTable
-fresh ps term defaultLength start = withPools (sortPools ps) term defaultLength start
+fresh ps term default_length start = with_pools (sort_pools ps) term default_length start

@@ -14,7 +14,7 @@ use borrow.Author.Tests.{lt-ltb, le-ltb}
 use Rattle.lists.specs.Put.{put}
 use Rattle.lists.proofs.PutLaws.{put-nothing, put_one, put-more, put-fits, put-before}
 use Rattle.text.specs.Decimal.{digit, digits, decimal}
-use Rattle.text.specs.Wrote.{lastDigits, Width, Wrote, WroteNumber}
+use Rattle.text.specs.Wrote.{lowest_digits, Width, Wrote, WroteNumber}
 
 -- TEXTS, ONE AFTER ANOTHER
 
@@ -52,16 +52,16 @@ wrote-part l s part at n en h e =
 
 -- DIGITS
 
-pub length_last : (k n : ℕ) → length (lastDigits k n) ≡ k
+pub length_last : (k n : ℕ) → length (lowest_digits k n) ≡ k
 length_last zero n = refl
-length_last (suc k) n = omega (arith, length-append (lastDigits k (n / 10)) (digit n ∷ []), length_last k (n / 10))
+length_last (suc k) n = omega (arith, length-append (lowest_digits k (n / 10)) (digit n ∷ []), length_last k (n / 10))
 
 one-le : (k : ℕ) → 1 ≤ 10 ^ k
 one-le zero = omega arith
 one-le (suc k) = omega (arith, pow-suc 10 k, one-le k)
 
 -- These are all: with room for more of them nothing changes.
-pub all_digits : (more k n : ℕ) → k ≤ suc more → Width n k → digits more n ≡ lastDigits k n
+pub all_digits : (more k n : ℕ) → k ≤ suc more → Width n k → digits more n ≡ lowest_digits k n
 unfolding digits
 all_digits more zero n h w = absurd (omega arith)
 all_digits zero (suc zero) n h w = refl
@@ -84,7 +84,7 @@ few-digits n k most pos small w =
     absurd (omega (arith, large, w.2)))
 
 -- A number of 32 bits.
-pub decimal-digits : (n k : ℕ) → n < 4294967296 → Width n k → decimal n ≡ lastDigits k n
+pub decimal-digits : (n k : ℕ) → n < 4294967296 → Width n k → decimal n ≡ lowest_digits k n
 decimal-digits n k small w = all_digits 9 k n (few-digits n k 10 (omega arith) (omega arith) w) w
 
 pub decimal-room : (n at room : ℕ) → n < 4294967296 → at + length (decimal n) ≤ room → (k : ℕ) → Width n k → at + k ≤ room
@@ -105,32 +105,32 @@ length_digits (suc more) (suc k) n h =
     (λ small. rw (lt-ltb n 10 (omega arith)) (omega arith))
 
 -- One digit more in front of those that are put, and two.
-pub put-digit : (l end : List ℕ) (at i j left : ℕ) → i ≡ suc j → put l at (lastDigits i left) ≡ end → put (set l (at + j) (digit left)) at (lastDigits j (left / 10)) ≡ end
+pub put-digit : (l end : List ℕ) (at i j left : ℕ) → i ≡ suc j → put l at (lowest_digits i left) ≡ end → put (set l (at + j) (digit left)) at (lowest_digits j (left / 10)) ≡ end
 put-digit l end at i j left h e =
-    let xs : List ℕ = lastDigits j (left / 10) in
+    let xs : List ℕ = lowest_digits j (left / 10) in
     let place : at + j ≡ at + length xs = omega (arith, length_last j (left / 10)) in
     ap (λ (k : List ℕ). put k at xs) (sym (put_one l (at + j) (digit left)) ∙ ap (λ (m : ℕ). put l m (digit left ∷ [])) place)
     ∙ put-before xs l at (digit left ∷ [])
-    ∙ ap (λ (m : ℕ). put l at (lastDigits m left)) (sym h)
+    ∙ ap (λ (m : ℕ). put l at (lowest_digits m left)) (sym h)
     ∙ e
 
-pub put-digits : (l end : List ℕ) (at i j left : ℕ) → i ≡ suc (suc j) → put l at (lastDigits i left) ≡ end
-    → put (set (set l (at + j + 1) (digit left)) (at + j) (digit (left / 10))) at (lastDigits j (left / 100)) ≡ end
+pub put-digits : (l end : List ℕ) (at i j left : ℕ) → i ≡ suc (suc j) → put l at (lowest_digits i left) ≡ end
+    → put (set (set l (at + j + 1) (digit left)) (at + j) (digit (left / 10))) at (lowest_digits j (left / 100)) ≡ end
 put-digits l end at i j left h e =
     let place : at + j + 1 ≡ at + suc j = omega arith in
     let rest : left / 100 ≡ left / 10 / 10 = omega arith in
-    ap₂ (λ (p m : ℕ). put (set (set l p (digit left)) (at + j) (digit (left / 10))) at (lastDigits j m)) place rest
+    ap₂ (λ (p m : ℕ). put (set (set l p (digit left)) (at + j) (digit (left / 10))) at (lowest_digits j m)) place rest
     ∙ put-digit (set l (at + suc j) (digit left)) end at (suc j) j (left / 10) refl (put-digit l end at i (suc j) left h e)
 
 -- The first digit, where one is left.
-pub put_first : (l end : List ℕ) (at i left : ℕ) → i ≤ 1 → 0 < i → put l at (lastDigits i left) ≡ end → set l at (digit left) ≡ end
+pub put_first : (l end : List ℕ) (at i left : ℕ) → i ≤ 1 → 0 < i → put l at (lowest_digits i left) ≡ end → set l at (digit left) ≡ end
 put_first l end at i left h g e =
     let place : at ≡ at + 0 = omega arith in
     ap (λ (p : ℕ). set l p (digit left)) place
     ∙ sym (put-nothing (set l (at + 0) (digit left)) at)
     ∙ put-digit l end at i 0 left (omega arith) e
 
-pub put_last : (l end : List ℕ) (at i left : ℕ) → i ≤ 0 → put l at (lastDigits i left) ≡ end → l ≡ end
+pub put_last : (l end : List ℕ) (at i left : ℕ) → i ≤ 0 → put l at (lowest_digits i left) ≡ end → l ≡ end
 put_last l end at i left h e =
     let none : 0 ≡ i = omega arith in
-    sym (put-nothing l at) ∙ ap (λ (m : ℕ). put l at (lastDigits m left)) none ∙ e
+    sym (put-nothing l at) ∙ ap (λ (m : ℕ). put l at (lowest_digits m left)) none ∙ e

@@ -4,9 +4,9 @@ use Rattle.lists.specs.Put.{put}
 use Rattle.text.specs.Decimal.{digit}
 
 -- The last k digits of a number; and k is how many it has.
-abbrev pub lastDigits : ℕ → ℕ → List ℕ
-lastDigits zero n = []
-lastDigits (suc k) n = lastDigits k (n / 10) ++ (digit n ∷ [])
+abbrev pub lowest_digits : ℕ → ℕ → List ℕ
+lowest_digits zero n = []
+lowest_digits (suc k) n = lowest_digits k (n / 10) ++ (digit n ∷ [])
 
 abbrev pub Width : ℕ → ℕ → Type 0
 Width n k = (1 ≤ k) × (n < 10 ^ k) × (10 ^ (k - 1) ≤ n + (2 - k))
@@ -23,4 +23,4 @@ RoomFor n out at = (k : ℕ) → Width n k → at + k ≤ length out
 pub record WroteNumber (n : ℕ) (old : List ℕ) (at : ℕ) (new : List ℕ) (next : ℕ) : Type 0 where
   pub size : ℕ
   pub width : Width n size
-  pub wrote : Wrote old at (lastDigits size n) new next
+  pub wrote : Wrote old at (lowest_digits size n) new next

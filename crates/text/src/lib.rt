@@ -1,6 +1,6 @@
 // Text into a lent buffer, from a place on: each function answers the place after what it wrote, and leaves all other bytes.
 ghost use Rattle.std.specs.Prelude.{◌∷◌, ◌+◌, ◌≤◌, length};
-ghost use Rattle.text.specs.Decimal.{decimal as decimalOf};
+ghost use Rattle.text.specs.Decimal.{decimal as decimal_of};
 ghost use Rattle.text.specs.Wrote.{Width, Wrote, RoomFor, WroteNumber};
 
 pub fn put(out: &mut [u8], at: usize, s: &[u8]) -> usize
@@ -96,16 +96,16 @@ pub fn number(out: &mut [u8], at: usize, n: u64) -> usize
 
 // A number of 32 bits.
 pub fn decimal(out: &mut [u8], at: usize, n: u32) -> usize
-    requires { at + length (decimalOf n) ≤ length out.old }
-    ensures { Wrote out.old at (decimalOf n) out.new result }
+    requires { at + length (decimal_of n) ≤ length out.old }
+    ensures { Wrote out.old at (decimal_of n) out.new result }
 {
     number(out, at, n as u64)
 }
 
 // A mark, and a number after it.
 pub fn marked(out: &mut [u8], at: usize, mark: u8, n: u32) -> usize
-    requires { at + 1 + length (decimalOf n) ≤ length out.old }
-    ensures { Wrote out.old at (mark ∷ decimalOf n) out.new result }
+    requires { at + 1 + length (decimal_of n) ≤ length out.old }
+    ensures { Wrote out.old at (mark ∷ decimal_of n) out.new result }
 {
     out[at] = mark;
     decimal(out, at + 1, n)

@@ -6,15 +6,15 @@ use native.Mathlib.Omega.{arith}
 use lib.Dec.{eqb}
 use lib.ListN.{length, set, get_or, length-set}
 use borrow.Author.Rules.{rules}
-use Rattle.option.specs.Values.{mostRequests}
-use Rattle.ask_again.specs.InnerChains.{keys, keyOf, keyIn, Heads, Linked}
+use Rattle.option.specs.Values.{most_requests}
+use Rattle.ask_again.specs.InnerChains.{keys, key_of, key_in, Heads, Linked}
 use Rattle.ask_again.proofs.ChainLaws.{heads-none, linked-none, heads-one, linked-one}
 use Rattle.ask_again.proofs.chain.Statement.{statement}
 use Rattle.ask_again.proofs.chain.Tie as tie
 
 abbrev invariant-loop : tie.invariant-loop
 invariant-loop first₀ next₀ ask-lengths ask-h default-length j₀ first next j =
-    (j ≤ length ask-lengths) × (length next ≡ mostRequests) × Heads (keyIn ask-lengths ask-h default-length) (length ask-lengths) j first × Linked (keyIn ask-lengths ask-h default-length) (length ask-lengths) j next
+    (j ≤ length ask-lengths) × (length next ≡ most_requests) × Heads (key_in ask-lengths ask-h default-length) (length ask-lengths) j first × Linked (key_in ask-lengths ask-h default-length) (length ask-lengths) j next
 
 abbrev decreases-loop : tie.decreases-loop
 decreases-loop first₀ next₀ ask-lengths ask-h default-length j₀ first next j = j
@@ -23,7 +23,7 @@ loop-holds : tie.Need-loop-init invariant-loop decreases-loop
 loop-holds c =
     let s = c.before.before in
     let n = length s.args.ask-lengths.now in
-    let key = keyIn s.args.ask-lengths.now s.args.ask-h.now s.args.default-length in
+    let key = key_in s.args.ask-lengths.now s.args.ask-h.now s.args.default-length in
     (omega arith, s.requires.1, subst (Heads key n n) (sym s.requires.0) (heads-none key n (omega (arith, s.requires.2))), linked-none key n s.args.next.now)
 
 loop-again : tie.Need-loop-preserved invariant-loop decreases-loop
@@ -33,10 +33,10 @@ loop-again c =
     let l = at-loop.loop in
     let a = at-loop.before.before.before.args in
     let n = length a.ask-lengths.now in
-    let key = keyIn a.ask-lengths.now a.ask-h.now a.default-length in
+    let key = key_in a.ask-lengths.now a.ask-h.now a.default-length in
     let j = l.j - 1 in
     let on : j + 1 ≡ l.j = omega arith in
-    let is : read.key_of.result ≡ key j = read.key_of.ensures.0 ∙ ap (λ (m : ℕ). keyOf m (eqb (get_or a.ask-h.now j 0) 1)) read.before.before.ask-length.ensures in
+    let is : read.key_of.result ≡ key j = read.key_of.ensures.0 ∙ ap (λ (m : ℕ). key_of m (eqb (get_or a.ask-h.now j 0) 1)) read.before.before.ask-length.ensures in
     let small : key j < keys = omega (arith, is, read.key_of.ensures.1) in
     let heads : Heads key n (j + 1) l.first = subst (λ (m : ℕ). Heads key n m l.first) (sym on) l.invariant.2 in
     let linked : Linked key n (j + 1) l.next = subst (λ (m : ℕ). Linked key n m l.next) (sym on) l.invariant.3 in (
@@ -51,7 +51,7 @@ returns c =
     let l = c.before.loop in
     let a = c.before.before.before.before.args in
     let n = length a.ask-lengths.now in
-    let key = keyIn a.ask-lengths.now a.ask-h.now a.default-length in
+    let key = key_in a.ask-lengths.now a.ask-h.now a.default-length in
     let done : l.j ≡ 0 = omega arith in
     (subst (λ (m : ℕ). Heads key n m l.first) done l.invariant.2, subst (λ (m : ℕ). Linked key n m l.next) done l.invariant.3)
 

@@ -8,12 +8,12 @@ use native.Mathlib.Numerals.{add-one}
 use lib.ListN.{length, take, set, replicate, length-set, replicate-append-replicate}
 use lib.Seq.{take-suc-set, take_all}
 use borrow.Author.Rules.{rules}
-use Rattle.ask_again.specs.Places.{noPlace}
+use Rattle.ask_again.specs.Places.{no_place}
 use Rattle.ask_again.proofs.clear_places.Statement.{statement}
 use Rattle.ask_again.proofs.clear_places.Tie as tie
 
 abbrev invariant-loop : tie.invariant-loop
-invariant-loop places₀ j₀ places j = (j ≤ length places₀) × (length places ≡ length places₀) × (take j places ≡ replicate j noPlace)
+invariant-loop places₀ j₀ places j = (j ≤ length places₀) × (length places ≡ length places₀) × (take j places ≡ replicate j no_place)
 
 abbrev decreases-loop : tie.decreases-loop
 decreases-loop places₀ j₀ places j = length places₀ - j
@@ -25,11 +25,11 @@ loop-again : tie.Need-loop-preserved invariant-loop decreases-loop
 loop-again c =
     let l = c.before.loop in (
       omega (arith, l.invariant.0, l.invariant.1, c.loop-test.true),
-      length-set l.places l.j noPlace ∙ l.invariant.1,
-      ap (λ (k : ℕ). take k (set l.places l.j noPlace)) (add-one l.j)
-          ∙ take-suc-set l.places l.j noPlace (omega arith)
-          ∙ ap (λ (ps : List ℕ). ps ++ (noPlace ∷ [])) l.invariant.2
-          ∙ replicate-snoc l.j noPlace,
+      length-set l.places l.j no_place ∙ l.invariant.1,
+      ap (λ (k : ℕ). take k (set l.places l.j no_place)) (add-one l.j)
+          ∙ take-suc-set l.places l.j no_place (omega arith)
+          ∙ ap (λ (ps : List ℕ). ps ++ (no_place ∷ [])) l.invariant.2
+          ∙ replicate-snoc l.j no_place,
     )
 
 returns : tie.Need-returns invariant-loop decreases-loop
@@ -37,7 +37,7 @@ returns c =
     let l = c.before.loop in
     let n = length c.before.before.args.places.now in
     let all : l.j ≡ n = omega (arith, l.invariant.0, l.invariant.1, c.loop-test.false) in
-    sym (take_all n l.places (omega (arith, l.invariant.1))) ∙ ap (λ (k : ℕ). take k l.places) (sym all) ∙ l.invariant.2 ∙ ap (λ (k : ℕ). replicate k noPlace) all
+    sym (take_all n l.places (omega (arith, l.invariant.1))) ∙ ap (λ (k : ℕ). take k l.places) (sym all) ∙ l.invariant.2 ∙ ap (λ (k : ℕ). replicate k no_place) all
 
 pub clear-places-spec : {M : Type 1} → statement M
 clear-places-spec =

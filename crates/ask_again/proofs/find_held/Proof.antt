@@ -8,10 +8,10 @@ use mathlib.Core.List.{List}
 use native.Mathlib.Omega.{arith}
 use lib.ListN.{length, get_or, get_or-replicate}
 use borrow.Author.Rules.{rules}
-use Rattle.image.specs.Image.{leaseSize}
-use Rattle.ask_again.specs.Places.{noPlace}
-use Rattle.ask_again.specs.InnerGiving.{heldAt?}
-use Rattle.ask_again.specs.InnerChains.{keyIn, Waiting}
+use Rattle.image.specs.Image.{lease_size}
+use Rattle.ask_again.specs.Places.{no_place}
+use Rattle.ask_again.specs.InnerGiving.{held_at?}
+use Rattle.ask_again.specs.InnerChains.{key_in, Waiting}
 use Rattle.ask_again.proofs.ChainLaws.{waiting-start, chained-given, chained-waiting}
 use Rattle.ask_again.proofs.FindLaws.{Going, going-none, going_on, going_more, going-few, going-all, going-full}
 use Rattle.ask_again.proofs.find_held.Statement.{statement}
@@ -19,9 +19,9 @@ use Rattle.ask_again.proofs.find_held.Tie as tie
 
 abbrev invariant-loop : tie.invariant-loop
 invariant-loop image from n asker default-length ask-lengths ask-h places₀ i₀ requests first₀ next given₀ places i first given =
-    (i ≤ n) × (length places ≡ length places₀) × (i < n → heldAt? image (from + leaseSize * i) asker.client asker.time ≡ true)
+    (i ≤ n) × (length places ≡ length places₀) × (i < n → held_at? image (from + lease_size * i) asker.client asker.time ≡ true)
     × Going image from n asker.client asker.time default-length ask-lengths ask-h i places given
-    × Waiting (keyIn ask-lengths ask-h default-length) (length ask-lengths) places first
+    × Waiting (key_in ask-lengths ask-h default-length) (length ask-lengths) places first
 
 abbrev decreases-loop : tie.decreases-loop
 decreases-loop image from n asker default-length ask-lengths ask-h places₀ i₀ requests first₀ next given₀ places i first given = n - i
@@ -86,8 +86,8 @@ loop-holds c =
       refl,
       found.next-held.ensures.here,
       searched found,
-      waiting-start (keyIn a.ask-lengths.now a.ask-h.now a.default-length) n _ cleared.clear-places.last.0 c.chain.ensures.0
-          (λ k h. ap (λ (ps : List ℕ). get_or ps k 0) cleared.clear-places.ensures ∙ get_or-replicate (length a.places.now) k noPlace 0 (omega (arith, (start-of cleared).pre.3))),
+      waiting-start (key_in a.ask-lengths.now a.ask-h.now a.default-length) n _ cleared.clear-places.last.0 c.chain.ensures.0
+          (λ k h. ap (λ (ps : List ℕ). get_or ps k 0) cleared.clear-places.ensures ∙ get_or-replicate (length a.places.now) k no_place 0 (omega (arith, (start-of cleared).pre.3))),
     )
 
 -- There is a place for each request.
@@ -110,14 +110,14 @@ module _ (c : tie.After-give-place invariant-loop decreases-loop) where
   inside : at-loop.loop.i < (begun at-loop).args.n
   inside = known.before.before.before.loop-test.taken
 
-  some-place : at-loop.loop.i ≡ noPlace → ⊥
+  some-place : at-loop.loop.i ≡ no_place → ⊥
   some-place e = omega (arith, (begun at-loop).pre.1, inside)
 
   abbrev s : tie.Start invariant-loop decreases-loop
   s = begun at-loop
 
   abbrev key : ℕ → ℕ
-  key = keyIn s.args.ask-lengths.now s.args.ask-h.now s.args.default-length
+  key = key_in s.args.ask-lengths.now s.args.ask-h.now s.args.default-length
 
   abbrev len : ℕ
   len = known.before.before.length_at.result

@@ -10,8 +10,8 @@ use borrow.Author.Tests.{eq-eqb}
 use borrow.Author.Rules.{rules}
 use Rattle.lists.specs.Lists.{and}
 use Rattle.table.specs.declared.Lease.{Lease}
-use Rattle.image.specs.Reading.{leaseIn}
-use Rattle.ledger.specs.Ledger.{heldBy?}
+use Rattle.image.specs.Reading.{lease_in}
+use Rattle.ledger.specs.Ledger.{held_by?}
 use Rattle.ask_again.proofs.HeldLaws.{another's}
 use Rattle.ask_again.proofs.held_at.Statement.{statement}
 use Rattle.ask_again.proofs.held_at.Tie as tie
@@ -19,7 +19,7 @@ use Rattle.ask_again.proofs.held_at.Tie as tie
 -- The test, of a lease.
 module _ (x : Lease) (client time : ℕ) where
   abbrev test : Bool
-  test = and (heldBy? client x ∷ ltb time x.expires ∷ [])
+  test = and (held_by? client x ∷ ltb time x.expires ∷ [])
 
   leased : x.leased ≡ true → false ≡ test
   leased e = rw e (none (eqb x.client client))
@@ -37,7 +37,7 @@ module _ (x : Lease) (client time : ℕ) where
 
 -- The lease here, where it begins.
 abbrev lease-of : tie.Start → Lease
-lease-of s = leaseIn (drop s.args.at s.args.image.now)
+lease-of s = lease_in (drop s.args.at s.args.image.now)
 
 returns : tie.Need-returns
 returns c =

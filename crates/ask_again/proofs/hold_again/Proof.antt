@@ -12,14 +12,14 @@ use Rattle.lists.proofs.IndexLaws.{all-at}
 use Rattle.table.specs.declared.Lease.{Lease}
 use Rattle.image_records.specs.Records.{Records, Ascending}
 use Rattle.ask_again.specs.Places.{Within, InBuffer}
-use Rattle.ask_again.proofs.HoldLaws.{heldIn, held_start, held_next}
+use Rattle.ask_again.proofs.HoldLaws.{held_in, held_start, held_next}
 use Rattle.ask_again.proofs.hold_again.Statement.{statement}
 use Rattle.ask_again.proofs.hold_again.Tie as tie
 
 abbrev invariant-loop : tie.invariant-loop
 invariant-loop image₀ from places time expires j₀ image j =
     (j ≤ length places) × (length image ≡ length image₀)
-    × ((us : List Lease) → Records image₀ from us → Ascending us → All (Within (length us)) places → image ≡ heldIn time image₀ from us (take j places))
+    × ((us : List Lease) → Records image₀ from us → Ascending us → All (Within (length us)) places → image ≡ held_in time image₀ from us (take j places))
 
 abbrev decreases-loop : tie.decreases-loop
 decreases-loop image₀ from places time expires j₀ image j = length places - j
@@ -54,7 +54,7 @@ returns : tie.Need-returns invariant-loop decreases-loop
 returns c us stand ascends within =
     let l = c.before.loop in
     let a = c.before.before.before.before.args in
-    l.invariant.2 us stand ascends within ∙ ap (heldIn a.time a.image.now a.from us) (take_all l.j a.places.now (omega arith))
+    l.invariant.2 us stand ascends within ∙ ap (held_in a.time a.image.now a.from us) (take_all l.j a.places.now (omega arith))
 
 pub hold-again-spec : {M : Type 1} → statement M
 hold-again-spec =

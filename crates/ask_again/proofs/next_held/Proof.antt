@@ -6,14 +6,14 @@ use mathlib.Core.Bool.{false}
 use native.Mathlib.Omega.{arith}
 use borrow.Author.Rules.{rules}
 use borrow.Author.Tests.{not-false}
-use Rattle.image.specs.Image.{leaseSize}
-use Rattle.ask_again.specs.InnerGiving.{heldAt?}
+use Rattle.image.specs.Image.{lease_size}
+use Rattle.ask_again.specs.InnerGiving.{held_at?}
 use Rattle.ask_again.proofs.HeldLaws.{four-past, held-from}
 use Rattle.ask_again.proofs.next_held.Statement.{statement}
 use Rattle.ask_again.proofs.next_held.Tie as tie
 
 abbrev invariant-loop : tie.invariant-loop
-invariant-loop image from i n asker k₀ k = (i ≤ k) × (k ≤ n) × ((m : ℕ) → m < k → i ≤ m → heldAt? image (from + leaseSize * m) asker.client asker.time ≡ false)
+invariant-loop image from i n asker k₀ k = (i ≤ k) × (k ≤ n) × ((m : ℕ) → m < k → i ≤ m → held_at? image (from + lease_size * m) asker.client asker.time ≡ false)
 
 abbrev decreases-loop : tie.decreases-loop
 decreases-loop image from i n asker k₀ k = n - k

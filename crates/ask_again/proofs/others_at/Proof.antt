@@ -7,8 +7,8 @@ use native.Mathlib.Omega.{arith}
 use lib.ListN.{drop}
 use borrow.Author.Rules.{rules}
 use borrow.Author.Tests.{eqb-false, not-true}
-use Rattle.image.specs.Image.{leaseSize}
-use Rattle.image.specs.Reading.{leaseIn}
+use Rattle.image.specs.Image.{lease_size}
+use Rattle.image.specs.Reading.{lease_in}
 use Rattle.ask_again.proofs.HeldLaws.{each-of-four}
 use Rattle.ask_again.proofs.others_at.Statement.{statement}
 use Rattle.ask_again.proofs.others_at.Tie as tie
@@ -29,8 +29,8 @@ returns-4 c e =
     let else1 = else2.before.before in
     let a = else1.before.before.before.args in
     let same : a.at + 0 ≡ a.at = omega arith in
-    each-of-four (λ m. (leaseIn (drop (a.at + leaseSize * m) a.image.now)).client ≡ a.client → ⊥)
-    (λ q. else1.if1.false (else1.before.client-at.ensures ∙ subst (λ (at : ℕ). (leaseIn (drop at a.image.now)).client ≡ a.client) same q))
+    each-of-four (λ m. (lease_in (drop (a.at + lease_size * m) a.image.now)).client ≡ a.client → ⊥)
+    (λ q. else1.if1.false (else1.before.client-at.ensures ∙ subst (λ (at : ℕ). (lease_in (drop at a.image.now)).client ≡ a.client) same q))
     (λ q. else2.if2.false (else2.before.client-at2.ensures ∙ q))
     (λ q. else3.if3.false (else3.before.client-at3.ensures ∙ q))
     (λ q. eqb-false _ _ (not-true _ e) (c.client-at4.ensures ∙ q))

@@ -13,19 +13,19 @@ use Rattle.lists.proofs.ListLaws.{all_map}
 use Rattle.lists.proofs.TakeLaws.{take_short}
 use Rattle.table.specs.declared.Lease.{Lease}
 use Rattle.table.specs.Table.{present}
-use Rattle.image.specs.Image.{leaseSize, usedLeases}
-use Rattle.option.specs.Values.{longestOption, mostRequests}
-use Rattle.option.specs.Contents.{requestsIn}
+use Rattle.image.specs.Image.{lease_size, used_leases}
+use Rattle.option.specs.Values.{longest_option, most_requests}
+use Rattle.option.specs.Contents.{requests_in}
 use Rattle.ledger.specs.declared.Answer.{Answer}
-use Rattle.ledger.specs.Ledger.{Call, callWith, result, narrowed, holdTime, again}
+use Rattle.ledger.specs.Ledger.{Call, call_with, outcome, narrowed, hold_time, again}
 use Rattle.ledger.proofs.ReadLaws.{requests-short}
-use Rattle.ask_again.specs.Places.{noPlace, Within, InBuffer, givenIn, othersIn}
+use Rattle.ask_again.specs.Places.{no_place, Within, InBuffer, given_in, others_in}
 use Rattle.ask_again.proofs.Counting.{others-none, others-few, others-first}
-use Rattle.ask_serve.specs.Granting.{leasesIn, Granted}
-use Rattle.call_spec.specs.ImageCalls.{Lent, lent, tableIn, stateIn}
-use Rattle.call_rows.specs.Admission.{leasesFrom}
+use Rattle.ask_serve.specs.Granting.{leases_in, Granted}
+use Rattle.call_spec.specs.ImageCalls.{Lent, lent, table_in, state_in}
+use Rattle.call_rows.specs.Admission.{leases_from}
 use Rattle.call_ground.specs.Ground.{returning}
-use Rattle.call_ground.specs.Ground.{leasesIn as leasesOn}
+use Rattle.call_ground.specs.Ground.{leases_in as leases_on}
 use Rattle.call_ground.proofs.GroundsLaws.{grounds-count, grounds-records, grounds-ascending}
 use Rattle.ask_commit.specs.Asking.{Asking}
 use Rattle.ask_commit.proofs.AdmittedLaws.{fewer, records-fit, fits, rows_fit}
@@ -69,16 +69,16 @@ places_of c = take (length (begun c).args.ask-lengths.now) (column-of c)
 places-many : (c : tie.After-find-held) → length (places_of c) ≡ length (begun c).args.ask-lengths.now
 places-many c = length-take-le _ (column-of c) (omega (arith, (begun c).requires.few, c.find-held.auto.1.1.1.1.1.1.1.0))
 
-places_count : (c : tie.After-find-held) → c.find-held.result ≡ othersIn noPlace (places_of c) (length (begun c).args.ask-lengths.now)
+places_count : (c : tie.After-find-held) → c.find-held.result ≡ others_in no_place (places_of c) (length (begun c).args.ask-lengths.now)
 places_count c =
-    c.find-held.ensures.0 ∙ sym (others-first noPlace (column-of c) (length (begun c).args.ask-lengths.now))
+    c.find-held.ensures.0 ∙ sym (others-first no_place (column-of c) (length (begun c).args.ask-lengths.now))
 
 -- Where the leases on the ground begin, and these leases.
 abbrev from-of : tie.After-find-held → ℕ
-from-of c = let a = (begun c).args in leasesFrom a.site.summary + leaseSize * a.site.ground.first
+from-of c = let a = (begun c).args in leases_from a.site.summary + lease_size * a.site.ground.first
 
 abbrev on_of : tie.After-find-held → List Lease
-on_of c = leasesOn (begun c).args.site.ground (usedLeases (tableIn (lent_of c)))
+on_of c = leases_on (begun c).args.site.ground (used_leases (table_in (lent_of c)))
 
 within : (c : tie.After-find-held) → All (Within (begun c).args.site.ground.leases) (places_of c)
 within c = c.find-held.ensures.1.0
@@ -91,18 +91,18 @@ fit-in c =
 
 -- A call that the columns are of.
 abbrev call-of : tie.After-find-held → List ℕ → Option (List ℕ) → Call
-call-of c option selection = callWith (begun c).args.asker.client option selection (begun c).args.reply.now
+call-of c option selection = call_with (begun c).args.asker.client option selection (begun c).args.reply.now
 
 abbrev Asks-it : tie.After-find-held → List ℕ → Option (List ℕ) → Type 0
 Asks-it c option selection = let a = (begun c).args in Asking (lent_of c) a.asker.time a.asker.name (call-of c option selection) a.site a.ask-lengths.now a.ask-h.now
 
 given_is : (c : tie.After-find-held) → let a = (begun c).args in (option : List ℕ) (selection : Option (List ℕ)) → Asks-it c option selection
-    → givenIn (on_of c) (places_of c) ≡ again (narrowed (tableIn (lent_of c)) (call-of c option selection)) a.asker.client (present a.asker.time (on_of c)) (requestsIn option)
+    → given_in (on_of c) (places_of c) ≡ again (narrowed (table_in (lent_of c)) (call-of c option selection)) a.asker.client (present a.asker.time (on_of c)) (requests_in option)
 given_is c option selection k =
     let s = begun c in
     let h = lent_of c in
     let it = call-of c option selection in
-    c.find-held.ensures.1.1 (narrowed (tableIn h) it) (on_of c) (requestsIn option) (grounds-records h it _ _ k.grounds _ _ s.pre.admitted) (sym (grounds-count h it _ _ k.grounds _ _ s.pre.admitted))
+    c.find-held.ensures.1.1 (narrowed (table_in h) it) (on_of c) (requests_in option) (grounds-records h it _ _ k.grounds _ _ s.pre.admitted) (sym (grounds-count h it _ _ k.grounds _ _ s.pre.admitted))
     (asks-are _ _ _ _ _ _ _ s.pre _ option selection k)
 
 -- THE COLUMNS of what the rest is offered.
@@ -118,18 +118,18 @@ long-enough c =
     (omega (arith, few, c.serve-rest.auto.1.1.1.1.1.1.0), omega (arith, few, c.serve-rest.auto.1.1.1.1.1.1.1.0))
 
 granted : (c : tie.After-serve-rest) → let a = (begun (found_of c)).args in let h = lent_of (found_of c) in (option : List ℕ) (selection : Option (List ℕ)) → Asks-it (found_of c) option selection
-    → Granted (narrowed (tableIn h) (call-of (found_of c) option selection)) a.asker.time a.asker.client a.asker.name (present a.asker.time (tableIn h).leases) (givenIn (on_of (found_of c)) (places_of (found_of c)))
-    (requestsIn option) (networks-of c) (lengths-of c)
+    → Granted (narrowed (table_in h) (call-of (found_of c) option selection)) a.asker.time a.asker.client a.asker.name (present a.asker.time (table_in h).leases) (given_in (on_of (found_of c)) (places_of (found_of c)))
+    (requests_in option) (networks-of c) (lengths-of c)
 granted c option selection k =
     let found = found_of c in
-    c.serve-rest.ensures.1 (lent_of found) (call-of found option selection) (on_of found) (requestsIn option) refl (begun found).pre.admitted k.grounds k.lengths (requests-short option)
+    c.serve-rest.ensures.1 (lent_of found) (call-of found option selection) (on_of found) (requests_in option) refl (begun found).pre.admitted k.grounds k.lengths (requests-short option)
 
 -- HOW MANY get something: each of the two numbers is small.
-few-count : (c : tie.After-serve-rest) → ((found_of c).find-held.result ≤ mostRequests) × (c.serve-rest.result ≤ mostRequests)
+few-count : (c : tie.After-serve-rest) → ((found_of c).find-held.result ≤ most_requests) × (c.serve-rest.result ≤ most_requests)
 few-count c =
     let found = found_of c in
     let few = (begun found).pre.few in
-    (omega (arith, few, places_count found, others-few noPlace (places_of found) (length (begun found).args.ask-lengths.now), take_short (length (begun found).args.ask-lengths.now) (places_of found)), omega (arith, few, c.serve-rest.ensures.0.0))
+    (omega (arith, few, places_count found, others-few no_place (places_of found) (length (begun found).args.ask-lengths.now), take_short (length (begun found).args.ask-lengths.now) (places_of found)), omega (arith, few, c.serve-rest.ensures.0.0))
 
 slice-aggregate-serve-rest : tie.Need-slice-aggregate-serve-rest
 slice-aggregate-serve-rest c = sym (places-many c.before.before.before)
@@ -139,7 +139,7 @@ serve-rest-requires c κs =
     let found = c.before.before.before.before.before in
     let s = begun found in
     let n = length s.args.ask-lengths.now in
-    (admitted-image _ _ _ _ _ _ _ s.pre, s.pre.within, places-many found, places_count found, omega (arith, s.pre.few), omega (arith, s.pre.few), others-none 0 mostRequests n)
+    (admitted-image _ _ _ _ _ _ _ s.pre, s.pre.within, places-many found, places_count found, omega (arith, s.pre.few), omega (arith, s.pre.few), others-none 0 most_requests n)
 
 add-count : tie.Need-overflow-add-count
 add-count c = let few = few-count (served-of c) in omega (arith, few.0, few.1)
@@ -155,9 +155,9 @@ returns c =
     let found = found_of served in
     let s = begun found in
     let long = long-enough served in (
-      subst (λ (r : Answer). r.bytes ≤ longestOption) (sym c.refused.ensures) (omega arith),
+      subst (λ (r : Answer). r.bytes ≤ longest_option) (sym c.refused.ensures) (omega arith),
       λ option selection k.
-          ap (λ (r : Answer). returning selection (result r (lent_of found) s.args.reply.now)) c.refused.ensures
+          ap (λ (r : Answer). returning selection (outcome r (lent_of found) s.args.reply.now)) c.refused.ensures
           ∙ ask-full _ _ _ _ _ _ _ s.pre _ option selection k (places_of found) (places-many found) (given_is found option selection k) (networks-of served) (lengths-of served) long.0 long.1 (granted served option selection k)
           found.find-held.result served.serve-rest.result (places_count found) served.serve-rest.ensures.0.2 none.if1.true then.if2.true,
     )
@@ -170,9 +170,9 @@ returns-2 c =
     let found = found_of served in
     let s = begun found in
     let long = long-enough served in (
-      subst (λ (r : Answer). r.bytes ≤ longestOption) (sym c.refused2.ensures) (omega arith),
+      subst (λ (r : Answer). r.bytes ≤ longest_option) (sym c.refused2.ensures) (omega arith),
       λ option selection k.
-          ap (λ (r : Answer). returning selection (result r (lent_of found) s.args.reply.now)) c.refused2.ensures
+          ap (λ (r : Answer). returning selection (outcome r (lent_of found) s.args.reply.now)) c.refused2.ensures
           ∙ ask-none _ _ _ _ _ _ _ s.pre _ option selection k (places_of found) (places-many found) (given_is found option selection k) (networks-of served) (lengths-of served) long.0 long.1 (granted served option selection k)
           found.find-held.result served.serve-rest.result (places_count found) served.serve-rest.ensures.0.2 none.if1.true else.if2.false,
     )
@@ -203,8 +203,8 @@ hold-again-requires c κs =
     (fit-in found, (begun found).pre.admitted.early)
 
 -- As many as places of the columns have a lease.
-counted : (served : tie.After-serve-rest) → served.serve-rest.result ≡ leasesIn (lengths-of served) (length (begun (found_of served)).args.ask-h.now)
-counted served = served.serve-rest.ensures.0.2 ∙ ap (leasesIn (lengths-of served)) (sym (begun (found_of served)).requires.same)
+counted : (served : tie.After-serve-rest) → served.serve-rest.result ≡ leases_in (lengths-of served) (length (begun (found_of served)).args.ask-h.now)
+counted served = served.serve-rest.ensures.0.2 ∙ ap (leases_in (lengths-of served)) (sym (begun (found_of served)).requires.same)
 
 commit-grants-requires : tie.Need-commit-grants-requires
 commit-grants-requires c κs =
@@ -228,11 +228,11 @@ commit-grants-requires c κs =
     )
 
 -- How many get something, where the answer is given.
-few-of : (c : tie.After-slice-known7) → let served = served-of (else-of (shown_of (held_of c.before.before.before.before))).before in (found_of served).find-held.result + served.serve-rest.result ≤ mostRequests + mostRequests
+few-of : (c : tie.After-slice-known7) → let served = served-of (else-of (shown_of (held_of c.before.before.before.before))).before in (found_of served).find-held.result + served.serve-rest.result ≤ most_requests + most_requests
 few-of c = let few = few-count (served-of (else-of (shown_of (held_of c.before.before.before.before))).before) in omega (arith, few.0, few.1)
 
 -- How many bytes the reply has.
-short-of : (c : tie.After-slice-known7) → let shown = shown_of (held_of c.before.before.before.before) in shown.put-offers.result ≤ longestOption
+short-of : (c : tie.After-slice-known7) → let shown = shown_of (held_of c.before.before.before.before) in shown.put-offers.result ≤ longest_option
 short-of c =
     let shown = shown_of (held_of c.before.before.before.before) in
     let k = (begun (found_of (served-of (else-of shown).before))).requires in
@@ -264,7 +264,7 @@ returns-3 c =
     let ms = on_of found in
     let image = committed.commit-grants.new.0 in
     let sheet = committed.commit-grants.new.1.0 in (
-      subst (λ (r : Answer). r.bytes ≤ longestOption) (sym c.accepted.ensures) (short-of c.before),
+      subst (λ (r : Answer). r.bytes ≤ longest_option) (sym c.accepted.ensures) (short-of c.before),
       λ option selection k.
           let it = call-of found option selection in
           let gave = given_is found option selection k in
@@ -274,13 +274,13 @@ returns-3 c =
           let edited = held.hold-again.ensures ms stand (grounds-ascending h it _ _ k.grounds _ _ o) inside in
           let is-grown =
           committed.commit-grants.ensures.1
-          (anew _ _ _ _ _ _ _ s.pre _ option selection k (places_of found) (places-many found) gave (networks-of served) (lengths-of served) long.0 long.1 is-granted m n m-is n-is) (stateIn h).rows
+          (anew _ _ _ _ _ _ _ s.pre _ option selection k (places_of found) (places-many found) gave (networks-of served) (lengths-of served) long.0 long.1 is-granted m n m-is n-is) (state_in h).rows
           (standing _ _ _ _ _ _ _ s.pre _ option selection k (places_of found) (places-many found) gave (networks-of served) (lengths-of served) long.0 long.1 is-granted m n m-is n-is held.hold-again.last.0 edited)
           (ask-fresh _ _ _ _ _ _ _ s.pre _ option selection k (places_of found) (places-many found) gave (networks-of served) (lengths-of served) long.0 long.1 is-granted m n m-is n-is) in
-          ap (λ (r : Answer). returning selection (result r (lent image committed.commit-grants.result sheet) shown.put-offers.last.0)) c.accepted.ensures
+          ap (λ (r : Answer). returning selection (outcome r (lent image committed.commit-grants.result sheet) shown.put-offers.last.0)) c.accepted.ensures
           ∙ ask-granted _ _ _ _ _ _ _ s.pre _ option selection k (places_of found) (places-many found) gave (networks-of served) (lengths-of served) long.0 long.1 is-granted m n m-is n-is held.hold-again.last.0 edited
-          else.if1.left image sheet shown.put-offers.last.0 shown.put-offers.result is-grown (shown.put-offers.ensures.1 a.asker.client (a.asker.time + holdTime) a.asker.name ms stand inside)
-          committed.commit-grants.result (committed.commit-grants.ensures.0 ∙ ap (λ (w : ℕ). leasesFrom a.site.summary + leaseSize * (a.site.summary.leases - a.site.summary.expired + w)) (sym (counted served))),
+          else.if1.left image sheet shown.put-offers.last.0 shown.put-offers.result is-grown (shown.put-offers.ensures.1 a.asker.client (a.asker.time + hold_time) a.asker.name ms stand inside)
+          committed.commit-grants.result (committed.commit-grants.ensures.0 ∙ ap (λ (w : ℕ). leases_from a.site.summary + lease_size * (a.site.summary.leases - a.site.summary.expired + w)) (sym (counted served))),
     )
 
 pub grant-spec : {M : Type 1} → statement M

@@ -4,9 +4,9 @@ use mathlib.Core.Path.{ap, ◌∙◌}
 use native.Mathlib.Omega.{arith}
 use borrow.Author.Rules.{rules}
 use Rattle.lists.specs.Put.{put}
-use Rattle.option.specs.Writing.{suboptionBytes}
+use Rattle.option.specs.Writing.{suboption_bytes}
 use Rattle.table.specs.declared.Lease.{Lease}
-use Rattle.ledger.specs.Ledger.{informationFor}
+use Rattle.ledger.specs.Ledger.{information_for}
 use Rattle.ask_commit.proofs.ReplyPuts.{shown-again, shown-new, shown-nothing}
 use Rattle.ask_commit.proofs.put_one.Statement.{statement}
 use Rattle.ask_commit.proofs.put_one.Tie as tie
@@ -26,7 +26,7 @@ returns c =
       (omega arith, omega arith),
       λ before xs shown.
           shown-again a.place _ a.x before a.reply.now a.at xs shown then.if1.true written.put-offer.new.0
-          (written.put-offer.ensures ∙ ap (λ (y : Lease). put a.reply.now a.at (suboptionBytes (informationFor y))) read.lease-at.ensures),
+          (written.put-offer.ensures ∙ ap (λ (y : Lease). put a.reply.now a.at (suboption_bytes (information_for y))) read.lease-at.ensures),
     )
 
 returns-2 : tie.Need-returns-2

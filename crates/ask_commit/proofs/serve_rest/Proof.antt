@@ -9,7 +9,7 @@ use borrow.Author.Rules.{rules}
 use Rattle.table.specs.Table.{present}
 use Rattle.image_check.specs.declared.ImageSummary.{ImageSummary}
 use Rattle.ledger.specs.Ledger.{narrowed}
-use Rattle.call_spec.specs.ImageCalls.{Lent, tableIn}
+use Rattle.call_spec.specs.ImageCalls.{Lent, table_in}
 use Rattle.call_rows.specs.Admission.{Admitted}
 use Rattle.ask_commit.specs.InnerRest.{AdmittedImage}
 use Rattle.ask_commit.proofs.AdmittedLaws.{fewer, default-long}
@@ -51,7 +51,7 @@ returns c =
     let pre = s.pre in (
       (omega arith, omega arith, sym pre.6),
       λ h call us rs e o k asked long.
-          rest-given a.image.now a.asker.time a.asker.client a.site.summary (admitted h a.image.now a.asker.time a.asker.client a.site.summary e o) (narrowed (tableIn h) call) a.asker.name us rs a.ask-lengths.now a.places.now a.networks.now a.lengths.now asked pre.2 pre.4 pre.5 pre.6
+          rest-given a.image.now a.asker.time a.asker.client a.site.summary (admitted h a.image.now a.asker.time a.asker.client a.site.summary e o) (narrowed (table_in h) call) a.asker.name us rs a.ask-lengths.now a.places.now a.networks.now a.lengths.now asked pre.2 pre.4 pre.5 pre.6
           (sym pre.3 ∙ c.if1.true),
     )
 
@@ -65,7 +65,7 @@ returns-2 c =
     let pre = s.pre in (
       (omega arith, omega arith, sym pre.6),
       λ h call us rs e o k asked long.
-          rest-refused a.image.now a.asker.time a.asker.client a.site.summary (admitted h a.image.now a.asker.time a.asker.client a.site.summary e o) (narrowed (tableIn h) call) a.asker.name us rs a.ask-lengths.now a.places.now a.networks.now a.lengths.now asked pre.2 pre.4 pre.5 pre.6 c.if2.true,
+          rest-refused a.image.now a.asker.time a.asker.client a.site.summary (admitted h a.image.now a.asker.time a.asker.client a.site.summary e o) (narrowed (table_in h) call) a.asker.name us rs a.ask-lengths.now a.places.now a.networks.now a.lengths.now asked pre.2 pre.4 pre.5 pre.6 c.if2.true,
     )
 
 -- Where the leases of the ground begin is within the image.
@@ -122,7 +122,7 @@ returns-3 c =
     let r = served.serve.ensures in (
       (r.0, r.1.0, r.1.1.0),
       λ h call us rs e o k asked long.
-          r.1.1.1 (tableIn h) call a.asker.time a.asker.client a.asker.name (present a.asker.time (tableIn h).leases) us rs
+          r.1.1.1 (table_in h) call a.asker.time a.asker.client a.asker.name (present a.asker.time (table_in h).leases) us rs
           (rest-ready a.image.now a.asker.time a.asker.client a.site.summary (admitted h a.image.now a.asker.time a.asker.client a.site.summary e o) a.site.ground k.few-pools k.few-leases (starts-of found) (lasts-of found) found.gaps-in.result found.gaps-in.ensures.1 call k rs a.ask-lengths.now asked long),
     )
 

@@ -7,9 +7,9 @@ use mathlib.Core.List.{List}
 use native.Mathlib.Omega.{arith}
 use lib.ListN.{length, drop, length-drop}
 use borrow.Author.Rules.{rules}
-use Rattle.image.specs.Image.{headSize}
+use Rattle.image.specs.Image.{head_size}
 use Rattle.prefix.specs.Prefixes.{end}
-use Rattle.image_check.specs.Inner.{nthPool}
+use Rattle.image_check.specs.Inner.{nth_pool}
 use Rattle.image_check.proofs.RunLaws.{part-rest}
 use Rattle.ask_gaps.proofs.PassLaws.{Passed, passed_none, passed-pool, passed-all}
 use Rattle.ask_gaps.proofs.gaps_in.Statement.{statement}
@@ -30,11 +30,11 @@ loop-holds c =
 
 -- The pool that is read.
 pool-is : (c : tie.After-pool invariant-loop decreases-loop)
-    → c.pool.result ≡ nthPool (drop headSize c.before.before.before.before.before.before.before.before.before.args.image.now) (c.before.before.before.before.before.before.before.before.before.args.span.pool + c.before.before.before.before.before.loop.k)
+    → c.pool.result ≡ nth_pool (drop head_size c.before.before.before.before.before.before.before.before.before.args.image.now) (c.before.before.before.before.before.before.before.before.before.args.span.pool + c.before.before.before.before.before.loop.k)
 pool-is c =
     let at-loop = c.before.before.before.before.before in
     let a = at-loop.before.before.before.before.args in
-    c.pool.ensures ∙ ap (λ (s : List ℕ). nthPool s (a.span.pool + at-loop.loop.k)) (part-rest a.image.now headSize)
+    c.pool.ensures ∙ ap (λ (s : List ℕ). nth_pool s (a.span.pool + at-loop.loop.k)) (part-rest a.image.now head_size)
 
 add-pool : tie.Need-overflow-add-pool invariant-loop decreases-loop
 add-pool c =
@@ -48,7 +48,7 @@ pool-requires c κs =
     let at-loop = c.before.before.before.before in
     let start = at-loop.before.before.before.before in
     let inside : at-loop.loop.k < start.args.span.pools = c.before.before.if1.true in
-    omega (arith, inside, start.requires.0, length-drop headSize start.args.image.now, ap length (part-rest start.args.image.now headSize))
+    omega (arith, inside, start.requires.0, length-drop head_size start.args.image.now, ap length (part-rest start.args.image.now head_size))
 
 in-pool-requires : tie.Need-in-pool-requires invariant-loop decreases-loop
 in-pool-requires c κs =

@@ -14,7 +14,7 @@ use Rattle.option.specs.Contents.{Request}
 use Rattle.ledger.specs.Ledger.{Call}
 use Rattle.ask_serve.specs.declared.Progress.{Progress}
 use Rattle.ask_serve.specs.declared.Start.{Start}
-use Rattle.ask_serve.specs.Granting.{leasesIn, Serving}
+use Rattle.ask_serve.specs.Granting.{leases_in, Serving}
 use Rattle.ask_serve.specs.InnerServing.{columns, Served}
 use Rattle.ask_serve.proofs.ServeLaws.{asked-long, After, serve-start, serve-turn, serve-end}
 use Rattle.ask_serve.proofs.serve.Statement.{statement}
@@ -28,7 +28,7 @@ abbrev invariant-loop : tie.invariant-loop
 invariant-loop ask-lengths places starts₀ lasts₀ networks₀ lengths₀ default-length at₀ requests j₀ starts lasts networks lengths at j =
     (j ≤ length ask-lengths) × (at.granted ≤ j) × (at.gaps + at.left ≤ at₀.gaps + at₀.left)
     × (length starts ≡ length starts₀) × (length lasts ≡ length lasts₀) × (length networks ≡ length networks₀) × (length lengths ≡ length lengths₀)
-    × (at.granted + at.left ≤ at₀.left) × (at.granted ≡ leasesIn lengths j)
+    × (at.granted + at.left ≤ at₀.left) × (at.granted ≡ leases_in lengths j)
     × ((t : LeaseTable) (call : Call) (time client : ℕ) (name : Name) (xs us : List Lease) (rs : List Request)
     → Serving t call time client xs rs starts₀ lasts₀ (start-of default-length at₀) ask-lengths
     → After t call time client name xs us places rs j (columns starts lasts networks lengths) at)
@@ -111,7 +111,7 @@ returns c =
       (
         omega (arith, l.invariant.7),
         (
-          l.invariant.8 ∙ ap (leasesIn l.lengths) all,
+          l.invariant.8 ∙ ap (leases_in l.lengths) all,
           λ t call time client name xs us rs ready.
               serve-end t call time client name xs us a.places.now rs a.starts.now a.lasts.now a.start a.ask-lengths.now ready s.pre.0 l.j
               (columns l.starts l.lasts l.networks l.lengths) l.at c.loop-test.false (l.invariant.9 t call time client name xs us rs ready),

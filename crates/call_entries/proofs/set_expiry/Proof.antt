@@ -6,7 +6,7 @@ use mathlib.Core.Path.{refl, ap, ◌∙◌}
 use lib.ListN.{length-set, set}
 use borrow.Author.Rules.{rules}
 use Rattle.lists.specs.Put.{put}
-use Rattle.image.specs.Image.{le32, leaseSize}
+use Rattle.image.specs.Image.{le32, lease_size}
 use Rattle.call_entries.specs.EntryLeases.{named?}
 use Rattle.call_entries.proofs.NamedLaws.{set-expiry-none, set-expiry-here}
 use Rattle.call_entries.proofs.set_expiry.Statement.{statement}
@@ -25,7 +25,7 @@ returns c =
     let then = state.before in
     let found = then.before in
     let a = found.before.before.before.args in
-    let at = a.from + leaseSize * found.find.result in (
+    let at = a.from + lease_size * found.find.result in (
       found.find.ensures.0,
       λ xs held counted ascending.
           set-expiry-here (named? a.expiry.time a.expiry.client a.network a.length) a.expiry.expires a.image.now a.from xs held found.find.result (found.find.ensures.1 xs held counted ascending) (omega (arith, then.if1.true)) _

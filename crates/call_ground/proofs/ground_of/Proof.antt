@@ -12,8 +12,8 @@ use Rattle.lists.proofs.Tests.{bool_cases}
 use Rattle.call_ground.specs.Ground.{LeasesIn}
 use Rattle.prefix.specs.declared.Prefix.{Prefix}
 use Rattle.prefix.specs.Prefixes.{end}
-use Rattle.table.specs.Table.{addresses, poolPrefix}
-use Rattle.call_spec.specs.ImageCalls.{carriedIf}
+use Rattle.table.specs.Table.{addresses, pool_prefix}
+use Rattle.call_spec.specs.ImageCalls.{carried_if}
 use Rattle.call_ground.proofs.GroundsLaws.{admitted-room, admitted-ends, grounds-all, grounds-none, grounds-one}
 use Rattle.call_ground.proofs.ground_of.Statement.{statement}
 use Rattle.call_ground.proofs.ground_of.Tie as tie
@@ -26,7 +26,7 @@ below {r} {n} h k =
 returns : tie.Need-returns
 returns c =
     let a = c.before.before.args in
-    ((omega arith, omega arith), λ h time call s same admitted carries four. grounds-all h time call a.summary admitted (carries ∙ ap (λ (b : Bool). carriedIf b s) (not-true a.selected c.if1.true)))
+    ((omega arith, omega arith), λ h time call s same admitted carries four. grounds-all h time call a.summary admitted (carries ∙ ap (λ (b : Bool). carried_if b s) (not-true a.selected c.if1.true)))
 
 pool-of-requires : tie.Need-pool-of-requires
 pool-of-requires c κs =
@@ -42,7 +42,7 @@ returns-2 c =
     let chosen = not-false a.selected found.before.if1.false in (
       (omega (arith, is.within), omega arith),
       λ h time call s same admitted carries four.
-          grounds-none h time call a.summary admitted s (carries ∙ ap (λ (b : Bool). carriedIf b s) chosen) a.address (four chosen) a.image.now same
+          grounds-none h time call a.summary admitted s (carries ∙ ap (λ (b : Bool). carried_if b s) chosen) a.address (four chosen) a.image.now same
           found.pool-of.result is c.if2.true,
     )
 
@@ -61,7 +61,7 @@ leases-in-requires c κs =
     let found = c.before.before.before.before.before in
     let less = below found.pool-of.ensures.within c.before.before.before.if2.false in (
       omega (arith, admitted-room a.image.now a.summary start.requires),
-      subst (λ (p : Prefix). end p ≤ addresses) (sym (c.before.pool-prefix.ensures ∙ ap poolPrefix c.before.before.pool-at.ensures)) (admitted-ends a.image.now a.summary start.requires found.pool-of.result less),
+      subst (λ (p : Prefix). end p ≤ addresses) (sym (c.before.pool-prefix.ensures ∙ ap pool_prefix c.before.before.pool-at.ensures)) (admitted-ends a.image.now a.summary start.requires found.pool-of.result less),
     )
 
 returns-3 : tie.Need-returns-3
@@ -73,10 +73,10 @@ returns-3 c =
     let is = found.pool-of.ensures in
     let less = below is.within else.if2.false in
     let chosen = not-false a.selected found.before.if1.false in
-    let read = made.pool-prefix.ensures ∙ ap poolPrefix made.before.pool-at.ensures in (
+    let read = made.pool-prefix.ensures ∙ ap pool_prefix made.before.pool-at.ensures in (
       (omega (arith, less), c.leases-in.ensures.0),
       λ h time call s same admitted carries four.
-          grounds-one h time call a.summary admitted s (carries ∙ ap (λ (b : Bool). carriedIf b s) chosen) a.address (four chosen) a.image.now same
+          grounds-one h time call a.summary admitted s (carries ∙ ap (λ (b : Bool). carried_if b s) chosen) a.address (four chosen) a.image.now same
           found.pool-of.result is less c.leases-in.result c.leases-in.ensures.0
           (λ xs records many up. subst (λ (p : Prefix). LeasesIn p xs c.leases-in.result) read (c.leases-in.ensures.1 xs records many up)),
     )

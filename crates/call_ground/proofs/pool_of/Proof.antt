@@ -4,7 +4,7 @@ use Prim.Native.Nat.{◌-◌, ◌≤◌}
 use mathlib.Core.Path.{sym, ap, ◌∙◌}
 use native.Mathlib.Omega.{arith}
 use borrow.Author.Rules.{rules}
-use Rattle.call_ground.specs.Ground.{inPool?}
+use Rattle.call_ground.specs.Ground.{in_pool?}
 use Rattle.call_ground.proofs.PoolLaws.{None, none_first, none_more, pool-of}
 use Rattle.call_ground.proofs.pool_of.Statement.{statement}
 use Rattle.call_ground.proofs.pool_of.Tie as tie
@@ -24,7 +24,7 @@ returns c =
     let read = tested.before in
     let loop = read.before.before.loop in
     let a = c.before.before.before.before.before.before.args in
-    let here = ap (inPool? a.address) (sym read.pool-at.ensures) ∙ sym tested.contains.ensures ∙ c.if1.true in
+    let here = ap (in_pool? a.address) (sym read.pool-at.ensures) ∙ sym tested.contains.ensures ∙ c.if1.true in
     pool-of a.image.now a.pools a.address loop.k loop.invariant.0 loop.invariant.1 (λ h. here)
 
 loop-again : tie.Need-loop-preserved invariant-loop decreases-loop
@@ -33,7 +33,7 @@ loop-again c =
     let read = tested.before in
     let loop = read.before.before.loop in
     let a = c.before.before.before.before.before.before.args in
-    let other = ap (inPool? a.address) (sym read.pool-at.ensures) ∙ sym tested.contains.ensures ∙ c.if1.false in
+    let other = ap (in_pool? a.address) (sym read.pool-at.ensures) ∙ sym tested.contains.ensures ∙ c.if1.false in
     (omega arith, none_more a.image.now a.address loop.k loop.invariant.1 other)
 
 returns-2 : tie.Need-returns-2 invariant-loop decreases-loop

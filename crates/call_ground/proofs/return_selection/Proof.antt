@@ -9,29 +9,29 @@ use borrow.Author.Rules.{rules}
 use borrow.Author.Tests.{not-true, not-false}
 use Rattle.lists.specs.Put.{put}
 use Rattle.lists.proofs.PutLaws.{length-put}
-use Rattle.option.specs.Selection.{selectionSize}
+use Rattle.option.specs.Selection.{selection_size}
 use Rattle.ledger.specs.declared.Answer.{Answer}
-use Rattle.ledger.specs.Ledger.{result, acceptance}
-use Rattle.call_spec.specs.ImageCalls.{carriedIf}
+use Rattle.ledger.specs.Ledger.{outcome, acceptance}
+use Rattle.call_spec.specs.ImageCalls.{carried_if}
 use Rattle.call_ground.proofs.ReturnLaws.{returning-refused, returning-free, returning-put, put-none, put_next, put_whole}
 use Rattle.call_ground.proofs.return_selection.Statement.{statement}
 use Rattle.call_ground.proofs.return_selection.Tie as tie
 
 abbrev invariant-loop : tie.invariant-loop
-invariant-loop answer selected selection reply₀ bytes k₀ reply k = (k ≤ selectionSize) × (reply ≡ put reply₀ bytes (take k selection))
+invariant-loop answer selected selection reply₀ bytes k₀ reply k = (k ≤ selection_size) × (reply ≡ put reply₀ bytes (take k selection))
 
 abbrev decreases-loop : tie.decreases-loop
-decreases-loop answer selected selection reply₀ bytes k₀ reply k = selectionSize - k
+decreases-loop answer selected selection reply₀ bytes k₀ reply k = selection_size - k
 
 returns : tie.Need-returns invariant-loop decreases-loop
 returns c =
     let a = c.before.before.before.before.args in
-    λ s. sym (returning-refused (carriedIf a.selected a.selection.now) (result a.answer s a.reply.now) c.if1.true)
+    λ s. sym (returning-refused (carried_if a.selected a.selection.now) (outcome a.answer s a.reply.now) c.if1.true)
 
 returns-2 : tie.Need-returns-2 invariant-loop decreases-loop
 returns-2 c =
     let a = c.before.before.before.before.before.args in
-    λ s. sym (returning-free a.selected a.selection.now (result a.answer s a.reply.now) (not-true a.selected c.if2.true))
+    λ s. sym (returning-free a.selected a.selection.now (outcome a.answer s a.reply.now) (not-true a.selected c.if2.true))
 
 loop-holds : tie.Need-loop-init invariant-loop decreases-loop
 loop-holds c = let a = c.before.before.before.before.before.before.args in (omega arith, put-none a.reply.now a.answer.bytes a.selection.now)
@@ -93,10 +93,10 @@ returns-3 c =
     let fits = start.requires c.before.before.before.before.before.if1.false (not-false a.selected c.before.before.before.before.if2.false) in
     let loop = c.before.before.loop in
     λ s.
-    ap₂ (λ (r : Answer) (l : List ℕ). result r s l)
+    ap₂ (λ (r : Answer) (l : List ℕ). outcome r s l)
     (c.accepted.ensures ∙ ap (λ (n : ℕ). acceptance (a.answer.bytes + n) a.answer.count) (sym fits.0))
     (put_whole a.reply.now loop.reply a.answer.bytes loop.k a.selection.now (omega (arith, fits.0)) loop.invariant.1)
-    ∙ sym (returning-put a.selected a.selection.now (result a.answer s a.reply.now) c.before.before.before.before.before.if1.false (not-false a.selected c.before.before.before.before.if2.false))
+    ∙ sym (returning-put a.selected a.selection.now (outcome a.answer s a.reply.now) c.before.before.before.before.before.if1.false (not-false a.selected c.before.before.before.before.if2.false))
 
 pub return-selection-spec : {M : Type 1} → statement M
 return-selection-spec =

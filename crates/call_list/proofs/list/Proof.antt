@@ -10,9 +10,9 @@ use borrow.Author.Tests.{not-true, not-false}
 use borrow.Author.Rules.{rules}
 use Rattle.image.proofs.FieldLaws.{bytes-all}
 use Rattle.ledger.specs.declared.Answer.{Answer}
-use Rattle.ledger.specs.Ledger.{Call, call, result, refusal, leastReply}
+use Rattle.ledger.specs.Ledger.{Call, call, outcome, refusal, least_reply}
 use Rattle.call_spec.specs.ImageCalls.{Lent}
-use Rattle.call_spec.specs.Books.{Book, bookOf, lentIn}
+use Rattle.call_spec.specs.Books.{Book, book_of, lent_in}
 use Rattle.call_rows.proofs.RowLaws.{place-small, ReadCall}
 use Rattle.call_list.specs.InnerListing.{Listing}
 use Rattle.call_list.proofs.ListLaws.{list-refused, list-unread, list-wrong, list-passed, list-book, listing-lent, listed-book}
@@ -31,15 +31,15 @@ start-of c = c.before.before.before.before.before.before.before
 
 -- The book, what is lent of it, and the call.
 abbrev book-of : tie.Start → Book
-book-of c = let a = c.args in bookOf a.image.now a.image-bytes [] a.counts.now
+book-of c = let a = c.args in book_of a.image.now a.image-bytes [] a.counts.now
 
 abbrev lent_of : tie.Else1 → Lent
-lent_of c = lentIn (book-of (start-of c))
+lent_of c = lent_in (book-of (start-of c))
 
 abbrev call-of : tie.Else1 → Call
 call-of c = let a = (start-of c).args in call a.client a.option.now a.reply.now
 
-abbrev read-call : (c : tie.After-option-refusal) → let else = else-of (read_of c) in ReadCall false (ltb (length (call-of else).reply) leastReply) (lent_of else) (start-of else).args.time (call-of else)
+abbrev read-call : (c : tie.After-option-refusal) → let else = else-of (read_of c) in ReadCall false (ltb (length (call-of else).reply) least_reply) (lent_of else) (start-of else).args.time (call-of else)
 read-call c =
     let read = read_of c in
     let else = else-of read in
@@ -53,8 +53,8 @@ returns c =
     let a = start.args in
     let b = book-of start in
     let asked = call a.client a.option.now a.reply.now in
-    ap (λ (r : Answer). result r b a.reply.now) c.refused.ensures
-    ∙ list-book b a.time asked (refusal adm.admit.result.number 0) a.reply.now (list-refused (lentIn b) a.time asked adm.admit.result adm.admit.ensures c.before.if1.true)
+    ap (λ (r : Answer). outcome r b a.reply.now) c.refused.ensures
+    ∙ list-book b a.time asked (refusal adm.admit.result.number 0) a.reply.now (list-refused (lent_in b) a.time asked adm.admit.result adm.admit.ensures c.before.if1.true)
 
 option-refusal-requires : tie.Need-option-refusal-requires
 option-refusal-requires c κs =
@@ -78,9 +78,9 @@ returns-3 c =
     let else = else-of (read_of answer) in
     let a = (start-of else).args in
     let b = book-of (start-of else) in
-    ap (λ (r : Answer). result r b a.reply.now) c.refused2.ensures
+    ap (λ (r : Answer). outcome r b a.reply.now) c.refused2.ensures
     ∙ list-book b a.time (call-of else) (refusal 8 0) a.reply.now
-    (list-wrong (lentIn b) a.time (call-of else) (read-call answer) tested.before.if2.false tested.for-list.result tested.for-list.ensures (not-true _ c.before.if3.true))
+    (list-wrong (lent_in b) a.time (call-of else) (read-call answer) tested.before.if2.false tested.for-list.result tested.for-list.ensures (not-true _ c.before.if3.true))
 
 -- Every row before 11 has passed.
 passed : (c : tie.Else3) → let answer = c.before.before.before.before in

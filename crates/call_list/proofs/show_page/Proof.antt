@@ -6,13 +6,13 @@ use mathlib.Core.Logic.{⊎_elim}
 use mathlib.Core.List.{List}
 use lib.ListN.{length, get_or}
 use Rattle.lists.specs.Put.{put}
-use Rattle.table.specs.Table.{noLease}
-use Rattle.option_reply.proofs.ReplyLaws.{leaseBytes}
+use Rattle.table.specs.Table.{no_lease}
+use Rattle.option_reply.proofs.ReplyLaws.{lease_bytes}
 use native.Mathlib.Omega.{arith}
 use Rattle.table.specs.declared.Lease.{Lease}
 use Rattle.image_records.specs.Records.{Records}
 use Rattle.image_records.proofs.RecordLaws.{lease-in-place}
-use Rattle.option_reply.specs.Reply.{mostEntries}
+use Rattle.option_reply.specs.Reply.{most_entries}
 use Rattle.call_list.specs.InnerPage.{shown?}
 use Rattle.call_list.proofs.PageLaws.{Showing, showing-none, showing-skip, showing-more, page-full, page-last}
 use borrow.Author.Rules.{rules}
@@ -21,7 +21,7 @@ use Rattle.call_list.proofs.show_page.Tie as tie
 
 abbrev invariant-loop : tie.invariant-loop
 invariant-loop image from first n time client reply₀ count₀ i₀ reply count i =
-    (i ≤ n) × (count ≤ mostEntries) × (length reply ≡ length reply₀)
+    (i ≤ n) × (count ≤ most_entries) × (length reply ≡ length reply₀)
     × ((xs : List Lease) → Records image from xs → n ≡ length xs → Showing (shown? time client) first xs reply₀ reply count i)
 
 abbrev decreases-loop : tie.decreases-loop
@@ -49,9 +49,9 @@ loop-again : tie.Need-loop-preserved invariant-loop decreases-loop
 loop-again c =
     let here = c.before.before.before.before.loop in
     let a = c.before.before.before.before.before.before.before.args in
-    let read : (xs : List Lease) → Records a.image.now a.from xs → (lt : here.i < length xs) → c.before.before.lease-at.result ≡ get_or xs here.i noLease =
+    let read : (xs : List Lease) → Records a.image.now a.from xs → (lt : here.i < length xs) → c.before.before.lease-at.result ≡ get_or xs here.i no_lease =
     λ xs r lt. c.before.before.lease-at.ensures ∙ lease-in-place a.image.now a.from xs r here.i lt in
-    let test : (xs : List Lease) → Records a.image.now a.from xs → (lt : here.i < length xs) → shown? a.time a.client (get_or xs here.i noLease) ≡ c.before.is-shown.result =
+    let test : (xs : List Lease) → Records a.image.now a.from xs → (lt : here.i < length xs) → shown? a.time a.client (get_or xs here.i no_lease) ≡ c.before.is-shown.result =
     λ xs r lt. ap (shown? a.time a.client) (sym (read xs r lt)) ∙ sym c.before.is-shown.ensures in
     ⊎_elim
     (λ w. (
@@ -62,7 +62,7 @@ loop-again c =
           let lt : here.i < length xs = omega arith in
           rw w.7
           (showing-more (shown? a.time a.client) a.first xs a.reply.now here.reply here.count here.i (here.invariant.3 xs r e) lt (test xs r lt ∙ w.0.taken) c.if1.reply
-          (w.6 ∙ w.3.ensures ∙ ap (λ (x : Lease). put here.reply (6 + 7 * here.count) (leaseBytes x)) (read xs r lt))),
+          (w.6 ∙ w.3.ensures ∙ ap (λ (x : Lease). put here.reply (6 + 7 * here.count) (lease_bytes x)) (read xs r lt))),
     ))
     (λ w. (
       omega arith,

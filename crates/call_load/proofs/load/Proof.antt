@@ -9,18 +9,18 @@ use borrow.Author.Tests.{not-true, not-false}
 use Rattle.lists.specs.Lists.{All}
 use lib.ListN.{length, drop}
 use Rattle.table.specs.declared.LeaseTable.{LeaseTable}
-use Rattle.table.specs.Table.{leaseSlots}
+use Rattle.table.specs.Table.{lease_slots}
 use Rattle.image.specs.declared.Form.{Form}
-use Rattle.image.specs.Image.{fullImage, headSize, poolSize, leaseSize, image_of, loadedTable}
-use Rattle.image.specs.Reading.{loadIn, loadSaved}
+use Rattle.image.specs.Image.{full_image, head_size, pool_size, lease_size, image_of, loaded_table}
+use Rattle.image.specs.Reading.{load_in, load_saved}
 use Rattle.image.proofs.FieldLaws.{bytes-all}
 use Rattle.image_check.specs.declared.ImageSummary.{ImageSummary}
-use Rattle.image_check.specs.ImageSummary.{summaryOf}
+use Rattle.image_check.specs.ImageSummary.{summary_of}
 use Rattle.image_check.proofs.SummaryLaws.{summary-some, summary-none}
 use Rattle.ledger.specs.declared.Answer.{Answer}
-use Rattle.ledger.specs.Ledger.{result}
+use Rattle.ledger.specs.Ledger.{outcome}
 use Rattle.call_spec.specs.ImageCalls.{Lent, lent}
-use Rattle.call_spec.specs.Books.{Book, bookOf}
+use Rattle.call_spec.specs.Books.{Book, book_of}
 use Rattle.call_load.proofs.LoadLaws.{load-unsound, load-small, load-other, read_fits, read-image, pools-are, leases-are, saved-size, read-within, read-stands, read_some, load-filled, load-accepted, load-refuses, load-accepts}
 use borrow.Author.Rules.{rules}
 use Rattle.call_load.proofs.load.Statement.{statement}
@@ -32,28 +32,28 @@ start-of c = c.before.before.before.before.before
 
 -- The book, and what is lent of it.
 abbrev book-of : tie.Start → Book
-book-of c = let a = c.args in bookOf a.image.now a.image-bytes.now a.figures.now a.counts.now
+book-of c = let a = c.args in book_of a.image.now a.image-bytes.now a.figures.now a.counts.now
 
 abbrev lent_of : tie.Start → Lent
 lent_of c = (book-of c).lent
 
 -- What the check tells, in the form of the bytes.
-checked : (c : tie.After-check-in) → c.check-in.result ≡ summaryOf 0 (loadSaved (start-of c).args.saved.now)
-checked c = c.check-in.ensures ∙ ap (λ (f : Form). summaryOf 0 (loadIn f (start-of c).args.saved.now)) c.before.form_of.ensures
+checked : (c : tie.After-check-in) → c.check-in.result ≡ summary_of 0 (load_saved (start-of c).args.saved.now)
+checked c = c.check-in.ensures ∙ ap (λ (f : Form). summary_of 0 (load_in f (start-of c).args.saved.now)) c.before.form_of.ensures
 
 abbrev check-of : tie.Else1 → tie.After-check-in
 check-of c = c.before.before
 
 abbrev table_of : tie.Else1 → LeaseTable
-table_of c = loadedTable (loadSaved (start-of (check-of c)).args.saved.now)
+table_of c = loaded_table (load_saved (start-of (check-of c)).args.saved.now)
 
-loads : (c : tie.Else1) → loadSaved (start-of (check-of c)).args.saved.now ≡ some (table_of c)
+loads : (c : tie.Else1) → load_saved (start-of (check-of c)).args.saved.now ≡ some (table_of c)
 loads c =
     let s = (start-of (check-of c)).args.saved.now in
-    summary-some 0 (loadSaved s) (ap (λ (r : ImageSummary). r.sound) (sym (checked (check-of c))) ∙ not-false _ c.if1.false)
+    summary-some 0 (load_saved s) (ap (λ (r : ImageSummary). r.sound) (sym (checked (check-of c))) ∙ not-false _ c.if1.false)
 
-tells : (c : tie.Else1) → (check-of c).check-in.result ≡ summaryOf 0 (some (table_of c))
-tells c = checked (check-of c) ∙ ap (summaryOf 0) (loads c)
+tells : (c : tie.Else1) → (check-of c).check-in.result ≡ summary_of 0 (some (table_of c))
+tells c = checked (check-of c) ∙ ap (summary_of 0) (loads c)
 
 bytes : (c : tie.Else1) → All (λ b. b < 256) (start-of (check-of c)).args.saved.now
 bytes c = bytes-all (start-of (check-of c)).args.saved.now (λ i. omega (arith, (check-of c).before.before.shared-slice-known.given i))
@@ -64,16 +64,16 @@ returns c =
     let check = then.before.before in
     let start = start-of check in
     let s = start.args.saved.now in
-    ap (λ (r : Answer). result r (book-of start) []) c.refused.ensures
+    ap (λ (r : Answer). outcome r (book-of start) []) c.refused.ensures
     ∙ load-refuses (book-of start) s 5 (λ z. omega (arith, z))
-    (load-unsound (lent_of start) s (summary-none 0 (loadSaved s) (ap (λ (r : ImageSummary). r.sound) (sym (checked check)) ∙ not-true _ then.if1.true)))
+    (load-unsound (lent_of start) s (summary-none 0 (load_saved s) (ap (λ (r : ImageSummary). r.sound) (sym (checked check)) ∙ not-true _ then.if1.true)))
 
 returns-2 : tie.Need-returns-2
 returns-2 c =
     let one = c.before.before in
     let start = start-of (check-of one) in
     let s = start.args.saved.now in
-    ap (λ (r : Answer). result r (book-of start) []) c.refused2.ensures
+    ap (λ (r : Answer). outcome r (book-of start) []) c.refused2.ensures
     ∙ load-refuses (book-of start) s 14 (λ z. omega (arith, z)) (load-small (lent_of start) s (table_of one) (loads one) c.before.if2.true)
 
 returns-3 : tie.Need-returns-3
@@ -82,11 +82,11 @@ returns-3 c =
     let one = two.before in
     let start = start-of (check-of one) in
     let s = start.args.saved.now in
-    ap (λ (r : Answer). result r (book-of start) []) c.refused3.ensures
+    ap (λ (r : Answer). outcome r (book-of start) []) c.refused3.ensures
     ∙ load-refuses (book-of start) s 14 (λ z. omega (arith, z)) (load-other (lent_of start) s (table_of one) (loads one) two.if2.false c.before.if3.true)
 
 -- How many pools and leases there are.
-within : (c : tie.Else1) → let summary = (check-of c).check-in.result in (summary.leases ≤ leaseSlots) × (headSize + poolSize * summary.pools + leaseSize * summary.leases ≤ fullImage)
+within : (c : tie.Else1) → let summary = (check-of c).check-in.result in (summary.leases ≤ lease_slots) × (head_size + pool_size * summary.pools + lease_size * summary.leases ≤ full_image)
 within c =
     let check = check-of c in
     let start = start-of check in
@@ -174,7 +174,7 @@ returns-4 c =
     let f = fill.fill.last.0 in
     let g = lent l₂ n f in
     let counts = count.recount.new.1.1.1.0 in
-    ap (λ (r : Answer). result r (record { lent = g; counts = counts }) []) c.accepted.ensures
+    ap (λ (r : Answer). outcome r (record { lent = g; counts = counts }) []) c.accepted.ensures
     ∙ load-accepts (book-of start) s (bytes one) g
     (load-accepted h s t (loads one) (bytes one) summary (tells one) two.if2.left n w.0 l₁ l₂ w.1 clear.clear.ensures put.before.before.if3.left f
     (load-filled h s t (loads one) (bytes one) summary (tells one) two.if2.left n w.0 l₁ l₂ w.1 clear.clear.ensures f fill.fill.ensures))

@@ -6,7 +6,7 @@ use mathlib.Core.List.{List, ◌++◌}
 use native.Mathlib.Omega.{arith}
 use lib.ListN.{length, drop}
 use Rattle.image.specs.declared.Form.{Form}
-use Rattle.image.specs.Image.{headSize, poolSize, leaseSize, firstLeaseSize, leaseSizeIn, imageAs, image_of, fitsForm}
+use Rattle.image.specs.Image.{head_size, pool_size, lease_size, first_lease_size, lease_size_in, image_as, image_of, fits_form}
 use borrow.Author.Rules.{rules}
 use Rattle.call_load.proofs.put_image.Statement.{statement}
 use Rattle.call_load.proofs.put_image.Tie as tie
@@ -22,8 +22,8 @@ widen-requires c κs =
     let told = c.before in
     let start = start-of told in
     let a = start.args in
-    let size : headSize + poolSize * a.pools + firstLeaseSize * a.leases ≡ length a.saved.now =
-    ap (λ (f : Form). headSize + poolSize * a.pools + leaseSizeIn f * a.leases) (sym told.enum_told.given.1) ∙ start.pre.0 in
+    let size : head_size + pool_size * a.pools + first_lease_size * a.leases ≡ length a.saved.now =
+    ap (λ (f : Form). head_size + pool_size * a.pools + lease_size_in f * a.leases) (sym told.enum_told.given.1) ∙ start.pre.0 in
     (omega (arith, size), omega (arith, start.pre.1, start.pre.2))
 
 copy-requires : tie.Need-copy-requires
@@ -31,8 +31,8 @@ copy-requires c κs =
     let told = c.before in
     let start = start-of-2 told in
     let a = start.args in
-    let size : headSize + poolSize * a.pools + leaseSize * a.leases ≡ length a.saved.now =
-    ap (λ (f : Form). headSize + poolSize * a.pools + leaseSizeIn f * a.leases) (sym told.enum-told2.given.1) ∙ start.pre.0 in
+    let size : head_size + pool_size * a.pools + lease_size * a.leases ≡ length a.saved.now =
+    ap (λ (f : Form). head_size + pool_size * a.pools + lease_size_in f * a.leases) (sym told.enum-told2.given.1) ∙ start.pre.0 in
     (omega (arith, size, start.pre.1), omega (arith, size, start.pre.1, start.pre.2))
 
 returns : tie.Need-returns
@@ -40,7 +40,7 @@ returns c =
     let widen = c.before.before in
     let first = widen.before.before.enum_told.given.1 in
     λ t image fits p l.
-    widen.widen.ensures.1 t (ap (λ (f : Form). imageAs f t) (sym first) ∙ image) (ap (λ (f : Form). fitsForm f t) (sym first) ∙ fits) p l
+    widen.widen.ensures.1 t (ap (λ (f : Form). image_as f t) (sym first) ∙ image) (ap (λ (f : Form). fits_form f t) (sym first) ∙ fits) p l
 
 returns-2 : tie.Need-returns-2
 returns-2 c =
@@ -48,7 +48,7 @@ returns-2 c =
     let told = copy.before.before in
     let a = (start-of-2 told).args in
     λ t image fits p l.
-    let same : image_of t ≡ a.saved.now = ap (λ (f : Form). imageAs f t) (sym told.enum-told2.given.1) ∙ image in
+    let same : image_of t ≡ a.saved.now = ap (λ (f : Form). image_as f t) (sym told.enum-told2.given.1) ∙ image in
     (copy.copy.ensures.0 ∙ ap length (sym same), copy.copy.ensures.1 ∙ ap (λ (xs : List ℕ). xs ++ drop (length xs) a.image.now) (sym same))
 
 pub put-image-spec : {M : Type 1} → statement M

@@ -6,7 +6,7 @@ use lib.Dec.{eqb}
 use borrow.Author.Tests.{eqb-true, not-false}
 use borrow.Author.Rules.{rules}
 use Rattle.call_spec.specs.ImageCalls.{Lent, lent}
-use Rattle.call_spec.specs.Books.{Book, bookOf}
+use Rattle.call_spec.specs.Books.{Book, book_of}
 use Rattle.call_mark.proofs.MarkLaws.{book-refused, on-lent, mark-countable, mark-settles}
 use Rattle.call_mark.proofs.mark.Statement.{statement}
 use Rattle.call_mark.proofs.mark.Tie as tie
@@ -20,7 +20,7 @@ else-of c = c.before.before.before.before.before
 
 -- The open book, and what is lent after the lease is marked.
 abbrev book-of : tie.After-admit → Book
-book-of c = let a = (start-of c).args in bookOf a.image.now a.image-bytes.now a.figures.now a.counts.now
+book-of c = let a = (start-of c).args in book_of a.image.now a.image-bytes.now a.figures.now a.counts.now
 
 abbrev left-of : tie.After-mark-lease → Lent
 left-of c = lent c.mark-lease.new.0 c.mark-lease.new.1.0 c.mark-lease.new.1.1.0

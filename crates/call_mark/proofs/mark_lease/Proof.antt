@@ -13,11 +13,11 @@ use Rattle.lists.proofs.PutLaws.{length-put}
 use Rattle.prefix.specs.declared.Prefix.{Prefix}
 use Rattle.prefix.specs.declared.Checked.{Checked}
 use Rattle.prefix.specs.Prefixes.{prefix, checked}
-use Rattle.image.specs.Image.{leaseSize, usedLeases}
+use Rattle.image.specs.Image.{lease_size, used_leases}
 use Rattle.ledger.specs.declared.Answer.{Answer}
-use Rattle.ledger.specs.Ledger.{result, refusal}
-use Rattle.call_spec.specs.ImageCalls.{Lent, lent, tableIn, markImage}
-use Rattle.call_rows.specs.Admission.{leasesFrom}
+use Rattle.ledger.specs.Ledger.{outcome, refusal}
+use Rattle.call_spec.specs.ImageCalls.{Lent, lent, table_in, mark_image}
+use Rattle.call_rows.specs.Admission.{leases_from}
 use Rattle.call_mark.proofs.MarkLaws.{no_block, block-is, marked?, marked-of, mark-no-block, mark-none, mark-other, mark-found}
 use Rattle.call_mark.proofs.mark_lease.Statement.{statement}
 use Rattle.call_mark.proofs.mark_lease.Tie as tie
@@ -53,7 +53,7 @@ returns c =
     let new = c.before.before in
     let s = new.before.before.before.before in
     let a = s.args in
-    ap (λ (r : Answer). result r (lent_of s) []) c.refused.ensures
+    ap (λ (r : Answer). outcome r (lent_of s) []) c.refused.ensures
     ∙ mark-no-block (lent_of s) a.time a.network a.length (not (eqb a.deprecated 0)) a.summary s.requires
     (no_block a.network a.length new.new.result (asked new.before new.new.result new.new.ensures) c.before.match.keys2)
 
@@ -74,26 +74,26 @@ place-after-requires : tie.Need-place-after-requires
 place-after-requires c κs = let o = (start-of c.before.before).requires in omega (arith, o.size, o.within)
 
 -- How many leases have a network up to this one.
-placed : (c : tie.After-place-after) → let s = begun c in c.place_after.result ≡ length (filter (λ x. leb x.network s.args.network) (usedLeases (tableIn (lent_of s))))
+placed : (c : tie.After-place-after) → let s = begun c in c.place_after.result ≡ length (filter (λ x. leb x.network s.args.network) (used_leases (table_in (lent_of s))))
 placed c =
     let s = begun c in
     let o = s.pre in
-    subst (λ (p : Prefix). c.place_after.result ≡ length (filter (λ x. leb x.network p.network) (usedLeases (tableIn (lent_of s))))) (made (made_of c))
-    (c.place_after.ensures.1 (usedLeases (tableIn (lent_of s))) o.records o.leases o.ascending)
+    subst (λ (p : Prefix). c.place_after.result ≡ length (filter (λ x. leb x.network p.network) (used_leases (table_in (lent_of s))))) (made (made_of c))
+    (c.place_after.ensures.1 (used_leases (table_in (lent_of s))) o.records o.leases o.ascending)
 
 returns-2 : tie.Need-returns-2
 returns-2 c =
     let place = c.before.before in
     let s = begun place in
     let a = s.args in
-    ap (λ (r : Answer). result r (lent_of s) []) c.refused2.ensures
+    ap (λ (r : Answer). outcome r (lent_of s) []) c.refused2.ensures
     ∙ mark-none (lent_of s) a.time a.network a.length (not (eqb a.deprecated 0)) a.summary s.pre place.place_after.result (placed place) c.before.if1.true
 
 some-place : (c : tie.After-place-after) → (c.place_after.result ≡ 0 → ⊥) → 0 < c.place_after.result
 some-place c k = omega arith
 
 -- The record of a lease lies within the image.
-within : (c : tie.Else1) → let p = c.before in let a = (begun p).args in leasesFrom a.summary + leaseSize * (p.place_after.result - 1) + leaseSize ≤ length a.image.now
+within : (c : tie.Else1) → let p = c.before in let a = (begun p).args in leases_from a.summary + lease_size * (p.place_after.result - 1) + lease_size ≤ length a.image.now
 within c =
     let p = c.before in
     let o = (begun p).requires in
@@ -112,12 +112,12 @@ lease-at-requires c κs = within c.before
 other : (c : tie.After-lease-at) → let s = begun (place_of c) in let a = s.args in
     (r : Answer) → r ≡ refusal 11 0
     → ((a.time < c.lease-at.result.expires) × (c.lease-at.result.network ≡ a.network) × (c.lease-at.result.length ≡ a.length) → ⊥)
-    → result r (lent_of s) [] ≡ markImage (lent_of s) a.time a.network a.length (not (eqb a.deprecated 0))
+    → outcome r (lent_of s) [] ≡ mark_image (lent_of s) a.time a.network a.length (not (eqb a.deprecated 0))
 other c r e k =
     let place = place_of c in
     let s = begun place in
     let a = s.args in
-    ap (λ (y : Answer). result y (lent_of s) []) e
+    ap (λ (y : Answer). outcome y (lent_of s) []) e
     ∙ mark-other (lent_of s) a.time a.network a.length (not (eqb a.deprecated 0)) a.summary s.pre place.place_after.result (placed place) (some-place place c.before.before.if1.false) c.lease-at.result c.lease-at.ensures k
 
 returns-3 : tie.Need-returns-3
@@ -169,7 +169,7 @@ returns-6 c =
     let place = place_of l in
     let s = begun place in
     let a = s.args in
-    ap (λ (r : Answer). result r (lent end.remove-expired.new.0 end.remove-expired.result strike.strike-expired.new.0) []) c.accepted.ensures
+    ap (λ (r : Answer). outcome r (lent end.remove-expired.new.0 end.remove-expired.result strike.strike-expired.new.0) []) c.accepted.ensures
     ∙ mark-found (lent_of s) a.time a.network a.length (not (eqb a.deprecated 0)) a.summary s.pre place.place_after.result (placed place) (some-place place l.before.before.if1.left) l.lease-at.result l.lease-at.ensures (meant put.before.before) put.put-lease.new.0 end.remove-expired.new.0 end.remove-expired.result put.put-lease.ensures end.remove-expired.ensures strike.strike-expired.new.0 strike.strike-expired.ensures
 
 pub mark-lease-spec : {M : Type 1} → statement M

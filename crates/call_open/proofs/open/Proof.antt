@@ -8,18 +8,18 @@ use native.Mathlib.Omega.{arith}
 use lib.ListN.{length}
 use lib.Dec.{ltb}
 use borrow.Author.Tests.{not-true, not-false}
-use Rattle.lists.specs.Lists.{concatMap}
+use Rattle.lists.specs.Lists.{concat_map}
 use Rattle.lists.specs.Put.{put}
 use Rattle.table.specs.declared.Pool.{Pool}
 use Rattle.table.specs.declared.LeaseTable.{LeaseTable}
-use Rattle.table.specs.Table.{poolSlots}
-use Rattle.table_open.specs.Open.{given, sortPools, openOk, withPools, fresh}
-use Rattle.image.specs.Image.{headSize, poolSize, headRecord, poolRecord, head_of}
+use Rattle.table.specs.Table.{pool_slots}
+use Rattle.table_open.specs.Open.{given, sort_pools, open_ok, with_pools, fresh}
+use Rattle.image.specs.Image.{head_size, pool_size, head_record, pool_record, head_of}
 use Rattle.ledger.specs.declared.Answer.{Answer}
-use Rattle.ledger.specs.Ledger.{result}
+use Rattle.ledger.specs.Ledger.{outcome}
 use Rattle.image_counts.specs.Standing.{Stands}
 use Rattle.call_spec.specs.ImageCalls.{Lent, lent}
-use Rattle.call_spec.specs.Books.{Book, bookOf}
+use Rattle.call_spec.specs.Books.{Book, book_of}
 use Rattle.call_open.proofs.OpenImageLaws.{pools-few, no-records, open-outside, open-small, open-other, open-stands, open-accepted, open-refuses, open-accepts}
 use borrow.Author.Rules.{rules}
 use Rattle.call_open.proofs.open.Statement.{statement}
@@ -29,14 +29,14 @@ use Rattle.call_open.proofs.open.Tie as tie
 abbrev Ok : tie.Start → Bool → Type 0
 Ok c b =
     let a = c.args in
-    openOk a.networks.now a.lengths.now a.terms.term (cond (ltb 255 a.terms.default_length) 0 a.terms.default_length) a.terms.start ≡ b
+    open_ok a.networks.now a.lengths.now a.terms.term (cond (ltb 255 a.terms.default_length) 0 a.terms.default_length) a.terms.start ≡ b
 
 abbrev start-of : tie.After-admits → tie.Start
 start-of c = c.before.before.before.before.before.before.before
 
 -- The book, and what is lent of it.
 abbrev book-of : tie.Start → Book
-book-of c = let a = c.args in bookOf a.image.now a.image-bytes.now a.figures.now a.counts.now
+book-of c = let a = c.args in book_of a.image.now a.image-bytes.now a.figures.now a.counts.now
 
 abbrev lent_of : tie.Start → Lent
 lent_of c = (book-of c).lent
@@ -44,12 +44,12 @@ lent_of c = (book-of c).lent
 decides : (c : tie.After-admits) → Ok (start-of c) c.admits.result
 decides c =
     let a = (start-of c).args in
-    sym (c.admits.ensures.0 ∙ ap (λ (n : ℕ). openOk a.networks.now a.lengths.now a.terms.term n a.terms.start) c.before.before.length-of.ensures)
+    sym (c.admits.ensures.0 ∙ ap (λ (n : ℕ). open_ok a.networks.now a.lengths.now a.terms.term n a.terms.start) c.before.before.length-of.ensures)
 
 accepts : (c : tie.Else1) → Ok (start-of c.before.before) true
 accepts c = decides c.before.before ∙ not-false _ c.if1.false
 
-few : (c : tie.Else1) → length (start-of c.before.before).args.networks.now ≤ poolSlots
+few : (c : tie.Else1) → length (start-of c.before.before).args.networks.now ≤ pool_slots
 few c = let a = (start-of c.before.before).args in pools-few a.networks.now a.lengths.now a.terms.term _ a.terms.start (accepts c)
 
 -- The table that open makes.
@@ -60,7 +60,7 @@ made c =
     let tested = one.before.before in
     let a = (start-of tested).args in
     c.open.ensures
-    ∙ ap₂ (λ (ps : List Pool) (n : ℕ). withPools ps a.terms.term n a.terms.start) (tested.admits.ensures.1 (not-false _ one.if1.false)) tested.before.before.length-of.ensures
+    ∙ ap₂ (λ (ps : List Pool) (n : ℕ). with_pools ps a.terms.term n a.terms.start) (tested.admits.ensures.1 (not-false _ one.if1.false)) tested.before.before.length-of.ensures
 
 returns : tie.Need-returns
 returns c =
@@ -68,7 +68,7 @@ returns c =
     let tested = then.before.before in
     let start = start-of tested in
     let a = start.args in
-    ap (λ (r : Answer). result r (book-of start) []) c.refused.ensures
+    ap (λ (r : Answer). outcome r (book-of start) []) c.refused.ensures
     ∙ open-refuses (book-of start) a.networks.now a.lengths.now a.terms.term a.terms.default_length a.terms.start 12 (λ z. omega (arith, z))
     (open-outside (lent_of start) a.networks.now a.lengths.now a.terms.term a.terms.default_length a.terms.start (decides tested ∙ not-true _ then.if1.true))
 
@@ -77,7 +77,7 @@ returns-2 c =
     let one = c.before.before in
     let start = start-of one.before.before in
     let a = start.args in
-    ap (λ (r : Answer). result r (book-of start) []) c.refused2.ensures
+    ap (λ (r : Answer). outcome r (book-of start) []) c.refused2.ensures
     ∙ open-refuses (book-of start) a.networks.now a.lengths.now a.terms.term a.terms.default_length a.terms.start 14 (λ z. omega (arith, z))
     (open-small (lent_of start) a.networks.now a.lengths.now a.terms.term a.terms.default_length a.terms.start (accepts one) c.before.if2.true)
 
@@ -87,7 +87,7 @@ returns-3 c =
     let one = two.before in
     let start = start-of one.before.before in
     let a = start.args in
-    ap (λ (r : Answer). result r (book-of start) []) c.refused3.ensures
+    ap (λ (r : Answer). outcome r (book-of start) []) c.refused3.ensures
     ∙ open-refuses (book-of start) a.networks.now a.lengths.now a.terms.term a.terms.default_length a.terms.start 14 (λ z. omega (arith, z))
     (open-other (lent_of start) a.networks.now a.lengths.now a.terms.term a.terms.default_length a.terms.start (accepts one) two.if2.false c.before.if3.true)
 
@@ -143,19 +143,19 @@ abbrev start-at : tie.After-clear → tie.Start
 start-at c = start-of (one_of (pools-of c)).before.before
 
 head-is : (c : tie.After-clear) → let a = (start-at c).args in
-    (head-of (pools-of c)).put-head.new.0 ≡ put a.image.now 0 (headRecord (record { term = a.terms.term; default_length = cond (ltb 255 a.terms.default_length) 0 a.terms.default_length; last = a.terms.start }))
+    (head-of (pools-of c)).put-head.new.0 ≡ put a.image.now 0 (head_record (record { term = a.terms.term; default_length = cond (ltb 255 a.terms.default_length) 0 a.terms.default_length; last = a.terms.start }))
 head-is c =
     let head = head-of (pools-of c) in
-    head.put-head.ensures ∙ ap (λ (t : LeaseTable). put (start-at c).args.image.now 0 (headRecord (head_of t))) (made (opened_of head))
+    head.put-head.ensures ∙ ap (λ (t : LeaseTable). put (start-at c).args.image.now 0 (head_record (head_of t))) (made (opened_of head))
 
 pools-are : (c : tie.After-clear) → let a = (start-at c).args in
-    (pools-of c).put-pools.new.0 ≡ put (head-of (pools-of c)).put-head.new.0 headSize (concatMap poolRecord (sortPools (given a.networks.now a.lengths.now)))
+    (pools-of c).put-pools.new.0 ≡ put (head-of (pools-of c)).put-head.new.0 head_size (concat_map pool_record (sort_pools (given a.networks.now a.lengths.now)))
 pools-are c =
     let pools = pools-of c in
     let head = head-of pools in
     let one = one_of pools in
     pools.put-pools.ensures
-    ∙ ap (λ (ps : List Pool). put head.put-head.last.0 headSize (concatMap poolRecord ps)) (one.before.before.admits.ensures.1 (not-false _ one.if1.left))
+    ∙ ap (λ (ps : List Pool). put head.put-head.last.0 head_size (concat_map pool_record ps)) (one.before.before.admits.ensures.1 (not-false _ one.if1.left))
 
 standing : (c : tie.After-clear) → let a = (start-at c).args in
     Stands (fresh (given a.networks.now a.lengths.now) a.terms.term a.terms.default_length a.terms.start) c.clear.new.0 (length a.networks.now) 0
@@ -196,10 +196,10 @@ returns-4 c =
     let two = three.before in
     let start = start-at clear in
     let a = start.args in
-    let from = headSize + poolSize * length a.networks.now in
+    let from = head_size + pool_size * length a.networks.now in
     let g = lent clear.clear.last.0 from fill.fill.last.0 in
     let counts = count.recount.new.1.1.1.0 in
-    ap (λ (r : Answer). result r (record { lent = g; counts = counts }) []) c.accepted.ensures
+    ap (λ (r : Answer). outcome r (record { lent = g; counts = counts }) []) c.accepted.ensures
     ∙ open-accepts (book-of start) a.networks.now a.lengths.now a.terms.term a.terms.default_length a.terms.start g
     (open-accepted (lent_of start) a.networks.now a.lengths.now a.terms.term a.terms.default_length a.terms.start (accepts two.before) two.if2.left
     head.put-head.last.0 pools.put-pools.last.0 clear.clear.last.0 (head-is clear) (pools-are clear) clear.clear.ensures three.if3.left

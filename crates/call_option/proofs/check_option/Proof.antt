@@ -3,7 +3,7 @@
 use mathlib.Core.Path.{ap, ◌∙◌}
 use native.Mathlib.Omega.{arith}
 use borrow.Author.Rules.{rules}
-use Rattle.ledger.specs.Answers.{checkedAnswer}
+use Rattle.ledger.specs.Answers.{checked_answer}
 use Rattle.call_spec.proofs.TableLaws.{bytes-all}
 use Rattle.call_rows.proofs.RowLaws.{place-small}
 use Rattle.call_option.proofs.OptionLaws.{checked-option}
@@ -20,7 +20,7 @@ option-refusal-requires c κs =
 returns : tie.Need-returns
 returns c =
     let read = c.before.before.before.before.before in
-    c.option-refusal.ensures ∙ ap checkedAnswer read.read.ensures.checked ∙ checked-option _
+    c.option-refusal.ensures ∙ ap checked_answer read.read.ensures.checked ∙ checked-option _
 
 pub check-option-spec : {M : Type 1} → statement M
 check-option-spec =

@@ -6,14 +6,14 @@ use native.Mathlib.Omega.{arith}
 use borrow.Author.Rules.{rules}
 use borrow.Author.Tests.{not-true, not-false}
 use Rattle.ledger.specs.Sizes.{Bytes}
-use Rattle.call_spec.specs.Books.{Book, bookOf}
+use Rattle.call_spec.specs.Books.{Book, book_of}
 use Rattle.call_spec.proofs.TableLaws.{bytes-all}
 use Rattle.call_query.proofs.QueryLaws.{check-refused, check-accepted}
 use Rattle.call_query.proofs.check.Statement.{statement}
 use Rattle.call_query.proofs.check.Tie as tie
 
 abbrev book-of : tie.After-summary-in → Book
-book-of c = let a = c.before.before.args in bookOf a.image.now a.image-bytes [] a.counts.now
+book-of c = let a = c.before.before.args in book_of a.image.now a.image-bytes [] a.counts.now
 
 bytes : (c : tie.After-summary-in) → Bytes c.before.before.args.image.now
 bytes c = bytes-all c.before.before.args.image.now (λ i. omega (arith, c.before.shared-slice-known.given i))

@@ -8,18 +8,18 @@ use native.Mathlib.Omega.{arith}
 use lib.ListN.{length}
 use borrow.Author.Rules.{rules}
 use borrow.Author.Tests.{not-true, not-false}
-use Rattle.table.specs.Table.{poolSlots}
-use Rattle.image.specs.Image.{headSize, poolSize}
+use Rattle.table.specs.Table.{pool_slots}
+use Rattle.image.specs.Image.{head_size, pool_size}
 use Rattle.ledger.specs.Sizes.{Bytes}
-use Rattle.call_spec.specs.Books.{Book, bookOf}
+use Rattle.call_spec.specs.Books.{Book, book_of}
 use Rattle.call_spec.proofs.TableLaws.{bytes-all}
-use Rattle.call_query.specs.Queries.{poolAnswer}
+use Rattle.call_query.specs.Queries.{pool_answer}
 use Rattle.call_query.proofs.QueryLaws.{few, inside, pool-refused, pool-none, pool-found}
 use Rattle.call_query.proofs.pool.Statement.{statement}
 use Rattle.call_query.proofs.pool.Tie as tie
 
 abbrev book-of : tie.After-summary-in → Book
-book-of c = let a = c.before.before.args in bookOf a.image.now a.image-bytes [] a.counts.now
+book-of c = let a = c.before.before.args in book_of a.image.now a.image-bytes [] a.counts.now
 
 bytes : (c : tie.After-summary-in) → Bytes c.before.before.args.image.now
 bytes c = bytes-all c.before.before.args.image.now (λ i. omega (arith, c.before.shared-slice-known.given i))
@@ -29,7 +29,7 @@ returns c =
     let s = c.before.before.before.before in
     let a = s.before.before.args in
     c.pool-answer.ensures
-    ∙ ap (poolAnswer 5) c.before.no-pool.ensures
+    ∙ ap (pool_answer 5) c.before.no-pool.ensures
     ∙ pool-refused (book-of s) (bytes s) s.summary-in.result (s.summary-in.ensures []) (not-true _ c.before.before.if1.true) a.index
 
 returns-2 : tie.Need-returns-2
@@ -38,7 +38,7 @@ returns-2 c =
     let s = else.before.before in
     let a = s.before.before.args in
     c.pool-answer2.ensures
-    ∙ ap (poolAnswer 11) c.before.no-pool2.ensures
+    ∙ ap (pool_answer 11) c.before.no-pool2.ensures
     ∙ pool-none (book-of s) (bytes s) s.summary-in.result (s.summary-in.ensures []) (not-false _ else.if1.false) a.index c.before.before.if2.true
 
 -- There is a pool with that index, and its record lies in the buffer.
@@ -48,13 +48,13 @@ summed c = c.before.before.before.before
 found : (c : tie.Else2) → (summed c).summary-in.result.sound ≡ true
 found c = not-false _ c.before.before.if1.false
 
-within : (c : tie.Else2) → let a = (summed c).before.before.args in headSize + poolSize * a.index + poolSize ≤ length a.image.now
+within : (c : tie.Else2) → let a = (summed c).before.before.args in head_size + pool_size * a.index + pool_size ≤ length a.image.now
 within c =
     let s = summed c in
     let a = s.before.before.args in
     omega (arith, c.if2.false, inside (book-of s) (bytes s) s.summary-in.result (s.summary-in.ensures []) (found c))
 
-few-before : (c : tie.Else2) → (summed c).before.before.args.index < poolSlots
+few-before : (c : tie.Else2) → (summed c).before.before.args.index < pool_slots
 few-before c =
     let s = summed c in
     let a = s.before.before.args in

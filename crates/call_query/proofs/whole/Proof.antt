@@ -6,13 +6,13 @@ use mathlib.Core.List.{[]}
 use borrow.Author.Rules.{rules}
 use Rattle.ledger.specs.declared.Answer.{Answer}
 use Rattle.ledger.specs.Ledger.{acceptance}
-use Rattle.call_spec.specs.Books.{Book, bookOf}
+use Rattle.call_spec.specs.Books.{Book, book_of}
 use Rattle.call_query.proofs.QueryLaws.{whole-refused, whole-accepted}
 use Rattle.call_query.proofs.whole.Statement.{statement}
 use Rattle.call_query.proofs.whole.Tie as tie
 
 abbrev book-of : tie.After-check → Book
-book-of c = let a = c.before.before.args in bookOf a.image.now a.image-bytes [] a.counts.now
+book-of c = let a = c.before.before.args in book_of a.image.now a.image-bytes [] a.counts.now
 
 returns : tie.Need-returns
 returns c =

@@ -4,9 +4,9 @@ use mathlib.Core.Path.{◌≡◌, refl, sym}
 use mathlib.Core.Bool.{false}
 use mathlib.Core.List.{[]}
 use lib.Seq.{length-take-le}
-use Rattle.ledger.specs.Ledger.{Call, call, result}
-use Rattle.call_spec.specs.ImageCalls.{Lent, lent, releaseImage}
-use Rattle.call_spec.specs.Books.{Book, bookOf, lentIn}
+use Rattle.ledger.specs.Ledger.{Call, call, outcome}
+use Rattle.call_spec.specs.ImageCalls.{Lent, lent, release_image}
+use Rattle.call_spec.specs.Books.{Book, book_of, lent_in}
 use Rattle.call_entries.proofs.CallLaws.{EntriesCall, entries-sized, on-lent}
 use Rattle.call_release.proofs.ReleaseLaws.{release-passed, book-refused, book-unread, release-countable, release-settles}
 use borrow.Author.Rules.{rules}
@@ -28,12 +28,12 @@ good_of c = c.before.before.before.before.before.before.before
 
 -- The open book, and the call.
 abbrev book-of : tie.After-admit → Book
-book-of c = let a = (start-of c).args in bookOf a.image.now a.image-bytes.now a.figures.now a.counts.now
+book-of c = let a = (start-of c).args in book_of a.image.now a.image-bytes.now a.figures.now a.counts.now
 
 abbrev call-of : tie.After-admit → Call
 call-of c = let a = (start-of c).args in call a.client a.option.now []
 
-abbrev entries-call : (c : tie.After-read-entries) → let adm = admit-of c in EntriesCall false (lentIn (book-of adm)) (start-of adm).args.time (call-of adm)
+abbrev entries-call : (c : tie.After-read-entries) → let adm = admit-of c in EntriesCall false (lent_in (book-of adm)) (start-of adm).args.time (call-of adm)
 entries-call c =
     let adm = admit-of c in
     record { admission = adm.admit.result; admits = adm.admit.ensures; admitted = c.before.before.before.if1.false; selected = refl; read = c.read-entries.result; networks = _; lengths = _; reads = c.read-entries.ensures }
@@ -70,7 +70,7 @@ abbrev left-of : tie.After-strike-found → Lent
 left-of c = lent c.strike-found.new.0 c.strike-found.new.1.0 c.strike-found.new.1.1.0
 
 struck : (c : tie.After-strike-found) → let adm = admit-of (read_of (good_of c)) in
-    result c.strike-found.result (left-of c) [] ≡ releaseImage (book-of adm).lent (start-of adm).args.time (call-of adm)
+    outcome c.strike-found.result (left-of c) [] ≡ release_image (book-of adm).lent (start-of adm).args.time (call-of adm)
 struck c =
     let good = good_of c in
     let read = read_of good in

@@ -4,7 +4,7 @@ use mathlib.Core.Path.{ap, ◌∙◌}
 use mathlib.Core.List.{[]}
 use native.Mathlib.Omega.{arith}
 use Rattle.ledger.specs.declared.Answer.{Answer}
-use Rattle.ledger.specs.Ledger.{call, result}
+use Rattle.ledger.specs.Ledger.{call, outcome}
 use Rattle.call_spec.specs.ImageCalls.{Lent, lent}
 use Rattle.call_release.proofs.ReleaseLaws.{release-nothing, release-found}
 use borrow.Author.Rules.{rules}
@@ -22,7 +22,7 @@ returns : tie.Need-returns
 returns c option t =
     let struck = c.before.before.before.before in
     let a = (start-of struck).args in
-    ap (λ (r : Answer). result r (lent struck.strike-named.new.0 a.image-bytes.now a.figures.now) []) c.refused.ensures
+    ap (λ (r : Answer). outcome r (lent struck.strike-named.new.0 a.image-bytes.now a.figures.now) []) c.refused.ensures
     ∙ release-nothing (lent_of struck) a.time (call a.client option []) a.summary a.networks.now a.lengths.now t _ struck.strike-named.result struck.strike-named.ensures.1 c.before.if1.true
 
 remove-struck-requires : tie.Need-remove-struck-requires
@@ -37,7 +37,7 @@ returns-2 c option t =
     let some = removed.before.before.before in
     let struck = some.before.before.before in
     let a = (start-of struck).args in
-    ap (λ (r : Answer). result r (lent removed.remove-struck.new.0 removed.remove-struck.result removed.remove-struck.new.1.0) []) c.accepted.ensures
+    ap (λ (r : Answer). outcome r (lent removed.remove-struck.new.0 removed.remove-struck.result removed.remove-struck.new.1.0) []) c.accepted.ensures
     ∙ release-found (lent_of struck) a.time (call a.client option []) a.summary a.networks.now a.lengths.now t _ struck.strike-named.result struck.strike-named.ensures.1 _ _ _ removed.remove-struck.ensures some.if1.false
 
 pub strike-found-spec : {M : Type 1} → statement M

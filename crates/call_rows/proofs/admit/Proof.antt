@@ -4,7 +4,7 @@ use mathlib.Core.Path.{refl}
 use native.Mathlib.Omega.{arith}
 use borrow.Author.Rules.{rules}
 use Rattle.ledger.specs.Sizes.{Bytes}
-use Rattle.call_spec.specs.Books.{bookOf, lentIn}
+use Rattle.call_spec.specs.Books.{book_of, lent_in}
 use Rattle.call_spec.proofs.TableLaws.{bytes-all}
 use Rattle.call_rows.specs.InnerSummary.{SummaryIn}
 use Rattle.call_rows.proofs.AdmitLaws.{admit-short, book-measured, admit-book}
@@ -15,11 +15,11 @@ returns : tie.Need-returns
 returns c =
     let then = c.before.before in
     let a = then.before.before.before.args in
-    admit-short a.has-sheet a.short (lentIn (bookOf a.image.now a.image-bytes a.figures.now a.counts.now)) a.time a.client _ then.if1.true refl
+    admit-short a.has-sheet a.short (lent_in (book_of a.image.now a.image-bytes a.figures.now a.counts.now)) a.time a.client _ then.if1.true refl
 
 -- What is lent is bytes, and this is what the check says of the book.
 seen : (c : tie.After-summary-in) → let a = c.before.before.before.before.args in
-    Bytes a.image.now × Bytes a.figures.now × SummaryIn (lentIn (bookOf a.image.now a.image-bytes a.figures.now a.counts.now)) a.time c.summary-in.result
+    Bytes a.image.now × Bytes a.figures.now × SummaryIn (lent_in (book_of a.image.now a.image-bytes a.figures.now a.counts.now)) a.time c.summary-in.result
 seen c =
     let sheet = c.before.before in
     let image = sheet.before in
@@ -33,7 +33,7 @@ sheet-passes-requires : tie.Need-sheet-passes-requires
 sheet-passes-requires c κs =
     let a = c.before.before.before.before.args in
     let k = seen c in
-    book-measured (bookOf a.image.now a.image-bytes a.figures.now a.counts.now) a.time k.0 c.summary-in.result k.2
+    book-measured (book_of a.image.now a.image-bytes a.figures.now a.counts.now) a.time k.0 c.summary-in.result k.2
 
 returns-2 : tie.Need-returns-2
 returns-2 c =
@@ -41,7 +41,7 @@ returns-2 c =
     let summed = passed.before in
     let a = summed.before.before.before.before.args in
     let k = seen summed in
-    admit-book a.has-sheet a.short (bookOf a.image.now a.image-bytes a.figures.now a.counts.now) a.time a.client _ summed.before.if1.false k.0 k.1 k.2
+    admit-book a.has-sheet a.short (book_of a.image.now a.image-bytes a.figures.now a.counts.now) a.time a.client _ summed.before.if1.false k.0 k.1 k.2
     passed.sheet-passes.result passed.sheet-passes.ensures c.first-row.ensures
 
 pub admit-spec : {M : Type 1} → statement M

@@ -12,11 +12,11 @@ use Rattle.table.specs.Table.{sound}
 use Rattle.image.specs.declared.Form.{Form}
 use Rattle.ledger.specs.declared.Answer.{Answer}
 use Rattle.ledger.specs.Sizes.{Bytes}
-use Rattle.ledger.specs.Ledger.{result}
-use Rattle.call_spec.specs.ImageCalls.{tableIn, tooMany?}
-use Rattle.call_spec.specs.Books.{Book, bookOf, lentIn}
+use Rattle.ledger.specs.Ledger.{outcome}
+use Rattle.call_spec.specs.ImageCalls.{table_in, too_many?}
+use Rattle.call_spec.specs.Books.{Book, book_of, lent_in}
 use Rattle.call_spec.proofs.TableLaws.{bytes-all}
-use Rattle.call_save.specs.InnerSaving.{savedTo}
+use Rattle.call_save.specs.InnerSaving.{saved_to}
 use Rattle.call_save.proofs.SaveLaws.{book-unsound, book-too-many, book-saved, many-told, is-sound, pools-are, leases-are, image-is, within, few, measured}
 use Rattle.call_save.proofs.save.Statement.{statement}
 use Rattle.call_save.proofs.save.Tie as tie
@@ -26,7 +26,7 @@ abbrev start-of : tie.After-summary-in → tie.Start
 start-of c = c.before.before.before
 
 abbrev book-of : tie.After-summary-in → Book
-book-of c = let a = (start-of c).args in bookOf a.image.now a.image-bytes [] a.counts.now
+book-of c = let a = (start-of c).args in book_of a.image.now a.image-bytes [] a.counts.now
 
 bytes : (c : tie.After-summary-in) → Bytes (start-of c).args.image.now
 bytes c = bytes-all (start-of c).args.image.now (λ i. omega (arith, c.before.before.shared-slice-known.given i))
@@ -38,13 +38,13 @@ found : (c : tie.Else1) → (summed c).summary-in.result.sound ≡ true
 found c = not-false _ c.if1.false
 
 abbrev table_of : tie.After-summary-in → LeaseTable
-table_of s = tableIn (lentIn (book-of s))
+table_of s = table_in (lent_in (book-of s))
 
 -- Where row 20 is tested.
 sound-book : (c : tie.Else1) → sound (table_of (summed c)) ≡ true
 sound-book c = let s = summed c in is-sound (book-of s) (bytes s) s.summary-in.result (s.summary-in.ensures []) (found c)
 
-tested : (c : tie.After-too-many) → tooMany? (table_of (summed c.before)) (start-of (summed c.before)).args.older ≡ c.too_many.result
+tested : (c : tie.After-too-many) → too_many? (table_of (summed c.before)) (start-of (summed c.before)).args.older ≡ c.too_many.result
 tested c =
     let s = summed c.before in
     many-told (book-of s) (bytes s) s.summary-in.result (s.summary-in.ensures []) (found c.before) (start-of s).args.older c.too_many.result c.too_many.ensures
@@ -56,7 +56,7 @@ returns : tie.Need-returns
 returns c =
     let s = c.before.before.before in
     let a = (start-of s).args in
-    ap (λ (r : Answer). result r (book-of s) a.buffer.now) c.refused.ensures
+    ap (λ (r : Answer). outcome r (book-of s) a.buffer.now) c.refused.ensures
     ∙ book-unsound (book-of s) a.form a.older a.buffer.now (sym (s.summary-in.ensures []).sound ∙ not-true _ c.before.if1.true)
 
 returns-2 : tie.Need-returns-2
@@ -64,7 +64,7 @@ returns-2 c =
     let many = c.before.before in
     let s = summed many.before in
     let a = (start-of s).args in
-    ap (λ (r : Answer). result r (book-of s) a.buffer.now) c.refused2.ensures
+    ap (λ (r : Answer). outcome r (book-of s) a.buffer.now) c.refused2.ensures
     ∙ book-too-many (book-of s) a.form a.older a.buffer.now (sound-book many.before) (tested many ∙ c.before.if2.true)
 
 save-first-requires : tie.Need-save-first-requires
@@ -99,7 +99,7 @@ returns-3 c =
     let i = s.summary-in.ensures [] in
     book-saved b a.form a.older a.buffer.now (sound-book one) (tested fit.before ∙ fit.if2.false) first.save-first.result first.save-first.new.1.1.1.0
     (first.save-first.ensures (table_of s) a.image-bytes (image-is b (bytes s) summary i (found one)) (pools-are b (bytes s) summary i (found one)) (leases-are b (bytes s) summary i (found one))
-    ∙ ap (λ (f : Form). savedTo f (table_of s) a.buffer.now) (sym told.enum_told.given.1))
+    ∙ ap (λ (f : Form). saved_to f (table_of s) a.buffer.now) (sym told.enum_told.given.1))
 
 returns-4 : tie.Need-returns-4
 returns-4 c =
@@ -113,7 +113,7 @@ returns-4 c =
     let summary = s.summary-in.result in
     let i = s.summary-in.ensures [] in
     book-saved b a.form a.older a.buffer.now (sound-book one) (tested fit.before ∙ fit.if2.false) second.save-second.result second.save-second.new.1.0
-    (second.save-second.ensures (table_of s) (image-is b (bytes s) summary i (found one)) ∙ ap (λ (f : Form). savedTo f (table_of s) a.buffer.now) (sym told.enum-told2.given.1))
+    (second.save-second.ensures (table_of s) (image-is b (bytes s) summary i (found one)) ∙ ap (λ (f : Form). saved_to f (table_of s) a.buffer.now) (sym told.enum-told2.given.1))
 
 pub save-spec : {M : Type 1} → statement M
 save-spec =

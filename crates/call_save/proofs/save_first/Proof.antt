@@ -8,7 +8,7 @@ use lib.ListN.{length, take}
 use Rattle.lists.specs.Lists.{any?}
 use Rattle.table.specs.declared.LeaseTable.{LeaseTable}
 use Rattle.image.specs.declared.Form.TheVariants.{First}
-use Rattle.image.specs.Image.{usedPools, usedLeases, image_of, fitsForm}
+use Rattle.image.specs.Image.{used_pools, used_leases, image_of, fits_form}
 use Rattle.ledger.specs.declared.Answer.{Answer}
 use Rattle.call_save.proofs.SaveLaws.{named?, fits_told, names-lost, no_room, made, first-records, first-size}
 use borrow.Author.Rules.{rules}
@@ -20,10 +20,10 @@ start-of c = c.before.before.before
 
 -- What was looked for is whether a lease of the table has a name.
 fits : (c : tie.After-any-named) (b : Bool) → c.any-named.result ≡ b → let a = (start-of c).args in
-    (t : LeaseTable) (bytes : ℕ) → image_of t ≡ take bytes a.image.now → a.pools ≡ length (usedPools t) → a.leases ≡ length (usedLeases t) → any? named? (usedLeases t) ≡ b
+    (t : LeaseTable) (bytes : ℕ) → image_of t ≡ take bytes a.image.now → a.pools ≡ length (used_pools t) → a.leases ≡ length (used_leases t) → any? named? (used_leases t) ≡ b
 fits c b e t bytes image p l =
     let a = (start-of c).args in
-    sym (c.any-named.ensures (usedLeases t) (first-records t a.image.now bytes image a.pools p) l) ∙ e
+    sym (c.any-named.ensures (used_leases t) (first-records t a.image.now bytes image a.pools p) l) ∙ e
 
 returns : tie.Need-returns
 returns c =
@@ -51,7 +51,7 @@ returns-3 c =
     let a = (start-of told).args in
     let out = narrow.narrow.new.1.1.1.0 in
     λ t bytes image p l.
-    let bare : fitsForm First t ≡ true = fits_told t false (fits told false one.if1.false t bytes image p l) in
+    let bare : fits_form First t ≡ true = fits_told t false (fits told false one.if1.false t bytes image p l) in
     let w = narrow.narrow.ensures.1 t bytes image bare p l in
     ap (λ (r : Answer). (r, out)) c.accepted.ensures
     ∙ made First t a.buffer.now bare (omega (arith, two.if2.false, first-size t a.pools a.leases p l)) narrow.narrow.result w.0 out w.1

@@ -4,9 +4,9 @@ use Prim.Native.Nat.{◌≤◌}
 use native.Mathlib.Omega.{arith}
 use mathlib.Core.Path.{sym, ap, ◌∙◌}
 use lib.Seq.{length-take-le}
-use Rattle.option_reply.specs.Reply.{mostEntries}
+use Rattle.option_reply.specs.Reply.{most_entries}
 use Rattle.ledger.specs.declared.Answer.{Answer}
-use Rattle.ledger.specs.Ledger.{callWith, result}
+use Rattle.ledger.specs.Ledger.{call_with, outcome}
 use Rattle.call_ground.specs.Ground.{returning}
 use Rattle.call_spec.specs.ImageCalls.{lent}
 use Rattle.call_take.proofs.TakeLaws.{take-nothing, take_found}
@@ -25,7 +25,7 @@ abbrev start-of : tie.After-renew-named → tie.Start
 start-of c = c.before.before.before.before.before.before.before.before.before.before
 
 -- The reply has room for all that is shown.
-few : (c : tie.After-renew-named) → c.renew-named.result ≤ mostEntries
+few : (c : tie.After-renew-named) → c.renew-named.result ≤ most_entries
 few c = omega (arith, c.renew-named.ensures.0, (start-of c).requires.few)
 
 returns : tie.Need-returns
@@ -35,9 +35,9 @@ returns c = (
       let renewed = c.before.before.before.before.before.before.before in
       let a = (start-of renewed).args in
       let h = lent a.image.now a.image-bytes.now a.figures.now in
-      let by = callWith client a.option.now selection a.reply.now in
+      let by = call_with client a.option.now selection a.reply.now in
       let named = renewed.renew-named in
-      ap (λ (r : Answer). returning selection (result r (lent named.new.0 a.image-bytes.now a.figures.now) named.new.1.1.1.1.1.0)) c.refused.ensures
+      ap (λ (r : Answer). returning selection (outcome r (lent named.new.0 a.image-bytes.now a.figures.now) named.new.1.1.1.1.1.0)) c.refused.ensures
       ∙ take-nothing h time by summary ground a.networks.now a.lengths.now t a.renewal is _ _ _ named.result named.ensures.1 c.before.if1.true,
 )
 
@@ -64,8 +64,8 @@ returns-2 c =
       omega (arith, ap (λ (r : Answer). r.bytes) c.accepted.ensures, few renewed, heads.put-heads.ensures.0),
       λ client time summary ground selection is t.
           let h = lent a.image.now a.image-bytes.now a.figures.now in
-          let by = callWith client a.option.now selection a.reply.now in
-          ap (λ (r : Answer). returning selection (result r (lent removed.remove-expired.new.0 removed.remove-expired.result struck.strike-expired.new.0) heads.put-heads.last.0)) c.accepted.ensures
+          let by = call_with client a.option.now selection a.reply.now in
+          ap (λ (r : Answer). returning selection (outcome r (lent removed.remove-expired.new.0 removed.remove-expired.result struck.strike-expired.new.0) heads.put-heads.last.0)) c.accepted.ensures
           ∙ take_found h time by summary ground a.networks.now a.lengths.now t a.renewal is _ _ _ named.result named.ensures.1 start.pre.later _ filed.file-named.ensures _ _ _ struck.strike-expired.ensures removed.remove-expired.ensures
           some.if1.left (few renewed) _ _ heads.put-heads.ensures.0 heads.put-heads.ensures.1,
     )

@@ -6,7 +6,7 @@ use mathlib.Core.Path.{◌≡◌, refl, ap, ◌∙◌}
 use mathlib.Core.Logic.{⊎_elim}
 use lib.ListN.{length, length-set}
 use borrow.Author.Rules.{rules}
-use Rattle.image.specs.Image.{leaseSize}
+use Rattle.image.specs.Image.{lease_size}
 use Rattle.call_take.proofs.RenewLaws.{Renewing, renewing-none, renewing-more, renewing-skip, renewing-all}
 use Rattle.call_take.proofs.renew_named.Statement.{statement}
 use Rattle.call_take.proofs.renew_named.Tie as tie
@@ -18,7 +18,7 @@ invariant-loop image₀ renewal networks lengths places₀ reply₀ from n shown
     × (length image ≡ length image₀)
     × (length places ≡ length places₀)
     × (length reply ≡ length reply₀)
-    × Renewing image₀ (renewal.from + leaseSize * renewal.first) renewal.leases renewal.expiry.time renewal.expiry.client renewal.expiry.expires networks lengths reply₀ image places reply shown k
+    × Renewing image₀ (renewal.from + lease_size * renewal.first) renewal.leases renewal.expiry.time renewal.expiry.client renewal.expiry.expires networks lengths reply₀ image places reply shown k
     × (6 + 7 * length networks < 2 ^ 64)
 
 abbrev decreases-loop : tie.decreases-loop
@@ -28,7 +28,7 @@ loop-holds : tie.Need-loop-init invariant-loop decreases-loop
 loop-holds c = (omega arith, omega arith, refl, refl, refl, renewing-none _ _ _ _ _ _ _ _ _ _, omega arith)
 
 -- The leases on the ground lie in the image.
-room : (c : tie.Start invariant-loop decreases-loop) → c.args.renewal.from + leaseSize * c.args.renewal.first + leaseSize * c.args.renewal.leases ≤ length c.args.image.now
+room : (c : tie.Start invariant-loop decreases-loop) → c.args.renewal.from + lease_size * c.args.renewal.first + lease_size * c.args.renewal.leases ≤ length c.args.image.now
 room c = omega (arith, c.requires.0, c.requires.2)
 
 -- No more are shown than entries were read.

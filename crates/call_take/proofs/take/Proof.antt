@@ -5,9 +5,9 @@ use mathlib.Core.Bool.{Bool, true, not}
 use lib.Dec.{eqb}
 use lib.Seq.{length-take-le}
 use borrow.Author.Tests.{eqb-true, not-false}
-use Rattle.ledger.specs.Ledger.{Call, callWith, result}
-use Rattle.call_spec.specs.ImageCalls.{Lent, lent, takeImage, carriedIf}
-use Rattle.call_spec.specs.Books.{Book, bookOf, lentIn}
+use Rattle.ledger.specs.Ledger.{Call, call_with, outcome}
+use Rattle.call_spec.specs.ImageCalls.{Lent, lent, take_image, carried_if}
+use Rattle.call_spec.specs.Books.{Book, book_of, lent_in}
 use Rattle.call_rows.specs.Admission.{Admitted, Admits}
 use Rattle.call_ground.specs.Ground.{Grounds, returning}
 use Rattle.call_entries.proofs.CallLaws.{EntriesCall, as_lent, on-lent}
@@ -41,20 +41,20 @@ some_of c = c.before.before.before.before.before.before.before.before
 
 -- The open book, and the call.
 abbrev book-of : tie.After-admit → Book
-book-of c = let a = (start-of c).args in bookOf a.image.now a.image-bytes.now a.figures.now a.counts.now
+book-of c = let a = (start-of c).args in book_of a.image.now a.image-bytes.now a.figures.now a.counts.now
 
 abbrev call-of : tie.After-admit → Call
-call-of c = let a = (start-of c).args in callWith a.message.client a.option.now (carriedIf a.message.selected a.selection.now) a.reply.now
+call-of c = let a = (start-of c).args in call_with a.message.client a.option.now (carried_if a.message.selected a.selection.now) a.reply.now
 
 -- Row 1 is the ledger's.
-admits : (c : tie.After-admit) → Admits true (short (lentIn (book-of c)) (start-of c).args.message.time (call-of c)) (lentIn (book-of c)) (start-of c).args.message.time (call-of c).client c.admit.result
+admits : (c : tie.After-admit) → Admits true (short (lent_in (book-of c)) (start-of c).args.message.time (call-of c)) (lent_in (book-of c)) (start-of c).args.message.time (call-of c).client c.admit.result
 admits c =
     let a = (start-of c).args in
     let too_short = c.before.before.before.before in
-    subst (λ (b : Bool). Admits true b (lentIn (book-of c)) a.message.time a.message.client c.admit.result) (too_short.too_short.ensures a.selection.now) c.admit.ensures
+    subst (λ (b : Bool). Admits true b (lent_in (book-of c)) a.message.time a.message.client c.admit.result) (too_short.too_short.ensures a.selection.now) c.admit.ensures
 
 abbrev entries-call : (c : tie.After-read-entries) → let adm = adm-of (chosen_of c) in
-    EntriesCall (short (lentIn (book-of adm)) (start-of adm).args.message.time (call-of adm)) (lentIn (book-of adm)) (start-of adm).args.message.time (call-of adm)
+    EntriesCall (short (lent_in (book-of adm)) (start-of adm).args.message.time (call-of adm)) (lent_in (book-of adm)) (start-of adm).args.message.time (call-of adm)
 entries-call c =
     let chosen = chosen_of c in
     let adm = adm-of chosen in
@@ -70,10 +70,10 @@ entries-call c =
     }
 
 abbrev lent-call : (c : tie.After-read-entries) → let adm = adm-of (chosen_of c) in
-    EntriesCall (short (lentIn (book-of adm)) (start-of adm).args.message.time (call-of adm)) (book-of adm).lent (start-of adm).args.message.time (call-of adm)
+    EntriesCall (short (lent_in (book-of adm)) (start-of adm).args.message.time (call-of adm)) (book-of adm).lent (start-of adm).args.message.time (call-of adm)
 lent-call c =
     let adm = adm-of (chosen_of c) in
-    on-lent (short (lentIn (book-of adm)) (start-of adm).args.message.time (call-of adm)) (book-of adm) (start-of adm).args.message.time (call-of adm) (entries-call c)
+    on-lent (short (lent_in (book-of adm)) (start-of adm).args.message.time (call-of adm)) (book-of adm) (start-of adm).args.message.time (call-of adm) (entries-call c)
 
 -- The ground of the call.
 grounds : (c : tie.After-ground-of) → let adm = adm-of (chosen_of (read_of (good_of c))) in
@@ -121,9 +121,9 @@ returns-4 c =
     let read = read_of good in
     let adm = adm-of (chosen_of read) in
     let s = entries-call read in
-    let same = as_lent (short (lentIn (book-of adm)) (start-of adm).args.message.time (call-of adm)) (book-of adm) (start-of adm).args.message.time (call-of adm) s in
+    let same = as_lent (short (lent_in (book-of adm)) (start-of adm).args.message.time (call-of adm)) (book-of adm) (start-of adm).args.message.time (call-of adm) s in
     book-groundless (book-of adm) (start-of adm).args.message.time (call-of adm) s good.if3.left ground.ground-of.result
-    (grounds ground (lentIn (book-of adm)) (ap (λ (h : Lent). h.image) same) (s.admits.admitted s.admitted)) c.before.if4.true c.refused3.result c.refused3.ensures
+    (grounds ground (lent_in (book-of adm)) (ap (λ (h : Lent). h.image) same) (s.admits.admitted s.admitted)) c.before.if4.true c.refused3.result c.refused3.ensures
 
 renewal-of-requires : tie.Need-renewal-of-requires
 renewal-of-requires c κs =
@@ -152,8 +152,8 @@ abbrev left-of : tie.After-renew-found → Lent
 left-of c = lent c.renew-found.new.0 c.renew-found.new.1.0 c.renew-found.new.1.1.0
 
 renewed : (c : tie.After-renew-found) → let adm = adm-of (chosen_of (read_of (good_of (ground-of (some_of c))))) in
-    returning (call-of adm).selection (result c.renew-found.result (left-of c) c.renew-found.new.1.1.1.1.1.1.1.0)
-    ≡ takeImage (book-of adm).lent (start-of adm).args.message.time (call-of adm)
+    returning (call-of adm).selection (outcome c.renew-found.result (left-of c) c.renew-found.new.1.1.1.1.1.1.1.0)
+    ≡ take_image (book-of adm).lent (start-of adm).args.message.time (call-of adm)
 renewed c =
     let renewal = c.before.before.before.before.before.before.before in
     let some = renewal.before in

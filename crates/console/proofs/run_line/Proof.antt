@@ -4,7 +4,7 @@ use Prim.Native.Nat.{ℕ, ◌≤◌}
 use mathlib.Core.Path.{◌≡◌, sym, subst, ◌∙◌}
 use native.Mathlib.Omega.{arith}
 use lib.ListN.{length}
-use Rattle.call_spec.specs.Books.{bookOf}
+use Rattle.call_spec.specs.Books.{book_of}
 use Rattle.console_script.specs.Commands.{Within}
 use Rattle.console.proofs.LineLaws.{ran_line, set-from}
 use borrow.Author.Rules.{rules}
@@ -37,7 +37,7 @@ returns c =
     let is_set = c.set.ensures in
     let inside : begun.result.at ≤ length a.out.now = omega (arith, begun.ensures.0.0) in
     let law = ran_line a.s next.result begun.result c.set.result a.line.now a.kept.now read.new.0 read.result ran.result
-    (bookOf a.image.now a.«image-bytes».now a.figures.now a.counts.now) _ a.out.now begun.new.1.1.1.0 _ c.before.before.before.before.before.before.before.before.before.before.before.before.before.before.before.before.before.before.before.before.before.before.before.before.before.before.before.before.before.before.before.before.before.requires.1.0.0 read.ensures.1 next.ensures begun.ensures.0.1 inside
+    (book_of a.image.now a.«image-bytes».now a.figures.now a.counts.now) _ a.out.now begun.new.1.1.1.0 _ c.before.before.before.before.before.before.before.before.before.before.before.before.before.before.before.before.before.before.before.before.before.before.before.before.before.before.before.before.before.before.before.before.before.requires.1.0.0 read.ensures.1 next.ensures begun.ensures.0.1 inside
     begun.ensures.1 ran.ensures.1 (is_set.0 ∙ put.0, is_set.1 ∙ put.1.2, is_set.2 ∙ put.1.3, set-from read.result begun.result c.before.with-output.result c.set.result put.1.0 put.1.1 is_set.3)
     (length a.line.now) read.ensures.0 c.before.before.before.before.before.before.before.before.before.before.before.before.before.before.before.before.before.before.before.before.before.before.before.before.before.before.before.before.before.before.before.before.before.requires.1.1.0 in
     ((omega (arith, ran.ensures.0, is_set.0, put.0, begun.auto.1.1.1.0), law.0), law.1)

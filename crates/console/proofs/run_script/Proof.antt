@@ -4,14 +4,14 @@ use Prim.Native.Nat.{◌≤◌}
 use mathlib.Core.Path.{◌≡◌}
 use native.Mathlib.Omega.{arith}
 use lib.ListN.{length}
-use Rattle.console_script.specs.Commands.{longestReply}
+use Rattle.console_script.specs.Commands.{longest_reply}
 use borrow.Author.Rules.{rules}
 use Rattle.console.proofs.run_script.Statement.{statement}
 use Rattle.console.proofs.run_script.Tie as tie
 
 abbrev invariant-loop : tie.invariant-loop
 invariant-loop fd echo input₀ line₀ kept₀ image₀ figures₀ out₀ s₀ r₀ image-bytes₀ counts₀ turns₀ input line kept image figures out s r image-bytes counts turns =
-    (s.at ≤ length out₀) × (s.reply_length ≤ longestReply) × (r.from ≤ r.to) × (r.to ≤ length input₀) × (r.pending ≤ length line₀)
+    (s.at ≤ length out₀) × (s.reply_length ≤ longest_reply) × (r.from ≤ r.to) × (r.to ≤ length input₀) × (r.pending ≤ length line₀)
     × (length input ≡ length input₀) × (length line ≡ length line₀) × (length kept ≡ length kept₀) × (length image ≡ length image₀) × (length figures ≡ length figures₀) × (length out ≡ length out₀)
 
 abbrev decreases-loop : tie.decreases-loop

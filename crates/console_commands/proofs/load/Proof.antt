@@ -3,7 +3,7 @@
 use Prim.Native.Nat.{◌≤◌}
 use native.Mathlib.Omega.{arith}
 use lib.ListN.{length}
-use Rattle.console_lines.specs.Lines.{doneLine}
+use Rattle.console_lines.specs.Lines.{done_line}
 use Rattle.console_commands.proofs.CommandLaws.{appended, done-does}
 use borrow.Author.Rules.{rules}
 use Rattle.console_commands.proofs.load.Statement.{statement}
@@ -13,7 +13,7 @@ returns : tie.Need-returns
 returns c =
     let said = c.before.before.done in
     let inside : said.result ≤ length c.before.before.before.before.before.before.before.before.before.before.before.before.before.before.before.before.before.args.out.now = omega (arith, said.ensures.0, c.before.before.before.before.before.before.before.before.before.before.before.before.before.before.before.before.before.requires) in
-    (inside, record { text = doneLine c.before.before.before.before.before.before.before.before.load.result; does = done-does _ _ _ c.before.before.before.before.before.before.before.before.load.ensures; wrote = appended _ _ _ _ _ inside said.ensures.1 })
+    (inside, record { text = done_line c.before.before.before.before.before.before.before.before.load.result; does = done-does _ _ _ c.before.before.before.before.before.before.before.before.load.ensures; wrote = appended _ _ _ _ _ inside said.ensures.1 })
 
 pub load_spec : {M : Type 1} → statement M
 load_spec =

@@ -4,7 +4,7 @@ use Prim.Native.Nat.{◌≤◌}
 use mathlib.Core.Path.{refl, ap, ◌∙◌}
 use native.Mathlib.Omega.{arith}
 use lib.ListN.{length}
-use Rattle.console_lines.specs.Lines.{countedLine}
+use Rattle.console_lines.specs.Lines.{counted_line}
 use Rattle.console_commands.proofs.QueryLaws.{whole-beside}
 use Rattle.console_commands.proofs.CommandLaws.{appended}
 use borrow.Author.Rules.{rules}
@@ -16,7 +16,7 @@ returns c =
     let a = c.before.before.before.before.before.before.before.args in
     let said = c.before.before.counted in
     let inside : said.result ≤ length c.before.before.before.before.before.before.before.args.out.now = omega (arith, said.ensures.0, c.before.before.before.before.before.before.before.requires) in
-    (inside, λ figures. record { text = countedLine c.before.before.before.before.whole.result; does = (refl, ap countedLine (c.before.before.before.before.whole.ensures ∙ whole-beside a.image.now a.image-bytes figures a.counts.now a.len)); wrote = appended _ _ _ _ _ inside said.ensures.1 })
+    (inside, λ figures. record { text = counted_line c.before.before.before.before.whole.result; does = (refl, ap counted_line (c.before.before.before.before.whole.ensures ∙ whole-beside a.image.now a.image-bytes figures a.counts.now a.len)); wrote = appended _ _ _ _ _ inside said.ensures.1 })
 
 pub whole-spec : {M : Type 1} → statement M
 whole-spec =

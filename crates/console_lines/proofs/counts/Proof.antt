@@ -7,9 +7,9 @@ use native.Mathlib.Omega.{arith}
 use lib.ListN.{length, take, get_or}
 use Rattle.text.specs.Wrote.{Wrote}
 use Rattle.table.specs.declared.Pool.{Pool}
-use Rattle.table.specs.Table.{poolSlots}
-use Rattle.console_lines.specs.Sizes.{poolMost}
-use Rattle.console_lines.specs.CountLines.{poolText, poolTexts, poolsAt}
+use Rattle.table.specs.Table.{pool_slots}
+use Rattle.console_lines.specs.Sizes.{pool_most}
+use Rattle.console_lines.specs.CountLines.{pool_text, pool_texts, pools_at}
 use Rattle.console_lines.proofs.TextLaws.{then-wrote, wrote_as}
 use Rattle.console_lines.proofs.CountLaws.{pools-none, pools-wrote, counts-written}
 use borrow.Author.Rules.{rules}
@@ -18,10 +18,10 @@ use Rattle.console_lines.proofs.counts.Tie as tie
 
 abbrev invariant-loop : tie.invariant-loop
 invariant-loop out₀ at pools counts end₀ k₀ out end k =
-    (k ≤ poolSlots) × (end ≤ at + poolMost * k) × (length out ≡ length out₀) × Wrote out₀ at (poolTexts (poolsAt k pools) (take k counts)) out end
+    (k ≤ pool_slots) × (end ≤ at + pool_most * k) × (length out ≡ length out₀) × Wrote out₀ at (pool_texts (pools_at k pools) (take k counts)) out end
 
 abbrev decreases-loop : tie.decreases-loop
-decreases-loop out₀ at pools counts end₀ k₀ out end k = poolSlots - k
+decreases-loop out₀ at pools counts end₀ k₀ out end k = pool_slots - k
 
 loop-holds : tie.Need-loop-init invariant-loop decreases-loop
 loop-holds c = (omega arith, omega arith, refl, pools-none c.before.before.args.pools.now c.before.before.args.t4 c.before.before.args.out.now c.before.before.args.at)
@@ -32,7 +32,7 @@ loop-again c =
       omega arith,
       omega (arith, end.ensures.0),
       omega (arith, end.auto),
-      pools-wrote c.before.before.before.before.before.before.before.loop.k c.before.before.before.before.before.before.before.before.before.before.args.pools.now c.before.before.before.before.before.before.before.before.before.before.args.t4 _ _ _ _ _ _ (omega arith) c.before.before.before.before.before.before.before.loop.invariant.3 (wrote_as _ _ _ _ _ _ (ap (λ (p : Pool). poolText p (get_or c.before.before.before.before.before.before.before.before.before.before.args.t4 c.before.before.before.before.before.before.before.loop.k [])) c.before.before.before.pool-at.ensures) end.ensures.1),
+      pools-wrote c.before.before.before.before.before.before.before.loop.k c.before.before.before.before.before.before.before.before.before.before.args.pools.now c.before.before.before.before.before.before.before.before.before.before.args.t4 _ _ _ _ _ _ (omega arith) c.before.before.before.before.before.before.before.loop.invariant.3 (wrote_as _ _ _ _ _ _ (ap (λ (p : Pool). pool_text p (get_or c.before.before.before.before.before.before.before.before.before.before.args.t4 c.before.before.before.before.before.before.before.loop.k [])) c.before.before.before.pool-at.ensures) end.ensures.1),
     )
 
 returns : tie.Need-returns invariant-loop decreases-loop

@@ -4,18 +4,18 @@ use Prim.Native.Nat.{◌-◌, ◌≤◌}
 use mathlib.Core.Path.{◌≡◌, refl}
 use native.Mathlib.Omega.{arith}
 use lib.ListN.{drop}
-use Rattle.counts.specs.Counts.{countedLengths}
-use Rattle.console_lines.specs.CountLines.{noneIn?}
+use Rattle.counts.specs.Counts.{counted_lengths}
+use Rattle.console_lines.specs.CountLines.{none_in?}
 use Rattle.console_lines.proofs.CountLaws.{some-here, none_here, none_left}
 use borrow.Author.Rules.{rules}
 use Rattle.console_lines.proofs.none_in.Statement.{statement}
 use Rattle.console_lines.proofs.none_in.Tie as tie
 
 abbrev invariant-loop : tie.invariant-loop
-invariant-loop row j₀ j = (j ≤ countedLengths) × (noneIn? (drop j row) ≡ noneIn? row)
+invariant-loop row j₀ j = (j ≤ counted_lengths) × (none_in? (drop j row) ≡ none_in? row)
 
 abbrev decreases-loop : tie.decreases-loop
-decreases-loop row j₀ j = countedLengths - j
+decreases-loop row j₀ j = counted_lengths - j
 
 loop-holds : tie.Need-loop-init invariant-loop decreases-loop
 loop-holds c = (omega arith, refl)

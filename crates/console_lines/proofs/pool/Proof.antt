@@ -2,7 +2,7 @@
 -- Assumes nothing.
 use mathlib.Core.Path.{sym, ◌∙◌}
 use native.Mathlib.Omega.{arith}
-use Rattle.console_lines.specs.CountLines.{poolLine}
+use Rattle.console_lines.specs.CountLines.{pool_line}
 use Rattle.console_lines.proofs.TextLaws.{text-wrote, then-wrote, wrote_as}
 use Rattle.console_lines.proofs.CountLaws.{pool-hidden, pool-shown}
 use borrow.Author.Rules.{rules}
@@ -13,7 +13,7 @@ returns : tie.Need-returns
 returns c = (omega arith, pool-hidden c.before.before.before.args.p c.before.before.before.args.row _ _ (sym c.before.none_in.ensures ∙ c.if1.true))
 
 returns-2 : tie.Need-returns-2
-unfolding poolLine
+unfolding pool_line
 returns-2 c =
     let word = c.before.before.before.before.before.before.before.before.before.before.before.before.before.before.before.text.ensures in
     let p = c.before.before.before.before.before.before.before.before.before.before.before.prefix.ensures in

@@ -4,7 +4,7 @@ use native.Mathlib.Omega.{arith}
 use mathlib.Core.Path.{ap, ◌∙◌}
 use Rattle.console_lines.proofs.TextLaws.{wrote_as, filled-wrote, then-wrote, first-bytes}
 use Rattle.console_lines.proofs.AnswerLaws.{answer-refused, answer-accepted, bytes-line}
-use Rattle.console_lines.specs.Lines.{bytesLine}
+use Rattle.console_lines.specs.Lines.{bytes_line}
 use Prim.Native.Nat.{ℕ, ◌-◌}
 use mathlib.Core.List.{List}
 use lib.ListN.{take}
@@ -14,12 +14,12 @@ use Rattle.console_lines.proofs.written.Statement.{statement}
 use Rattle.console_lines.proofs.written.Tie as tie
 
 returns : tie.Need-returns
-returns c = (omega (arith, c.before.before.refusal.ensures.0), wrote_as _ _ _ _ _ _ (answer-refused c.before.before.before.before.before.before.before.before.args.a (bytesLine c.before.before.before.before.before.before.before.before.args.a.bytes (take c.before.before.before.before.before.before.before.before.args.a.bytes c.before.before.before.before.before.before.before.before.args.buffer.now)) c.before.before.before.before.if1.true) c.before.before.refusal.ensures.1)
+returns c = (omega (arith, c.before.before.refusal.ensures.0), wrote_as _ _ _ _ _ _ (answer-refused c.before.before.before.before.before.before.before.before.args.a (bytes_line c.before.before.before.before.before.before.before.before.args.a.bytes (take c.before.before.before.before.before.before.before.before.args.a.bytes c.before.before.before.before.before.before.before.before.args.buffer.now)) c.before.before.before.before.if1.true) c.before.before.refusal.ensures.1)
 
 returns-2 : tie.Need-returns-2
 returns-2 c = (
   omega (arith, c.before.before.before.before.before.before.before.before.before.before.before.before.least.ensures.1, c.before.before.before.before.before.before.before.before.fill.ensures.0, c.before.before.octets.ensures.0, length-take-le (c.before.before.before.before.before.before.before.before.before.before.before.before.least.result - 0) c.before.before.before.before.before.before.before.before.before.before.before.before.before.before.before.before.before.before.args.buffer.now (omega arith)),
-  wrote_as _ _ _ _ _ _ (bytes-line c.before.before.before.before.before.before.before.before.before.before.before.before.before.before.before.before.before.before.args.a.bytes (take (c.before.before.before.before.before.before.before.before.before.before.before.before.least.result - 0) c.before.before.before.before.before.before.before.before.before.before.before.before.before.before.before.before.before.before.args.buffer.now) ∙ ap (λ (l : List ℕ). bytesLine c.before.before.before.before.before.before.before.before.before.before.before.before.before.before.before.before.before.before.args.a.bytes l) (first-bytes c.before.before.before.before.before.before.before.before.before.before.before.before.before.before.before.before.before.before.args.a.bytes c.before.before.before.before.before.before.before.before.before.before.before.before.least.result c.before.before.before.before.before.before.before.before.before.before.before.before.before.before.before.before.before.before.args.buffer.now c.before.before.before.before.before.before.before.before.before.before.before.before.least.ensures.2 c.before.before.before.before.before.before.before.before.before.before.before.before.least.ensures.3) ∙ answer-accepted c.before.before.before.before.before.before.before.before.before.before.before.before.before.before.before.before.before.before.args.a (bytesLine c.before.before.before.before.before.before.before.before.before.before.before.before.before.before.before.before.before.before.args.a.bytes (take c.before.before.before.before.before.before.before.before.before.before.before.before.before.before.before.before.before.before.args.a.bytes c.before.before.before.before.before.before.before.before.before.before.before.before.before.before.before.before.before.before.args.buffer.now)) c.before.before.before.before.before.before.before.before.before.before.before.before.before.before.if1.false)
+  wrote_as _ _ _ _ _ _ (bytes-line c.before.before.before.before.before.before.before.before.before.before.before.before.before.before.before.before.before.before.args.a.bytes (take (c.before.before.before.before.before.before.before.before.before.before.before.before.least.result - 0) c.before.before.before.before.before.before.before.before.before.before.before.before.before.before.before.before.before.before.args.buffer.now) ∙ ap (λ (l : List ℕ). bytes_line c.before.before.before.before.before.before.before.before.before.before.before.before.before.before.before.before.before.before.args.a.bytes l) (first-bytes c.before.before.before.before.before.before.before.before.before.before.before.before.before.before.before.before.before.before.args.a.bytes c.before.before.before.before.before.before.before.before.before.before.before.before.least.result c.before.before.before.before.before.before.before.before.before.before.before.before.before.before.before.before.before.before.args.buffer.now c.before.before.before.before.before.before.before.before.before.before.before.before.least.ensures.2 c.before.before.before.before.before.before.before.before.before.before.before.before.least.ensures.3) ∙ answer-accepted c.before.before.before.before.before.before.before.before.before.before.before.before.before.before.before.before.before.before.args.a (bytes_line c.before.before.before.before.before.before.before.before.before.before.before.before.before.before.before.before.before.before.args.a.bytes (take c.before.before.before.before.before.before.before.before.before.before.before.before.before.before.before.before.before.before.args.a.bytes c.before.before.before.before.before.before.before.before.before.before.before.before.before.before.before.before.before.before.args.buffer.now)) c.before.before.before.before.before.before.before.before.before.before.before.before.before.before.if1.false)
       (then-wrote _ _ _ _ _ _ _ _ (filled-wrote _ _ _ _ _ _ (omega arith, tt) c.before.before.before.before.before.before.before.before.fill.ensures.1) c.before.before.octets.ensures.1),
 )
 

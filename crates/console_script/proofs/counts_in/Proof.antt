@@ -6,22 +6,22 @@ use mathlib.Core.List.{List}
 use native.Mathlib.Omega.{arith}
 use lib.ListN.{length, take, replicate, length-replicate, length-set}
 use lib.Seq.{take_all}
-use Rattle.table.specs.Table.{poolSlots}
-use Rattle.counts.specs.Counts.{countedLengths}
-use Rattle.console_script.specs.CountOctets.{rowsIn}
+use Rattle.table.specs.Table.{pool_slots}
+use Rattle.counts.specs.Counts.{counted_lengths}
+use Rattle.console_script.specs.CountOctets.{rows_in}
 use Rattle.console_script.proofs.CountOctetLaws.{no-row-read, row-stored}
 use borrow.Author.Rules.{rules}
 use Rattle.console_script.proofs.counts_in.Statement.{statement}
 use Rattle.console_script.proofs.counts_in.Tie as tie
 
 abbrev invariant-loop : tie.invariant-loop
-invariant-loop octets rows₀ k₀ rows k = (k ≤ poolSlots) × (length rows ≡ poolSlots) × (take k rows ≡ rowsIn k octets)
+invariant-loop octets rows₀ k₀ rows k = (k ≤ pool_slots) × (length rows ≡ pool_slots) × (take k rows ≡ rows_in k octets)
 
 abbrev decreases-loop : tie.decreases-loop
-decreases-loop octets rows₀ k₀ rows k = poolSlots - k
+decreases-loop octets rows₀ k₀ rows k = pool_slots - k
 
 loop-holds : tie.Need-loop-init invariant-loop decreases-loop
-loop-holds c = let none = replicate {A = ℕ} countedLengths 0 in (omega arith, length-replicate {A = List ℕ} poolSlots none, no-row-read c.before.args.octets.now (replicate {A = List ℕ} poolSlots none))
+loop-holds c = let none = replicate {A = ℕ} counted_lengths 0 in (omega arith, length-replicate {A = List ℕ} pool_slots none, no-row-read c.before.args.octets.now (replicate {A = List ℕ} pool_slots none))
 
 loop-again : tie.Need-loop-preserved invariant-loop decreases-loop
 loop-again c =
@@ -33,8 +33,8 @@ loop-again c =
 
 returns : tie.Need-returns invariant-loop decreases-loop
 returns c =
-    let all : c.before.loop.k ≡ poolSlots = omega arith in
-    sym (take_all c.before.loop.k c.before.loop.rows (omega arith)) ∙ c.before.loop.invariant.2 ∙ ap (λ (n : ℕ). rowsIn n c.before.before.before.args.octets.now) all
+    let all : c.before.loop.k ≡ pool_slots = omega arith in
+    sym (take_all c.before.loop.k c.before.loop.rows (omega arith)) ∙ c.before.loop.invariant.2 ∙ ap (λ (n : ℕ). rows_in n c.before.before.before.args.octets.now) all
 
 pub counts-in-spec : {M : Type 1} → statement M
 counts-in-spec =

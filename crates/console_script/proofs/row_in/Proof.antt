@@ -5,21 +5,21 @@ use mathlib.Core.Path.{◌≡◌, sym, ap, ap₂, ◌∙◌}
 use native.Mathlib.Omega.{arith}
 use lib.ListN.{length, take, drop, replicate, length-replicate, length-set}
 use lib.Seq.{take_all}
-use Rattle.counts.specs.Counts.{countedLengths}
-use Rattle.console_script.specs.CountOctets.{numbersIn}
+use Rattle.counts.specs.Counts.{counted_lengths}
+use Rattle.console_script.specs.CountOctets.{numbers_in}
 use Rattle.console_script.proofs.CountOctetLaws.{none_read, number-stored}
 use borrow.Author.Rules.{rules}
 use Rattle.console_script.proofs.row_in.Statement.{statement}
 use Rattle.console_script.proofs.row_in.Tie as tie
 
 abbrev invariant-loop : tie.invariant-loop
-invariant-loop octets at row₀ j₀ row j = (j ≤ countedLengths) × (length row ≡ countedLengths) × (take j row ≡ numbersIn j (drop at octets))
+invariant-loop octets at row₀ j₀ row j = (j ≤ counted_lengths) × (length row ≡ counted_lengths) × (take j row ≡ numbers_in j (drop at octets))
 
 abbrev decreases-loop : tie.decreases-loop
-decreases-loop octets at row₀ j₀ row j = countedLengths - j
+decreases-loop octets at row₀ j₀ row j = counted_lengths - j
 
 loop-holds : tie.Need-loop-init invariant-loop decreases-loop
-loop-holds c = (omega arith, length-replicate {A = ℕ} countedLengths 0, none_read (drop c.before.args.at c.before.args.octets.now) (replicate {A = ℕ} countedLengths 0))
+loop-holds c = (omega arith, length-replicate {A = ℕ} counted_lengths 0, none_read (drop c.before.args.at c.before.args.octets.now) (replicate {A = ℕ} counted_lengths 0))
 
 loop-again : tie.Need-loop-preserved invariant-loop decreases-loop
 loop-again c =
@@ -33,8 +33,8 @@ loop-again c =
 returns : tie.Need-returns invariant-loop decreases-loop
 returns c =
     let s = drop c.before.before.before.args.at c.before.before.before.args.octets.now in
-    let all : c.before.loop.j ≡ countedLengths = omega arith in
-    sym (take_all c.before.loop.j c.before.loop.row (omega arith)) ∙ c.before.loop.invariant.2 ∙ ap (λ (n : ℕ). numbersIn n s) all
+    let all : c.before.loop.j ≡ counted_lengths = omega arith in
+    sym (take_all c.before.loop.j c.before.loop.row (omega arith)) ∙ c.before.loop.invariant.2 ∙ ap (λ (n : ℕ). numbers_in n s) all
 
 pub row-in-spec : {M : Type 1} → statement M
 row-in-spec =

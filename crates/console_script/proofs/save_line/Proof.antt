@@ -3,7 +3,7 @@
 use mathlib.Core.Path.{sym, ap, ◌∙◌}
 use borrow.Author.Tests.{not-true, not-false}
 use Rattle.console_words.specs.Words.{last?}
-use Rattle.console_script.specs.Parsing.{form_of, olderAlone?}
+use Rattle.console_script.specs.Parsing.{form_of, older_alone?}
 use Rattle.console_script.proofs.LineLaws.{save-alone, save-no-form, save-more, save-of, save-older}
 use borrow.Author.Rules.{rules}
 use Rattle.console_script.proofs.save_line.Statement.{statement}
@@ -27,7 +27,7 @@ returns-4 c =
       save-more _ (sym more.before.before.before.before.before.before.before.before.before.ends.ensures ∙ more.before.before.before.before.before.before.before.before.if1.false) _
           (ap form_of (sym w.word) ∙ sym more.before.before.before.before.before.read-form.ensures ∙ more.before.before.before.number.given.1)
           (ap last? (sym w.rest) ∙ sym more.before.ends2.ensures ∙ more.if2.false)
-          (ap olderAlone? (sym w.rest) ∙ sym told.older-alone.ensures ∙ not-true _ c.if3.true),
+          (ap older_alone? (sym w.rest) ∙ sym told.older-alone.ensures ∙ not-true _ c.if3.true),
     )
 
 returns-5 : tie.Need-returns-5
@@ -39,7 +39,7 @@ returns-5 c =
       save-older _ (sym more.before.before.before.before.before.before.before.before.before.ends.ensures ∙ more.before.before.before.before.before.before.before.before.if1.false) _
           (ap form_of (sym w.word) ∙ sym more.before.before.before.before.before.read-form.ensures ∙ more.before.before.before.number.given.1)
           (ap last? (sym w.rest) ∙ sym more.before.ends2.ensures ∙ more.if2.false)
-          (ap olderAlone? (sym w.rest) ∙ sym told.older-alone.ensures ∙ not-false _ c.if3.false),
+          (ap older_alone? (sym w.rest) ∙ sym told.older-alone.ensures ∙ not-false _ c.if3.false),
     )
 
 pub save-line-spec : {M : Type 1} → statement M

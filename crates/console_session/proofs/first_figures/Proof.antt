@@ -4,24 +4,24 @@ use Prim.Native.Nat.{ℕ, zero, suc}
 use mathlib.Core.Path.{◌≡◌, refl, ap, ◌∙◌}
 use mathlib.Core.List.{[], ◌∷◌, map}
 use lib.ListN.{replicate}
-use Rattle.table.specs.Table.{leaseSlots, noLease}
+use Rattle.table.specs.Table.{lease_slots, no_lease}
 use Rattle.image_records.specs.Records.{Records}
-use Rattle.figures.specs.Figures.{untoldRow, emptyRow}
-use Rattle.image_figures.specs.Sheets.{sheetOf}
+use Rattle.figures.specs.Figures.{untold_row, empty_row}
+use Rattle.image_figures.specs.Sheets.{sheet_of}
 use borrow.Author.Rules.{rules}
 use Rattle.console_session.proofs.first_figures.Statement.{statement}
 use Rattle.console_session.proofs.first_figures.Tie as tie
 
-empty-rows : (n : ℕ) → map untoldRow (replicate n noLease) ≡ replicate n emptyRow
+empty-rows : (n : ℕ) → map untold_row (replicate n no_lease) ≡ replicate n empty_row
 empty-rows zero = refl
-empty-rows (suc n) = ap (λ rows. emptyRow ∷ rows) (empty-rows n)
+empty-rows (suc n) = ap (λ rows. empty_row ∷ rows) (empty-rows n)
 
 no-leases : Records [] 0 []
 unfolding Records
 no-leases = refl
 
 returns : tie.Need-returns
-returns c = c.before.fill.ensures [] no-leases refl ∙ ap sheetOf (empty-rows leaseSlots)
+returns c = c.before.fill.ensures [] no-leases refl ∙ ap sheet_of (empty-rows lease_slots)
 
 pub first-figures-spec : {M : Type 1} → statement M
 first-figures-spec =

@@ -6,16 +6,16 @@ use mathlib.Core.List.{List, [], ◌∷◌}
 use native.Mathlib.Omega.{arith}
 use lib.ListN.{length, take, length-set}
 use lib.Seq.{take_all}
-use Rattle.lists.specs.Lists.{concatMap}
+use Rattle.lists.specs.Lists.{concat_map}
 use Rattle.lists.specs.Put.{put}
-use Rattle.console_text.specs.Text.{hexOf}
+use Rattle.console_text.specs.Text.{hex_of}
 use Rattle.console_text.proofs.TextLaws.{octets-more}
 use borrow.Author.Rules.{rules}
 use Rattle.console_text.proofs.octets.Statement.{statement}
 use Rattle.console_text.proofs.octets.Tie as tie
 
 abbrev invariant-loop : tie.invariant-loop
-invariant-loop out₀ at s i₀ out i = (i ≤ length s) × (out ≡ put out₀ at (concatMap hexOf (take i s))) × (length out ≡ length out₀)
+invariant-loop out₀ at s i₀ out i = (i ≤ length s) × (out ≡ put out₀ at (concat_map hex_of (take i s))) × (length out ≡ length out₀)
 
 abbrev decreases-loop : tie.decreases-loop
 decreases-loop out₀ at s i₀ out i = length s - i
@@ -42,7 +42,7 @@ returns : tie.Need-returns invariant-loop decreases-loop
 returns c =
     let l = c.before.loop in
     let a = c.before.before.before.before.args in
-    (omega arith, l.invariant.1 ∙ ap (λ (xs : List ℕ). put a.out.now a.at (concatMap hexOf xs)) (take_all l.i a.s.now (omega arith)))
+    (omega arith, l.invariant.1 ∙ ap (λ (xs : List ℕ). put a.out.now a.at (concat_map hex_of xs)) (take_all l.i a.s.now (omega arith)))
 
 pub octets-spec : {M : Type 1} → statement M
 octets-spec =

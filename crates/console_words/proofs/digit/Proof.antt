@@ -2,37 +2,37 @@
 -- Assumes nothing.
 use native.Mathlib.Omega.{arith}
 use borrow.Author.Tests.{lt-ltb, le-ltb, le-leb, lt-leb}
-use Rattle.console_words.specs.Octets.{digitOf}
+use Rattle.console_words.specs.Octets.{digit_of}
 use borrow.Author.Rules.{rules}
 use Rattle.console_words.proofs.digit.Statement.{statement}
 use Rattle.console_words.proofs.digit.Tie as tie
 
 returns : tie.Need-returns
-unfolding digitOf
+unfolding digit_of
 returns c = (simp (lt-ltb _ _ c.if1.true), omega arith)
 
 returns-2 : tie.Need-returns-2
-unfolding digitOf
+unfolding digit_of
 returns-2 c = (simp (le-ltb _ _ c.before.if1.false, le-leb _ _ c.if2.true), omega arith)
 
 returns-3 : tie.Need-returns-3
-unfolding digitOf
+unfolding digit_of
 returns-3 c = (simp (le-ltb _ _ c.before.before.if1.false, lt-leb _ _ c.before.if2.false, lt-ltb _ _ c.if3.true), omega arith)
 
 returns-4 : tie.Need-returns-4
-unfolding digitOf
+unfolding digit_of
 returns-4 c = (simp (le-ltb _ _ c.before.before.before.if1.false, lt-leb _ _ c.before.before.if2.false, le-ltb _ _ c.before.if3.false, le-leb _ _ c.if4.true), omega arith)
 
 returns-5 : tie.Need-returns-5
-unfolding digitOf
+unfolding digit_of
 returns-5 c = (simp (le-ltb _ _ c.before.before.before.before.if1.false, lt-leb _ _ c.before.before.before.if2.false, le-ltb _ _ c.before.before.if3.false, lt-leb _ _ c.before.if4.false, lt-ltb _ _ c.if5.true), omega arith)
 
 returns-6 : tie.Need-returns-6
-unfolding digitOf
+unfolding digit_of
 returns-6 c = (simp (le-ltb _ _ c.before.before.before.before.before.if1.false, lt-leb _ _ c.before.before.before.before.if2.false, le-ltb _ _ c.before.before.before.if3.false, lt-leb _ _ c.before.before.if4.false, le-ltb _ _ c.before.if5.false, le-leb _ _ c.if6.true), omega arith)
 
 returns-7 : tie.Need-returns-7
-unfolding digitOf
+unfolding digit_of
 returns-7 c = (simp (le-ltb _ _ c.before.before.before.before.before.if1.false, lt-leb _ _ c.before.before.before.before.if2.false, le-ltb _ _ c.before.before.before.if3.false, lt-leb _ _ c.before.before.if4.false, le-ltb _ _ c.before.if5.false, lt-leb _ _ c.if6.false), omega arith)
 
 pub digit-spec : {M : Type 1} → statement M

@@ -4,7 +4,7 @@ use native.Mathlib.Omega.{arith}
 use mathlib.Core.Path.{sym, ap, ◌∙◌}
 use borrow.Author.Tests.{not-true, not-false}
 use Rattle.console_words.specs.Words.{last?}
-use Rattle.console_words.specs.Octets.{octetsOf}
+use Rattle.console_words.specs.Octets.{octets_of}
 use Rattle.console_words.proofs.OctetLaws.{in-bad, octets-not-last, octets-last}
 use borrow.Author.Rules.{rules}
 use Rattle.console_words.proofs.last_octets.Statement.{statement}
@@ -18,7 +18,7 @@ returns c =
 returns-2 : tie.Need-returns-2
 returns-2 c =
     let w = c.before.before.before.before.before.before.before.next_word.ensures in
-    (c.before.before.read-octets.ensures.0, octets-last _ _ (ap last? (sym w.rest) ∙ sym c.before.before.before.before.before.ends.ensures ∙ not-false _ c.before.before.before.before.if1.false) (c.before.before.read-octets.ensures.1 ∙ ap octetsOf w.word))
+    (c.before.before.read-octets.ensures.0, octets-last _ _ (ap last? (sym w.rest) ∙ sym c.before.before.before.before.before.ends.ensures ∙ not-false _ c.before.before.before.before.if1.false) (c.before.before.read-octets.ensures.1 ∙ ap octets_of w.word))
 
 pub last-octets-spec : {M : Type 1} → statement M
 last-octets-spec =

@@ -4,7 +4,7 @@ use Prim.Native.Nat.{ℕ}
 use mathlib.Core.Path.{ap, ◌∙◌}
 use mathlib.Core.List.{List}
 use native.Mathlib.Omega.{arith}
-use Rattle.console_words.specs.Numbers.{number_of, octetOf}
+use Rattle.console_words.specs.Numbers.{number_of, octet_of}
 use Rattle.console_words.proofs.WordLaws.{found_before, found-rest}
 use borrow.Author.Rules.{rules}
 use Rattle.console_words.proofs.octet_at.Statement.{statement}
@@ -16,7 +16,7 @@ returns c =
     record {
       later = omega (arith, f.0);
       inside = f.1;
-      spelt = c.read-octet.ensures ∙ ap (λ (l : List ℕ). octetOf (number_of l)) (found_before _ _ 46 _ f.0);
+      spelt = c.read-octet.ensures ∙ ap (λ (l : List ℕ). octet_of (number_of l)) (found_before _ _ 46 _ f.0);
       rest = found-rest _ _ 46 _ f.0;
     }
 

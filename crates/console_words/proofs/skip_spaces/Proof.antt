@@ -4,14 +4,14 @@ use Prim.Native.Nat.{◌-◌, ◌≤◌}
 use mathlib.Core.Path.{◌≡◌, refl, sym, ◌∙◌}
 use lib.ListN.{length, drop}
 use native.Mathlib.Omega.{arith}
-use Rattle.console_words.specs.Words.{skipSpaces}
+use Rattle.console_words.specs.Words.{skip_spaces}
 use Rattle.console_words.proofs.WordLaws.{skip-space, skip-none, skip-end}
 use borrow.Author.Rules.{rules}
 use Rattle.console_words.proofs.skip_spaces.Statement.{statement}
 use Rattle.console_words.proofs.skip_spaces.Tie as tie
 
 abbrev invariant-loop : tie.invariant-loop
-invariant-loop s from i₀ i = (from ≤ i) × (i ≤ length s) × (skipSpaces (drop from s) ≡ skipSpaces (drop i s))
+invariant-loop s from i₀ i = (from ≤ i) × (i ≤ length s) × (skip_spaces (drop from s) ≡ skip_spaces (drop i s))
 
 abbrev decreases-loop : tie.decreases-loop
 decreases-loop s from i₀ i = length s - i

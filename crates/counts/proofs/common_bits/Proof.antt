@@ -2,12 +2,12 @@
 -- Assumes nothing.
 use mathlib.Core.Path.{refl}
 use lib.Count.{leading_le}
-use Rattle.counts.specs.InnerLevels.{commonBits}
+use Rattle.counts.specs.InnerLevels.{common_bits}
 use Rattle.counts.proofs.common_bits.Statement.{statement}
 use Rattle.counts.proofs.common_bits.Tie as tie
 
 returns : tie.Need-returns
-unfolding commonBits
+unfolding common_bits
 returns c = (refl, leading_le 32 _)
 
 pub common-bits-spec : {M : Type 1} → statement M

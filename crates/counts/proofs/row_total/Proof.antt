@@ -5,16 +5,16 @@ use mathlib.Core.Path.{◌≡◌}
 use native.Mathlib.Omega.{arith}
 use lib.ListN.{drop}
 use borrow.Author.Rules.{rules}
-use Rattle.counts.specs.Counts.{countedLengths, rowTotal}
+use Rattle.counts.specs.Counts.{counted_lengths, row_total}
 use Rattle.counts.proofs.TotalLaws.{row-total-more, row-total-all}
 use Rattle.counts.proofs.row_total.Statement.{statement}
 use Rattle.counts.proofs.row_total.Tie as tie
 
 abbrev invariant-loop : tie.invariant-loop
-invariant-loop row n₀ i₀ n i = (i ≤ countedLengths) × (n ≤ 65535 * i) × (n + rowTotal (drop i row) ≡ rowTotal row)
+invariant-loop row n₀ i₀ n i = (i ≤ counted_lengths) × (n ≤ 65535 * i) × (n + row_total (drop i row) ≡ row_total row)
 
 abbrev decreases-loop : tie.decreases-loop
-decreases-loop row n₀ i₀ n i = countedLengths - i
+decreases-loop row n₀ i₀ n i = counted_lengths - i
 
 loop-holds : tie.Need-loop-init invariant-loop decreases-loop
 loop-holds c = (omega arith, omega arith, omega arith)

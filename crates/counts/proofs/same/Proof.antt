@@ -6,17 +6,17 @@ use native.Mathlib.Omega.{arith}
 use lib.ListN.{drop}
 use borrow.Author.Rules.{rules}
 use borrow.Author.Tests.{not-true, not-false}
-use Rattle.table.specs.Table.{poolSlots}
-use Rattle.counts.specs.Counts.{sameCounts?}
+use Rattle.table.specs.Table.{pool_slots}
+use Rattle.counts.specs.Counts.{same_counts?}
 use Rattle.counts.proofs.CompareLaws.{counts-more, counts-differ, counts_same}
 use Rattle.counts.proofs.same.Statement.{statement}
 use Rattle.counts.proofs.same.Tie as tie
 
 abbrev invariant-loop : tie.invariant-loop
-invariant-loop a b k₀ k = (k ≤ poolSlots) × (sameCounts? (drop k a) (drop k b) ≡ sameCounts? a b)
+invariant-loop a b k₀ k = (k ≤ pool_slots) × (same_counts? (drop k a) (drop k b) ≡ same_counts? a b)
 
 abbrev decreases-loop : tie.decreases-loop
-decreases-loop a b k₀ k = poolSlots - k
+decreases-loop a b k₀ k = pool_slots - k
 
 loop-holds : tie.Need-loop-init invariant-loop decreases-loop
 loop-holds c =

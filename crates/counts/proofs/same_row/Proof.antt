@@ -5,16 +5,16 @@ use mathlib.Core.Path.{◌≡◌, refl}
 use native.Mathlib.Omega.{arith}
 use lib.ListN.{drop}
 use borrow.Author.Rules.{rules}
-use Rattle.counts.specs.Counts.{countedLengths, sameRow?}
+use Rattle.counts.specs.Counts.{counted_lengths, same_row?}
 use Rattle.counts.proofs.CompareLaws.{row_more, row-differs, row_same}
 use Rattle.counts.proofs.same_row.Statement.{statement}
 use Rattle.counts.proofs.same_row.Tie as tie
 
 abbrev invariant-loop : tie.invariant-loop
-invariant-loop a b j₀ j = (j ≤ countedLengths) × (sameRow? (drop j a) (drop j b) ≡ sameRow? a b)
+invariant-loop a b j₀ j = (j ≤ counted_lengths) × (same_row? (drop j a) (drop j b) ≡ same_row? a b)
 
 abbrev decreases-loop : tie.decreases-loop
-decreases-loop a b j₀ j = countedLengths - j
+decreases-loop a b j₀ j = counted_lengths - j
 
 loop-holds : tie.Need-loop-init invariant-loop decreases-loop
 loop-holds c =

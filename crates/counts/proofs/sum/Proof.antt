@@ -5,17 +5,17 @@ use mathlib.Core.Path.{◌≡◌}
 use native.Mathlib.Omega.{arith}
 use lib.ListN.{drop}
 use borrow.Author.Rules.{rules}
-use Rattle.table.specs.Table.{poolSlots, shortestPool}
+use Rattle.table.specs.Table.{pool_slots, shortest_pool}
 use Rattle.counts.specs.Counts.{summed}
 use Rattle.counts.proofs.CompareLaws.{sum_below, sum-above, sum-within, summed-more, summed-all}
 use Rattle.counts.proofs.sum.Statement.{statement}
 use Rattle.counts.proofs.sum.Tie as tie
 
 abbrev invariant-loop : tie.invariant-loop
-invariant-loop length c j n₀ i₀ n i = (i ≤ poolSlots) × (n ≤ 65535 * i) × (n + summed j (drop i c) ≡ summed j c)
+invariant-loop length c j n₀ i₀ n i = (i ≤ pool_slots) × (n ≤ 65535 * i) × (n + summed j (drop i c) ≡ summed j c)
 
 abbrev decreases-loop : tie.decreases-loop
-decreases-loop length c j n₀ i₀ n i = poolSlots - i
+decreases-loop length c j n₀ i₀ n i = pool_slots - i
 
 returns : tie.Need-returns invariant-loop decreases-loop
 returns c =
@@ -62,13 +62,13 @@ loop-again : tie.Need-loop-preserved invariant-loop decreases-loop
 loop-again c =
     let a = c.before.before.before.before.before.before.args in
     let loop = c.before.before.before.loop in
-    (omega arith, omega (arith, c.wide.ensures.1), summed-more (a.length - shortestPool) a.t1 loop.i loop.n c.wide.result (omega arith) c.wide.ensures.0 loop.invariant.2)
+    (omega arith, omega (arith, c.wide.ensures.1), summed-more (a.length - shortest_pool) a.t1 loop.i loop.n c.wide.result (omega arith) c.wide.ensures.0 loop.invariant.2)
 
 returns-3 : tie.Need-returns-3 invariant-loop decreases-loop
 returns-3 c =
     let a = c.before.before.before.before.args in
     let loop = c.before.loop in
-    sum-within a.t1 a.length (omega arith) (omega arith) loop.n (summed-all (a.length - shortestPool) a.t1 loop.i loop.n (omega arith) loop.invariant.2)
+    sum-within a.t1 a.length (omega arith) (omega arith) loop.n (summed-all (a.length - shortest_pool) a.t1 loop.i loop.n (omega arith) loop.invariant.2)
 
 pub sum-spec : {M : Type 1} → statement M
 sum-spec =

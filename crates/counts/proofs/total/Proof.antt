@@ -5,17 +5,17 @@ use mathlib.Core.Path.{◌≡◌}
 use native.Mathlib.Omega.{arith}
 use lib.ListN.{drop}
 use borrow.Author.Rules.{rules}
-use Rattle.table.specs.Table.{poolSlots}
-use Rattle.counts.specs.Counts.{countedLengths, total}
+use Rattle.table.specs.Table.{pool_slots}
+use Rattle.counts.specs.Counts.{counted_lengths, total}
 use Rattle.counts.proofs.TotalLaws.{total-more, total-all}
 use Rattle.counts.proofs.total.Statement.{statement}
 use Rattle.counts.proofs.total.Tie as tie
 
 abbrev invariant-loop : tie.invariant-loop
-invariant-loop c n₀ r₀ n r = (r ≤ poolSlots) × (n ≤ 65535 * countedLengths * r) × (n + total (drop r c) ≡ total c)
+invariant-loop c n₀ r₀ n r = (r ≤ pool_slots) × (n ≤ 65535 * counted_lengths * r) × (n + total (drop r c) ≡ total c)
 
 abbrev decreases-loop : tie.decreases-loop
-decreases-loop c n₀ r₀ n r = poolSlots - r
+decreases-loop c n₀ r₀ n r = pool_slots - r
 
 loop-holds : tie.Need-loop-init invariant-loop decreases-loop
 loop-holds c = (omega arith, omega arith, omega arith)

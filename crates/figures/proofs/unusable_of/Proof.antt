@@ -1,16 +1,16 @@
 -- `figures::unusable_of` meets its contract.
 -- Assumes nothing.
 use borrow.Author.Tests.{lt-ltb, le-ltb}
-use Rattle.figures.specs.Figures.{unusableOf}
+use Rattle.figures.specs.Figures.{unusable_of}
 use Rattle.figures.proofs.unusable_of.Statement.{statement}
 use Rattle.figures.proofs.unusable_of.Tie as tie
 
 returns : tie.Need-returns
-unfolding unusableOf
+unfolding unusable_of
 returns c = simp (lt-ltb _ _ c.before.if1.true)
 
 returns-2 : tie.Need-returns-2
-unfolding unusableOf
+unfolding unusable_of
 returns-2 c = simp (le-ltb _ _ c.if1.false)
 
 pub unusable-of-spec : {M : Type 1} → statement M

@@ -10,10 +10,10 @@ use lib.ListN.{length, take, drop}
 use borrow.Author.Tests.{not-true, not-false}
 use Rattle.lists.specs.Lists.{and}
 use Rattle.image.specs.declared.Head.{Head}
-use Rattle.image.specs.Image.{headSize}
-use Rattle.image.specs.Reading.{headTestsIn, poolsAt, afterHeadIn, loadIn}
+use Rattle.image.specs.Image.{head_size}
+use Rattle.image.specs.Reading.{head_tests_in, pools_at, after_head_in, load_in}
 use Rattle.image.proofs.ImageLaws.{head-long, load-no-head, load-head}
-use Rattle.image_check.specs.ImageSummary.{summaryOf}
+use Rattle.image_check.specs.ImageSummary.{summary_of}
 use Rattle.image_check.proofs.RunLaws.{part-rest}
 use Rattle.image_check.proofs.PoolLaws.{counted-pools}
 use Rattle.image_check.proofs.SummaryLaws.{read-unsound}
@@ -23,27 +23,27 @@ use Rattle.image_check.proofs.check_in.Tie as tie
 
 -- The bytes after the head, and that the answer is that for them.
 abbrev body : List ℕ → List ℕ
-body s = take (length s - headSize) (drop headSize s)
+body s = take (length s - head_size) (drop head_size s)
 
-found : (c : tie.Else1) → and (headTestsIn c.before.before.before.args.form c.before.before.before.args.image.now) ≡ true
+found : (c : tie.Else1) → and (head_tests_in c.before.before.before.args.form c.before.before.before.args.image.now) ≡ true
 found c = sym c.before.head-begins.ensures ∙ not-false _ c.if1.false
 
-long : (c : tie.Else1) → headSize ≤ length c.before.before.before.args.image.now
+long : (c : tie.Else1) → head_size ≤ length c.before.before.before.args.image.now
 long c = head-long c.before.before.before.args.form c.before.before.before.args.image.now (found c)
 
 rest : (c : tie.After-head-in) → let a = c.before.before.before.before.args in
-    summaryOf a.time (afterHeadIn a.form (some c.head_in.result) (body a.image.now)) ≡ summaryOf a.time (loadIn a.form a.image.now)
+    summary_of a.time (after_head_in a.form (some c.head_in.result) (body a.image.now)) ≡ summary_of a.time (load_in a.form a.image.now)
 rest c =
     let a = c.before.before.before.before.args in
     let s = a.image.now in
-    ap (summaryOf a.time)
-    (ap₂ (λ (x : Head) (l : List ℕ). afterHeadIn a.form (some x) l) c.head_in.ensures (part-rest s headSize) ∙ sym (load-head a.form s (found c.before)))
+    ap (summary_of a.time)
+    (ap₂ (λ (x : Head) (l : List ℕ). after_head_in a.form (some x) l) c.head_in.ensures (part-rest s head_size) ∙ sym (load-head a.form s (found c.before)))
 
 returns : tie.Need-returns
 returns c =
     let start = c.before.before.before.before in
     let none = sym c.before.before.head-begins.ensures ∙ not-true _ c.before.if1.true in
-    c.unsound.ensures ∙ ap (summaryOf start.args.time) (sym (load-no-head start.args.form start.args.image.now none))
+    c.unsound.ensures ∙ ap (summary_of start.args.time) (sym (load-no-head start.args.form start.args.image.now none))
 
 head-in-requires : tie.Need-head-in-requires
 head-in-requires c κs = long c
@@ -83,7 +83,7 @@ leases-in-requires c κs =
     let counted = c.before.before in
     let tested = counted.before.before in
     let a = tested.before.before.before.before.before.before.args in
-    let pools = counted-pools (poolsAt (body a.image.now)).items counted.pools-in.result counted.pools-in.ensures c.before.if3.false in
+    let pools = counted-pools (pools_at (body a.image.now)).items counted.pools-in.result counted.pools-in.ensures c.before.if3.false in
     record { headed = sym tested.before.head_ok.ensures ∙ not-false _ tested.if2.false; ascends = pools.0; counted = pools.1; any = c.before.if3.false }
 
 returns-4 : tie.Need-returns-4

@@ -11,16 +11,16 @@ use Rattle.prefix.specs.declared.Prefix.{Prefix}
 use Rattle.prefix.specs.Prefixes.{end, checked}
 use Rattle.prefix.proofs.BlockLaws.{refused-block, made-block}
 use Rattle.image.proofs.FieldLaws.{Bytes}
-use Rattle.image.specs.Image.{firstLeaseSize}
-use Rattle.image.specs.Reading.{expiresIn, flagsByteIn, lengthIn, networkIn, stateByteIn}
+use Rattle.image.specs.Image.{first_lease_size}
+use Rattle.image.specs.Reading.{expires_in, flags_byte_in, length_in, network_in, state_byte_in}
 use Rattle.image_check.specs.declared.Fit.{Fit}
-use Rattle.image_check.specs.Inner.{prefixIn}
+use Rattle.image_check.specs.Inner.{prefix_in}
 use Rattle.image_check.proofs.FitLaws.{size-least, Fits, word_bytes, bytes-told, fits-bytes, fit-other, fit-lease}
 use borrow.Author.Rules.{rules}
 use Rattle.image_check.proofs.fit_at.Statement.{statement}
 use Rattle.image_check.proofs.fit_at.Tie as tie
 
-leased : (s : List ℕ) (p : Prefix) (to expires : ℕ) → p ≡ prefixIn s → to ≡ end p → expires ≡ expiresIn s → Fit.Lease p.network to expires ≡ Fit.Lease (networkIn s) (end (prefixIn s)) (expiresIn s)
+leased : (s : List ℕ) (p : Prefix) (to expires : ℕ) → p ≡ prefix_in s → to ≡ end p → expires ≡ expires_in s → Fit.Lease p.network to expires ≡ Fit.Lease (network_in s) (end (prefix_in s)) (expires_in s)
 leased s p to expires e t x = cc
 
 -- Places further back in the code: where the prefix is made, where state and flags are tested, and the start.
@@ -35,14 +35,14 @@ args_at c = c.before.before.before.before.before
 
 -- The word's bytes.
 fields : (c : tie.After-read322) → let s = (args_at c).args.s.now in let word = c.read322.result in
-    (word % 256 ≡ lengthIn s) × (word / 256 % 256 ≡ stateByteIn s) × (word / 65536 % 256 ≡ flagsByteIn s)
+    (word % 256 ≡ length_in s) × (word / 256 % 256 ≡ state_byte_in s) × (word / 65536 % 256 ≡ flags_byte_in s)
 fields c =
     let s = (args_at c).args.s.now in
     let bytes : Bytes s = λ i. omega (arith, c.before.before.before.before.shared-slice-known.given i) in
     word_bytes s bytes c.read322.result c.read322.ensures
 
 -- What the constructor was asked.
-asked : (c : tie.After-new) → let s = (args_at c.before.before).args.s.now in c.new.result ≡ checked (networkIn s) (lengthIn s)
+asked : (c : tie.After-new) → let s = (args_at c.before.before).args.s.now in c.new.result ≡ checked (network_in s) (length_in s)
 asked c = c.new.ensures ∙ ap₂ checked c.before.read323.ensures (fields c.before.before).0
 
 returns : tie.Need-returns
@@ -54,7 +54,7 @@ returns-2 : tie.Need-returns-2
 returns-2 c =
     let new = c.before in
     let a = (args_at new.before.before).args in
-    fit-other a.form a.last a.s.now (λ f. refused-block (networkIn a.s.now) (lengthIn a.s.now) new.new.result (asked new) c.match.keys2 (record { short = f.short; long = f.long; aligned = f.aligned }))
+    fit-other a.form a.last a.s.now (λ f. refused-block (network_in a.s.now) (length_in a.s.now) new.new.result (asked new) c.match.keys2 (record { short = f.short; long = f.long; aligned = f.aligned }))
 
 returns-3 : tie.Need-returns-3
 returns-3 c =
@@ -88,7 +88,7 @@ returns-7 c =
     let s = a.s.now in
     let told = bytes-told word.read322.result (sym tested.state-and-flags.ensures ∙ not-false _ read.before.before.before.if2.false) in
     let by = fields word in
-    let block = made-block (networkIn s) (lengthIn s) p.p.given.0.0 (sym (asked new) ∙ p.p.given.1) in
+    let block = made-block (network_in s) (length_in s) p.p.given.0.0 (sym (asked new) ∙ p.p.given.1) in
     let f : Fits a.form a.last s = record {
       start = sym word.before.before.before.read32.ensures ∙ word.before.if1.left ∙ word.before.before.lease-start.ensures;
       short = block.1.short;
@@ -104,7 +104,7 @@ returns-7 c =
     leased s p.p.given.0.0 c.end.result _ block.0 c.end.ensures.0 read.read325.ensures ∙ fit-lease a.form a.last s f
 
 -- Each form's record has the fields of the first.
-long : (c : tie.Start) → firstLeaseSize ≤ length c.args.s.now
+long : (c : tie.Start) → first_lease_size ≤ length c.args.s.now
 long c = omega (arith, size-least c.args.form)
 
 read32-requires : tie.Need-read32-requires

@@ -10,9 +10,9 @@ use Rattle.prefix.specs.Prefixes.{end}
 use Rattle.image.specs.declared.Head.{Head}
 use Rattle.image.specs.declared.Form.{Form}
 use Rattle.image.proofs.FieldLaws.{Bytes}
-use Rattle.image.specs.Image.{leaseSizeIn}
+use Rattle.image.specs.Image.{lease_size_in}
 use Rattle.image_check.specs.declared.Pass.{Pass}
-use Rattle.image_check.specs.Inner.{nthPool, fitAt, due, Begun}
+use Rattle.image_check.specs.Inner.{nth_pool, fit_at, due, Begun}
 use Rattle.image_check.specs.InnerPass.{Left, Reached}
 use Rattle.image_check.proofs.FitLaws.{size-least, Fits, Met, other-unfit, lease-met}
 use Rattle.image_check.proofs.RunLaws.{part-rest}
@@ -26,7 +26,7 @@ passed at expired = record { at = at; expired = expired }
 
 -- The pass stands in the pool from `low₀` to `stop`, which it came to at p.
 abbrev Known : Form → List ℕ → ℕ → ℕ → ℕ → ℕ → Pass → ℕ → Pass → Type 0
-Known form s last time stop low₀ p low q = (x : Head) (n k : ℕ) → Begun x s n → x.last ≡ last → k < n → low₀ ≡ (nthPool s k).network → stop ≡ end (nthPool s k) → Reached form x s n time k p → Along form x s n time k low q
+Known form s last time stop low₀ p low q = (x : Head) (n k : ℕ) → Begun x s n → x.last ≡ last → k < n → low₀ ≡ (nth_pool s k).network → stop ≡ end (nth_pool s k) → Reached form x s n time k p → Along form x s n time k low q
 
 abbrev invariant-loop : tie.invariant-loop
 invariant-loop form s last time size stop low₀ expired₀ at₀ low expired at = Left form s (passed at expired) × Known form s last time stop low₀ (passed at₀ expired₀) low (passed at expired)
@@ -42,7 +42,7 @@ abbrev start-at : tie.At-loop invariant-loop decreases-loop → tie.Start invari
 start-at c = c.before.before.before.before.before
 
 -- What the loop knows in the pool that was given.
-known : (c : tie.At-loop invariant-loop decreases-loop) → let a = (start-at c).args in (x : Head) (n k : ℕ) → Begun x a.s.now n → x.last ≡ a.last → k < n → a.p ≡ nthPool a.s.now k → Reached a.form x a.s.now n a.time k a.from
+known : (c : tie.At-loop invariant-loop decreases-loop) → let a = (start-at c).args in (x : Head) (n k : ℕ) → Begun x a.s.now n → x.last ≡ a.last → k < n → a.p ≡ nth_pool a.s.now k → Reached a.form x a.s.now n a.time k a.from
     → Along a.form x a.s.now n a.time k c.loop.low (passed c.loop.at c.loop.expired)
 known c x n k begun same lt pool r =
     let stop : c.before.before.end.result ≡ end (start-at c).args.p = c.before.before.end.ensures.0 in
@@ -55,10 +55,10 @@ met c last e =
     let form = (start-at (loop-at c)).args.form in
     let s = (start-at (loop-at c)).args.s.now in
     let at = (loop-at c).loop.at in
-    lease-met form last (drop at s) _ _ _ (ap (λ (l : ℕ). fitAt form l (drop at s)) e ∙ ap (fitAt form (start-at (loop-at c)).args.last) (sym (part-rest s at)) ∙ sym c.before.before.before.fit_at.ensures ∙ c.before.network.given.1)
+    lease-met form last (drop at s) _ _ _ (ap (λ (l : ℕ). fit_at form l (drop at s)) e ∙ ap (fit_at form (start-at (loop-at c)).args.last) (sym (part-rest s at)) ∙ sym c.before.before.before.fit_at.ensures ∙ c.before.network.given.1)
 
 -- A lease more than what was passed.
-room : (c : tie.At-loop invariant-loop decreases-loop) → let a = (start-at c).args in c.loop.at < length a.s.now → c.loop.at + leaseSizeIn a.form ≤ length a.s.now
+room : (c : tie.At-loop invariant-loop decreases-loop) → let a = (start-at c).args in c.loop.at < length a.s.now → c.loop.at + lease_size_in a.form ≤ length a.s.now
 room c h = let a = (start-at c).args in one_left c.loop.at (length a.s.now) c.loop.invariant.0.left a.form c.loop.invariant.0.ends h
 
 loop-holds : tie.Need-loop-init invariant-loop decreases-loop
@@ -71,7 +71,7 @@ fit-at-requires c κs =
     let at = c.before.before in
     let a = (start-at at).args in
     let s = a.s.now in
-    subst (λ (u : List ℕ). leaseSizeIn a.form ≤ length u) (sym (part-rest s at.loop.at)) (omega (arith, length-drop at.loop.at s, room at (omega arith)))
+    subst (λ (u : List ℕ). lease_size_in a.form ≤ length u) (sym (part-rest s at.loop.at)) (omega (arith, length-drop at.loop.at s, room at (omega arith)))
 
 returns : tie.Need-returns invariant-loop decreases-loop
 returns c =
@@ -79,7 +79,7 @@ returns c =
     let a = (start-at at).args in
     let s = a.s.now in
     let l = at.loop in
-    let other = ap (fitAt a.form a.last) (sym (part-rest s l.at)) ∙ sym c.before.before.fit_at.ensures ∙ c.enum_told.given.1 in
+    let other = ap (fit_at a.form a.last) (sym (part-rest s l.at)) ∙ sym c.before.before.fit_at.ensures ∙ c.enum_told.given.1 in
     (l.invariant.0, λ x n k begun same lt pool r. stop-unfit a.form x s n a.time begun k lt l.low (passed l.at l.expired) (known at x n k begun same lt pool r) (λ f. other-unfit a.form a.last (drop l.at s) other (subst (λ (m : ℕ). Fits a.form m (drop l.at s)) same f)))
 
 returns-2 : tie.Need-returns-2 invariant-loop decreases-loop
@@ -102,7 +102,7 @@ add-expired c =
     omega (arith, c.due.ensures, due-few c.before.before.before.before.network.given.0.1.1.0 (start-at at).args.time, at.loop.inv.0.few, at.loop.inv.0.ends)
 
 -- The lease's size as the code has it.
-sized : (c : tie.At-loop invariant-loop decreases-loop) → c.before.before.before.lease-size.result ≡ leaseSizeIn (start-at c).args.form
+sized : (c : tie.At-loop invariant-loop decreases-loop) → c.before.before.before.lease-size.result ≡ lease_size_in (start-at c).args.form
 sized c = c.before.before.before.lease-size.ensures
 
 add_at : tie.Need-overflow-add-at invariant-loop decreases-loop
@@ -126,7 +126,7 @@ loop-again c =
     subst (λ (z : ℕ). Left form s (passed (l.at + z) next) × Known form s a.last a.time at.before.before.end.result a.p.network a.from told.before.network.given.0.1.0 (passed (l.at + z) next)) (sym (sized at)) (
       record { left = l.inv.0.left - 1; ends = others-left l.at (length s) l.inv.0.left form l.inv.0.ends here; few = omega (arith, l.inv.0.few, c.due.ensures, due-few expires a.time, size-least form) },
       λ x n k begun same lt low stop r.
-          subst (λ (e : ℕ). Along form x s n a.time k told.before.network.given.0.1.0 (passed (l.at + leaseSizeIn form) (l.expired + e))) (sym c.due.ensures)
+          subst (λ (e : ℕ). Along form x s n a.time k told.before.network.given.0.1.0 (passed (l.at + lease_size_in form) (l.expired + e))) (sym c.due.ensures)
           (along-lease form x s n a.time begun k lt l.low (passed l.at l.expired) (l.inv.1 x n k begun same lt low stop r) bytes (room at here) _ _ _ (met told x.last same) (omega arith) (omega (arith, stop))),
     )
 

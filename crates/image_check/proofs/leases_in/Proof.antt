@@ -4,9 +4,9 @@ use Prim.Native.Nat.{ℕ, ◌+◌, ◌-◌, ◌*◌, ◌/◌, ◌≤◌, ◌<◌
 use mathlib.Core.Path.{◌≡◌, refl, sym, ap, ap₂, subst, ◌∙◌}
 use lib.ListN.{length}
 use native.Mathlib.Omega.{arith}
-use Rattle.table.specs.Table.{leaseSlots}
-use Rattle.image.specs.Image.{leaseSizeIn, poolSize}
-use Rattle.image_check.specs.InnerPass.{summaryWith, Left, Reached}
+use Rattle.table.specs.Table.{lease_slots}
+use Rattle.image.specs.Image.{lease_size_in, pool_size}
+use Rattle.image_check.specs.InnerPass.{summary_with, Left, Reached}
 use Rattle.image_check.proofs.ScanLaws.{one_left, count-inside, count-many, count-uneven, count-few, same_count, pools-inside, scanned-size, reached-start, reached-end, reached-none}
 use borrow.Author.Rules.{rules}
 use Rattle.image_check.proofs.leases_in.Statement.{statement}
@@ -25,20 +25,20 @@ sized-at c = c.before.before
 abbrev start-at : tie.After-lease-size invariant-loop decreases-loop → tie.Start invariant-loop decreases-loop
 start-at c = c.before.before.before.before
 
-inside : (c : tie.Start invariant-loop decreases-loop) → poolSize * c.args.n ≤ length c.args.s.now
+inside : (c : tie.Start invariant-loop decreases-loop) → pool_size * c.args.n ≤ length c.args.s.now
 inside c = pools-inside c.args.form c.args.head c.args.s.now c.args.n c.args.time c.requires
 
 -- As many leases as the bytes may have, and their size.
 abbrev many : tie.Start invariant-loop decreases-loop → ℕ
-many c = (length c.args.s.now - poolSize * c.args.n) / leaseSizeIn c.args.form
+many c = (length c.args.s.now - pool_size * c.args.n) / lease_size_in c.args.form
 
-sizes : (c : tie.After-lease-size invariant-loop decreases-loop) → c.lease-size.result * c.before.before.leases-of.result ≡ leaseSizeIn (start-at c).args.form * many (start-at c)
+sizes : (c : tie.After-lease-size invariant-loop decreases-loop) → c.lease-size.result * c.before.before.leases-of.result ≡ lease_size_in (start-at c).args.form * many (start-at c)
 sizes c = ap₂ (λ (x y : ℕ). x * y) c.lease-size.ensures c.before.before.leases-of.ensures
 
-fits : (c : tie.After-lease-size invariant-loop decreases-loop) → poolSize * (start-at c).args.n + c.lease-size.result * c.before.before.leases-of.result ≤ length (start-at c).args.s.now
+fits : (c : tie.After-lease-size invariant-loop decreases-loop) → pool_size * (start-at c).args.n + c.lease-size.result * c.before.before.leases-of.result ≤ length (start-at c).args.s.now
 fits c =
     let a = (start-at c).args in
-    subst (λ (z : ℕ). poolSize * a.n + z ≤ length a.s.now) (sym (sizes c)) (count-inside (length a.s.now) (poolSize * a.n) (inside (start-at c)) a.form)
+    subst (λ (z : ℕ). pool_size * a.n + z ≤ length a.s.now) (sym (sizes c)) (count-inside (length a.s.now) (pool_size * a.n) (inside (start-at c)) a.form)
 
 mul-from : tie.Need-overflow-mul-from invariant-loop decreases-loop
 mul-from c = omega (arith, inside c.before)
@@ -50,9 +50,9 @@ returns : tie.Need-returns invariant-loop decreases-loop
 returns c =
     let start = c.before.before.before.before in
     let a = start.args in
-    let over : leaseSlots < many start = subst (λ (z : ℕ). leaseSlots < z) c.before.before.leases-of.ensures c.before.if1.true in
+    let over : lease_slots < many start = subst (λ (z : ℕ). lease_slots < z) c.before.before.leases-of.ensures c.before.if1.true in
     c.unsound.ensures
-    ∙ sym (scanned-size a.form a.head a.s.now a.n a.time start.requires (λ m few e. count-many (length a.s.now) (poolSize * a.n) (inside start) a.form m over few e))
+    ∙ sym (scanned-size a.form a.head a.s.now a.n a.time start.requires (λ m few e. count-many (length a.s.now) (pool_size * a.n) (inside start) a.form m over few e))
 
 mul-if2 : tie.Need-overflow-mul-if2 invariant-loop decreases-loop
 mul-if2 c = omega (arith, fits c)
@@ -66,17 +66,17 @@ returns-2 c =
     let a = start.args in
     c.unsound2.ensures
     ∙ sym (scanned-size a.form a.head a.s.now a.n a.time start.pre (λ m few e.
-    count-uneven (length a.s.now) (poolSize * a.n) (inside start) a.form m (λ q. c.before.if2.true (ap (λ (z : ℕ). poolSize * a.n + z) (sizes c.before.before) ∙ q)) e))
+    count-uneven (length a.s.now) (pool_size * a.n) (inside start) a.form m (λ q. c.before.if2.true (ap (λ (z : ℕ). pool_size * a.n + z) (sizes c.before.before) ∙ q)) e))
 
 loop-holds : tie.Need-loop-init invariant-loop decreases-loop
 loop-holds c =
     let start = start-at c.before in
     let a = start.args in
-    let ends : poolSize * a.n + leaseSizeIn a.form * many start ≡ length a.s.now = ap (λ (z : ℕ). poolSize * a.n + z) (sym (sizes c.before)) ∙ c.if2.false in
-    let few : many start ≤ leaseSlots = subst (λ (z : ℕ). z ≤ leaseSlots) c.before.before.before.leases-of.ensures c.before.before.if1.false in (
+    let ends : pool_size * a.n + lease_size_in a.form * many start ≡ length a.s.now = ap (λ (z : ℕ). pool_size * a.n + z) (sym (sizes c.before)) ∙ c.if2.false in
+    let few : many start ≤ lease_slots = subst (λ (z : ℕ). z ≤ lease_slots) c.before.before.before.leases-of.ensures c.before.before.if1.false in (
       record { left = many start; ends = ends; few = omega arith },
       omega arith,
-      reached-start a.form a.head a.s.now a.n a.time start.pre (count-few (length a.s.now) (poolSize * a.n) (inside start) a.form few ends),
+      reached-start a.form a.head a.s.now a.n a.time start.pre (count-few (length a.s.now) (pool_size * a.n) (inside start) a.form few ends),
     )
 
 returns-3 : tie.Need-returns-3 invariant-loop decreases-loop
@@ -110,10 +110,10 @@ returns-4 c =
     let l = at.loop in
     let count : ℕ = sized.before.before.leases-of.result in
     let over : l.pass.at ≡ length a.s.now = omega (arith, l.invariant.0.ends) in
-    let all : count ≡ l.invariant.2.leases = same_count a.form (poolSize * a.n) count l.invariant.2.leases (length a.s.now)
-    (ap (λ (z : ℕ). poolSize * a.n + z * count) (sym sized.lease-size.ensures) ∙ at.before.if2.false)
+    let all : count ≡ l.invariant.2.leases = same_count a.form (pool_size * a.n) count l.invariant.2.leases (length a.s.now)
+    (ap (λ (z : ℕ). pool_size * a.n + z * count) (sym sized.lease-size.ensures) ∙ at.before.if2.false)
     (sym l.invariant.2.place ∙ over) in
-    ap (λ (m : ℕ). summaryWith a.head a.n m l.pass.expired) all
+    ap (λ (m : ℕ). summary_with a.head a.n m l.pass.expired) all
     ∙ sym (reached-end a.form a.head a.s.now a.n a.time start.pre l.k l.pass l.invariant.2 (omega arith))
 
 pub leases-in-spec : {M : Type 1} → statement M

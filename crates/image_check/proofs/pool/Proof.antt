@@ -1,13 +1,13 @@
 -- `image_check::pool` meets its contract.
 -- Assumes nothing.
 use mathlib.Core.Path.{ap, ◌∙◌}
-use Rattle.table.specs.Table.{poolPrefix}
+use Rattle.table.specs.Table.{pool_prefix}
 use borrow.Author.Rules.{rules}
 use Rattle.image_check.proofs.pool.Statement.{statement}
 use Rattle.image_check.proofs.pool.Tie as tie
 
 returns : tie.Need-returns
-returns c = c.pool-prefix.ensures ∙ ap poolPrefix c.before.pool-at.ensures
+returns c = c.pool-prefix.ensures ∙ ap pool_prefix c.before.pool-at.ensures
 
 pub pool-spec : {M : Type 1} → statement M
 pool-spec =

@@ -6,11 +6,11 @@ use mathlib.Core.Bool.{true, false}
 use mathlib.Core.List.{List}
 use lib.ListN.{drop, length-drop}
 use borrow.Author.Tests.{not-true, not-false}
-use Rattle.table.specs.Table.{poolSlots}
-use Rattle.image.specs.Image.{poolSize}
-use Rattle.image.specs.Reading.{poolIn}
+use Rattle.table.specs.Table.{pool_slots}
+use Rattle.image.specs.Image.{pool_size}
+use Rattle.image.specs.Reading.{pool_in}
 use Rattle.image.proofs.FieldLaws.{Bytes, bytes_drop}
-use Rattle.image_check.specs.Inner.{poolBegins?}
+use Rattle.image_check.specs.Inner.{pool_begins?}
 use Rattle.image_check.proofs.PoolLaws.{end-bad, begins-long, begins-not, PoolsRead, pools-none, pools-stop, pools-full, pools-stopped, pools-good}
 use borrow.Author.Rules.{rules}
 use native.Mathlib.Omega.{arith}
@@ -21,7 +21,7 @@ abbrev invariant-loop : tie.invariant-loop
 invariant-loop s from₀ n₀ from n = PoolsRead s from n
 
 abbrev decreases-loop : tie.decreases-loop
-decreases-loop s from₀ n₀ from n = poolSlots - n
+decreases-loop s from₀ n₀ from n = pool_slots - n
 
 -- Places further back in the code: where a pool was read, and the loop.
 abbrev begun-at : tie.After-pool-at invariant-loop decreases-loop → tie.After-pool-begins invariant-loop decreases-loop
@@ -37,12 +37,12 @@ bytes : (c : tie.At-loop invariant-loop decreases-loop) → Bytes (bytes_of c)
 bytes c = λ i. omega (arith, c.before.shared-slice-known.given i)
 
 -- A pool record begins, and the pool is read from it.
-begins : (c : tie.Else1 invariant-loop decreases-loop) → let at = loop-at c.before in poolBegins? (drop (poolSize * at.loop.n) (bytes_of at)) ≡ true
+begins : (c : tie.Else1 invariant-loop decreases-loop) → let at = loop-at c.before in pool_begins? (drop (pool_size * at.loop.n) (bytes_of at)) ≡ true
 begins c =
     let at = loop-at c.before in
     sym c.before.pool-begins.ensures ∙ not-false _ c.if1.false
 
-pool : (c : tie.After-pool-at invariant-loop decreases-loop) → let at = loop-at (begun-at c) in c.pool-at.result ≡ poolIn (drop (poolSize * at.loop.n) (bytes_of at))
+pool : (c : tie.After-pool-at invariant-loop decreases-loop) → let at = loop-at (begun-at c) in c.pool-at.result ≡ pool_in (drop (pool_size * at.loop.n) (bytes_of at))
 pool c = c.pool-at.ensures
 
 loop-holds : tie.Need-loop-init invariant-loop decreases-loop
@@ -53,14 +53,14 @@ returns c =
     let at = loop-at c.before in
     let s = bytes_of at in
     let l = at.loop in
-    let none : poolBegins? (drop (poolSize * l.n) s) ≡ false = sym c.before.pool-begins.ensures ∙ not-true _ c.if1.true in
-    pools-stop s l.from l.n l.inv (begins-not (drop (poolSize * l.n) s) (bytes_drop (poolSize * l.n) s (bytes at)) none)
+    let none : pool_begins? (drop (pool_size * l.n) s) ≡ false = sym c.before.pool-begins.ensures ∙ not-true _ c.if1.true in
+    pools-stop s l.from l.n l.inv (begins-not (drop (pool_size * l.n) s) (bytes_drop (pool_size * l.n) s (bytes at)) none)
 
 pool-at-requires : tie.Need-pool-at-requires invariant-loop decreases-loop
 pool-at-requires c κs =
     let at = loop-at c.before in
     let s = bytes_of at in
-    omega (arith, begins-long (drop (poolSize * at.loop.n) s) (begins c), length-drop (poolSize * at.loop.n) s)
+    omega (arith, begins-long (drop (pool_size * at.loop.n) s) (begins c), length-drop (pool_size * at.loop.n) s)
 
 returns-2 : tie.Need-returns-2 invariant-loop decreases-loop
 returns-2 c =

@@ -7,9 +7,9 @@ use mathlib.Core.List.{List, ◌++◌}
 use native.Mathlib.Omega.{arith}
 use lib.ListN.{length, take, set, length-set}
 use borrow.Author.Rules.{rules}
-use Rattle.table.specs.Table.{leaseSlots, shortestPool}
-use Rattle.counts.specs.Counts.{countedLengths}
-use Rattle.image_counts.specs.InnerTally.{bothOf, total, freesOn}
+use Rattle.table.specs.Table.{lease_slots, shortest_pool}
+use Rattle.counts.specs.Counts.{counted_lengths}
+use Rattle.image_counts.specs.InnerTally.{both_of, total, frees_on}
 use Rattle.image_counts.proofs.FreeLaws.{row_first, row_next, row-all, total_first, total-more}
 use Rattle.image_counts.proofs.SideLaws.{both_at}
 use Rattle.image_counts.proofs.fill.Statement.{statement}
@@ -17,12 +17,12 @@ use Rattle.image_counts.proofs.fill.Tie as tie
 
 abbrev invariant-loop : tie.invariant-loop
 invariant-loop pool row₀ opened sides top up₀ down₀ at j₀ row up down j =
-    (j ≤ countedLengths) × (up ≡ total (j + 7) opened) × (down ≡ total (j + 7) (bothOf sides)) × (up ≤ leaseSlots * j) × (down ≤ leaseSlots * j)
-    × (take j row ++ freesOn pool opened (bothOf sides) (j + 7) (countedLengths - j) ≡ freesOn pool opened (bothOf sides) 7 countedLengths) × (length row ≡ countedLengths)
+    (j ≤ counted_lengths) × (up ≡ total (j + 7) opened) × (down ≡ total (j + 7) (both_of sides)) × (up ≤ lease_slots * j) × (down ≤ lease_slots * j)
+    × (take j row ++ frees_on pool opened (both_of sides) (j + 7) (counted_lengths - j) ≡ frees_on pool opened (both_of sides) 7 counted_lengths) × (length row ≡ counted_lengths)
     × (pool < j + 8)
 
 abbrev decreases-loop : tie.decreases-loop
-decreases-loop pool row₀ opened sides top up₀ down₀ at j₀ row up down j = countedLengths - j
+decreases-loop pool row₀ opened sides top up₀ down₀ at j₀ row up down j = counted_lengths - j
 
 mul-up : tie.Need-overflow-mul-up invariant-loop decreases-loop
 mul-up c = search rules
@@ -70,16 +70,16 @@ loop-holds : tie.Need-loop-init invariant-loop decreases-loop
 loop-holds c =
     let a = c.before.args in
     let pre = c.before.requires in
-    let closed : List ℕ = bothOf a.t3 in
-    let at : ℕ = a.pool - shortestPool in
-    let place : at + shortestPool ≡ a.pool = omega (arith, pre.0) in
+    let closed : List ℕ = both_of a.t3 in
+    let at : ℕ = a.pool - shortest_pool in
+    let place : at + shortest_pool ≡ a.pool = omega (arith, pre.0) in
     let here = both_at a.t3 a.pool (omega (arith, pre.1)) in (
       omega (arith, pre.1),
       total_first a.t2 a.pool at pre.4 place,
       sym here ∙ total_first closed a.pool at pre.5 place,
       omega (arith, pre.2 a.pool),
       omega (arith, pre.3 a.pool, here),
-      ap (λ (l : List ℕ). take (at + 1) (set l at c.less.result) ++ freesOn a.pool a.t2 closed (at + 1 + 7) (countedLengths - (at + 1))) pre.6
+      ap (λ (l : List ℕ). take (at + 1) (set l at c.less.result) ++ frees_on a.pool a.t2 closed (at + 1 + 7) (counted_lengths - (at + 1))) pre.6
           ∙ row_first a.pool a.t2 closed pre.4 pre.5 at c.less.result place (omega (arith, pre.1)) c.less.ensures,
       length-set a.row.now at c.less.result ∙ ap length pre.6,
       omega (arith, pre.0),
@@ -164,10 +164,10 @@ loop-again c =
     let here = both_at a.t3 (loop.j + 8) (omega arith) in (
       omega arith,
       total-more a.t2 loop.j loop.up loop.invariant.1,
-      ap (λ (m : ℕ). loop.down + m) (sym here) ∙ total-more (bothOf a.t3) loop.j loop.down loop.invariant.2,
+      ap (λ (m : ℕ). loop.down + m) (sym here) ∙ total-more (both_of a.t3) loop.j loop.down loop.invariant.2,
       omega (arith, pre.2 (loop.j + 8), loop.invariant),
       omega (arith, pre.3 (loop.j + 8), here, loop.invariant),
-      row_next a.pool a.t2 (bothOf a.t3) loop.row loop.j loop.up loop.down c.less2.result (omega arith) loop.invariant.7 loop.invariant.6 loop.invariant.1 loop.invariant.2 c.less2.ensures
+      row_next a.pool a.t2 (both_of a.t3) loop.row loop.j loop.up loop.down c.less2.result (omega arith) loop.invariant.7 loop.invariant.6 loop.invariant.1 loop.invariant.2 c.less2.ensures
           loop.invariant.5,
       length-set loop.row loop.j c.less2.result ∙ loop.invariant.6,
       omega (arith, loop.invariant.7),
@@ -177,7 +177,7 @@ returns : tie.Need-returns invariant-loop decreases-loop
 returns c =
     let a = c.before.before.before.args in
     let loop = c.before.loop in
-    row-all a.pool a.t2 (bothOf a.t3) loop.row loop.j loop.invariant.0 (omega arith) loop.invariant.6 loop.invariant.5
+    row-all a.pool a.t2 (both_of a.t3) loop.row loop.j loop.invariant.0 (omega arith) loop.invariant.6 loop.invariant.5
 
 pub fill_spec : {M : Type 1} → statement M
 fill_spec =

@@ -7,7 +7,7 @@ use mathlib.Core.List.{List}
 use native.Mathlib.Omega.{arith}
 use lib.ListN.{length, get_or, set, replicate, length-set}
 use borrow.Author.Rules.{rules}
-use Rattle.image_counts.specs.InnerTally.{openLengths, zeros, bothOf}
+use Rattle.image_counts.specs.InnerTally.{open_lengths, zeros, both_of}
 use Rattle.image_counts.proofs.TallyLaws.{Counting, counting-first, counting_more, counting-stop, counting-end}
 use Rattle.image_counts.proofs.SideLaws.{side-first, side-more, side-few}
 use Rattle.image_counts.proofs.in_pool.Statement.{statement}
@@ -15,7 +15,7 @@ use Rattle.image_counts.proofs.in_pool.Tie as tie
 
 abbrev invariant-loop : tie.invariant-loop
 invariant-loop image from n at stop opened₀ sides₀ first before₀ top bottom i₀ opened sides before i =
-    Counting image from n stop top at opened (bothOf sides) before i × (length sides ≡ 2 * openLengths)
+    Counting image from n stop top at opened (both_of sides) before i × (length sides ≡ 2 * open_lengths)
 
 abbrev decreases-loop : tie.decreases-loop
 decreases-loop image from n at stop opened₀ sides₀ first before₀ top bottom i₀ opened sides before i = n - i
@@ -69,7 +69,7 @@ loop-holds c =
           (sym (side-first c.length_at.result (omega (arith, pre.4 a.at pre.2, c.length_at.ensures))))
           (counting-first a.image.now a.from a.n end.result a.p.length a.at pre.2 (omega (arith, pre.5, end.ensures.0))
           read.result c.length_at.result read.ensures c.length_at.ensures),
-      length-set (replicate {A = ℕ} (2 * openLengths) 0) c.length_at.result 1,
+      length-set (replicate {A = ℕ} (2 * open_lengths) 0) c.length_at.result 1,
     )
 
 mul-record : tie.Need-overflow-mul-record invariant-loop decreases-loop
@@ -180,10 +180,10 @@ loop-again c =
     let common = c.before.common-bits in
     let k : ℕ = common.result + 1 in
     let l = c.length-at2 in
-    let side : ℕ = openLengths * (loop.i % 2) + l.result in (
+    let side : ℕ = open_lengths * (loop.i % 2) + l.result in (
       subst (λ (closed : List ℕ). Counting a.image.now a.from a.n end.result a.p.length a.at (set loop.opened k (get_or loop.opened k 0 + 1)) closed read.result (loop.i + 1))
           (sym (side-more loop.sides (loop.i % 2) l.result (omega arith) (omega (arith, pre.4 loop.i (omega arith), l.ensures)) loop.invariant.1))
-          (counting_more a.image.now a.from a.n end.result a.p.length a.at loop.opened (bothOf loop.sides) loop.before loop.i loop.invariant.0 (omega arith)
+          (counting_more a.image.now a.from a.n end.result a.p.length a.at loop.opened (both_of loop.sides) loop.before loop.i loop.invariant.0 (omega arith)
           read.result k l.result read.ensures (omega (arith, common.ensures.0)) l.ensures (omega (arith, c.before.before.if1.false))),
       length-set loop.sides side (get_or loop.sides side 0 + 1) ∙ loop.invariant.1,
     )

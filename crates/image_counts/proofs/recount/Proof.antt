@@ -7,8 +7,8 @@ use mathlib.Core.List.{List}
 use native.Mathlib.Omega.{arith}
 use lib.ListN.{length, drop, length-drop}
 use borrow.Author.Rules.{rules}
-use Rattle.image.specs.Image.{headSize}
-use Rattle.image_check.specs.Inner.{nthPool}
+use Rattle.image.specs.Image.{head_size}
+use Rattle.image_check.specs.Inner.{nth_pool}
 use Rattle.image_check.proofs.RunLaws.{part-rest}
 use Rattle.image_counts.specs.Standing.{SomeTable}
 use Rattle.image_counts.proofs.PlaceLaws.{Facts, facts}
@@ -76,7 +76,7 @@ pool-requires c κs =
     let f = known a.image.now a.pools a.leases start.requires in
     let loop = c.before.before.loop in
     let inside : loop.k < a.pools = passed-some a.image.now a.pools a.leases loop.k loop.next loop.counts loop.invariant (omega arith) in
-    omega (arith, inside, f.room, ap length (part-rest a.image.now headSize), length-drop headSize a.image.now)
+    omega (arith, inside, f.room, ap length (part-rest a.image.now head_size), length-drop head_size a.image.now)
 
 mul-pool-row : tie.Need-overflow-mul-pool-row invariant-loop decreases-loop invariant-loop2 decreases-loop2
 mul-pool-row c =
@@ -103,7 +103,7 @@ pool-row-requires c κs =
     let f = known a.image.now a.pools a.leases start.requires in
     let loop = c.before.before.before.before.loop in
     let inside : loop.k < a.pools = passed-some a.image.now a.pools a.leases loop.k loop.next loop.counts loop.invariant (omega arith) in
-    let read : c.before.pool.result ≡ nthPool (drop headSize a.image.now) loop.k = c.before.pool.ensures ∙ ap (λ (s : List ℕ). nthPool s loop.k) (part-rest a.image.now headSize) in (
+    let read : c.before.pool.result ≡ nth_pool (drop head_size a.image.now) loop.k = c.before.pool.ensures ∙ ap (λ (s : List ℕ). nth_pool s loop.k) (part-rest a.image.now head_size) in (
       passed-ready a.image.now a.pools a.leases loop.k loop.next loop.counts loop.invariant inside c.before.pool.result read f.few-leases f.room f.short,
       omega arith,
       passed-row a.image.now a.pools a.leases loop.k loop.next loop.counts loop.invariant inside c.before.pool.result read f.few-pools,
@@ -132,7 +132,7 @@ loop-again c =
     let f = known a.image.now a.pools a.leases start.requires in
     let loop = c.before.before.before.before.before.loop in
     let inside : loop.k < a.pools = passed-some a.image.now a.pools a.leases loop.k loop.next loop.counts loop.invariant (omega arith) in
-    let read : c.before.before.pool.result ≡ nthPool (drop headSize a.image.now) loop.k = c.before.before.pool.ensures ∙ ap (λ (s : List ℕ). nthPool s loop.k) (part-rest a.image.now headSize) in
+    let read : c.before.before.pool.result ≡ nth_pool (drop head_size a.image.now) loop.k = c.before.before.pool.ensures ∙ ap (λ (s : List ℕ). nth_pool s loop.k) (part-rest a.image.now head_size) in
     passed-pool a.image.now a.pools a.leases loop.k loop.next loop.counts loop.invariant inside c.before.before.pool.result read f.few-pools c.pool-row.result c.pool-row.new.1.1.1.1.1.0 c.pool-row.ensures
 
 loop2-holds : tie.Need-loop2-init invariant-loop decreases-loop invariant-loop2 decreases-loop2
@@ -163,7 +163,7 @@ pool-requires-2 c κs =
     let f = known a.image.now a.pools a.leases start.requires in
     let loop = c.before.before.loop2 in
     let inside : loop.k < a.pools = omega arith in
-    omega (arith, inside, f.room, ap length (part-rest a.image.now headSize), length-drop headSize a.image.now)
+    omega (arith, inside, f.room, ap length (part-rest a.image.now head_size), length-drop head_size a.image.now)
 
 mul-bare : tie.Need-overflow-mul-bare invariant-loop decreases-loop invariant-loop2 decreases-loop2
 mul-bare c =
@@ -186,7 +186,7 @@ bare-requires c κs =
     let f = known a.image.now a.pools a.leases start.requires in
     let loop = c.before.before.before.before.loop2 in
     let inside : loop.k < a.pools = omega arith in
-    let read : c.before.pool2.result ≡ nthPool (drop headSize a.image.now) loop.k = c.before.pool2.ensures ∙ ap (λ (s : List ℕ). nthPool s loop.k) (part-rest a.image.now headSize) in
+    let read : c.before.pool2.result ≡ nth_pool (drop head_size a.image.now) loop.k = c.before.pool2.ensures ∙ ap (λ (s : List ℕ). nth_pool s loop.k) (part-rest a.image.now head_size) in
     let ready = passed-ready a.image.now a.pools a.leases loop.k c.before.before.before.before.before.before.loop.next loop.counts loop.invariant.0 inside c.before.pool2.result read f.few-leases f.room f.short in (
       ready.from-shortest,
       ready.to-longest,
@@ -206,7 +206,7 @@ loop2-again c =
     let f = known a.image.now a.pools a.leases start.requires in
     let loop = c.before.before.before.before.before.loop2 in
     let inside : loop.k < a.pools = omega arith in
-    let read : c.before.before.pool2.result ≡ nthPool (drop headSize a.image.now) loop.k = c.before.before.pool2.ensures ∙ ap (λ (s : List ℕ). nthPool s loop.k) (part-rest a.image.now headSize) in
+    let read : c.before.before.pool2.result ≡ nth_pool (drop head_size a.image.now) loop.k = c.before.before.pool2.ensures ∙ ap (λ (s : List ℕ). nth_pool s loop.k) (part-rest a.image.now head_size) in
     let ready = passed-ready a.image.now a.pools a.leases loop.k c.before.before.before.before.before.before.before.loop.next loop.counts loop.invariant.0 inside c.before.before.pool2.result read f.few-leases f.room f.short in
     (passed-bare a.image.now a.pools a.leases loop.k c.before.before.before.before.before.before.before.loop.next loop.counts loop.invariant.0 inside c.before.before.pool2.result read f.few-pools ready loop.invariant.1 c.bare.new.1.0 c.bare.ensures, loop.invariant.1)
 

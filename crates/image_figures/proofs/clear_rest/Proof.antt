@@ -1,7 +1,7 @@
 -- `image_figures::clear_rest` meets its contract: few rows are cleared, or many, the second half as a copy of the first.
 -- Assumes nothing.
 use native.Mathlib.Omega.{arith}
-use Rattle.table.specs.Table.{leaseSlots}
+use Rattle.table.specs.Table.{lease_slots}
 use Rattle.image_figures.proofs.FillLaws.{cleared-twice}
 use borrow.Author.Rules.{rules}
 use Rattle.image_figures.proofs.clear_rest.Statement.{statement}
@@ -13,7 +13,7 @@ returns-2 c =
     let half = copied.before.before.before.before in
     let start = half.before.before.before.before in
     let a = start.args in
-    cleared-twice leaseSlots a.sheet.now _ _ a.n _ (omega arith) (omega arith) start.requires.1 half.clear-rows2.ensures copied.copy-bytes.ensures
+    cleared-twice lease_slots a.sheet.now _ _ a.n _ (omega arith) (omega arith) start.requires.1 half.clear-rows2.ensures copied.copy-bytes.ensures
 
 pub clear-rest-spec : {M : Type 1} → statement M
 clear-rest-spec =

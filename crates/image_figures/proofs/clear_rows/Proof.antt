@@ -5,8 +5,8 @@ use mathlib.Core.Path.{◌≡◌, refl, ◌∙◌}
 use native.Mathlib.Omega.{arith}
 use lib.ListN.{length}
 use Rattle.lists.specs.Put.{put}
-use Rattle.image_figures.specs.Sheets.{rowSize}
-use Rattle.image_figures.proofs.EmptyBytes.{emptyBytes}
+use Rattle.image_figures.specs.Sheets.{row_size}
+use Rattle.image_figures.proofs.EmptyBytes.{empty_bytes}
 use Rattle.image_figures.proofs.FillLaws.{cleared-none, cleared_more}
 use borrow.Author.Rules.{rules}
 use Rattle.image_figures.proofs.clear_rows.Statement.{statement}
@@ -14,7 +14,7 @@ use Rattle.image_figures.proofs.clear_rows.Tie as tie
 
 abbrev invariant-loop : tie.invariant-loop
 invariant-loop sheet₀ first last i₀ sheet i =
-    (first + 16 ≤ last) × (first ≤ i) × (i ≤ last) × (length sheet ≡ length sheet₀) × (sheet ≡ put sheet₀ (rowSize * first) (emptyBytes (i - first)))
+    (first + 16 ≤ last) × (first ≤ i) × (i ≤ last) × (length sheet ≡ length sheet₀) × (sheet ≡ put sheet₀ (row_size * first) (empty_bytes (i - first)))
 
 abbrev decreases-loop : tie.decreases-loop
 decreases-loop sheet₀ first last i₀ sheet i = last - i

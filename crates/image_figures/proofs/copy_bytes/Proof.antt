@@ -7,26 +7,26 @@ use native.Mathlib.Omega.{arith}
 use Rattle.lists.specs.Put.{put}
 use Rattle.lists.proofs.PutLaws.{put-nothing}
 use Rattle.image_records.proofs.MoveLaws.{taken_more, given-more}
-use Rattle.image_figures.specs.Sheets.{figuresSize}
+use Rattle.image_figures.specs.Sheets.{figures_size}
 use borrow.Author.Rules.{rules}
 use Rattle.image_figures.proofs.copy_bytes.Statement.{statement}
 use Rattle.image_figures.proofs.copy_bytes.Tie as tie
 
 abbrev invariant-loop : tie.invariant-loop
-invariant-loop sheet at to n bytes₀ k₀ bytes k = (k ≤ n) × (take k bytes ≡ take k (drop at sheet)) × (length bytes ≡ figuresSize)
+invariant-loop sheet at to n bytes₀ k₀ bytes k = (k ≤ n) × (take k bytes ≡ take k (drop at sheet)) × (length bytes ≡ figures_size)
 
 abbrev decreases-loop : tie.decreases-loop
 decreases-loop sheet at to n bytes₀ k₀ bytes k = n - k
 
 abbrev invariant-loop2 : tie.invariant-loop2
 invariant-loop2 sheet₀ at to n bytes k j₀ sheet j =
-    (j ≤ n) × (sheet ≡ put sheet₀ to (take j bytes)) × (length sheet ≡ length sheet₀) × (take n bytes ≡ take n (drop at sheet₀)) × (length bytes ≡ figuresSize)
+    (j ≤ n) × (sheet ≡ put sheet₀ to (take j bytes)) × (length sheet ≡ length sheet₀) × (take n bytes ≡ take n (drop at sheet₀)) × (length bytes ≡ figures_size)
 
 abbrev decreases-loop2 : tie.decreases-loop2
 decreases-loop2 sheet₀ at to n bytes k j₀ sheet j = n - j
 
 loop-holds : tie.Need-loop-init invariant-loop decreases-loop invariant-loop2 decreases-loop2
-loop-holds c = (omega arith, refl, length-replicate {A = ℕ} figuresSize 0)
+loop-holds c = (omega arith, refl, length-replicate {A = ℕ} figures_size 0)
 
 loop-again : tie.Need-loop-preserved invariant-loop decreases-loop invariant-loop2 decreases-loop2
 loop-again c =

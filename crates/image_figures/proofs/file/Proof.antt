@@ -6,8 +6,8 @@ use native.Mathlib.Omega.{arith}
 use lib.ListN.{length, get_or}
 use Rattle.lists.specs.Put.{put}
 use Rattle.figures.specs.declared.FigureRow.{FigureRow}
-use Rattle.figures.specs.Figures.{emptyRow, filed}
-use Rattle.image_figures.specs.Sheets.{rowSize, rowBytes}
+use Rattle.figures.specs.Figures.{empty_row, filed}
+use Rattle.image_figures.specs.Sheets.{row_size, row_bytes}
 use Rattle.image_figures.proofs.RowLaws.{sheet-length, row-in-place, row-edited}
 use borrow.Author.Rules.{rules}
 use Rattle.image_figures.proofs.file.Statement.{statement}
@@ -37,9 +37,9 @@ returns c rows s =
     let read = c.before.before.before.before.before.row_at in
     let new = c.before.before.before.filed-row in
     let inside : a.place < length rows = omega (arith, sheet-length a.sheet.now rows s, c.before.before.before.before.before.before.before.before.requires) in
-    let row_is : new.result ≡ filed a.f (get_or rows a.place emptyRow) = new.ensures ∙ ap (filed a.f) (read.ensures ∙ row-in-place a.sheet.now rows s a.place inside) in
-    row-edited a.sheet.now rows s _ a.place (filed a.f (get_or rows a.place emptyRow)) inside
-    (c.before.before.put-row.ensures ∙ ap (λ (r : FigureRow). put a.sheet.now (rowSize * a.place) (rowBytes r)) row_is)
+    let row_is : new.result ≡ filed a.f (get_or rows a.place empty_row) = new.ensures ∙ ap (filed a.f) (read.ensures ∙ row-in-place a.sheet.now rows s a.place inside) in
+    row-edited a.sheet.now rows s _ a.place (filed a.f (get_or rows a.place empty_row)) inside
+    (c.before.before.put-row.ensures ∙ ap (λ (r : FigureRow). put a.sheet.now (row_size * a.place) (row_bytes r)) row_is)
 
 pub file-spec : {M : Type 1} → statement M
 file-spec =

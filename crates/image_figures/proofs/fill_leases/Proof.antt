@@ -4,9 +4,9 @@ use Prim.Native.Nat.{◌+◌, ◌-◌, ◌*◌, ◌≤◌}
 use mathlib.Core.Path.{◌≡◌, refl, sym, ◌∙◌}
 use native.Mathlib.Omega.{arith}
 use lib.ListN.{length, drop}
-use Rattle.image.specs.Image.{leaseSize}
-use Rattle.image.specs.Reading.{leaseIn}
-use Rattle.figures.specs.Figures.{untoldRow}
+use Rattle.image.specs.Image.{lease_size}
+use Rattle.image.specs.Reading.{lease_in}
+use Rattle.figures.specs.Figures.{untold_row}
 use Rattle.image_figures.proofs.FillLaws.{Filling, filling-none, filling-more, filling-all}
 use borrow.Author.Rules.{rules}
 use Rattle.image_figures.proofs.fill_leases.Statement.{statement}
@@ -30,10 +30,10 @@ loop-again c =
     let network = len.before in
     let loop = network.before.before.loop in
     let a = network.before.before.before.before.before.args in
-    let x = leaseIn (drop (a.from + leaseSize * loop.i) a.image.now) in (
+    let x = lease_in (drop (a.from + lease_size * loop.i) a.image.now) in (
       omega arith,
       written.put-untold.auto.0 ∙ loop.invariant.1,
-      filling-more a.sheet.now a.image.now a.from a.n loop.sheet _ loop.i x (untoldRow x) (omega arith) loop.invariant.2 refl refl
+      filling-more a.sheet.now a.image.now a.from a.n loop.sheet _ loop.i x (untold_row x) (omega arith) loop.invariant.2 refl refl
           (written.put-untold.ensures x (sym network.network-at.ensures) (sym len.length_at.ensures)),
     )
 

@@ -1,6 +1,6 @@
 -- `image_figures::lower` meets its contract: the first k rows have moved.
 -- Assumes nothing.
-use Rattle.image_figures.specs.Sheets.{rowSize}
+use Rattle.image_figures.specs.Sheets.{row_size}
 use Prim.Native.Nat.{◌+◌, ◌-◌, ◌*◌, ◌≤◌}
 use mathlib.Core.Path.{◌≡◌, refl, sym, ap, ◌∙◌}
 use native.Mathlib.Omega.{arith}
@@ -13,7 +13,7 @@ use Rattle.image_figures.proofs.lower.Statement.{statement}
 use Rattle.image_figures.proofs.lower.Tie as tie
 
 abbrev invariant-loop : tie.invariant-loop
-invariant-loop sheet₀ to at n k₀ sheet k = (k ≤ n) × (sheet ≡ put sheet₀ to (take (rowSize * k) (drop at sheet₀))) × (length sheet ≡ length sheet₀)
+invariant-loop sheet₀ to at n k₀ sheet k = (k ≤ n) × (sheet ≡ put sheet₀ to (take (row_size * k) (drop at sheet₀))) × (length sheet ≡ length sheet₀)
 
 abbrev decreases-loop : tie.decreases-loop
 decreases-loop sheet₀ to at n k₀ sheet k = n - k
@@ -28,10 +28,10 @@ loop-again c =
     let loop = read.before.before.before.loop in
     let a = read.before.before.before.before.before.args in
     let l = a.sheet.now in
-    let more : rowSize * loop.k + (16 * rowSize) ≡ rowSize * (loop.k + 16) = omega arith in (
+    let more : row_size * loop.k + (16 * row_size) ≡ row_size * (loop.k + 16) = omega arith in (
       omega arith,
       written.put-sixteen.ensures
-          ∙ lowered-more l a.to a.at (16 * rowSize) (rowSize * loop.k) loop.sheet read.sixteen-at.result (omega arith) (omega arith) loop.invariant.1 read.sixteen-at.ensures
+          ∙ lowered-more l a.to a.at (16 * row_size) (row_size * loop.k) loop.sheet read.sixteen-at.result (omega arith) (omega arith) loop.invariant.1 read.sixteen-at.ensures
           ∙ ap (λ m. put l a.to (take m (drop a.at l))) more,
       written.put-sixteen.auto.0 ∙ loop.invariant.2,
     )
@@ -45,9 +45,9 @@ returns c =
     let loop = rest.before.before.before.loop in
     let a = rest.before.before.before.before.before.args in
     let l = a.sheet.now in
-    let all : rowSize * loop.k + rowSize * (a.n - loop.k) ≡ rowSize * a.n = omega arith in
+    let all : row_size * loop.k + row_size * (a.n - loop.k) ≡ row_size * a.n = omega arith in
     rest.lower-each.ensures
-    ∙ lowered-more l a.to a.at (rowSize * (a.n - loop.k)) (rowSize * loop.k) loop.sheet _ (omega arith) (omega arith) loop.invariant.1 refl
+    ∙ lowered-more l a.to a.at (row_size * (a.n - loop.k)) (row_size * loop.k) loop.sheet _ (omega arith) (omega arith) loop.invariant.1 refl
     ∙ ap (λ m. put l a.to (take m (drop a.at l))) all
 
 pub lower_spec : {M : Type 1} → statement M

@@ -1,6 +1,6 @@
 -- `image_figures::lower_each` meets its contract: the first k rows have moved.
 -- Assumes nothing.
-use Rattle.image_figures.specs.Sheets.{rowSize}
+use Rattle.image_figures.specs.Sheets.{row_size}
 use Prim.Native.Nat.{◌+◌, ◌-◌, ◌*◌, ◌≤◌}
 use mathlib.Core.Path.{◌≡◌, refl, sym, ap, ◌∙◌}
 use native.Mathlib.Omega.{arith}
@@ -13,7 +13,7 @@ use Rattle.image_figures.proofs.lower_each.Statement.{statement}
 use Rattle.image_figures.proofs.lower_each.Tie as tie
 
 abbrev invariant-loop : tie.invariant-loop
-invariant-loop sheet₀ to at n k₀ sheet k = (k ≤ n) × (sheet ≡ put sheet₀ to (take (rowSize * k) (drop at sheet₀))) × (length sheet ≡ length sheet₀)
+invariant-loop sheet₀ to at n k₀ sheet k = (k ≤ n) × (sheet ≡ put sheet₀ to (take (row_size * k) (drop at sheet₀))) × (length sheet ≡ length sheet₀)
 
 abbrev decreases-loop : tie.decreases-loop
 decreases-loop sheet₀ to at n k₀ sheet k = n - k
@@ -28,10 +28,10 @@ loop-again c =
     let loop = read.before.before.before.loop in
     let a = read.before.before.before.before.before.args in
     let l = a.sheet.now in
-    let more : rowSize * loop.k + rowSize ≡ rowSize * (loop.k + 1) = omega arith in (
+    let more : row_size * loop.k + row_size ≡ row_size * (loop.k + 1) = omega arith in (
       omega arith,
       written.put-bytes.ensures
-          ∙ lowered-more l a.to a.at rowSize (rowSize * loop.k) loop.sheet read.bytes-at.result (omega arith) (omega arith) loop.invariant.1 read.bytes-at.ensures
+          ∙ lowered-more l a.to a.at row_size (row_size * loop.k) loop.sheet read.bytes-at.result (omega arith) (omega arith) loop.invariant.1 read.bytes-at.ensures
           ∙ ap (λ m. put l a.to (take m (drop a.at l))) more,
       written.put-bytes.auto.0 ∙ loop.invariant.2,
     )
@@ -44,7 +44,7 @@ returns c =
     let loop = c.before.loop in
     let a = c.before.before.before.args in
     let all : loop.k ≡ a.n = omega arith in
-    loop.invariant.1 ∙ ap (λ k. put a.sheet.now a.to (take (rowSize * k) (drop a.at a.sheet.now))) all
+    loop.invariant.1 ∙ ap (λ k. put a.sheet.now a.to (take (row_size * k) (drop a.at a.sheet.now))) all
 
 pub lower-each-spec : {M : Type 1} → statement M
 lower-each-spec =

@@ -1,9 +1,9 @@
 -- `image_figures::of_lease_at` meets its contract.
 -- Assumes nothing.
 use mathlib.Core.Path.{sym, ◌∙◌}
-use Rattle.image.specs.Reading.{leaseIn}
+use Rattle.image.specs.Reading.{lease_in}
 use Rattle.image.proofs.FieldLaws.{byte-from}
-use Rattle.image_figures.specs.Sheets.{rowIn}
+use Rattle.image_figures.specs.Sheets.{row_in}
 use Rattle.image_figures.proofs.RowLaws.{network-here, row-differs, row-agrees}
 use lib.ListN.{drop}
 use borrow.Author.Rules.{rules}
@@ -14,14 +14,14 @@ returns : tie.Need-returns
 returns c =
     let read = c.before.before in
     let a = read.before.before.before.args in
-    row-differs (leaseIn (drop a.place a.image.now)) (rowIn (drop a.at a.sheet.now))
+    row-differs (lease_in (drop a.place a.image.now)) (row_in (drop a.at a.sheet.now))
     (λ e. c.if1.true (read.read32.ensures ∙ network-here a.sheet.now a.at ∙ e ∙ sym c.before.network-at.ensures))
 
 returns-2 : tie.Need-returns-2
 returns-2 c =
     let read = c.before.before.before.before in
     let a = read.before.before.before.args in
-    row-agrees (leaseIn (drop a.place a.image.now)) (rowIn (drop a.at a.sheet.now)) _ _
+    row-agrees (lease_in (drop a.place a.image.now)) (row_in (drop a.at a.sheet.now)) _ _
     (sym (network-here a.sheet.now a.at) ∙ sym read.read32.ensures ∙ c.before.before.if1.false ∙ c.before.before.before.network-at.ensures)
     (byte-from a.sheet.now a.at 4) c.length_at.ensures
 

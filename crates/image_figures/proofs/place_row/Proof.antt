@@ -7,8 +7,8 @@ use lib.ListN.{length, drop}
 use Rattle.lists.specs.Put.{put}
 use Rattle.table.specs.declared.Lease.{Lease}
 use Rattle.figures.specs.declared.FigureRow.{FigureRow}
-use Rattle.image.specs.Reading.{leaseIn}
-use Rattle.image_figures.specs.Sheets.{rowSize, rowBytes}
+use Rattle.image.specs.Reading.{lease_in}
+use Rattle.image_figures.specs.Sheets.{row_size, row_bytes}
 use Rattle.image_figures.specs.Inner.{own?}
 use Rattle.image_figures.proofs.RowLaws.{sheet-length, bytes-in-place}
 use Rattle.image_figures.proofs.PlacedLaws.{placed-new, placed-own}
@@ -37,7 +37,7 @@ returns c =
       λ rows x s e.
           let inside : a.left - 1 < length rows = omega (arith, sheet-length a.sheet.now rows s, start.requires.0, start.requires.1, some) in
           placed-own a.sheet.now a.left a.k x start.requires.1 rows s _ (ap (own? rows a.left) e ∙ sym (is.ensures.1 rows s) ∙ own.if1.true)
-          (written.put-bytes.ensures ∙ ap (put a.sheet.now (rowSize * a.k)) (read.bytes-at.ensures ∙ bytes-in-place a.sheet.now rows s (a.left - 1) inside)),
+          (written.put-bytes.ensures ∙ ap (put a.sheet.now (row_size * a.k)) (read.bytes-at.ensures ∙ bytes-in-place a.sheet.now rows s (a.left - 1) inside)),
     )
 
 returns-2 : tie.Need-returns-2
@@ -51,10 +51,10 @@ returns-2 c =
     let is = other.before.is-own in (
       omega arith,
       λ rows x s e.
-          let same : (f : Lease → ℕ) → f x ≡ f (leaseIn (drop a.place a.image.now)) = λ f. ap f e in
+          let same : (f : Lease → ℕ) → f x ≡ f (lease_in (drop a.place a.image.now)) = λ f. ap f e in
           placed-new a.sheet.now a.left a.k x start.requires.1 rows s _ (ap (own? rows a.left) e ∙ sym (is.ensures.1 rows s) ∙ other.if1.false)
           (written.put-row.ensures
-          ∙ ap (λ (r : FigureRow). put a.sheet.now (rowSize * a.k) (rowBytes r))
+          ∙ ap (λ (r : FigureRow). put a.sheet.now (row_size * a.k) (row_bytes r))
           (new.untold-row.ensures x (same (λ (y : Lease). y.network) ∙ sym network.network-at.ensures) (same (λ (y : Lease). y.length) ∙ sym new.before.length_at.ensures))),
     )
 

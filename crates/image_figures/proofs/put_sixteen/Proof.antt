@@ -1,6 +1,6 @@
 -- `image_figures::put_sixteen` meets its contract: the first k bytes are put.
 -- Assumes nothing.
-use Rattle.image_figures.specs.Sheets.{rowSize}
+use Rattle.image_figures.specs.Sheets.{row_size}
 use Prim.Native.Nat.{◌*◌, ◌+◌, ◌-◌, ◌≤◌}
 use mathlib.Core.Path.{◌≡◌, refl, sym, ap, ◌∙◌}
 use lib.ListN.{length, get_or, take, length-set}
@@ -14,10 +14,10 @@ use Rattle.image_figures.proofs.put_sixteen.Statement.{statement}
 use Rattle.image_figures.proofs.put_sixteen.Tie as tie
 
 abbrev invariant-loop : tie.invariant-loop
-invariant-loop sheet₀ at bytes k₀ sheet k = (k ≤ (16 * rowSize)) × (sheet ≡ put sheet₀ at (take k bytes)) × (length sheet ≡ length sheet₀)
+invariant-loop sheet₀ at bytes k₀ sheet k = (k ≤ (16 * row_size)) × (sheet ≡ put sheet₀ at (take k bytes)) × (length sheet ≡ length sheet₀)
 
 abbrev decreases-loop : tie.decreases-loop
-decreases-loop sheet₀ at bytes k₀ sheet k = (16 * rowSize) - k
+decreases-loop sheet₀ at bytes k₀ sheet k = (16 * row_size) - k
 
 loop-holds : tie.Need-loop-init invariant-loop decreases-loop
 loop-holds c = (omega arith, sym (put-nothing c.args.sheet.now c.args.at), refl)

@@ -6,9 +6,9 @@ use native.Mathlib.Omega.{arith}
 use lib.ListN.{drop}
 use borrow.Author.Tests.{not-true, not-false}
 use Rattle.lists.specs.Lists.{all?}
-use Rattle.table.specs.Table.{leaseSlots}
-use Rattle.figures.specs.Inner.{emptyRow?}
-use Rattle.image_figures.specs.Sheets.{rowsIn}
+use Rattle.table.specs.Table.{lease_slots}
+use Rattle.figures.specs.Inner.{empty_row?}
+use Rattle.image_figures.specs.Sheets.{rows_in}
 use Rattle.image_figures.proofs.MatchLaws.{empty-more, empty-not, empty-last}
 use borrow.Author.Rules.{rules}
 use Rattle.image_figures.proofs.rest_empty.Statement.{statement}
@@ -16,10 +16,10 @@ use Rattle.image_figures.proofs.rest_empty.Tie as tie
 
 abbrev invariant-loop : tie.invariant-loop
 invariant-loop sheet n i₀ i =
-    (n + 32 ≤ leaseSlots) × (i ≤ leaseSlots) × (all? emptyRow? (drop n (rowsIn leaseSlots sheet)) ≡ all? emptyRow? (drop i (rowsIn leaseSlots sheet)))
+    (n + 32 ≤ lease_slots) × (i ≤ lease_slots) × (all? empty_row? (drop n (rows_in lease_slots sheet)) ≡ all? empty_row? (drop i (rows_in lease_slots sheet)))
 
 abbrev decreases-loop : tie.decreases-loop
-decreases-loop sheet n i₀ i = leaseSlots - i
+decreases-loop sheet n i₀ i = lease_slots - i
 
 returns : tie.Need-returns invariant-loop decreases-loop
 returns c = c.each-empty.ensures
@@ -32,21 +32,21 @@ returns-2 c =
     let at = c.before.before.before in
     let s = at.before.before.before.args.sheet.now in
     let test = c.before.thirty-two-empty in
-    empty-not s leaseSlots at.loop.i 32 (omega arith) test.result test.ensures _ at.loop.invariant.2 (not-true test.result c.if2.true)
+    empty-not s lease_slots at.loop.i 32 (omega arith) test.result test.ensures _ at.loop.invariant.2 (not-true test.result c.if2.true)
 
 loop-again : tie.Need-loop-preserved invariant-loop decreases-loop
 loop-again c =
     let at = c.before.before.before in
     let s = at.before.before.before.args.sheet.now in
     let test = c.before.thirty-two-empty in
-    (omega arith, omega arith, empty-more s leaseSlots at.loop.i 32 (omega arith) test.result test.ensures _ at.loop.invariant.2 (not-false test.result c.if2.false))
+    (omega arith, omega arith, empty-more s lease_slots at.loop.i 32 (omega arith) test.result test.ensures _ at.loop.invariant.2 (not-false test.result c.if2.false))
 
 returns-3 : tie.Need-returns-3 invariant-loop decreases-loop
 returns-3 c =
     let at = c.before.before in
     let a = at.before.before.before.args in
     let test = c.thirty-two-empty2 in
-    empty-last a.sheet.now leaseSlots (leaseSlots - 32) 32 (omega arith) test.result test.ensures (omega arith) a.n at.loop.i (omega arith) (omega arith) at.loop.invariant.2
+    empty-last a.sheet.now lease_slots (lease_slots - 32) 32 (omega arith) test.result test.ensures (omega arith) a.n at.loop.i (omega arith) (omega arith) at.loop.invariant.2
 
 pub rest-empty-spec : {M : Type 1} → statement M
 rest-empty-spec =

@@ -5,7 +5,7 @@ use mathlib.Core.Path.{ap, ◌∙◌}
 use native.Mathlib.Omega.{arith}
 use lib.ListN.{length, drop, length-drop}
 use lib.Seq.{take_all}
-use Rattle.image_figures.specs.Sheets.{rowIn}
+use Rattle.image_figures.specs.Sheets.{row_in}
 use borrow.Author.Rules.{rules}
 use Rattle.image_figures.proofs.row_at.Statement.{statement}
 use Rattle.image_figures.proofs.row_at.Tie as tie
@@ -25,7 +25,7 @@ row-in-requires c κs = search rules
 returns : tie.Need-returns
 returns c =
     let a = c.before.before.before.args in
-    c.row_in.ensures ∙ ap rowIn (take_all (length a.sheet.now - a.at) (drop a.at a.sheet.now) (omega (arith, length-drop a.at a.sheet.now)))
+    c.row_in.ensures ∙ ap row_in (take_all (length a.sheet.now - a.at) (drop a.at a.sheet.now) (omega (arith, length-drop a.at a.sheet.now)))
 
 pub row-at-spec : {M : Type 1} → statement M
 row-at-spec =

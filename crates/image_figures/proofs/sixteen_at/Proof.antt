@@ -1,6 +1,6 @@
 -- `image_figures::sixteen_at` meets its contract: the first k bytes are copied.
 -- Assumes nothing.
-use Rattle.image_figures.specs.Sheets.{rowSize}
+use Rattle.image_figures.specs.Sheets.{row_size}
 use Prim.Native.Nat.{ℕ, ◌*◌, ◌+◌, ◌-◌, ◌≤◌}
 use mathlib.Core.Path.{◌≡◌, refl, sym, ap, ◌∙◌}
 use lib.ListN.{length, get_or, take, drop, length-set}
@@ -12,10 +12,10 @@ use Rattle.image_figures.proofs.sixteen_at.Statement.{statement}
 use Rattle.image_figures.proofs.sixteen_at.Tie as tie
 
 abbrev invariant-loop : tie.invariant-loop
-invariant-loop sheet at bytes₀ k₀ bytes k = (k ≤ (16 * rowSize)) × (take k bytes ≡ take k (drop at sheet)) × (length bytes ≡ (16 * rowSize))
+invariant-loop sheet at bytes₀ k₀ bytes k = (k ≤ (16 * row_size)) × (take k bytes ≡ take k (drop at sheet)) × (length bytes ≡ (16 * row_size))
 
 abbrev decreases-loop : tie.decreases-loop
-decreases-loop sheet at bytes₀ k₀ bytes k = (16 * rowSize) - k
+decreases-loop sheet at bytes₀ k₀ bytes k = (16 * row_size) - k
 
 loop-holds : tie.Need-loop-init invariant-loop decreases-loop
 loop-holds c = (omega arith, refl, refl)
@@ -32,7 +32,7 @@ loop-again c =
 returns : tie.Need-returns invariant-loop decreases-loop
 returns c =
     let loop = c.before.loop in
-    let all : loop.k ≡ (16 * rowSize) = omega arith in
+    let all : loop.k ≡ (16 * row_size) = omega arith in
     sym (take_all loop.k loop.bytes (omega (arith, loop.invariant.2))) ∙ loop.invariant.1 ∙ ap (λ (n : ℕ). take n (drop c.before.before.args.at c.before.before.args.sheet.now)) all
 
 pub sixteen-at-spec : {M : Type 1} → statement M

@@ -5,7 +5,7 @@ use mathlib.Core.Path.{refl}
 use native.Mathlib.Omega.{arith}
 use Rattle.image.specs.Image.{le16, le32}
 use Rattle.image.proofs.FieldLaws.{Bytes}
-use Rattle.image_figures.specs.Sheets.{rowSize, rowBytes}
+use Rattle.image_figures.specs.Sheets.{row_size, row_bytes}
 use Rattle.image_figures.proofs.EmptyBytes.{Turned, turned-byte}
 use Rattle.image_figures.proofs.BlockLaws.{Agree, agree-none, agree-more, agree-all}
 use borrow.Author.Rules.{rules}
@@ -13,13 +13,13 @@ use Rattle.image_figures.proofs.thirty_two_empty.Statement.{statement}
 use Rattle.image_figures.proofs.thirty_two_empty.Tie as tie
 
 abbrev invariant-loop : tie.invariant-loop
-invariant-loop sheet at turned other₀ k₀ other k = (k ≤ 16 * rowSize) × Turned turned 16 × Agree sheet at 16 other k
+invariant-loop sheet at turned other₀ k₀ other k = (k ≤ 16 * row_size) × Turned turned 16 × Agree sheet at 16 other k
 
 abbrev decreases-loop : tie.decreases-loop
-decreases-loop sheet at turned other₀ k₀ other k = 16 * rowSize - k
+decreases-loop sheet at turned other₀ k₀ other k = 16 * row_size - k
 
 loop-holds : tie.Need-loop-init invariant-loop decreases-loop
-unfolding Turned rowBytes le16 le32
+unfolding Turned row_bytes le16 le32
 loop-holds c = let a = c.before.args in (omega arith, refl, agree-none a.sheet.now a.at 16)
 
 loop-again : tie.Need-loop-preserved invariant-loop decreases-loop

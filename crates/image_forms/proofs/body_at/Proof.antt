@@ -1,6 +1,6 @@
 -- `image_forms::body_at` meets its contract: the first k bytes are copied.
 -- Assumes nothing.
-use Rattle.image_forms.specs.Forms.{movedSize}
+use Rattle.image_forms.specs.Forms.{moved_size}
 use Prim.Native.Nat.{ℕ, ◌+◌, ◌-◌, ◌≤◌}
 use mathlib.Core.Path.{◌≡◌, refl, sym, ap, ◌∙◌}
 use lib.ListN.{length, get_or, take, drop, length-set}
@@ -12,10 +12,10 @@ use Rattle.image_forms.proofs.body_at.Statement.{statement}
 use Rattle.image_forms.proofs.body_at.Tie as tie
 
 abbrev invariant-loop : tie.invariant-loop
-invariant-loop s at bytes₀ k₀ bytes k = (k ≤ movedSize) × (take k bytes ≡ take k (drop at s)) × (length bytes ≡ movedSize)
+invariant-loop s at bytes₀ k₀ bytes k = (k ≤ moved_size) × (take k bytes ≡ take k (drop at s)) × (length bytes ≡ moved_size)
 
 abbrev decreases-loop : tie.decreases-loop
-decreases-loop s at bytes₀ k₀ bytes k = movedSize - k
+decreases-loop s at bytes₀ k₀ bytes k = moved_size - k
 
 loop-holds : tie.Need-loop-init invariant-loop decreases-loop
 loop-holds c = (omega arith, refl, refl)
@@ -32,7 +32,7 @@ loop-again c =
 returns : tie.Need-returns invariant-loop decreases-loop
 returns c =
     let loop = c.before.loop in
-    let all : loop.k ≡ movedSize = omega arith in
+    let all : loop.k ≡ moved_size = omega arith in
     sym (take_all loop.k loop.bytes (omega (arith, loop.invariant.2))) ∙ loop.invariant.1 ∙ ap (λ (n : ℕ). take n (drop c.before.before.args.at c.before.before.args.s.now)) all
 
 pub body-at-spec : {M : Type 1} → statement M

@@ -6,7 +6,7 @@ use mathlib.Core.List.{◌++◌}
 use native.Mathlib.Omega.{arith}
 use lib.ListN.{length, drop, take-append-drop}
 use Rattle.image.specs.declared.Form.TheVariants.{First, Second}
-use Rattle.image.specs.Image.{headSize, poolSize, usedPools, imageAs}
+use Rattle.image.specs.Image.{head_size, pool_size, used_pools, image_as}
 use Rattle.image_forms.proofs.FormLaws.{moved-size, moved-image}
 use borrow.Author.Rules.{rules}
 use Rattle.image_forms.proofs.narrow.Statement.{statement}
@@ -17,12 +17,12 @@ returns c =
     let moved = c.before.before in
     let front = moved.before.before.before.before in
     let a = front.before.before.before.before.args in
-    let n = headSize + poolSize * a.pools in (
+    let n = head_size + pool_size * a.pools in (
       omega arith,
       λ t bytes e fits pools leases.
           let q = drop bytes a.image.now in
-          let here : a.image.now ≡ imageAs Second t ++ q = sym (take-append-drop bytes a.image.now) ∙ ap (λ s. s ++ q) (sym e) in
-          let counted : n ≡ headSize + poolSize * length (usedPools t) = omega arith in (
+          let here : a.image.now ≡ image_as Second t ++ q = sym (take-append-drop bytes a.image.now) ∙ ap (λ s. s ++ q) (sym e) in
+          let counted : n ≡ head_size + pool_size * length (used_pools t) = omega arith in (
             moved-size First t n a.leases counted leases,
             moved-image Second First t a.image.now q here n counted fits a.leases leases a.buffer.now _ _ (omega arith) front.put_front.ensures moved.narrow-leases.ensures,
           ),

@@ -1,6 +1,6 @@
 -- `image_forms::put_body` meets its contract: the first k bytes are put.
 -- Assumes nothing.
-use Rattle.image_forms.specs.Forms.{movedSize}
+use Rattle.image_forms.specs.Forms.{moved_size}
 use Prim.Native.Nat.{◌+◌, ◌-◌, ◌≤◌}
 use mathlib.Core.Path.{◌≡◌, refl, sym, ap, ◌∙◌}
 use lib.ListN.{length, get_or, take, length-set}
@@ -14,10 +14,10 @@ use Rattle.image_forms.proofs.put_body.Statement.{statement}
 use Rattle.image_forms.proofs.put_body.Tie as tie
 
 abbrev invariant-loop : tie.invariant-loop
-invariant-loop out₀ at bytes k₀ out k = (k ≤ movedSize) × (out ≡ put out₀ at (take k bytes)) × (length out ≡ length out₀)
+invariant-loop out₀ at bytes k₀ out k = (k ≤ moved_size) × (out ≡ put out₀ at (take k bytes)) × (length out ≡ length out₀)
 
 abbrev decreases-loop : tie.decreases-loop
-decreases-loop out₀ at bytes k₀ out k = movedSize - k
+decreases-loop out₀ at bytes k₀ out k = moved_size - k
 
 loop-holds : tie.Need-loop-init invariant-loop decreases-loop
 loop-holds c = (omega arith, sym (put-nothing c.args.out.now c.args.at), refl)

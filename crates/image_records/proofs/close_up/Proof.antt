@@ -1,6 +1,6 @@
 -- `image_records::close_up` meets its contract: of the first i leases those present stand first.
 -- Assumes nothing.
-use Rattle.image.specs.Image.{leaseSize}
+use Rattle.image.specs.Image.{lease_size}
 use Prim.Native.Nat.{◌+◌, ◌-◌, ◌*◌, ◌≤◌}
 use mathlib.Core.Path.{◌≡◌, refl, subst, ◌∙◌}
 use lib.ListN.{length, drop}
@@ -13,7 +13,7 @@ use Rattle.image_records.proofs.close_up.Tie as tie
 
 abbrev invariant-loop : tie.invariant-loop
 invariant-loop image₀ from first last time kept₀ i₀ image kept i =
-    (kept ≤ i) × (i ≤ last) × (length image ≡ length image₀) × (drop (from + leaseSize * i) image ≡ drop (from + leaseSize * i) image₀) × Closed image₀ from first time image kept i
+    (kept ≤ i) × (i ≤ last) × (length image ≡ length image₀) × (drop (from + lease_size * i) image ≡ drop (from + lease_size * i) image₀) × Closed image₀ from first time image kept i
 
 abbrev decreases-loop : tie.decreases-loop
 decreases-loop image₀ from first last time kept₀ i₀ image kept i = last - i
@@ -46,7 +46,7 @@ returns c =
     let loop = c.before.loop in
     let a = c.before.before.before.args in
     let all : loop.i ≡ a.last = omega arith in (
-      (omega arith, subst (λ k. drop (a.from + leaseSize * k) loop.image ≡ drop (a.from + leaseSize * k) a.image.now) all loop.invariant.3),
+      (omega arith, subst (λ k. drop (a.from + lease_size * k) loop.image ≡ drop (a.from + lease_size * k) a.image.now) all loop.invariant.3),
       subst (Closed a.image.now a.from a.first a.time loop.image loop.auto) all loop.invariant.4,
     )
 

@@ -1,6 +1,6 @@
 -- `image_records::lower` meets its contract: the first k records have moved.
 -- Assumes nothing.
-use Rattle.image.specs.Image.{leaseSize}
+use Rattle.image.specs.Image.{lease_size}
 use Prim.Native.Nat.{◌+◌, ◌-◌, ◌*◌, ◌≤◌}
 use mathlib.Core.Path.{◌≡◌, refl, sym, ap, ◌∙◌}
 use native.Mathlib.Omega.{arith}
@@ -13,7 +13,7 @@ use Rattle.image_records.proofs.lower.Statement.{statement}
 use Rattle.image_records.proofs.lower.Tie as tie
 
 abbrev invariant-loop : tie.invariant-loop
-invariant-loop image₀ to at n k₀ image k = (k ≤ n) × (image ≡ put image₀ to (take (leaseSize * k) (drop at image₀))) × (length image ≡ length image₀)
+invariant-loop image₀ to at n k₀ image k = (k ≤ n) × (image ≡ put image₀ to (take (lease_size * k) (drop at image₀))) × (length image ≡ length image₀)
 
 abbrev decreases-loop : tie.decreases-loop
 decreases-loop image₀ to at n k₀ image k = n - k
@@ -28,10 +28,10 @@ loop-again c =
     let loop = read.before.before.before.loop in
     let a = read.before.before.before.before.before.args in
     let l = a.image.now in
-    let more : leaseSize * loop.k + (16 * leaseSize) ≡ leaseSize * (loop.k + 16) = omega arith in (
+    let more : lease_size * loop.k + (16 * lease_size) ≡ lease_size * (loop.k + 16) = omega arith in (
       omega arith,
       written.put-sixteen.ensures
-          ∙ lowered-more l a.to a.at (16 * leaseSize) (leaseSize * loop.k) loop.image read.sixteen-at.result (omega arith) (omega arith) loop.invariant.1 read.sixteen-at.ensures
+          ∙ lowered-more l a.to a.at (16 * lease_size) (lease_size * loop.k) loop.image read.sixteen-at.result (omega arith) (omega arith) loop.invariant.1 read.sixteen-at.ensures
           ∙ ap (λ m. put l a.to (take m (drop a.at l))) more,
       written.put-sixteen.auto.0 ∙ loop.invariant.2,
     )
@@ -45,9 +45,9 @@ returns c =
     let loop = rest.before.before.before.loop in
     let a = rest.before.before.before.before.before.args in
     let l = a.image.now in
-    let all : leaseSize * loop.k + leaseSize * (a.n - loop.k) ≡ leaseSize * a.n = omega arith in
+    let all : lease_size * loop.k + lease_size * (a.n - loop.k) ≡ lease_size * a.n = omega arith in
     rest.lower-each.ensures
-    ∙ lowered-more l a.to a.at (leaseSize * (a.n - loop.k)) (leaseSize * loop.k) loop.image _ (omega arith) (omega arith) loop.invariant.1 refl
+    ∙ lowered-more l a.to a.at (lease_size * (a.n - loop.k)) (lease_size * loop.k) loop.image _ (omega arith) (omega arith) loop.invariant.1 refl
     ∙ ap (λ m. put l a.to (take m (drop a.at l))) all
 
 pub lower_spec : {M : Type 1} → statement M

@@ -1,6 +1,6 @@
 -- `image_records::lower_each` meets its contract: the first k records have moved.
 -- Assumes nothing.
-use Rattle.image.specs.Image.{leaseSize}
+use Rattle.image.specs.Image.{lease_size}
 use Prim.Native.Nat.{◌+◌, ◌-◌, ◌*◌, ◌≤◌}
 use mathlib.Core.Path.{◌≡◌, refl, sym, ap, ◌∙◌}
 use native.Mathlib.Omega.{arith}
@@ -13,7 +13,7 @@ use Rattle.image_records.proofs.lower_each.Statement.{statement}
 use Rattle.image_records.proofs.lower_each.Tie as tie
 
 abbrev invariant-loop : tie.invariant-loop
-invariant-loop image₀ to at n k₀ image k = (k ≤ n) × (image ≡ put image₀ to (take (leaseSize * k) (drop at image₀))) × (length image ≡ length image₀)
+invariant-loop image₀ to at n k₀ image k = (k ≤ n) × (image ≡ put image₀ to (take (lease_size * k) (drop at image₀))) × (length image ≡ length image₀)
 
 abbrev decreases-loop : tie.decreases-loop
 decreases-loop image₀ to at n k₀ image k = n - k
@@ -28,10 +28,10 @@ loop-again c =
     let loop = read.before.before.before.loop in
     let a = read.before.before.before.before.before.args in
     let l = a.image.now in
-    let more : leaseSize * loop.k + leaseSize ≡ leaseSize * (loop.k + 1) = omega arith in (
+    let more : lease_size * loop.k + lease_size ≡ lease_size * (loop.k + 1) = omega arith in (
       omega arith,
       written.put_record.ensures
-          ∙ lowered-more l a.to a.at leaseSize (leaseSize * loop.k) loop.image read.record-at.result (omega arith) (omega arith) loop.invariant.1 read.record-at.ensures
+          ∙ lowered-more l a.to a.at lease_size (lease_size * loop.k) loop.image read.record-at.result (omega arith) (omega arith) loop.invariant.1 read.record-at.ensures
           ∙ ap (λ m. put l a.to (take m (drop a.at l))) more,
       written.put_record.auto.0 ∙ loop.invariant.2,
     )
@@ -44,7 +44,7 @@ returns c =
     let loop = c.before.loop in
     let a = c.before.before.before.args in
     let all : loop.k ≡ a.n = omega arith in
-    loop.invariant.1 ∙ ap (λ k. put a.image.now a.to (take (leaseSize * k) (drop a.at a.image.now))) all
+    loop.invariant.1 ∙ ap (λ k. put a.image.now a.to (take (lease_size * k) (drop a.at a.image.now))) all
 
 pub lower-each-spec : {M : Type 1} → statement M
 lower-each-spec =

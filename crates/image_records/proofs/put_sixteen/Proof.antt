@@ -1,6 +1,6 @@
 -- `image_records::put_sixteen` meets its contract: the first k bytes are put.
 -- Assumes nothing.
-use Rattle.image.specs.Image.{leaseSize}
+use Rattle.image.specs.Image.{lease_size}
 use Prim.Native.Nat.{◌*◌, ◌+◌, ◌-◌, ◌≤◌}
 use mathlib.Core.Path.{◌≡◌, refl, sym, ap, ◌∙◌}
 use lib.ListN.{length, get_or, take, length-set}
@@ -14,10 +14,10 @@ use Rattle.image_records.proofs.put_sixteen.Statement.{statement}
 use Rattle.image_records.proofs.put_sixteen.Tie as tie
 
 abbrev invariant-loop : tie.invariant-loop
-invariant-loop image₀ at bytes k₀ image k = (k ≤ (16 * leaseSize)) × (image ≡ put image₀ at (take k bytes)) × (length image ≡ length image₀)
+invariant-loop image₀ at bytes k₀ image k = (k ≤ (16 * lease_size)) × (image ≡ put image₀ at (take k bytes)) × (length image ≡ length image₀)
 
 abbrev decreases-loop : tie.decreases-loop
-decreases-loop image₀ at bytes k₀ image k = (16 * leaseSize) - k
+decreases-loop image₀ at bytes k₀ image k = (16 * lease_size) - k
 
 loop-holds : tie.Need-loop-init invariant-loop decreases-loop
 loop-holds c = (omega arith, sym (put-nothing c.args.image.now c.args.at), refl)

@@ -1,6 +1,6 @@
 -- `image_records::raise` meets its contract: the records from k on have moved.
 -- Assumes nothing.
-use Rattle.image.specs.Image.{leaseSize}
+use Rattle.image.specs.Image.{lease_size}
 use Prim.Native.Nat.{◌+◌, ◌-◌, ◌*◌, ◌≤◌}
 use mathlib.Core.Path.{◌≡◌, refl, ap, ◌∙◌}
 use native.Mathlib.Omega.{arith}
@@ -13,7 +13,7 @@ use Rattle.image_records.proofs.raise.Tie as tie
 
 abbrev invariant-loop : tie.invariant-loop
 invariant-loop image₀ from place n room k₀ image k =
-    (place ≤ k) × (k ≤ n) × (image ≡ raised image₀ (from + leaseSize * n) (leaseSize * room) (from + leaseSize * k)) × (length image ≡ length image₀)
+    (place ≤ k) × (k ≤ n) × (image ≡ raised image₀ (from + lease_size * n) (lease_size * room) (from + lease_size * k)) × (length image ≡ length image₀)
 
 abbrev decreases-loop : tie.decreases-loop
 decreases-loop image₀ from place n room k₀ image k = k - place
@@ -21,7 +21,7 @@ decreases-loop image₀ from place n room k₀ image k = k - place
 loop-holds : tie.Need-loop-init invariant-loop decreases-loop
 loop-holds c =
     let a = c.before.args in
-    (omega arith, omega arith, raised-none a.image.now (a.from + leaseSize * a.n) (leaseSize * a.room), refl)
+    (omega arith, omega arith, raised-none a.image.now (a.from + lease_size * a.n) (lease_size * a.room), refl)
 
 loop-again : tie.Need-loop-preserved invariant-loop decreases-loop
 loop-again c =
@@ -30,15 +30,15 @@ loop-again c =
     let loop = read.before.before.before.loop in
     let a = read.before.before.before.before.before.args in
     let l = a.image.now in
-    let to = a.from + leaseSize * a.n in
-    let at = a.from + leaseSize * (loop.k - 16) in
-    let here : a.from + leaseSize * loop.k ≡ at + (16 * leaseSize) = omega arith in
-    let place : a.from + leaseSize * (loop.k - 16 + a.room) ≡ at + leaseSize * a.room = omega arith in (
+    let to = a.from + lease_size * a.n in
+    let at = a.from + lease_size * (loop.k - 16) in
+    let here : a.from + lease_size * loop.k ≡ at + (16 * lease_size) = omega arith in
+    let place : a.from + lease_size * (loop.k - 16 + a.room) ≡ at + lease_size * a.room = omega arith in (
       omega arith,
       omega arith,
       written.put-sixteen.ensures
           ∙ ap (λ p. put loop.image p read.sixteen-at.result) place
-          ∙ raised-more l to (leaseSize * a.room) (16 * leaseSize) at loop.image read.sixteen-at.result (omega arith) (omega arith) (loop.invariant.2 ∙ ap (raised l to (leaseSize * a.room)) here) read.sixteen-at.ensures,
+          ∙ raised-more l to (lease_size * a.room) (16 * lease_size) at loop.image read.sixteen-at.result (omega arith) (omega arith) (loop.invariant.2 ∙ ap (raised l to (lease_size * a.room)) here) read.sixteen-at.ensures,
       written.put-sixteen.auto.0 ∙ loop.invariant.3,
     )
 
@@ -51,11 +51,11 @@ returns c =
     let loop = rest.before.before.before.loop in
     let a = rest.before.before.before.before.before.args in
     let l = a.image.now in
-    let to = a.from + leaseSize * a.n in
-    let at = a.from + leaseSize * a.place in
-    let w = a.from + leaseSize * loop.k - at in
-    let here : a.from + leaseSize * loop.k ≡ at + w = omega arith in
-    rest.raise-each.ensures ∙ raised-more l to (leaseSize * a.room) w at loop.image _ (omega arith) (omega arith) (loop.invariant.2 ∙ ap (raised l to (leaseSize * a.room)) here) refl
+    let to = a.from + lease_size * a.n in
+    let at = a.from + lease_size * a.place in
+    let w = a.from + lease_size * loop.k - at in
+    let here : a.from + lease_size * loop.k ≡ at + w = omega arith in
+    rest.raise-each.ensures ∙ raised-more l to (lease_size * a.room) w at loop.image _ (omega arith) (omega arith) (loop.invariant.2 ∙ ap (raised l to (lease_size * a.room)) here) refl
 
 pub raise-spec : {M : Type 1} → statement M
 raise-spec =

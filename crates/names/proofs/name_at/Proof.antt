@@ -5,14 +5,14 @@ use mathlib.Core.Path.{sym, ap, ◌∙◌}
 use mathlib.Core.List.{List}
 use lib.ListN.{take, drop}
 use lib.Seq.{drop-drop}
-use Rattle.names.specs.Names.{spells, nameIn}
+use Rattle.names.specs.Names.{spells, name_in}
 use Rattle.names.proofs.NameLaws.{words}
 use borrow.Author.Rules.{rules}
 use Rattle.names.proofs.name_at.Statement.{statement}
 use Rattle.names.proofs.name_at.Tie as tie
 
 returns : tie.Need-returns
-unfolding nameIn
+unfolding name_in
 returns c =
     let one = c.before.before in
     let start = one.before.before in

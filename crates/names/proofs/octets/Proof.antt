@@ -2,7 +2,7 @@
 -- Assumes nothing.
 use mathlib.Core.Path.{◌∙◌}
 use lib.ListN.{replicate}
-use Rattle.names.specs.Names.{nameOctets}
+use Rattle.names.specs.Names.{name_octets}
 use Rattle.names.proofs.NameLaws.{length-name}
 use Rattle.names.proofs.WordLaws.{put_all}
 use borrow.Author.Rules.{rules}
@@ -12,7 +12,7 @@ use Rattle.names.proofs.octets.Tie as tie
 returns : tie.Need-returns
 returns c =
     let n = c.before.before.before.args.n in
-    c.before.put-name.ensures ∙ put_all (nameOctets n) (replicate 24 0) (length-name n)
+    c.before.put-name.ensures ∙ put_all (name_octets n) (replicate 24 0) (length-name n)
 
 pub octets-spec : {M : Type 1} → statement M
 octets-spec =

@@ -1,13 +1,13 @@
 -- `names::put_name` meets its contract: its words are put one after another.
 -- Assumes nothing.
-use Rattle.names.specs.Names.{nameOctets}
+use Rattle.names.specs.Names.{name_octets}
 use Rattle.names.proofs.WordLaws.{three-put}
 use borrow.Author.Rules.{rules}
 use Rattle.names.proofs.put_name.Statement.{statement}
 use Rattle.names.proofs.put_name.Tie as tie
 
 returns : tie.Need-returns
-unfolding nameOctets
+unfolding name_octets
 returns c =
     let third = c.before.before in
     let second = third.before.before.before.before in

@@ -5,24 +5,24 @@ use native.Mathlib.Omega.{arith}
 use Rattle.option.proofs.SuboptionLaws.{final-byte}
 use borrow.Author.Tests.{eq-eqb, ne_eqb, lt-ltb, le-ltb}
 use Rattle.option.specs.Rules.{fields?}
-use Rattle.option.specs.Reading.{readName, whenGood}
+use Rattle.option.specs.Reading.{read_name, when_good}
 use borrow.Author.Rules.{rules}
 use Rattle.option.proofs.name_at.Statement.{statement}
 use Rattle.option.proofs.name_at.Tie as tie
 
 returns : tie.Need-returns
-unfolding readName whenGood
+unfolding read_name when_good
 returns c = simp (le-ltb _ _ c.if1.true)
 
 returns-2 : tie.Need-returns-2
-unfolding readName whenGood fields?
+unfolding read_name when_good fields?
 returns-2 c =
     let a = c.before.before.before.args in
     let last = final-byte a.s.now (a.at + 2) a.end (omega arith) (omega arith) in
     simp (lt-ltb _ _ c.before.before.if1.false, last, eq-eqb _ _ c.if2.true)
 
 returns-3 : tie.Need-returns-3
-unfolding readName whenGood fields?
+unfolding read_name when_good fields?
 returns-3 c =
     let a = c.before.before.before.args in
     let last = final-byte a.s.now (a.at + 2) a.end (omega arith) (omega arith) in

@@ -2,33 +2,33 @@
 -- Assumes nothing.
 use mathlib.Core.Bool.{and-false}
 use borrow.Author.Tests.{eq-eqb, ne_eqb, le-leb, lt-leb}
-use Rattle.option.specs.Selection.{selection?, readSelection}
+use Rattle.option.specs.Selection.{selection?, read_selection}
 use borrow.Author.Rules.{rules}
 use Rattle.option.proofs.read_selection.Statement.{statement}
 use Rattle.option.proofs.read_selection.Tie as tie
 
 returns : tie.Need-returns
-unfolding readSelection selection?
+unfolding read_selection selection?
 returns c = simp (lt-leb _ _ c.if1.true)
 
 returns-2 : tie.Need-returns-2
-unfolding readSelection selection?
+unfolding read_selection selection?
 returns-2 c = simp (ne_eqb _ _ c.if2.true, and-false)
 
 returns-3 : tie.Need-returns-3
-unfolding readSelection selection?
+unfolding read_selection selection?
 returns-3 c =
     let wrong = simp c.before.wide.ensures.0 at c.if3.true in
     simp (ne_eqb _ _ wrong, and-false)
 
 returns-4 : tie.Need-returns-4
-unfolding readSelection selection?
+unfolding read_selection selection?
 returns-4 c =
     let other = simp c.before.before.wide.ensures.0 at c.if4.true in
     simp (ne_eqb _ _ other, and-false)
 
 returns-5 : tie.Need-returns-5
-unfolding readSelection selection?
+unfolding read_selection selection?
 returns-5 c =
     let k = c.before.before.before in
     let len = simp k.wide.ensures.0 at c.before.before.if3.false in

@@ -2,21 +2,21 @@
 -- Assumes nothing.
 use borrow.Author.Tests.{eq-eqb, ne_eqb, le-leb, lt-leb}
 use Rattle.option.specs.Rules.{fields?}
-use Rattle.option.specs.Reading.{readRequest, whenGood}
+use Rattle.option.specs.Reading.{read_request, when_good}
 use borrow.Author.Rules.{rules}
 use Rattle.option.proofs.request_at.Statement.{statement}
 use Rattle.option.proofs.request_at.Tie as tie
 
 returns : tie.Need-returns
-unfolding readRequest whenGood
+unfolding read_request when_good
 returns c = simp (ne_eqb _ _ c.if1.true)
 
 returns-2 : tie.Need-returns-2
-unfolding readRequest whenGood fields?
+unfolding read_request when_good fields?
 returns-2 c = simp (eq-eqb _ _ c.before.before.if1.false, lt-leb _ _ c.if2.true)
 
 returns-3 : tie.Need-returns-3
-unfolding readRequest whenGood fields?
+unfolding read_request when_good fields?
 returns-3 c = simp (eq-eqb _ _ c.before.before.before.if1.false, le-leb _ _ c.before.if2.false)
 
 pub request-at-spec : {M : Type 1} → statement M

@@ -7,10 +7,10 @@ use mathlib.Core.List.{map}
 use lib.ListN.{drop}
 use borrow.Author.Rules.{rules}
 use borrow.Author.Tests.{not-true, not-false}
-use Rattle.option.specs.Writing.{entryBytes}
-use Rattle.option.specs.Writer.{entryWritable?}
+use Rattle.option.specs.Writing.{entry_bytes}
+use Rattle.option.specs.Writer.{entry_writable?}
 use Rattle.option_measure.specs.Lists.{entry_of, part}
-use Rattle.option_measure.specs.Measuring.{measureOf}
+use Rattle.option_measure.specs.Measuring.{measure_of}
 use Rattle.option_measure.proofs.PartLaws.{length-map-part}
 use Rattle.option_measure.proofs.MeasureLaws.{plus, plus-zero, measure-end, entries-more, entries-many, entries-no-block}
 use Rattle.option_measure.proofs.measure_entries.Statement.{statement}
@@ -20,8 +20,8 @@ abbrev invariant-loop : tie.invariant-loop
 invariant-loop first count entries n₀ i₀ n i =
     (i ≤ count)
     × (n ≤ 13 * i)
-    × (measureOf entryWritable? entryBytes (map entry_of (part first count entries))
-    ≡ plus n (measureOf entryWritable? entryBytes (drop i (map entry_of (part first count entries)))))
+    × (measure_of entry_writable? entry_bytes (map entry_of (part first count entries))
+    ≡ plus n (measure_of entry_writable? entry_bytes (drop i (map entry_of (part first count entries)))))
 
 abbrev decreases-loop : tie.decreases-loop
 decreases-loop first count entries n₀ i₀ n i = count - i
@@ -55,7 +55,7 @@ returns-3 c =
     let a = c.before.before.args in
     let l = c.before.loop.invariant in
     let n = length-map-part entry_of a.t1 a.first a.count (omega arith) in
-    (sym (l.2 ∙ measure-end entryWritable? entryBytes (map entry_of (part a.first a.count a.t1)) c.before.loop.i _ (omega arith)), omega arith)
+    (sym (l.2 ∙ measure-end entry_writable? entry_bytes (map entry_of (part a.first a.count a.t1)) c.before.loop.i _ (omega arith)), omega arith)
 
 pub measure-entries-spec : {M : Type 1} → statement M
 measure-entries-spec =

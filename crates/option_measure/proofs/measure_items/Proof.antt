@@ -6,10 +6,10 @@ use mathlib.Core.Path.{◌≡◌, sym, subst, ◌∙◌}
 use mathlib.Core.List.{map}
 use lib.ListN.{length, take, drop, length-map, length-take}
 use borrow.Author.Rules.{rules}
-use Rattle.option.specs.Writing.{suboptionBytes}
+use Rattle.option.specs.Writing.{suboption_bytes}
 use Rattle.option.specs.Writer.{writable?}
 use Rattle.option_measure.specs.Lists.{value_at}
-use Rattle.option_measure.specs.Measuring.{measureOf, Short}
+use Rattle.option_measure.specs.Measuring.{measure_of, Short}
 use Rattle.option_measure.proofs.MeasureLaws.{plus, plus-zero, measure-end, items_more, items-outside, listed-none, listed-empty, listed-measured}
 use Rattle.option_measure.proofs.measure_items.Statement.{statement}
 use Rattle.option_measure.proofs.measure_items.Tie as tie
@@ -18,8 +18,8 @@ abbrev invariant-loop : tie.invariant-loop
 invariant-loop count entries octets items n₀ i₀ n i =
     (i ≤ count)
     × (n ≤ 900 * i)
-    × (measureOf writable? suboptionBytes (map (value_at entries octets) (take count items))
-    ≡ plus n (measureOf writable? suboptionBytes (drop i (map (value_at entries octets) (take count items)))))
+    × (measure_of writable? suboption_bytes (map (value_at entries octets) (take count items))
+    ≡ plus n (measure_of writable? suboption_bytes (drop i (map (value_at entries octets) (take count items)))))
 
 abbrev decreases-loop : tie.decreases-loop
 decreases-loop count entries octets items n₀ i₀ n i = count - i
@@ -72,7 +72,7 @@ returns-4 c =
     let n : length subs ≤ c.before.loop.i = simp (length-map, length-take) (omega arith) in (
       sym (listed-measured a.t1 a.count a.entries a.octets (omega arith) (omega arith) (omega arith)
           ∙ l.2
-          ∙ measure-end writable? suboptionBytes subs c.before.loop.i _ n),
+          ∙ measure-end writable? suboption_bytes subs c.before.loop.i _ n),
       omega arith,
     )
 

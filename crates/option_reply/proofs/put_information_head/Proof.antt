@@ -3,7 +3,7 @@
 use mathlib.Core.Path.{sym}
 use borrow.Author.Rules.{rules}
 use Rattle.lists.proofs.PutLaws.{put-past}
-use Rattle.option.specs.Writing.{informationHead}
+use Rattle.option.specs.Writing.{information_head}
 use Rattle.option_reply.proofs.StoreLaws.{three-stores-as}
 use Rattle.option_reply.proofs.put_information_head.Statement.{statement}
 use Rattle.option_reply.proofs.put_information_head.Tie as tie
@@ -12,7 +12,7 @@ returns : tie.Need-returns
 returns c = sym (put-past _ _ _ c.if1.true)
 
 returns-2 : tie.Need-returns-2
-unfolding informationHead
+unfolding information_head
 returns-2 c =
     three-stores-as _ _ _ _ _ _ _ _ _ c.before.before.before.flags-byte.ensures c.before.before.before.before.before.before.before.before.before.before.before.store.ensures c.before.before.before.before.before.before.before.store2.ensures c.before.before.store3.ensures
 

@@ -4,7 +4,7 @@ use native.Mathlib.Nat.{add_assoc}
 use native.Mathlib.Omega.{arith}
 use lib.ListN.{length-set}
 use Rattle.lists.specs.Put.{put}
-use Rattle.option.specs.Writing.{fourBytes, entryHead}
+use Rattle.option.specs.Writing.{four_bytes, entry_head}
 use borrow.Author.Rules.{rules}
 use Rattle.option_reply.proofs.put_lease.Statement.{statement}
 use Rattle.option_reply.proofs.put_lease.Tie as tie
@@ -28,7 +28,7 @@ slice-write-reply-7 : tie.Need-slice-write-reply-7
 slice-write-reply-7 c = simp length-set (omega arith)
 
 returns : tie.Need-returns
-unfolding put entryHead fourBytes
+unfolding put entry_head four_bytes
 returns c = simp (add_assoc, c.flags-byte.ensures)
 
 pub put-lease-spec : {M : Type 1} → statement M

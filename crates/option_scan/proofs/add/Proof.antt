@@ -4,14 +4,14 @@ use Prim.Native.Nat.{◌<◌}
 use mathlib.Core.Path.{refl, subst}
 use Rattle.option.specs.declared.Suboption.{Suboption}
 use Rattle.option.specs.declared.Suboption.TheVariants.{Information, Name, Unknown}
-use Rattle.option_scan.specs.Inner.{withSuboption, Forward}
+use Rattle.option_scan.specs.Inner.{with_suboption, Forward}
 use Rattle.option_scan.proofs.Adding.{added-as, added_none}
 use borrow.Author.Rules.{rules}
 use Rattle.option_scan.proofs.add.Statement.{statement}
 use Rattle.option_scan.proofs.add.Tie as tie
 
 add-information-requires : tie.Need-add-information-requires
-add-information-requires c κs = subst (λ (x : Suboption). (withSuboption c.before.before.before.before.before.args.m x).entries < 9223372036854775808) c.before.x2.given.1 c.before.before.before.before.before.requires.1
+add-information-requires c κs = subst (λ (x : Suboption). (with_suboption c.before.before.before.before.before.args.m x).entries < 9223372036854775808) c.before.x2.given.1 c.before.before.before.before.before.requires.1
 
 add-name-requires : tie.Need-add-name-requires
 add-name-requires c κs = subst Forward c.before.x3.given.1 c.before.before.before.before.before.requires.2

@@ -7,8 +7,8 @@ use lib.ListN.{length}
 use borrow.Author.Rules.{rules}
 use Rattle.lists.specs.Walk.{more}
 use Rattle.option.specs.Values.{SuboptionValue}
-use Rattle.option.specs.Reading.{readSuboption}
-use Rattle.option.specs.Answers.{suboptionOf}
+use Rattle.option.specs.Reading.{read_suboption}
+use Rattle.option.specs.Answers.{suboption_of}
 use Rattle.option.specs.declared.Cursor.{Cursor}
 use Rattle.option.proofs.EntryScan.{column-long}
 use Rattle.option.proofs.SuboptionLaws.{option-long, suboption-moves, told-piece, told-bad, told-end}
@@ -34,8 +34,8 @@ step-into-requires c κs = reading-fewer _ _ _ _ _ c.before.before.loop.invarian
 
 -- What the step's answer tells: the suboption's value, the place after it, and its fields.
 told : (c : tie.After-known-told invariant-loop decreases-loop) → (x : SuboptionValue)
-    × (readSuboption c.before.before.before.before.before.before.before.before.before.before.before.before.before.before.before.before.before.before.args.s.now c.before.before.before.before.before.before.before.before.before.before.loop.cursor.at ≡ more x c.before.x.given.0.1.0.at)
-    × (c.before.x.given.0.0 ≡ suboptionOf x c.before.before.before.before.before.before.before.before.before.before.loop.cursor.at c.before.x.given.0.1.0.at)
+    × (read_suboption c.before.before.before.before.before.before.before.before.before.before.before.before.before.before.before.before.before.before.args.s.now c.before.before.before.before.before.before.before.before.before.before.loop.cursor.at ≡ more x c.before.x.given.0.1.0.at)
+    × (c.before.x.given.0.0 ≡ suboption_of x c.before.before.before.before.before.before.before.before.before.before.loop.cursor.at c.before.x.given.0.1.0.at)
 told c = told-piece _ _ _ _ (sym c.before.x.given.1 ∙ c.before.before.before.before.before.before.before.step-into.ensures.0)
 
 add-requires : tie.Need-add-requires invariant-loop decreases-loop
@@ -60,10 +60,10 @@ loop-again c =
     (k.before.before.before.before.before.before.before.step-into.ensures.1.stored t.0 _ t.1)
 
 same_length : tie.Need-same-length invariant-loop decreases-loop
-same_length c = column-long _ _ _ _ c.before.before.before.before.before.before.before.before.before.before.before.loop.invariant.askLengths
+same_length c = column-long _ _ _ _ c.before.before.before.before.before.before.before.before.before.before.before.loop.invariant.asked_lengths
 
 same-length-2 : tie.Need-same-length-2 invariant-loop decreases-loop
-same-length-2 c = column-long _ _ _ _ c.before.before.before.before.before.before.before.before.before.before.before.loop.invariant.askH
+same-length-2 c = column-long _ _ _ _ c.before.before.before.before.before.before.before.before.before.before.before.loop.invariant.asked_h
 
 same-length-3 : tie.Need-same-length-3 invariant-loop decreases-loop
 same-length-3 c = c.before.before.before.before.before.before.before.before.step-into.auto.1.1.1.0 ∙ column-long _ _ _ _ c.before.before.before.before.before.before.before.before.before.before.before.loop.invariant.networks
@@ -80,10 +80,10 @@ returns c =
     reading-bad _ _ _ _ _ l.loop.invariant start.requires.0 _ _ _ (told-bad _ _ _ _ (sym p.fault.given.1 ∙ k.step-into.ensures.0)) c.contents-of.ensures _
 
 same-length-5 : tie.Need-same-length-5 invariant-loop decreases-loop
-same-length-5 c = column-long _ _ _ _ c.before.before.before.before.before.before.before.before.before.before.loop.invariant.askLengths
+same-length-5 c = column-long _ _ _ _ c.before.before.before.before.before.before.before.before.before.before.loop.invariant.asked_lengths
 
 same-length-6 : tie.Need-same-length-6 invariant-loop decreases-loop
-same-length-6 c = column-long _ _ _ _ c.before.before.before.before.before.before.before.before.before.before.loop.invariant.askH
+same-length-6 c = column-long _ _ _ _ c.before.before.before.before.before.before.before.before.before.before.loop.invariant.asked_h
 
 same-length-7 : tie.Need-same-length-7 invariant-loop decreases-loop
 same-length-7 c = c.before.before.before.before.before.before.before.step-into.auto.1.1.1.0 ∙ column-long _ _ _ _ c.before.before.before.before.before.before.before.before.before.before.loop.invariant.networks

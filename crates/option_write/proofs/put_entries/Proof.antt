@@ -8,7 +8,7 @@ use mathlib.Core.List.{map}
 use lib.ListN.{length}
 use Rattle.lists.specs.Put.{put}
 use Rattle.lists.proofs.PutLaws.{put-nothing}
-use Rattle.option.specs.Writing.{entriesBytes}
+use Rattle.option.specs.Writing.{entries_bytes}
 use Rattle.option_measure.specs.Lists.{entry_of, part}
 use Rattle.option_write.proofs.EntryPuts.{few-at, turned}
 use Rattle.option_write.proofs.put_entries.Statement.{statement}
@@ -17,8 +17,8 @@ use Rattle.option_write.proofs.put_entries.Tie as tie
 abbrev invariant-loop : tie.invariant-loop
 invariant-loop buf₀ at first count entries p₀ i₀ buf p i =
     (i ≤ count)
-    × (buf ≡ put buf₀ at (entriesBytes (map entry_of (part first i entries))))
-    × (p ≡ at + length (entriesBytes (map entry_of (part first i entries))))
+    × (buf ≡ put buf₀ at (entries_bytes (map entry_of (part first i entries))))
+    × (p ≡ at + length (entries_bytes (map entry_of (part first i entries))))
     × (p ≤ at + 13 * i)
     × (length buf ≡ length buf₀)
 
@@ -53,8 +53,8 @@ returns c =
     let a = c.before.before.before.args in
     let l = c.before.loop.invariant in
     let all : c.before.loop.i ≡ a.count = omega arith in (
-      l.1 ∙ ap (λ (k : ℕ). put a.buf.now a.at (entriesBytes (map entry_of (part a.first k a.t3)))) all,
-      l.2 ∙ ap (λ (k : ℕ). a.at + length (entriesBytes (map entry_of (part a.first k a.t3)))) all,
+      l.1 ∙ ap (λ (k : ℕ). put a.buf.now a.at (entries_bytes (map entry_of (part a.first k a.t3)))) all,
+      l.2 ∙ ap (λ (k : ℕ). a.at + length (entries_bytes (map entry_of (part a.first k a.t3)))) all,
     )
 
 pub put-entries-spec : {M : Type 1} → statement M

@@ -5,7 +5,7 @@ use Prim.Native.Nat.{ℕ}
 use mathlib.Core.Path.{◌≡◌, refl, sym, ap, subst, ◌∙◌}
 use mathlib.Core.Bool.{true, false}
 use borrow.Author.Rules.{rules}
-use Rattle.option.specs.Writing.{requestBytes, suboptionBytes}
+use Rattle.option.specs.Writing.{request_bytes, suboption_bytes}
 use Rattle.option.specs.Writer.{writable?}
 use Rattle.option_measure.specs.Lists.{value_of}
 use Rattle.option_write.specs.Inner.{Fitting}
@@ -25,7 +25,7 @@ put-name-requires c κs =
     (omega arith, subst (λ (x : Item). Fitting (value_of s.args.entries s.args.octets x)) c.before.before.item3.given.1 s.requires.1)
 
 returns : tie.Need-returns
-unfolding suboptionBytes requestBytes
+unfolding suboption_bytes request_bytes
 returns c =
     let a = c.before.before.before.before.before.before.before.before.args in
     put_as _ _ _ _ _ _ (ap (value_of a.entries a.octets) c.before.before.before.before.before.item.given.1) (record { stored = c.before.before.put-request.ensures; place = refl })

@@ -7,10 +7,10 @@ use mathlib.Core.List.{map}
 use lib.ListN.{length, take}
 use Rattle.lists.specs.Put.{put}
 use Rattle.lists.proofs.PutLaws.{put-nothing}
-use Rattle.option.specs.Writing.{suboptionsBytes}
+use Rattle.option.specs.Writing.{suboptions_bytes}
 use Rattle.option.proofs.WritingLaws.{suboptions-none}
 use Rattle.option_measure.specs.Lists.{value_at}
-use Rattle.option_write.specs.Inner.{suboptionsAt, mostBytes}
+use Rattle.option_write.specs.Inner.{suboptions_at, most_bytes}
 use Rattle.option_write.proofs.ItemPuts.{item-fitting, turned}
 use Rattle.option_write.proofs.put_items.Statement.{statement}
 use Rattle.option_write.proofs.put_items.Tie as tie
@@ -18,9 +18,9 @@ use Rattle.option_write.proofs.put_items.Tie as tie
 abbrev invariant-loop : tie.invariant-loop
 invariant-loop buf₀ count entries octets items p₀ i₀ buf p i =
     (i ≤ count)
-    × (buf ≡ put buf₀ suboptionsAt (suboptionsBytes (map (value_at entries octets) (take i items))))
-    × (p ≡ suboptionsAt + length (suboptionsBytes (map (value_at entries octets) (take i items))))
-    × (p ≤ suboptionsAt + mostBytes * i)
+    × (buf ≡ put buf₀ suboptions_at (suboptions_bytes (map (value_at entries octets) (take i items))))
+    × (p ≡ suboptions_at + length (suboptions_bytes (map (value_at entries octets) (take i items))))
+    × (p ≤ suboptions_at + most_bytes * i)
     × (length buf ≡ length buf₀)
 
 abbrev decreases-loop : tie.decreases-loop
@@ -54,7 +54,7 @@ returns c =
     let a = c.before.before.before.args in
     let l = c.before.loop.invariant in
     let all : c.before.loop.i ≡ a.count = omega arith in
-    l.1 ∙ ap (λ (k : ℕ). put a.buf.now suboptionsAt (suboptionsBytes (map (value_at a.entries a.octets) (take k a.t2)))) all
+    l.1 ∙ ap (λ (k : ℕ). put a.buf.now suboptions_at (suboptions_bytes (map (value_at a.entries a.octets) (take k a.t2)))) all
 
 pub put-items-spec : {M : Type 1} → statement M
 put-items-spec =

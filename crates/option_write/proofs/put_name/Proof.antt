@@ -4,7 +4,7 @@ use native.Mathlib.Omega.{arith}
 use mathlib.Core.Path.{◌≡◌}
 use lib.ListN.{length}
 use borrow.Author.Rules.{rules}
-use Rattle.option_measure.specs.Lists.{octetSlots}
+use Rattle.option_measure.specs.Lists.{octet_slots}
 use Rattle.option_measure.proofs.PartLaws.{length_part}
 use Rattle.option_write.proofs.ItemPuts.{name-fitting, name-put}
 use Rattle.option_write.proofs.put_name.Statement.{statement}
@@ -15,7 +15,7 @@ cast-store c =
     let s = c.before.before.before.before.before.before in
     let a = s.args in
     let r = name-fitting a.octets a.n s.requires.1 in
-    let full : length a.octets ≡ octetSlots = omega arith in
+    let full : length a.octets ≡ octet_slots = omega arith in
     let size = length_part a.octets a.n.first a.n.count (omega (arith, r.placed)) in
     omega (arith, r.short)
 
@@ -24,7 +24,7 @@ put-octets-requires c κs =
     let s = c.before.before.before.before.before.before.before.before.before.before in
     let a = s.args in
     let r = name-fitting a.octets a.n s.requires.1 in
-    let full : length a.octets ≡ octetSlots = omega arith in
+    let full : length a.octets ≡ octet_slots = omega arith in
     let size = length_part a.octets a.n.first a.n.count (omega (arith, r.placed)) in
     (omega arith, r.placed)
 
@@ -33,7 +33,7 @@ add-result-2 c =
     let s = c.before.before.before.before.before.before.before.before.before.before.before.before.before in
     let a = s.args in
     let r = name-fitting a.octets a.n s.requires.1 in
-    let full : length a.octets ≡ octetSlots = omega arith in
+    let full : length a.octets ≡ octet_slots = omega arith in
     let size = length_part a.octets a.n.first a.n.count (omega (arith, r.placed)) in
     omega (arith, r.short)
 
@@ -42,7 +42,7 @@ returns c =
     let s = c.before.before.before.before.before.before.before.before.before.before.before.before.before in
     let a = s.args in
     let r = name-fitting a.octets a.n s.requires.1 in
-    let full : length a.octets ≡ octetSlots = omega arith in
+    let full : length a.octets ≡ octet_slots = omega arith in
     let size = length_part a.octets a.n.first a.n.count (omega (arith, r.placed)) in
     name-put a.octets a.n _ _ _ _ a.at full r c.before.before.before.before.before.before.before.before.before.before.store.ensures c.before.before.before.before.before.before.store2.ensures c.before.before.put-octets.ensures
 

@@ -9,8 +9,8 @@ use Rattle.prefix.specs.Prefixes.{longest}
 use Rattle.prefix.specs.declared.Prefix.{Prefix}
 use Rattle.prefix.proofs.Prefix.lower.Reads as lower-reads
 use Rattle.prefix.proofs.Prefix.upper.Reads as upper-reads
-use Rattle.sheet_text.specs.InnerScan.{leaseShown, Scan, ScanReady}
-use Rattle.sheet_text.specs.Sheet.{usedRow, freeRow}
+use Rattle.sheet_text.specs.InnerScan.{lease_shown, Scan, ScanReady}
+use Rattle.sheet_text.specs.Sheet.{used_row, free_row}
 use Rattle.sheet_text.specs.declared.Used.{Used}
 use Rattle.sheet_text.proofs.ShowLaws.{fits-row, showed-row, showed-as, told_free, told-lease, told-used, told-halves, ready-low, ready-high, showed-halves}
 use Rattle.sheet_text.proofs.show_halves.Reads as show-halves
@@ -75,35 +75,35 @@ pub +show-halves-show-prefix-spec : {M : Type 1} → statement M
     -- It is free.
     (λ c κs.
     let a = c.before.before.before.before.before.before.args in
-    fits-row (freeRow a.p) _ (told_free (leaseShown a.image.now a.base) _ a.p _ _ c.before.before.is_free.ensures c.before.if1.true) c.before.before.before.before.before.before.requires.1.room)
+    fits-row (free_row a.p) _ (told_free (lease_shown a.image.now a.base) _ a.p _ _ c.before.before.is_free.ensures c.before.if1.true) c.before.before.before.before.before.before.requires.1.room)
     (λ c. c.before.before.show-free.auto.0)
     (λ c.
     let a = c.before.before.before.before.before.before.before.before.before.args in
-    showed-row (freeRow a.p) _ (told_free (leaseShown a.image.now a.base) _ a.p _ _ c.before.before.before.before.before.is_free.ensures c.before.before.before.before.if1.true) c.before.before.show-free.ensures)
+    showed-row (free_row a.p) _ (told_free (lease_shown a.image.now a.base) _ a.p _ _ c.before.before.before.before.before.is_free.ensures c.before.before.before.before.if1.true) c.before.before.show-free.ensures)
     -- It is the next lease.
     (λ c κs.
     let a = c.before.before.before.before.before.args in
-    let some : a.next.now < a.n = told-lease (leaseShown a.image.now a.base) _ a.p _ _ c.before.is_free.ensures c.if1.false in
+    let some : a.next.now < a.n = told-lease (lease_shown a.image.now a.base) _ a.p _ _ c.before.is_free.ensures c.if1.false in
     omega (arith, c.before.before.before.before.before.requires.1.slots))
     (λ c.
     let a = c.before.before.before.before.before.before.before.before.before.args in
-    let some : a.next.now < a.n = told-lease (leaseShown a.image.now a.base) _ a.p _ _ c.before.before.before.before.before.is_free.ensures c.before.before.before.before.if1.false in
+    let some : a.next.now < a.n = told-lease (lease_shown a.image.now a.base) _ a.p _ _ c.before.before.before.before.before.is_free.ensures c.before.before.before.before.if1.false in
     omega (arith, c.before.before.before.before.before.before.before.before.before.requires.1.slots))
     (λ c κs.
     let a = c.before.before.before.before.before.before.before.before.before.before.args in
     let x = c.before.before.before.before.lease in
-    fits-row (usedRow x.result) _ (told-used (leaseShown a.image.now a.base) _ a.p _ _ c.before.before.before.before.before.before.is_free.ensures c.before.before.before.before.before.if1.false x.result x.ensures (omega arith)) c.before.before.before.before.before.before.before.before.before.before.requires.1.room)
+    fits-row (used_row x.result) _ (told-used (lease_shown a.image.now a.base) _ a.p _ _ c.before.before.before.before.before.before.is_free.ensures c.before.before.before.before.before.if1.false x.result x.ensures (omega arith)) c.before.before.before.before.before.before.before.before.before.before.requires.1.room)
     (λ c. c.before.before.show-used.auto.0)
     (λ c.
     let a = c.before.before.before.before.before.before.before.before.before.before.before.before.before.args in
     let x = c.before.before.before.before.before.before.before.lease in
-    showed-row (usedRow x.result) _ (told-used (leaseShown a.image.now a.base) _ a.p _ _ c.before.before.before.before.before.before.before.before.before.is_free.ensures c.before.before.before.before.before.before.before.before.if1.false x.result x.ensures (omega arith)) c.before.before.show-used.ensures)
+    showed-row (used_row x.result) _ (told-used (lease_shown a.image.now a.base) _ a.p _ _ c.before.before.before.before.before.before.before.before.before.is_free.ensures c.before.before.before.before.before.before.before.before.if1.false x.result x.ensures (omega arith)) c.before.before.show-used.ensures)
     -- The next lease lies in one of its halves.
     (λ c κs.
     let a = c.before.before.before.before.before.before.before.before.before.before.before.args in
     let pre = c.before.before.before.before.before.before.before.before.before.before.before.requires in
     let x = c.before.before.before.before.before.lease in
-    let leases : ℕ → Used = leaseShown a.image.now a.base in
+    let leases : ℕ → Used = lease_shown a.image.now a.base in
     let some : a.next.now < a.n = told-lease leases _ a.p _ _ c.before.before.before.before.before.before.before.is_free.ensures c.before.before.before.before.before.before.if1.false in
     let deep : x.result.length ≡ (leases a.next.now).length = ap (λ (y : Used). y.length) x.ensures in
     let short : a.p.length < longest = omega (arith, pre.1.lengths a.next.now some, deep) in
@@ -114,7 +114,7 @@ pub +show-halves-show-prefix-spec : {M : Type 1} → statement M
     let a = c.before.before.before.before.before.before.before.before.before.before.before.before.before.before.args in
     let pre = c.before.before.before.before.before.before.before.before.before.before.before.before.before.before.requires in
     let x = c.before.before.before.before.before.before.before.before.lease in
-    let leases : ℕ → Used = leaseShown a.image.now a.base in
+    let leases : ℕ → Used = lease_shown a.image.now a.base in
     let some : a.next.now < a.n = told-lease leases _ a.p _ _ c.before.before.before.before.before.before.before.before.before.before.is_free.ensures c.before.before.before.before.before.before.before.before.before.if1.false in
     let deep : x.result.length ≡ (leases a.next.now).length = ap (λ (y : Used). y.length) x.ensures in
     let short : a.p.length < longest = omega (arith, pre.1.lengths a.next.now some, deep) in

@@ -2,7 +2,7 @@
 -- Assumes nothing.
 use borrow.Author.Tests.{lt-ltb, le-ltb}
 use borrow.Author.Rules.{rules}
-use Rattle.sheet_text.specs.InnerScan.{leaseShown}
+use Rattle.sheet_text.specs.InnerScan.{lease_shown}
 use Rattle.sheet_text.proofs.is_free.Statement.{statement}
 use Rattle.sheet_text.proofs.is_free.Tie as tie
 
@@ -10,7 +10,7 @@ returns : tie.Need-returns
 returns c = simp (le-ltb _ _ c.if1.true)
 
 returns-2 : tie.Need-returns-2
-unfolding leaseShown
+unfolding lease_shown
 returns-2 c =
     let network = c.before in
     let end = network.before in

@@ -2,12 +2,12 @@
 -- Assumes nothing.
 use borrow.Author.Rules.{rules}
 use Rattle.text.proofs.TextLaws.{wrote_then}
-use Rattle.sheet_text.specs.Sheet.{headText}
+use Rattle.sheet_text.specs.Sheet.{head_text}
 use Rattle.sheet_text.proofs.put_head.Statement.{statement}
 use Rattle.sheet_text.proofs.put_head.Tie as tie
 
 returns : tie.Need-returns
-unfolding headText
+unfolding head_text
 returns c =
     let word = c.before.before.before.before.before.before.before.before.before.before.before.before.before.before.before.before.before.before.before.before.put.ensures in
     let leases = c.before.before.before.before.before.before.before.before.before.before.before.before.before.before.before.before.decimal.ensures in

@@ -11,11 +11,11 @@ use Rattle.lists.proofs.PutLaws.{put-nothing}
 use Rattle.text.specs.Wrote.{Wrote}
 use Rattle.text.proofs.TextLaws.{wrote_as, wrote_then}
 use Rattle.names.specs.declared.Name.{Name}
-use Rattle.names.specs.Names.{nameLength}
+use Rattle.names.specs.Names.{name_length}
 use Rattle.names.proofs.NameLaws.{length-name, name-short}
 use Rattle.image_records.proofs.MoveLaws.{given-more}
-use Rattle.sheet_text.specs.Sheet.{shown, nameRow}
-use Rattle.sheet_text.proofs.RowTexts.{shownName, row-unnamed, row_named, length-named, length-shown, shown-octets}
+use Rattle.sheet_text.specs.Sheet.{shown, name_row}
+use Rattle.sheet_text.proofs.RowTexts.{shown_name, row-unnamed, row_named, length-named, length-shown, shown-octets}
 use Rattle.sheet_text.proofs.put_name.Statement.{statement}
 use Rattle.sheet_text.proofs.put_name.Tie as tie
 
@@ -26,8 +26,8 @@ abbrev decreases-loop : tie.decreases-loop
 decreases-loop out₀ at n from octets k₀ out k = n - k
 
 -- A name with n octets, where n is not 0.
-row-size : (name : Name) (n : ℕ) → n ≡ nameLength name → (n ≡ 0 → ⊥) → length (nameRow name) ≡ 6 + n
-row-size name n e h = omega (arith, length-named name (λ (z : nameLength name ≡ 0). h (e ∙ z)))
+row-size : (name : Name) (n : ℕ) → n ≡ name_length name → (n ≡ 0 → ⊥) → length (name_row name) ≡ 6 + n
+row-size name n e h = omega (arith, length-named name (λ (z : name_length name ≡ 0). h (e ∙ z)))
 
 returns : tie.Need-returns invariant-loop decreases-loop
 returns c =
@@ -89,8 +89,8 @@ returns-2 c =
     let word = c.before.before.before.before.before.put in
     let octets = c.before.before.octets in
     let loop = c.before.loop in
-    let all : loop.k ≡ nameLength name = omega (arith, size.ensures) in
-    let written : Wrote word.new.0 word.result (shownName name) loop.out (word.result + size.result) =
+    let all : loop.k ≡ name_length name = omega (arith, size.ensures) in
+    let written : Wrote word.new.0 word.result (shown_name name) loop.out (word.result + size.result) =
     record {
       bytes =
           loop.invariant.1
@@ -98,7 +98,7 @@ returns-2 c =
           ∙ ap (put word.new.0 word.result) (shown-octets name);
       place = omega (arith, length-shown name, size.ensures);
     } in
-    wrote_as (wrote_then word.ensures written) (sym (row_named name (λ (z : nameLength name ≡ 0). c.before.before.before.before.before.before.before.before.if1.false (size.ensures ∙ z))))
+    wrote_as (wrote_then word.ensures written) (sym (row_named name (λ (z : name_length name ≡ 0). c.before.before.before.before.before.before.before.before.if1.false (size.ensures ∙ z))))
 
 pub put-name-spec : {M : Type 1} → statement M
 put-name-spec =

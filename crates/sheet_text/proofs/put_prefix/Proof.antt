@@ -3,12 +3,12 @@
 use native.Mathlib.Omega.{arith}
 use borrow.Author.Rules.{rules}
 use Rattle.text.proofs.TextLaws.{wrote-marked}
-use Rattle.sheet_text.specs.Sheet.{prefixText}
+use Rattle.sheet_text.specs.Sheet.{prefix_text}
 use Rattle.sheet_text.proofs.put_prefix.Statement.{statement}
 use Rattle.sheet_text.proofs.put_prefix.Tie as tie
 
 returns : tie.Need-returns
-unfolding prefixText
+unfolding prefix_text
 returns c =
     let a = c.before.before.before.before.before.before.before.before.before.before.before.before.before.before.before.before.before.before.before.decimal.ensures in
     let b = c.before.before.before.before.before.before.before.before.before.before.before.before.before.before.before.marked.ensures in

@@ -3,7 +3,7 @@
 use native.Mathlib.Omega.{arith}
 use borrow.Author.Rules.{rules}
 use Rattle.text.proofs.TextLaws.{wrote_then}
-use Rattle.sheet_text.specs.Sheet.{rowText}
+use Rattle.sheet_text.specs.Sheet.{row_text}
 use Rattle.sheet_text.proofs.put_used.Statement.{statement}
 use Rattle.sheet_text.proofs.put_used.Tie as tie
 
@@ -36,7 +36,7 @@ put-requires-4 c κs =
     )
 
 returns : tie.Need-returns
-unfolding rowText
+unfolding row_text
 returns c =
     let word = c.before.before.before.before.before.before.before.before.before.before.before.before.before.before.before.before.before.before.before.before.before.before.before.before.before.before.before.before.before.before.before.before.before.put.ensures in
     let place = c.before.before.before.before.before.before.before.before.before.before.before.before.before.before.before.before.before.before.before.before.before.before.before.before.before.before.before.before.before.put-prefix.ensures.0 in

@@ -9,8 +9,8 @@ use borrow.Author.Rules.{rules}
 use Rattle.image.specs.declared.Form.{Form}
 use Rattle.image.specs.declared.Form.TheVariants.{First, Second}
 use Rattle.sheet_text.specs.declared.SheetAnswer.{SheetAnswer}
-use Rattle.sheet_text.specs.Sheet.{sheetText}
-use Rattle.sheet_text.specs.Answers.{into, sheetOfImage}
+use Rattle.sheet_text.specs.Sheet.{sheet_text}
+use Rattle.sheet_text.specs.Answers.{into, sheet_of_image}
 use Rattle.sheet_text.specs.InnerScan.{SoundSaved, OfSaved}
 use Rattle.sheet_text.proofs.AnswerLaws.{told-unsound, told-sound, told-sheet}
 use Rattle.sheet_text.proofs.sheet_of_image.Statement.{statement}
@@ -29,7 +29,7 @@ sound-as c form e =
     told-sound _ _ check.before.form_of.ensures _ check.check-in.ensures (not-false _ c.if1.false) (λ i. omega (arith, c.before.before.before.before.before.shared-slice-known.given i)) form e
 
 sheet-as : (c : tie.Else1) (form : Form) → c.before.before.before.form_of.result ≡ form → (r : SheetAnswer) (l l' : List ℕ)
-    → OfSaved form c.before.before.before.before.before.before.args.saved.now (λ t. (r, l') ≡ into (sheetText t) l) → (r, l') ≡ sheetOfImage c.before.before.before.before.before.before.args.saved.now l
+    → OfSaved form c.before.before.before.before.before.before.args.saved.now (λ t. (r, l') ≡ into (sheet_text t) l) → (r, l') ≡ sheet_of_image c.before.before.before.before.before.before.args.saved.now l
 sheet-as c form e =
     let check = c.before.before in
     told-sheet _ _ check.before.form_of.ensures _ check.check-in.ensures (not-false _ c.if1.false) (λ i. omega (arith, c.before.before.before.before.before.shared-slice-known.given i)) form e

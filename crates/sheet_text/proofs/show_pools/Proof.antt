@@ -6,12 +6,12 @@ use native.Mathlib.Omega.{arith}
 use lib.ListN.{length}
 use borrow.Author.Rules.{rules}
 use Rattle.sheet_text.specs.InnerScan.{Showed}
-use Rattle.sheet_text.proofs.ShowLaws.{scanFirst, showed-none, showed-pool, wrote-pools, ready-pool}
+use Rattle.sheet_text.proofs.ShowLaws.{scan_first, showed-none, showed-pool, wrote-pools, ready-pool}
 use Rattle.sheet_text.proofs.show_pools.Statement.{statement}
 use Rattle.sheet_text.proofs.show_pools.Tie as tie
 
 abbrev invariant-loop : tie.invariant-loop
-invariant-loop out₀ image base n k from next₀ at₀ j₀ out next at j = (j ≤ k) × Showed out₀ from (scanFirst image base n j) out at next × (length out ≡ length out₀)
+invariant-loop out₀ image base n k from next₀ at₀ j₀ out next at j = (j ≤ k) × Showed out₀ from (scan_first image base n j) out at next × (length out ≡ length out₀)
 
 abbrev decreases-loop : tie.decreases-loop
 decreases-loop out₀ image base n k from next₀ at₀ j₀ out next at j = k - j

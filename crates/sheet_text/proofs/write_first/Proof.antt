@@ -7,15 +7,15 @@ use native.Mathlib.Omega.{arith}
 use lib.ListN.{length, drop, replicate}
 use lib.Seq.{length-take-le}
 use borrow.Author.Rules.{rules}
-use Rattle.image.specs.Image.{fullImage, image_of}
-use Rattle.sheet_text.specs.Sheet.{sheetText}
+use Rattle.image.specs.Image.{full_image, image_of}
+use Rattle.sheet_text.specs.Sheet.{sheet_text}
 use Rattle.sheet_text.specs.Answers.{into}
 use Rattle.sheet_text.proofs.AnswerLaws.{widened-sound, widened-sheet}
 use Rattle.sheet_text.proofs.write_first.Statement.{statement}
 use Rattle.sheet_text.proofs.write_first.Tie as tie
 
 -- What is known of the buffer after it is widened into.
-abbrev widened : (c : tie.After-widen) → (c.widen.result ≡ length (image_of c.before.before.before.before.requires.table)) × (c.widen.new.1.1.1.0 ≡ image_of c.before.before.before.before.requires.table ++ drop (length (image_of c.before.before.before.before.requires.table)) (replicate fullImage 0))
+abbrev widened : (c : tie.After-widen) → (c.widen.result ≡ length (image_of c.before.before.before.before.requires.table)) × (c.widen.new.1.1.1.0 ≡ image_of c.before.before.before.before.requires.table ++ drop (length (image_of c.before.before.before.before.requires.table)) (replicate full_image 0))
 widened c = let pre = c.before.before.before.before.requires in c.widen.ensures.1 pre.table pre.bytes pre.fitting pre.pools pre.leases
 
 within : (c : tie.After-widen) → c.widen.result ≤ length c.widen.new.1.1.1.0
@@ -37,7 +37,7 @@ returns : tie.Need-returns
 returns c =
     let here = c.before.before.before.before.before.before in
     let sheet = c.before.before.write-sheet in
-    widened-sheet _ _ _ here.before.before.before.before.requires _ _ _ (widened here) (λ t. (sheet.result, sheet.new.1.1.1.0) ≡ into (sheetText t) here.before.before.before.before.args.out.now) sheet.ensures
+    widened-sheet _ _ _ here.before.before.before.before.requires _ _ _ (widened here) (λ t. (sheet.result, sheet.new.1.1.1.0) ≡ into (sheet_text t) here.before.before.before.before.args.out.now) sheet.ensures
 
 pub write-first-spec : {M : Type 1} → statement M
 write-first-spec =

@@ -7,13 +7,13 @@ use native.Mathlib.Omega.{arith}
 use lib.ListN.{length, length-set}
 use borrow.Author.Rules.{rules}
 use Rattle.lists.specs.Put.{put}
-use Rattle.text.specs.Wrote.{lastDigits}
+use Rattle.text.specs.Wrote.{lowest_digits}
 use Rattle.text.proofs.TextLaws.{length_last, put-digits, put_first, put_last}
 use Rattle.text.proofs.number.Statement.{statement}
 use Rattle.text.proofs.number.Tie as tie
 
 abbrev invariant-loop : tie.invariant-loop
-invariant-loop out₀ at n size left₀ i₀ out left i = (i ≤ size) × (at + size ≤ length out₀) × (put out at (lastDigits i left) ≡ put out₀ at (lastDigits size n)) × (length out ≡ length out₀)
+invariant-loop out₀ at n size left₀ i₀ out left i = (i ≤ size) × (at + size ≤ length out₀) × (put out at (lowest_digits i left) ≡ put out₀ at (lowest_digits size n)) × (length out ≡ length out₀)
 
 abbrev decreases-loop : tie.decreases-loop
 decreases-loop out₀ at n size left₀ i₀ out left i = i

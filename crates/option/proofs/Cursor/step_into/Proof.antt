@@ -3,7 +3,7 @@
 use mathlib.Core.Path.{sym, ◌∙◌}
 use mathlib.Core.Bool.{and-false}
 use borrow.Author.Tests.{le-leb, lt-leb}
-use Rattle.option.specs.Reading.{readSuboption, subInside?}
+use Rattle.option.specs.Reading.{read_suboption, sub_inside?}
 use Rattle.option.specs.declared.Fault.TheVariants.{Framing, Field}
 use Rattle.option.proofs.SuboptionLaws.{body-ends, body-stops}
 use Rattle.option.proofs.StepLaws.{step_end, step-bad, step-good, step-none}
@@ -12,15 +12,15 @@ use Rattle.option.proofs.Cursor.step_into.Statement.{statement}
 use Rattle.option.proofs.Cursor.step_into.Tie as tie
 
 returns : tie.Need-returns
-unfolding readSuboption
+unfolding read_suboption
 returns c = step_end _ (simp (le-leb _ _ c.if1.true))
 
 returns-2 : tie.Need-returns-2
-unfolding readSuboption subInside?
+unfolding read_suboption sub_inside?
 returns-2 c = step-bad _ (simp (lt-leb _ _ c.before.if1.false, lt-leb _ _ c.if2.true))
 
 returns-3 : tie.Need-returns-3
-unfolding readSuboption subInside?
+unfolding read_suboption sub_inside?
 returns-3 c =
     let short = simp c.before.wide.ensures.0 at c.if3.true in
     step-bad _ (simp (lt-leb _ _ c.before.before.before.before.if1.false, lt-leb _ _ short, and-false))
@@ -29,7 +29,7 @@ enum_told : tie.Need-enum-told
 enum_told c = search rules
 
 returns-4 : tie.Need-returns-4
-unfolding readSuboption subInside?
+unfolding read_suboption sub_inside?
 returns-4 c =
     let b = c.before.before.before.before.before.before.before in
     let w = b.before.before.before.before.before in
@@ -38,7 +38,7 @@ returns-4 c =
     (body-ends _ _ _ _) (sym c.before.x.given.1 ∙ b.body_at.ensures.0) b.body_at.ensures.1
 
 returns-5 : tie.Need-returns-5
-unfolding readSuboption subInside?
+unfolding read_suboption sub_inside?
 returns-5 c =
     let b = c.before.before.before.before.before.before in
     let w = b.before.before.before.before.before in
@@ -47,7 +47,7 @@ returns-5 c =
     (body-stops _ _ _ _) (sym c.enum_told.given.1 ∙ b.body_at.ensures.0) b.body_at.ensures.1
 
 returns-6 : tie.Need-returns-6
-unfolding readSuboption subInside?
+unfolding read_suboption sub_inside?
 returns-6 c =
     let b = c.before.before.before.before.before.before in
     let w = b.before.before.before.before.before in
