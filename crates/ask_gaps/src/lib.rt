@@ -1,4 +1,5 @@
 // The free space of an image: the gaps of some of its pools and leases, pushed into two lent columns in one pass over both.
+#![tactic(auto)]
 ghost use Rattle.std.specs.Prelude.{◌≡◌, List, ℕ, ◌+◌, ◌-◌, ◌*◌, ◌≤◌, ◌<◌, length, drop};
 ghost use Rattle.prefix.specs.declared.Prefix.{Prefix};
 ghost use Rattle.prefix.specs.Prefixes.{end};
@@ -15,7 +16,7 @@ use image::{HEAD, LEASE};
 use prefix::Prefix;
 
 // How many leases a pass has left behind, and how many gaps it has pushed.
-#[derive(Drop)]
+#[derive(Clone, Copy)]
 pub struct Pass {
     pub leases: usize,
     pub gaps: usize,
@@ -61,7 +62,7 @@ fn in_pool(
 }
 
 // A part of an image's pools and leases: the pools from a place on, so many of them; so many leases, whose records stand from a byte on.
-#[derive(Drop)]
+#[derive(Clone, Copy)]
 pub struct Span {
     pub pool: usize,
     pub pools: usize,

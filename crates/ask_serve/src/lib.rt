@@ -1,4 +1,5 @@
 // The requests of an ask served in order, each on the gaps that the one before left.
+#![tactic(auto)]
 ghost use Rattle.std.specs.Prelude.{◌≡◌, List, ℕ, ◌+◌, ◌≤◌, ◌<◌, length as length_of};
 ghost use Rattle.names.specs.declared.Name.{Name};
 ghost use Rattle.table.specs.declared.Lease.{Lease};
@@ -12,7 +13,7 @@ ghost use Rattle.ask_serve.specs.InnerServing.{columns, Served};
 use ask_again::NONE;
 
 // How many gaps there are, how many requests are granted, and how many slots are left.
-#[derive(Drop)]
+#[derive(Clone, Copy)]
 pub struct Progress {
     pub gaps: usize,
     pub granted: usize,
@@ -59,7 +60,7 @@ fn serve_one(
 }
 
 // What serving begins with: the default length, how many gaps there are, and how many slots are empty.
-#[derive(Drop)]
+#[derive(Clone, Copy)]
 pub struct Start {
     pub default_length: u8,
     pub gaps: usize,

@@ -1,4 +1,5 @@
 // What take and release have in common: the entries of an option, and the leases that they name, found and changed in place.
+#![tactic(auto)]
 ghost use Rattle.std.specs.Prelude.{◌≡◌, List, ◌∷◌, ◌+◌, ◌*◌, ◌≤◌, ◌<◌, length as count};
 ghost use Rattle.table.specs.declared.Lease.{Lease};
 ghost use Rattle.image.specs.Image.{lease_size};
@@ -19,7 +20,7 @@ use option_entry::{HighWater, InUse, Unusable, wide};
 // THE ENTRIES
 
 // The refusal of rows 6, 7, 16 and 8, with number 0 where none applies; then there are entries, and these are how many.
-#[derive(Drop)]
+#[derive(Clone, Copy)]
 pub struct EntriesRead {
     pub answer: Answer,
     pub count: usize,
@@ -103,7 +104,7 @@ fn next_entry(s: &[u8], entries: EntryCursor) -> EntryCursor
 }
 
 // The figures of an entry, and where the reading goes on.
-#[derive(Drop)]
+#[derive(Clone, Copy)]
 pub struct FiguresRead {
     pub figures: Figures,
     pub next: EntryCursor,
@@ -170,7 +171,7 @@ pub fn find(
 }
 
 // Whose leases change, at what time, and until when they are leased then.
-#[derive(Drop)]
+#[derive(Clone, Copy)]
 pub struct Expiry {
     pub client: u32,
     pub time: u32,

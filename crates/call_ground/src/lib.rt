@@ -1,5 +1,6 @@
 // The ground of a call: with option 118 the pool that contains its address and the leases that lie in that pool, without it all of
 // them; and that option in the reply.
+#![tactic(auto)]
 ghost use Rattle.std.specs.Prelude.{◌≡◌, true, List, ℕ, ◌+◌, ◌*◌, ◌≤◌, length};
 ghost use Rattle.prefix.specs.Prefixes.{end};
 ghost use Rattle.table.specs.declared.Lease.{Lease};
@@ -46,7 +47,7 @@ pub fn pool_of(image: &[u8], pools: usize, address: u32) -> usize
 }
 
 // The places of leases that stand together: that of the first, and how many there are.
-#[derive(Drop)]
+#[derive(Clone, Copy)]
 pub struct LeaseRange {
     pub first: usize,
     pub count: usize,
@@ -78,7 +79,7 @@ pub fn leases_in(image: &[u8], from: usize, n: usize, p: Prefix) -> LeaseRange
 
 // The ground of a call: so many pools from a place on, and so many leases from a place on. Without option 118 it is all of both;
 // with it one pool, or none where no pool contains its address, and the leases in that pool.
-#[derive(Drop)]
+#[derive(Clone, Copy)]
 pub struct Ground {
     pub pool: usize,
     pub pools: usize,

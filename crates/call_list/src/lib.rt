@@ -1,4 +1,5 @@
 // List as a call on an image: a client's leases above a position, at most 35 of them, shown from where they stand.
+#![tactic(auto)]
 ghost use Rattle.std.specs.Prelude.{◌≡◌, List, [], true, not, cond, ◌&&◌, ◌+◌, ◌*◌, ◌≤◌, length, drop, eqb};
 ghost use Rattle.std.proofs.Math.Option.{none, some};
 ghost use Rattle.lists.specs.Lists.{filter};
@@ -19,7 +20,7 @@ use option_scan::Contents;
 use table::Lease;
 
 // How many leases the reply shows, and whether more remain.
-#[derive(Drop)]
+#[derive(Clone, Copy)]
 struct Page {
     count: usize,
     more: bool,

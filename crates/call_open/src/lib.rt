@@ -1,5 +1,6 @@
 // Open as a call: the table that pools, a term, a default length and a start time make, as an image in a lent buffer,
 // its figures sheet, and the counts of its whole free blocks.
+#![tactic(auto)]
 ghost use Rattle.std.specs.Prelude.{◌≡◌, [], ◌+◌, ◌*◌, ◌≤◌, length};
 ghost use Rattle.lists.specs.Lists.{concat_map};
 ghost use Rattle.lists.specs.Put.{put};
@@ -16,7 +17,7 @@ use ledger::Answer;
 use table::POOLS;
 
 // What the head of a table is opened with.
-#[derive(Drop)]
+#[derive(Clone, Copy)]
 pub struct Terms {
     pub term: u32,
     pub default_length: u32,

@@ -1,4 +1,5 @@
 // Options as a server meets them before it makes a call: option 118 (RFC 3011) read and written, and the check of option 220.
+#![tactic(auto)]
 ghost use Rattle.std.specs.Prelude.{◌≡◌};
 ghost use Rattle.call_option.specs.Options.{selection_in, selection_into, option_check};
 
@@ -9,7 +10,7 @@ use option_scan::{MOST_ENTRIES, MOST_REQUESTS};
 
 // The address of an option 118; 0 of a refusal.
 #[repr(C)]
-#[derive(Drop)]
+#[derive(Clone, Copy)]
 pub struct SelectionAnswer {
     pub number: u32,
     pub address: u32,

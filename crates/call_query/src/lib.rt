@@ -1,5 +1,6 @@
 // Queries on an open book: whether it is sound, its head, a pool or a lease by its index, and how many whole free blocks of a
 // length it has. Each checks the book and reads what it is asked for where it stands.
+#![tactic(auto)]
 ghost use Rattle.std.specs.Prelude.{◌≡◌, cond, []};
 ghost use Rattle.image.specs.Image.{bit};
 ghost use Rattle.call_spec.specs.Books.{book_of, lent_in, whole_book};
@@ -19,7 +20,7 @@ use table::{Lease, Pool};
 
 // The head of the table, and how many pools and leases it has. Of a refusal all but the number is 0, here and below.
 #[repr(C)]
-#[derive(Drop)]
+#[derive(Clone, Copy)]
 pub struct HeadAnswer {
     pub number: u32,
     pub term: u32,
@@ -30,7 +31,7 @@ pub struct HeadAnswer {
 }
 
 #[repr(C)]
-#[derive(Drop)]
+#[derive(Clone, Copy)]
 pub struct PoolAnswer {
     pub number: u32,
     pub network: u32,

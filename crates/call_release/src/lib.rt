@@ -1,4 +1,5 @@
 // Return as a call on an open book, in place; `return` is a keyword.
+#![tactic(auto)]
 ghost use Rattle.std.specs.Prelude.{◌≡◌, List, [], ℕ, ◌+◌, ◌*◌, ◌≤◌, length};
 ghost use Rattle.option.specs.Values.{Entry};
 ghost use Rattle.table.specs.declared.Lease.{Lease};
@@ -20,7 +21,7 @@ use image_check::ImageSummary;
 use ledger::Answer;
 
 // How many leases are struck; all of them stand from the place `first` up to `last`.
-#[derive(Drop)]
+#[derive(Clone, Copy)]
 struct Strikes {
     count: usize,
     first: usize,

@@ -1,5 +1,6 @@
 // What the calls have in common that work on an image in place: the rows that come before a call's own, and the end of an
 // accepted call.
+#![tactic(auto)]
 ghost use Rattle.std.specs.Prelude.{◌≡◌, not, cond, ◌&&◌, List, [], ◌∷◌, ℕ, ◌+◌, ◌*◌, ◌≤◌, length, ltb, eqb};
 ghost use Rattle.table.specs.declared.Lease.{Lease};
 ghost use Rattle.table.specs.Table.{latest, present};
@@ -43,7 +44,7 @@ pub fn too_short(room: usize, carried: bool) -> bool
 }
 
 // Option 118: whether it is bad, and its address where it is not.
-#[derive(Drop)]
+#[derive(Clone, Copy)]
 pub struct SelectionRead {
     pub bad: bool,
     pub address: u32,
@@ -72,7 +73,7 @@ pub fn read_selection(carried: bool, selection: &[u8]) -> SelectionRead
 }
 
 // The number of the first row up to the option that applies, or 0; then what the check of the image found.
-#[derive(Drop)]
+#[derive(Clone, Copy)]
 pub struct Admission {
     pub number: u32,
     pub summary: ImageSummary,

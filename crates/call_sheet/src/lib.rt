@@ -1,4 +1,5 @@
 // Sheet as a call on saved bytes, in either form.
+#![tactic(auto)]
 ghost use Rattle.std.specs.Prelude.{◌≡◌};
 ghost use Rattle.call_sheet.specs.SheetImage.{sheet_image};
 

@@ -1,4 +1,5 @@
 // What comes with a message beside its bytes, and the answers of calls. What a call leaves of what it is lent is a definition, in `specs/`.
+#![tactic(auto)]
 ghost use Rattle.std.specs.Prelude.{◌≡◌, cond, ltb};
 ghost use Rattle.ledger.specs.Ledger.{refusal, acceptance};
 
@@ -6,7 +7,7 @@ use ledger::Answer;
 
 // Who sent the message that an ask or a take is for, when it came, and whether it carries an option 118 that the caller says is
 // enabled. Where it does not, the bytes lent for that option are not looked at.
-#[derive(Drop)]
+#[derive(Clone, Copy)]
 pub struct Message {
     pub client: u32,
     pub time: u32,

@@ -1,4 +1,5 @@
 // Take as a call on an open book, in place.
+#![tactic(auto)]
 ghost use Rattle.std.specs.Prelude.{◌≡◌, List, ◌++◌, ℕ, ◌+◌, ◌*◌, ◌≤◌, ◌<◌, length, take as up_to};
 ghost use Rattle.std.proofs.Math.Option.{Option};
 ghost use Rattle.option.specs.Values.{longest_option, Entry};
@@ -31,7 +32,7 @@ use option::Figures;
 
 // The n leases from `from` on, of which so many have expired; those of them on the ground of the call, so many from the place
 // `first` on; and what becomes of those that are named.
-#[derive(Drop)]
+#[derive(Clone, Copy)]
 struct Renewal {
     from: usize,
     n: usize,

@@ -1,5 +1,6 @@
 // Runs a script of calls, and writes what each call answers to standard output. Everything that matters is in the proved libraries.
 // Memory is constant: a chunk of the input, one line and a copy of it, the book, the figures sheet, the counts, the reply buffer and the output, each of a fixed size.
+#![tactic(auto)]
 ghost use Rattle.std.specs.Prelude.{◌≡◌, ◌≤◌, ◌<◌, length, drop};
 ghost use Rattle.image_figures.specs.Sheets.{figures_size};
 ghost use Rattle.call_spec.specs.Books.{book_of};
@@ -40,7 +41,7 @@ cannot be read or written is told there too. The exit status is always 0.
 ";
 
 // A turn of the loop over the input: the state, and what was read.
-#[derive(Drop)]
+#[derive(Clone, Copy)]
 struct Turn {
     s: State,
     r: Reader,
@@ -239,7 +240,7 @@ fn end_line(
     if r.whole {
         let pending = r.pending;
         let n = console_script::without_return(&line[0..pending]);
-        bytes::copy(&line[0..n], kept);
+        octets::copy(&line[0..n], kept);
         return run_line(
             s,
             &mut line[0..n],

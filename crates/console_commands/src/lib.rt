@@ -1,4 +1,5 @@
 // The commands of a script: each is its call with the arguments of its line, and the line of its answer in the output.
+#![tactic(auto)]
 ghost use Rattle.std.specs.Prelude.{◌≡◌, ◌&&◌, ℕ, ◌≤◌, length, drop, List};
 ghost use Rattle.image_figures.specs.Sheets.{figures_size};
 ghost use Rattle.call_spec.specs.ImageCalls.{carried_if};
@@ -348,7 +349,7 @@ pub fn set_figures(s: State, octets: &[u8], sheet: &mut [u8], out: &mut [u8]) ->
         (given (book_of image bytes sheet.old counts) s.reply_length s.selected s.lines (drop s.at out.old))
         (book_of image bytes sheet.new counts) out.old s.at out.new result }
 {
-    bytes::copy(octets, sheet);
+    octets::copy(octets, sheet);
     console_lines::ok(out, s.at)
 }
 

@@ -1,4 +1,5 @@
 // Lines from an input, in two lent buffers: a chunk of the input, and the line that is being read.
+#![tactic(auto)]
 ghost use Rattle.std.specs.Prelude.{◌≡◌, ◌≤◌, ◌<◌, length};
 ghost use Rattle.console_input.specs.Lines.{line_space};
 
@@ -7,7 +8,7 @@ use program::Input;
 
 // What was read and not yet run: the input from a place to another, behind the `pending` bytes of a line. The line is whole once its newline was read,
 // or the input has ended.
-#[derive(Drop)]
+#[derive(Clone, Copy)]
 pub struct Reader {
     pub from: usize,
     pub to: usize,

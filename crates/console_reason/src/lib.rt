@@ -1,4 +1,5 @@
 // Why a line is no command: the word that is not what it should be, as a line of text.
+#![tactic(auto)]
 ghost use Rattle.std.specs.Prelude.{◌+◌, ◌*◌, ◌≤◌, length};
 ghost use Rattle.console_reason.specs.InnerFaults.{
   Within,
@@ -21,7 +22,7 @@ const SHOWN: usize = 40;
 pub const REASON: usize = 1024;
 
 // What is wrong with the words of a command.
-#[derive(Drop)]
+#[derive(Clone, Copy)]
 enum Fault {
     // Nothing, up to this place.
     None(usize),

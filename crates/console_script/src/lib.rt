@@ -1,4 +1,5 @@
 // The lines of a script: the command of each, with the numbers that its words spell and the places where its octets and other words stand.
+#![tactic(auto)]
 ghost use Rattle.std.specs.Prelude.{◌≡◌, false, ◌+◌, ◌*◌, ◌≤◌, length, drop};
 ghost use Rattle.counts.specs.Counts.{counted_lengths};
 ghost use Rattle.console_script.specs.Commands.{value_in, message_in, Within, MessageWithin, counts_size};
@@ -47,7 +48,7 @@ pub const LONGEST_REPLY: u32 = 1024;
 pub const COUNTS: usize = 2 * LENGTHS * POOLS;
 
 // The calls that are given an option.
-#[derive(Drop)]
+#[derive(Clone, Copy)]
 pub enum OptionCall {
     Ask,
     Take,
@@ -56,7 +57,7 @@ pub enum OptionCall {
 }
 
 // OPTION [HEX]: whether the words are that, where the option's octets stand in the line, whether it has an option 118, and where the octets of that stand.
-#[derive(Drop)]
+#[derive(Clone, Copy)]
 pub struct MessageWords {
     pub good: bool,
     pub from: usize,
@@ -67,7 +68,7 @@ pub struct MessageWords {
 }
 
 // STATION NOW OPTION [HEX]
-#[derive(Drop)]
+#[derive(Clone, Copy)]
 pub struct CallLine {
     pub call: OptionCall,
     pub client: u32,
@@ -76,7 +77,7 @@ pub struct CallLine {
 }
 
 // NOW PREFIX D
-#[derive(Drop)]
+#[derive(Clone, Copy)]
 pub struct MarkLine {
     pub time: u32,
     pub network: u32,
@@ -85,7 +86,7 @@ pub struct MarkLine {
 }
 
 // TERM DEFAULT START, and the place after which all words are prefixes.
-#[derive(Drop)]
+#[derive(Clone, Copy)]
 pub struct OpenLine {
     pub term: u32,
     pub default_length: u32,
@@ -94,51 +95,51 @@ pub struct OpenLine {
 }
 
 // OPTION, IMAGE, SHEET or COUNTS: where its octets stand.
-#[derive(Drop)]
+#[derive(Clone, Copy)]
 pub struct OctetLine {
     pub from: usize,
     pub to: usize,
 }
 
 // The place after which all words are those of an option that is to be written.
-#[derive(Drop)]
+#[derive(Clone, Copy)]
 pub struct WriteLine {
     pub from: usize,
 }
 
 // FORM: 1 or 2; and whether the image is for an older desk.
-#[derive(Drop)]
+#[derive(Clone, Copy)]
 pub struct SaveLine {
     pub form: u32,
     pub older: bool,
 }
 
 // LENGTH
-#[derive(Drop)]
+#[derive(Clone, Copy)]
 pub struct WholeLine {
     pub length: u32,
 }
 
 // N
-#[derive(Drop)]
+#[derive(Clone, Copy)]
 pub struct BufferLine {
     pub length: u32,
 }
 
 // on or off
-#[derive(Drop)]
+#[derive(Clone, Copy)]
 pub struct SelectionLine {
     pub on: bool,
 }
 
-#[derive(Drop)]
+#[derive(Clone, Copy)]
 pub enum Switch {
     Of(bool),
     Bad,
 }
 
 // A line that has no word, or whose first word begins with `#`, has nothing to do; a bad one is no command.
-#[derive(Drop)]
+#[derive(Clone, Copy)]
 pub enum Command {
     Call(CallLine),
     Mark(MarkLine),
@@ -160,7 +161,7 @@ pub enum Command {
 }
 
 // What the first word names.
-#[derive(Drop)]
+#[derive(Clone, Copy)]
 pub enum Name {
     Call(OptionCall),
     Mark,

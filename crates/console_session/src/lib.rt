@@ -1,4 +1,5 @@
 // What goes from line to line of a script beside the book, the figures sheet and the counts at first, and the output written out.
+#![tactic(auto)]
 ghost use Rattle.std.specs.Prelude.{◌≡◌, ◌≤◌, length};
 ghost use Rattle.console_session.specs.States.{
   Unchanged,
@@ -30,7 +31,7 @@ const OUTPUT: usize = WAITING + ECHO + ANSWER;
 // The reply buffer's length at first.
 const REPLY_AT_FIRST: usize = 257;
 
-#[derive(Drop)]
+#[derive(Clone, Copy)]
 pub struct State {
     // The reply buffer's length.
     pub reply_length: usize,

@@ -1,4 +1,5 @@
 // The words of a line, and the numbers, prefixes and octets that words spell.
+#![tactic(auto)]
 ghost use Rattle.std.specs.Prelude.{◌≡◌, false, ◌≤◌, ◌<◌, ◌/◌, ◌%◌, length, drop};
 ghost use Rattle.console_words.specs.Words.{skip_spaces, NextWord, between, last?};
 ghost use Rattle.console_words.specs.Numbers.{number_of, octet_of, flag_of, NextNumber};
@@ -13,53 +14,53 @@ ghost use Rattle.console_words.specs.InnerPrefixes.{NextOctet, PrefixPut};
 ghost use Rattle.console_words.specs.Octets.{digit_of, pairs_of, octets_of, last_octets, octets_in};
 
 // A word stands from `start` to before `end`; where no further word is there, it is empty.
-#[derive(Drop)]
+#[derive(Clone, Copy)]
 pub struct Word {
     pub start: usize,
     pub end: usize,
 }
 
-#[derive(Drop)]
+#[derive(Clone, Copy)]
 pub enum Number {
     Of(u32),
     Bad,
 }
 
-#[derive(Drop)]
+#[derive(Clone, Copy)]
 enum Octet {
     Of(u8),
     Bad,
 }
 
 // What an octet before the next dot or the end spells, and the place after it.
-#[derive(Drop)]
+#[derive(Clone, Copy)]
 struct OctetAt {
     octet: Octet,
     end: usize,
 }
 
 // A network and a length, whatever their alignment.
-#[derive(Drop)]
+#[derive(Clone, Copy)]
 pub enum PrefixWord {
     Of(u32, u8),
     Bad,
 }
 
 // What the next word spells, and the place after it.
-#[derive(Drop)]
+#[derive(Clone, Copy)]
 pub struct NumberAt {
     pub number: Number,
     pub end: usize,
 }
 
-#[derive(Drop)]
+#[derive(Clone, Copy)]
 pub struct PrefixAt {
     pub prefix: PrefixWord,
     pub end: usize,
 }
 
 // Whether a word spells octets, and where they stand in the line instead of it.
-#[derive(Drop)]
+#[derive(Clone, Copy)]
 pub struct Octets {
     pub good: bool,
     pub start: usize,
@@ -67,7 +68,7 @@ pub struct Octets {
 }
 
 // Whether words are prefixes, and how many.
-#[derive(Drop)]
+#[derive(Clone, Copy)]
 pub struct Prefixes {
     pub good: bool,
     pub count: usize,
@@ -96,7 +97,7 @@ pub fn next_word(s: &[u8], from: usize) -> Word
     ensures { NextWord s.now from result }
 {
     let start = skip_spaces(s, from);
-    let end = bytes::scan::find(s, start, s.len(), b' ');
+    let end = octets::find(s, start, b' ');
     Word { start, end }
 }
 
@@ -212,7 +213,7 @@ fn octet_at(s: &[u8], from: usize) -> OctetAt
     requires { from ≤ length s.now }
     ensures { NextOctet s.now from result }
 {
-    let end = bytes::scan::find(s, from, s.len(), b'.');
+    let end = octets::find(s, from, b'.');
     let octet = read_octet(&s[from..end]);
     OctetAt { octet, end }
 }
@@ -247,7 +248,7 @@ pub fn read_network(s: &[u8]) -> Number
 pub fn read_prefix(s: &[u8]) -> PrefixWord
     ensures { result ≡ prefix_of s.now }
 {
-    let at = bytes::scan::find(s, 0, s.len(), b'/');
+    let at = octets::find(s, 0, b'/');
     if at == s.len() {
         return PrefixWord::Bad;
     }

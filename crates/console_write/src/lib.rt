@@ -1,4 +1,5 @@
 // The words of `write`, which are those that `read` prints: a list of suboptions or an address, and the option that they make.
+#![tactic(auto)]
 ghost use Rattle.std.specs.Prelude.{◌≡◌, ◌+◌, ◌≤◌, ◌<◌, length};
 ghost use Rattle.option.specs.Selection.{write_selection};
 ghost use Rattle.option.specs.Writer.{write_option};
@@ -21,7 +22,7 @@ const ENTRIES: usize = 64;
 const OCTETS: usize = 256;
 
 // A suboption or an entry, and the place behind its words; the octets of a name stand in the line.
-#[derive(Drop)]
+#[derive(Clone, Copy)]
 enum Piece {
     Request(RequestItem, usize),
     Information(bool, bool, usize),
@@ -33,7 +34,7 @@ enum Piece {
 }
 
 // The figures that a word spells.
-#[derive(Drop)]
+#[derive(Clone, Copy)]
 pub enum FiguresWord {
     Of(Figures),
     Bad,
@@ -58,7 +59,7 @@ struct Listing {
 }
 
 // What a line comes to: words that are not these, or an answer.
-#[derive(Drop)]
+#[derive(Clone, Copy)]
 pub enum Outcome {
     Bad,
     Of(Answer),
@@ -97,7 +98,7 @@ pub fn read_figures(s: &[u8]) -> FiguresWord {
     let mut n: usize = 0;
     let mut at: usize = 0;
     while n < 4 {
-        let end = bytes::scan::find(s, at, s.len(), b',');
+        let end = octets::find(s, at, b',');
         let Number::Of(x) = read_figure(&s[at..end]) else {
             return FiguresWord::Bad;
         };
@@ -119,7 +120,7 @@ pub fn read_figures(s: &[u8]) -> FiguresWord {
 // PIECES
 
 // The suboption, or the entry, that a word begins.
-#[derive(Drop)]
+#[derive(Clone, Copy)]
 pub enum ItemWord {
     Request,
     Information,

@@ -1,4 +1,5 @@
 // Usage figures: a row of the figures sheet, and what is told in it.
+#![tactic(auto)]
 ghost use Rattle.std.specs.Prelude.{◌≡◌};
 ghost use Rattle.table.specs.declared.Lease.{Lease};
 ghost use Rattle.figures.specs.Figures.{
@@ -16,7 +17,7 @@ ghost use Rattle.figures.specs.Figures.{
 use option_entry::{Figures, HighWater, InUse, Unusable};
 
 // The row of a lease. A figure of which nothing was told is UNTOLD.
-#[derive(Drop)]
+#[derive(Clone, Copy)]
 pub struct FigureRow {
     pub network: u32,
     pub length: u8,

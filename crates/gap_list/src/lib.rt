@@ -1,4 +1,5 @@
 // Free space as a list of gaps in two lent columns: the first address of each gap and its last one, ascending. An ask looks at the gaps alone.
+#![tactic(auto)]
 ghost use Rattle.std.specs.Prelude.{◌≡◌, false, ◌++◌, ◌+◌, ◌-◌, ◌≤◌, ◌<◌, length as length_of, take};
 ghost use Rattle.std.specs.Int.Bits.{bit_or};
 ghost use Rattle.prefix.specs.Prefixes.{prefix};
@@ -20,7 +21,7 @@ pub fn push(starts: &mut [u32], lasts: &mut [u32], n: usize, from: u64, to: u64)
 }
 
 // A whole free prefix, by its network and its size.
-#[derive(Drop)]
+#[derive(Clone, Copy)]
 pub struct Best {
     pub network: u64,
     pub size: u64,
@@ -84,7 +85,7 @@ fn at_end(low: u64, high: u64, ends: u64) -> Best
 }
 
 // What a search answers: whether there is a fit, the gap that it lies in, and its network.
-#[derive(Drop)]
+#[derive(Clone, Copy)]
 pub struct Choice {
     pub found: bool,
     pub index: usize,

@@ -1,4 +1,5 @@
 // The image of a lease table (document 01: the saved book) in its two forms: how long its records are, and their fields.
+#![tactic(auto)]
 ghost use Rattle.std.specs.Prelude.{◌≡◌, ◌+◌, ◌≤◌, ◌<◌, length, drop, get_or};
 ghost use Rattle.lists.specs.Lists.{and};
 ghost use Rattle.image.specs.Fields.{number32};
@@ -57,14 +58,14 @@ pub const NAME_LENGTH: usize = 19;
 pub const NAME: usize = 20;
 
 // The two saved forms. The calls work on the second; the first, which has no names, is loaded and saved only.
-#[derive(Drop)]
+#[derive(Clone, Copy)]
 pub enum Form {
     First,
     Second,
 }
 
 // The fields of a table's head.
-#[derive(Drop)]
+#[derive(Clone, Copy)]
 pub struct Head {
     pub term: u32,
     pub default_length: u8,

@@ -1,4 +1,5 @@
 // Whether bytes are the image of a sound table, in one pass over the bytes: no table is made.
+#![tactic(auto)]
 ghost use Rattle.std.specs.Prelude.{◌≡◌, cond, ℕ, ◌+◌, ◌*◌, ◌/◌, ◌≤◌, ◌<◌, length, drop};
 ghost use Rattle.std.proofs.Math.Option.{some};
 ghost use Rattle.image.specs.declared.Head.{Head};
@@ -15,7 +16,7 @@ use table::{LEASES, POOLS, Pool};
 
 // The head of the table that bytes are the image of, and how many pools, leases and expired leases it has; all of it 0
 // where they are no image of a sound table.
-#[derive(Drop)]
+#[derive(Clone, Copy)]
 pub struct ImageSummary {
     pub sound: bool,
     pub term: u32,
@@ -109,7 +110,7 @@ pub fn pool(s: &[u8], k: usize) -> Prefix
 // LEASES
 
 // A lease record that is as a sound table has it, wherever the lease lies.
-#[derive(Drop)]
+#[derive(Clone, Copy)]
 enum Fit {
     Lease {
         network: u32,
@@ -182,7 +183,7 @@ fn due(expires: u32, time: u32) -> usize
 }
 
 // How far a pass over the leases has come, and how many of those behind it have expired.
-#[derive(Drop)]
+#[derive(Clone, Copy)]
 struct Pass {
     at: usize,
     expired: usize,

@@ -1,4 +1,5 @@
 // The two saved forms: an image of the first widened to the second, and one narrowed to the first, in lent buffers.
+#![tactic(auto)]
 ghost use Rattle.std.specs.Prelude.{◌≡◌, true, not, List, ◌++◌, ℕ, ◌+◌, ◌*◌, ◌≤◌, length, take, drop};
 ghost use Rattle.lists.specs.Lists.{any?};
 ghost use Rattle.lists.specs.Put.{put};
@@ -113,7 +114,7 @@ fn put_front(form: Form, s: &[u8], n: usize, out: &mut [u8])
     requires { (head_size ≤ n) × (n ≤ length s.now) × (n ≤ length out.old) }
     ensures { out.new ≡ put out.old 0 (front_as form n s.now) }
 {
-    bytes::copy(&s[..n], out);
+    octets::copy(&s[..n], out);
     image_records::put32(out, 0, image::head_start(form));
 }
 

@@ -1,4 +1,5 @@
 // Records in a lent buffer: writing one, and leases that stand as records one after another.
+#![tactic(auto)]
 ghost use Rattle.std.specs.Prelude.{◌≡◌, List, ◌∷◌, ◌++◌, ◌+◌, ◌-◌, ◌*◌, ◌≤◌, ◌<◌, length, take, drop, replicate, leb};
 ghost use Rattle.lists.specs.Lists.{filter, concat_map};
 ghost use Rattle.lists.specs.Put.{put};
@@ -98,8 +99,8 @@ pub fn copy(from: &[u8], to: &mut [u8]) -> usize
     ensures to_after { to.new ≡ from.now ++ drop (length from.now) to.old }
 {
     let mut array = [0u8; FULL_IMAGE];
-    let n = bytes::copy(from, &mut array);
-    bytes::copy(&array[..n], to)
+    let n = octets::copy(from, &mut array);
+    octets::copy(&array[..n], to)
 }
 
 // LEASES IN PLACE

@@ -1,1 +1,2 @@
 // No code: the crate is its definitions (specs/) and their laws (proofs/).
+#![tactic(auto)]

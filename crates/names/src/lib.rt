@@ -1,4 +1,5 @@
 // A lease's name (document 02, M-105): 0 to 24 octets, the last not zero.
+#![tactic(auto)]
 ghost use Rattle.std.specs.Prelude.{◌≡◌, ◌+◌, ◌≤◌, ◌<◌, length, take, drop};
 ghost use Rattle.lists.specs.Put.{put};
 ghost use Rattle.names.specs.Names.{no_name, longest_name, name_octets, name_length, name_in, name_of, octets, spells};
@@ -8,7 +9,7 @@ ghost use Rattle.names.specs.Inner.{word_length};
 pub const LONGEST: usize = 24;
 
 // The octets eight to a word, low octet first, and zero after the name: so a name is read, compared, moved and measured as three words.
-#[derive(Drop)]
+#[derive(Clone, Copy)]
 pub struct Name {
     pub first: u64,
     pub second: u64,
@@ -114,7 +115,7 @@ pub fn name_in(s: &[u8], at: usize, n: usize) -> Name
 {
     let mut array = [0u8; LONGEST];
     let end = at + n;
-    bytes::copy(&s[at..end], &mut array);
+    octets::copy(&s[at..end], &mut array);
     name_at(&array, 0)
 }
 

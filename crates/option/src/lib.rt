@@ -1,4 +1,5 @@
 // Options 220 (RFC 6656) and 118 (RFC 3011), read from bytes.
+#![tactic(auto)]
 ghost use Rattle.std.specs.Prelude.{◌≡◌, true, ◌&&◌, ◌+◌, ◌≤◌, ◌<◌, length, set};
 ghost use Rattle.option.specs.Values.{longest_option};
 ghost use Rattle.option.specs.Reading.{
@@ -38,7 +39,7 @@ pub const MOST_REQUESTS: usize = 25;
 pub const MOST_ENTRIES: usize = 35;
 
 // In each of these `at` is the place of the suboption's number byte.
-#[derive(Drop)]
+#[derive(Clone, Copy)]
 pub struct RequestFields {
     pub h: bool,
     pub i: bool,
@@ -47,7 +48,7 @@ pub struct RequestFields {
 }
 
 // Of the entries: where they stand, how many they are, and the network of the last one.
-#[derive(Drop)]
+#[derive(Clone, Copy)]
 pub struct InformationFields {
     pub c: bool,
     pub s: bool,
@@ -58,20 +59,20 @@ pub struct InformationFields {
 }
 
 // The octets stand from `start` to `end`.
-#[derive(Drop)]
+#[derive(Clone, Copy)]
 pub struct NameFields {
     pub at: usize,
     pub start: usize,
     pub end: usize,
 }
 
-#[derive(Drop)]
+#[derive(Clone, Copy)]
 pub struct UnknownFields {
     pub at: usize,
     pub end: usize,
 }
 
-#[derive(Drop)]
+#[derive(Clone, Copy)]
 pub enum Suboption {
     Request(RequestFields),
     Information(InformationFields),
@@ -80,20 +81,20 @@ pub enum Suboption {
 }
 
 // A place of the option at which a suboption begins.
-#[derive(Drop)]
+#[derive(Clone, Copy)]
 pub struct Cursor {
     pub at: usize,
 }
 
 // What is wrong with a suboption: its framing (refusal 7), or a field of one that is framed (refusal 16).
-#[derive(Drop)]
+#[derive(Clone, Copy)]
 pub enum Fault {
     Framing,
     Field,
 }
 
 // What stands at a cursor.
-#[derive(Drop)]
+#[derive(Clone, Copy)]
 pub enum Step {
     Piece(Suboption, Cursor),
     // A bad suboption, with the place of its number byte.
@@ -102,7 +103,7 @@ pub enum Step {
 }
 
 // The check of a whole option: good, refusal 6, or refusal 7 or 16 with its place.
-#[derive(Drop)]
+#[derive(Clone, Copy)]
 pub enum Checked {
     Good,
     NotTheOption,
@@ -110,14 +111,14 @@ pub enum Checked {
 }
 
 // What option 118 reads as: its address, or refusal 6.
-#[derive(Drop)]
+#[derive(Clone, Copy)]
 pub enum Selection {
     Address(u32),
     NotTheOption,
 }
 
 // The body of a suboption. A bad one has no place here: one that each reader wrote would keep the answer out of registers.
-#[derive(Drop)]
+#[derive(Clone, Copy)]
 enum Body {
     Good(Suboption),
     BadFraming,
@@ -126,7 +127,7 @@ enum Body {
 
 // What one pass over the entries of an information finds: whether all are framed, and whether the fields of all keep the rules;
 // how many there are, and the network of the last one.
-#[derive(Drop)]
+#[derive(Clone, Copy)]
 struct Scan {
     framed: bool,
     fields: bool,

@@ -1,20 +1,21 @@
 // An entry of an information of option 220 (RFC 6656, section 3.2.1), read from bytes.
+#![tactic(auto)]
 ghost use Rattle.std.specs.Prelude.{◌≡◌, ◌+◌, ◌≤◌, ◌<◌, length};
 ghost use Rattle.option_entry.specs.Entries.{two, four, figures_at, read_entry};
 ghost use Rattle.option_entry.specs.Steps.{figures_of, entry_step_of};
 
 // A type for each figure, so that one is never taken for another.
-#[derive(Drop)]
+#[derive(Clone, Copy)]
 pub struct HighWater(pub u16);
 
-#[derive(Drop)]
+#[derive(Clone, Copy)]
 pub struct InUse(pub u16);
 
-#[derive(Drop)]
+#[derive(Clone, Copy)]
 pub struct Unusable(pub u16);
 
 // The figures of an entry: `count` of them, at most three.
-#[derive(Drop)]
+#[derive(Clone, Copy)]
 pub struct Figures {
     pub count: usize,
     pub high_water: HighWater,
@@ -22,7 +23,7 @@ pub struct Figures {
     pub unusable: Unusable,
 }
 
-#[derive(Drop)]
+#[derive(Clone, Copy)]
 pub struct EntryFields {
     pub network: u32,
     pub length: u8,
@@ -32,14 +33,14 @@ pub struct EntryFields {
 }
 
 // The entries of an information that are still to be read: from `at` to `end`.
-#[derive(Drop)]
+#[derive(Clone, Copy)]
 pub struct EntryCursor {
     pub at: usize,
     pub end: usize,
 }
 
 // What stands at an entry cursor.
-#[derive(Drop)]
+#[derive(Clone, Copy)]
 pub enum EntryStep {
     Entry(EntryFields, EntryCursor),
     // An entry that runs past the information, or has an odd stat-len.

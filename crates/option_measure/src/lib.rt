@@ -1,4 +1,5 @@
 // A list of suboptions as the writer is given it, and how long it is when written, if it can be.
+#![tactic(auto)]
 ghost use Rattle.std.specs.Prelude.{◌≡◌, map, ◌+◌, ◌≤◌};
 ghost use Rattle.option.specs.Values.{request};
 ghost use Rattle.option.specs.Writing.{entry_bytes};
@@ -32,12 +33,12 @@ pub struct SuboptionList {
     pub octets: [u8; OCTET_SLOTS],
 }
 
-#[derive(Drop)]
+#[derive(Clone, Copy)]
 pub struct Slot {
     pub item: Item,
 }
 
-#[derive(Drop)]
+#[derive(Clone, Copy)]
 pub enum Item {
     Request(RequestItem),
     Information(InformationItem),
@@ -45,7 +46,7 @@ pub enum Item {
     Unknown,
 }
 
-#[derive(Drop)]
+#[derive(Clone, Copy)]
 pub struct RequestItem {
     pub h: bool,
     pub i: bool,
@@ -53,7 +54,7 @@ pub struct RequestItem {
 }
 
 // `count` entries, from index `first` of the list's entries on.
-#[derive(Drop)]
+#[derive(Clone, Copy)]
 pub struct InformationItem {
     pub c: bool,
     pub s: bool,
@@ -62,14 +63,14 @@ pub struct InformationItem {
 }
 
 // `count` octets, from index `first` of the list's octets on.
-#[derive(Drop)]
+#[derive(Clone, Copy)]
 pub struct NameItem {
     pub first: usize,
     pub count: usize,
 }
 
 // The length of what is to be written, or that it cannot be.
-#[derive(Drop)]
+#[derive(Clone, Copy)]
 pub enum Measured {
     Bytes(usize),
     Outside,

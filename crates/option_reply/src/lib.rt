@@ -1,4 +1,5 @@
 // The pieces that option 220 (RFC 6656) is made of, the reply of take and list, and option 118 (RFC 3011), written into a buffer.
+#![tactic(auto)]
 ghost use Rattle.std.specs.Prelude.{◌≡◌, ◌+◌, ◌*◌, ◌≤◌, ◌<◌, length};
 ghost use Rattle.lists.specs.Put.{put};
 ghost use Rattle.option.specs.Writing.{
@@ -16,7 +17,7 @@ pub use option::{MOST_ENTRIES, store};
 use table::Lease;
 
 // The number of bytes written, refusal 13, or refusal 14.
-#[derive(Drop)]
+#[derive(Clone, Copy)]
 pub enum Written {
     Bytes(usize),
     OutsideRules,

@@ -1,4 +1,5 @@
 // What the calls look at in an option 220, checked and read in one pass over its bytes into lent columns.
+#![tactic(auto)]
 ghost use Rattle.std.specs.Prelude.{◌≡◌, true, ◌+◌, ◌≤◌, ◌<◌, length};
 ghost use Rattle.option.specs.Values.{longest_option};
 ghost use Rattle.option.specs.Reading.{option?};
@@ -18,7 +19,7 @@ ghost use Rattle.option_scan.specs.Inner.{
 use option::{Checked, Cursor, InformationFields, NameFields, RequestFields, Step, Suboption};
 pub use option::{MOST_ENTRIES, MOST_REQUESTS};
 
-#[derive(Drop)]
+#[derive(Clone, Copy)]
 pub struct Contents {
     pub checked: Checked,
     // How many requests there are, and how many of them have i.
@@ -35,7 +36,7 @@ pub struct Contents {
 }
 
 // What is counted so far. Words with no gap between them, so that a copy is a copy of registers.
-#[derive(Drop)]
+#[derive(Clone, Copy)]
 struct Tally {
     requests: usize,
     listing: usize,

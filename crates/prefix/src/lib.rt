@@ -1,4 +1,5 @@
 // Address prefixes (document 01: a block). Every size and every end comes from `size`.
+#![tactic(auto)]
 ghost use Rattle.std.specs.Prelude.{◌≡◌, ◌+◌, ◌%◌, ◌≤◌, ◌<◌};
 ghost use Rattle.prefix.specs.Prefixes.{
   size as size_of,
@@ -32,14 +33,14 @@ pub fn offset(address: u64, length: u8) -> u64
     address & (size(length) - 1)
 }
 
-#[derive(Drop)]
+#[derive(Clone, Copy)]
 pub struct Prefix {
     pub network: u32,
     pub length: u8,
 }
 
 // What the constructor answers.
-#[derive(Drop)]
+#[derive(Clone, Copy)]
 pub enum Checked {
     Good(Prefix),
     BadLength,

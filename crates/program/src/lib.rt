@@ -1,5 +1,6 @@
 // What the programs have in common: what their command line asks for, the input that it names, and what they say on standard error. A program of this language has no
 // exit status, so that standard error is where a failure shows.
+#![tactic(auto)]
 ghost use Rattle.std.specs.Prelude.{length};
 ghost use Rattle.program.specs.Inputs.{Within};
 
@@ -7,21 +8,21 @@ ghost use Rattle.program.specs.Inputs.{Within};
 const VERSION: [u8; 18] = *b"flockdrift 0.16.0\n";
 
 // How a program is to run: whether commands are echoed, and the number of the argument that names its input; 0 where none does.
-#[derive(Drop)]
+#[derive(Clone, Copy)]
 pub struct Options {
     pub echo: bool,
     pub file: usize,
 }
 
 // What the command line asks for. Where it is no command line, or asks for a text only, all is done.
-#[derive(Drop)]
+#[derive(Clone, Copy)]
 pub enum Request {
     Run(Options),
     Done,
 }
 
 // What an argument is.
-#[derive(Drop)]
+#[derive(Clone, Copy)]
 enum Argument {
     File,
     Echo,
@@ -31,7 +32,7 @@ enum Argument {
 }
 
 // What was read of an input: how many bytes, or that it cannot be read.
-#[derive(Drop)]
+#[derive(Clone, Copy)]
 pub enum Input {
     Bytes(usize),
     Unreadable,
@@ -41,7 +42,7 @@ pub enum Input {
 
 // Says that an argument is none, and how the program is called: the first line of its help.
 fn complain(name: &[u8], what: &[u8], word: &[u8], help: &[u8]) {
-    let end = bytes::scan::find(help, 0, help.len(), b'\n');
+    let end = octets::find(help, 0, b'\n');
     io::write_all(2, name);
     io::write_all(2, what);
     io::write_all(2, word);

@@ -1,4 +1,5 @@
 // Prints the sheet of the saved image that its argument names, or of the one on standard input, or `refused 5`.
+#![tactic(auto)]
 use image::FULL_IMAGE;
 use program::{Input, Request};
 use sheet_text::SheetAnswer;

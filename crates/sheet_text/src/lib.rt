@@ -1,4 +1,5 @@
 // The sheet of an image's lease table, as text into a lent buffer. The leases are read where they stand in the image.
+#![tactic(auto)]
 ghost use Rattle.std.specs.Prelude.{◌≡◌, ◌+◌, ◌-◌, ◌*◌, ◌≤◌, ◌<◌, length, ltb};
 ghost use Rattle.prefix.specs.Prefixes.{longest, end};
 ghost use Rattle.table.specs.Table.{lease_slots};
@@ -94,7 +95,7 @@ pub fn buffer() -> [u8; SHEET]
     [0; SHEET]
 }
 
-#[derive(Drop)]
+#[derive(Clone, Copy)]
 pub enum SheetAnswer {
     Written(usize),
     NotSound,
@@ -117,7 +118,7 @@ fn put_prefix(out: &mut [u8], at: usize, p: Prefix) -> usize
 }
 
 // What a row shows of a lease.
-#[derive(Drop)]
+#[derive(Clone, Copy)]
 pub struct Used {
     pub network: u32,
     pub length: u8,

@@ -1,4 +1,5 @@
 // Text into a lent buffer, from a place on: each function answers the place after what it wrote, and leaves all other bytes.
+#![tactic(auto)]
 ghost use Rattle.std.specs.Prelude.{◌∷◌, ◌+◌, ◌≤◌, length};
 ghost use Rattle.text.specs.Decimal.{decimal as decimal_of};
 ghost use Rattle.text.specs.Wrote.{Width, Wrote, RoomFor, WroteNumber};
@@ -7,7 +8,7 @@ pub fn put(out: &mut [u8], at: usize, s: &[u8]) -> usize
     requires { at + length s.now ≤ length out.old }
     ensures { Wrote out.old at s.now out.new result }
 {
-    at + bytes::copy(s, &mut out[at..])
+    at + octets::copy(s, &mut out[at..])
 }
 
 // How many digits a number has.
