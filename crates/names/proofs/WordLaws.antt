@@ -67,8 +67,8 @@ drop-zeros zero k = let all : k - 0 ≡ k = omega arith in ap (λ (j : ℕ). rep
 drop-zeros (suc m) zero = let none : 0 - suc m ≡ 0 = omega arith in ap (λ (j : ℕ). replicate j 0) (sym none)
 drop-zeros (suc m) (suc k) = let fewer : suc k - suc m ≡ k - m = omega arith in drop-zeros m k ∙ ap (λ (j : ℕ). replicate j 0) (sym fewer)
 
-pub copied-name : (xs l : List ℕ) → l ≡ take (length xs) xs ++ drop (length xs) (replicate {A = ℕ} 24 0) → name_in l ≡ name_of xs
-copied-name xs l e = ap name_in (e ∙ ap₂ (λ (p q : List ℕ). p ++ q) (take-length xs) (drop-zeros (length xs) 24))
+pub copied-name : (xs l : List ℕ) → l ≡ xs ++ drop (length xs) (replicate {A = ℕ} 24 0) → name_in l ≡ name_of xs
+copied-name xs l e = ap name_in (e ∙ ap (λ (q : List ℕ). xs ++ q) (drop-zeros (length xs) 24))
 
 -- HOW MANY OCTETS A WORD HAS
 

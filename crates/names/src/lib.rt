@@ -1,5 +1,6 @@
 // A lease's name (document 02, M-105): 0 to 24 octets, the last not zero.
 #![tactic(auto)]
+
 ghost use Rattle.std.specs.Prelude.{◌≡◌, ◌+◌, ◌≤◌, ◌<◌, length, take, drop};
 ghost use Rattle.lists.specs.Put.{put};
 ghost use Rattle.names.specs.Names.{no_name, longest_name, name_octets, name_length, name_in, name_of, octets, spells};

@@ -1,5 +1,6 @@
 // An entry of an information of option 220 (RFC 6656, section 3.2.1), read from bytes.
 #![tactic(auto)]
+
 ghost use Rattle.std.specs.Prelude.{◌≡◌, ◌+◌, ◌≤◌, ◌<◌, length};
 ghost use Rattle.option_entry.specs.Entries.{two, four, figures_at, read_entry};
 ghost use Rattle.option_entry.specs.Steps.{figures_of, entry_step_of};

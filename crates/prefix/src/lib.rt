@@ -1,5 +1,6 @@
 // Address prefixes (document 01: a block). Every size and every end comes from `size`.
 #![tactic(auto)]
+
 ghost use Rattle.std.specs.Prelude.{◌≡◌, ◌+◌, ◌%◌, ◌≤◌, ◌<◌};
 ghost use Rattle.prefix.specs.Prefixes.{
   size as size_of,

@@ -35,12 +35,12 @@ pub wrote_one : (l : List ℕ) (at x : ℕ) → Wrote l at (x ∷ []) (set l at 
 wrote_one l at x = record { bytes = sym (put_one l at x); place = refl }
 
 -- A text copied into the part of a buffer from a place on.
-pub wrote-part : (l s part : List ℕ) (at n : ℕ) → n ≡ length s → at + length s ≤ length l → part ≡ take (length s) s ++ drop (length s) (mid_of at (length l - at) l)
+pub wrote-part : (l s part : List ℕ) (at n : ℕ) → n ≡ length s → at + length s ≤ length l → part ≡ s ++ drop (length s) (mid_of at (length l - at) l)
     → Wrote l at s (put_mid at (length l - at) l part) (at + n)
 wrote-part l s part at n en h e =
     let left : ℕ = length l - at in
     let rest : length (drop at l) ≤ left = omega (arith, length-drop at l) in
-    let copied : part ≡ s ++ drop (length s) (drop at l) = e ∙ ap₂ (λ (a b : List ℕ). a ++ drop (length s) b) (take_all (length s) s (omega arith)) (take_all left (drop at l) rest) in
+    let copied : part ≡ s ++ drop (length s) (drop at l) = e ∙ ap (λ (b : List ℕ). s ++ drop (length s) b) (take_all left (drop at l) rest) in
     let after : drop (length s) (drop at l) ≡ drop (at + length s) l = drop-drop (length s) at l in
     record {
       bytes =

@@ -1,5 +1,6 @@
 // Text into a lent buffer, from a place on: each function answers the place after what it wrote, and leaves all other bytes.
 #![tactic(auto)]
+
 ghost use Rattle.std.specs.Prelude.{◌∷◌, ◌+◌, ◌≤◌, length};
 ghost use Rattle.text.specs.Decimal.{decimal as decimal_of};
 ghost use Rattle.text.specs.Wrote.{Width, Wrote, RoomFor, WroteNumber};
