@@ -1,5 +1,6 @@
 // Options 220 (RFC 6656) and 118 (RFC 3011), read from bytes.
 #![tactic(auto)]
+
 ghost use Rattle.std.specs.Prelude.{◌≡◌, true, ◌&&◌, ◌+◌, ◌≤◌, ◌<◌, length, set};
 ghost use Rattle.option.specs.Values.{longest_option};
 ghost use Rattle.option.specs.Reading.{
