@@ -90,6 +90,7 @@ module _ (ground leases : List Prefix) (lengths : All (λ p. Length p.length) gr
 
 -- What is inside one of some pools, no two of which share an address, is inside or apart from each.
 in-or-out-each : (pools : List Prefix) (x : Prefix) → Pairwise Apart pools → Any (Inside x) pools → All (λ p. Inside x p ⊎ Apart x p) pools
+in-or-out-each [] x d i = elim i [ ]
 in-or-out-each (p ∷ ps) x d (inl i) = (inl i, all_map (λ q a. inr (apart-sub x p q i a)) ps d.0)
 in-or-out-each (p ∷ ps) x d (inr i) =
     let t = any-all ps i d.0 in
