@@ -1,5 +1,6 @@
 // The pieces that option 220 (RFC 6656) is made of, the reply of take and list, and option 118 (RFC 3011), written into a buffer.
 #![tactic(auto)]
+
 ghost use Rattle.std.specs.Prelude.{◌≡◌, ◌+◌, ◌*◌, ◌≤◌, ◌<◌, length};
 ghost use Rattle.lists.specs.Put.{put};
 ghost use Rattle.option.specs.Writing.{

@@ -1,5 +1,6 @@
 // What the calls look at in an option 220, checked and read in one pass over its bytes into lent columns.
 #![tactic(auto)]
+
 ghost use Rattle.std.specs.Prelude.{◌≡◌, true, ◌+◌, ◌≤◌, ◌<◌, length};
 ghost use Rattle.option.specs.Values.{longest_option};
 ghost use Rattle.option.specs.Reading.{option?};
