@@ -53,10 +53,10 @@ pub shape_of-h-in-Bad : goal.shape_of-h-in-Bad
 shape_of-h-in-Bad c = column-long _ _ _ _ c.loop-x.invariant.asked_h
 
 pub shape_of-networks-in-Bad : goal.shape_of-networks-in-Bad
-shape_of-networks-in-Bad c = c.step_into.auto.lengths.1.1.0 ∙ column-long _ _ _ _ c.loop-x.invariant.networks
+shape_of-networks-in-Bad c = c.step_into.auto.networks ∙ column-long _ _ _ _ c.loop-x.invariant.networks
 
 pub shape_of-lengths-in-Bad : goal.shape_of-lengths-in-Bad
-shape_of-lengths-in-Bad c = c.step_into.auto.lengths.1.1.1.0 ∙ column-long _ _ _ _ c.loop-x.invariant.lengths
+shape_of-lengths-in-Bad c = c.step_into.auto.lengths ∙ column-long _ _ _ _ c.loop-x.invariant.lengths
 
 pub returns-in-Bad : goal.returns-in-Bad
 returns-in-Bad c = reading-bad _ _ _ _ _ c.loop-x.invariant c.requires.0 _ _ _ (told-bad _ _ _ _ (sym c.in-Bad.is ∙ c.step_into.ensures.value)) c.contents_of.ensures _
@@ -68,10 +68,10 @@ pub shape_of-h-in-End : goal.shape_of-h-in-End
 shape_of-h-in-End c = column-long _ _ _ _ c.loop-x.invariant.asked_h
 
 pub shape_of-networks-in-End : goal.shape_of-networks-in-End
-shape_of-networks-in-End c = c.step_into.auto.lengths.1.1.0 ∙ column-long _ _ _ _ c.loop-x.invariant.networks
+shape_of-networks-in-End c = c.step_into.auto.networks ∙ column-long _ _ _ _ c.loop-x.invariant.networks
 
 pub shape_of-lengths-in-End : goal.shape_of-lengths-in-End
-shape_of-lengths-in-End c = c.step_into.auto.lengths.1.1.1.0 ∙ column-long _ _ _ _ c.loop-x.invariant.lengths
+shape_of-lengths-in-End c = c.step_into.auto.lengths ∙ column-long _ _ _ _ c.loop-x.invariant.lengths
 
 pub returns-in-End : goal.returns-in-End
 returns-in-End c =
