@@ -1,5 +1,6 @@
 // Usage figures: a row of the figures sheet, and what is told in it.
 #![tactic(auto)]
+
 ghost use Rattle.std.specs.Prelude.{◌≡◌};
 ghost use Rattle.table.specs.declared.Lease.{Lease};
 ghost use Rattle.figures.specs.Figures.{
