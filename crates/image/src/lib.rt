@@ -1,5 +1,6 @@
 // The image of a lease table (document 01: the saved book) in its two forms: how long its records are, and their fields.
 #![tactic(auto)]
+
 ghost use Rattle.std.specs.Prelude.{◌≡◌, ◌+◌, ◌≤◌, ◌<◌, length, drop, get_or};
 ghost use Rattle.lists.specs.Lists.{and};
 ghost use Rattle.image.specs.Fields.{number32};

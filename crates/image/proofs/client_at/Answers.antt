@@ -1,0 +1,7 @@
+-- `image::client_at` meets its contract.
+use mathlib.Core.Path.{◌∙◌}
+use Rattle.image.proofs.FieldLaws.{number-from}
+use Rattle.image.proofs.client_at.Goals as goal
+
+pub returns : goal.returns
+returns c = let a = c.args in c.read32.ensures ∙ number-from a.image.now a.at 11

@@ -1,0 +1,12 @@
+-- `image::lease_start` meets its contract.
+use mathlib.Core.Path.{sym, ap}
+use Rattle.image.specs.declared.Form.{Form}
+use Rattle.image.specs.Image.{lease_size_in, lease_kind}
+use Rattle.image.specs.Reading.{start_of}
+use Rattle.image.proofs.lease_start.Goals as goal
+
+pub returns-in-First : goal.returns-in-First
+returns-in-First c = sym (ap (λ (f : Form). start_of (lease_size_in f) (lease_kind f)) c.in-First.is)
+
+pub returns-in-Second : goal.returns-in-Second
+returns-in-Second c = sym (ap (λ (f : Form). start_of (lease_size_in f) (lease_kind f)) c.in-Second.is)
