@@ -1,5 +1,6 @@
 // How much is left: the counts of whole free blocks, eight rows of twenty-three, compared and summed.
 #![tactic(auto)]
+
 ghost use Rattle.std.specs.Prelude.{◌≡◌, ◌*◌, ◌≤◌};
 ghost use Rattle.counts.specs.Counts.{counted_lengths, same_row?, same_counts?, sum_at, row_total, total};
 ghost use Rattle.counts.specs.InnerLevels.{common_bits};
