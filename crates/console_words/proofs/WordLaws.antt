@@ -6,11 +6,11 @@ use mathlib.Core.Path.{◌≡◌, refl, sym, ap, ◌∙◌}
 use mathlib.Core.Bool.{Bool, true, false, cond}
 use mathlib.Core.List.{List, [], ◌∷◌}
 use lib.ListN.{length, take, drop, get_or, length-drop}
-use lib.Seq.{take-length, drop-drop, length-take-le, get_or-take, get_or-drop}
+use lib.Seq.{drop-drop, length-take-le, get_or-take, get_or-drop}
 use native.Mathlib.Nat.{add-zero}
 use lib.Dec.{eqb, ltb}
 use borrow.Author.Tests.{eq-eqb, ne_eqb, ltb-true, ltb-false}
-use Rattle.bytes.specs.Bytes.{index_of, slice}
+use Rattle.octets.specs.Seeking.{index_of}
 use Rattle.lists.proofs.DropLaws.{drop_at, drop-end}
 use Rattle.console_words.specs.Words.{up_to, from_on, skip_spaces, empty?, between, NextWord}
 
@@ -27,11 +27,7 @@ unfolding skip_spaces
 skip-end s i past = drop-end s i past ∙ sym (ap skip_spaces (drop-end s i past))
 
 -- Where the first b stands, from a place on.
-module _ (s : List ℕ) (from b r : ℕ) (h : r ≡ from + index_of b (slice from (length s) s)) where
-  place : r ≡ from + index_of b (drop from s)
-  unfolding slice
-  place = h ∙ ap (λ (l : List ℕ). from + index_of b (drop from l)) (take-length s)
-
+module _ (s : List ℕ) (from b r : ℕ) (place : r ≡ from + index_of b (drop from s)) where
   pub found_before : between from r s ≡ up_to b (drop from s)
   unfolding up_to
   found_before = let e : r - from ≡ index_of b (drop from s) = omega (arith, place) in ap (λ (k : ℕ). take k (drop from s)) e
@@ -40,7 +36,7 @@ module _ (s : List ℕ) (from b r : ℕ) (h : r ≡ from + index_of b (slice fro
   unfolding from_on
   found-rest = ap (λ (k : ℕ). drop k s) place ∙ sym (drop-drop (index_of b (drop from s)) from s)
 
-pub word_at : (s : List ℕ) (from start end : ℕ) → from ≤ start → drop start s ≡ skip_spaces (drop from s) → end ≡ start + index_of 32 (slice start (length s) s) → end ≤ length s → NextWord s from (record { start = start; end = end })
+pub word_at : (s : List ℕ) (from start end : ℕ) → from ≤ start → drop start s ≡ skip_spaces (drop from s) → end ≡ start + index_of 32 (drop start s) → end ≤ length s → NextWord s from (record { start = start; end = end })
 word_at s from start end later skipped found inside =
     record {
       later = later;

@@ -1,6 +1,6 @@
 -- The words of a line: "Words are separated by one or more spaces."
 use Rattle.std.specs.Prelude.{ℕ, ◌-◌, ◌≤◌, ◌≡◌, Bool, true, false, cond, List, [], ◌∷◌, length, take, drop, eqb}
-use Rattle.bytes.specs.Bytes.{index_of}
+use Rattle.octets.specs.Seeking.{index_of}
 use Rattle.console_words.specs.declared.Word.{Word}
 
 -- What stands before the first b, and from there on: nothing, where there is none.

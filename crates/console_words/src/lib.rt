@@ -1,5 +1,6 @@
 // The words of a line, and the numbers, prefixes and octets that words spell.
 #![tactic(auto)]
+
 ghost use Rattle.std.specs.Prelude.{◌≡◌, false, ◌≤◌, ◌<◌, ◌/◌, ◌%◌, length, drop};
 ghost use Rattle.console_words.specs.Words.{skip_spaces, NextWord, between, last?};
 ghost use Rattle.console_words.specs.Numbers.{number_of, octet_of, flag_of, NextNumber};

@@ -1,5 +1,6 @@
 // A list of suboptions as the writer is given it, and how long it is when written, if it can be.
 #![tactic(auto)]
+
 ghost use Rattle.std.specs.Prelude.{◌≡◌, map, ◌+◌, ◌≤◌};
 ghost use Rattle.option.specs.Values.{request};
 ghost use Rattle.option.specs.Writing.{entry_bytes};

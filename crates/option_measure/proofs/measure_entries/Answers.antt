@@ -17,13 +17,13 @@ pub returns-then-figures-gt3 : goal.returns-then-figures-gt3
 returns-then-figures-gt3 c =
     let a = c.args in
     let l = c.loop-i.invariant in
-    (sym (l.2 ∙ entries-many a.t1 a.first a.count (omega arith) _ _ _ (omega arith) c.if-figures-gt3.true), tt)
+    (sym (l.2 ∙ entries-many a.entries a.first a.count (omega arith) _ _ _ (omega arith) c.if-figures-gt3.true), tt)
 
 pub returns-then-not-is_block : goal.returns-then-not-is_block
 returns-then-not-is_block c =
     let a = c.args in
     let l = c.loop-i.invariant in
-    (sym (l.2 ∙ entries-no-block a.t1 a.first a.count (omega arith) _ _ _ (omega arith) (sym c.is_block.ensures ∙ c.if-not-is_block.true)), tt)
+    (sym (l.2 ∙ entries-no-block a.entries a.first a.count (omega arith) _ _ _ (omega arith) (sym c.is_block.ensures ∙ c.if-not-is_block.true)), tt)
 
 pub loop-i-preserved : goal.loop-i-preserved
 loop-i-preserved c =
@@ -31,15 +31,15 @@ loop-i-preserved c =
     let l = c.loop-i.invariant in (
       omega arith,
       omega arith,
-      l.2 ∙ entries-more a.t1 a.first a.count (omega arith) _ _ _ (omega arith) c.if-figures-gt3.false (sym c.is_block.ensures ∙ c.if-not-is_block.false),
+      l.2 ∙ entries-more a.entries a.first a.count (omega arith) _ _ _ (omega arith) c.if-figures-gt3.false (sym c.is_block.ensures ∙ c.if-not-is_block.false),
     )
 
 pub returns : goal.returns
 returns c =
     let a = c.args in
     let l = c.loop-i.invariant in
-    let n = length-map-part entry_of a.t1 a.first a.count (omega arith) in
-    (sym (l.2 ∙ measure-end entry_writable? entry_bytes (map entry_of (part a.first a.count a.t1)) c.loop-i.i _ (omega arith)), omega arith)
+    let n = length-map-part entry_of a.entries a.first a.count (omega arith) in
+    (sym (l.2 ∙ measure-end entry_writable? entry_bytes (map entry_of (part a.first a.count a.entries)) c.loop-i.i _ (omega arith)), omega arith)
 
 pub overflow_add-e : goal.overflow_add-e
 overflow_add-e c = omega arith

@@ -10,7 +10,7 @@ use Rattle.option_measure.proofs.MeasureLaws.{plus}
 use Rattle.option_measure.proofs.measure_entries.Given as goal
 
 abbrev pub invariant-loop-i : goal.invariant-loop-i
-invariant-loop-i l =     (l.i ≤ l.count)
+invariant-loop-i l = (l.i ≤ l.count)
     × (l.n ≤ 13 * l.i)
     × (measure_of entry_writable? entry_bytes (map entry_of (part l.first l.count l.entries))
     ≡ plus l.n (measure_of entry_writable? entry_bytes (drop l.i (map entry_of (part l.first l.count l.entries)))))

@@ -14,12 +14,12 @@ use Rattle.option_measure.proofs.measure_items.Goals as goal
 pub returns-then-count-gt-ITEM_SLOTS : goal.returns-then-count-gt-ITEM_SLOTS
 returns-then-count-gt-ITEM_SLOTS c =
     let a = c.args in
-    (listed-none a.t1 a.count a.entries a.octets c.if-count-gt-ITEM_SLOTS.true, tt)
+    (listed-none a.items a.count a.entries a.octets c.if-count-gt-ITEM_SLOTS.true, tt)
 
 pub returns-then-count-eq0 : goal.returns-then-count-eq0
 returns-then-count-eq0 c =
     let a = c.args in
-    (listed-empty a.t1 a.count a.entries a.octets c.if-count-eq0.true, tt)
+    (listed-empty a.items a.count a.entries a.octets c.if-count-eq0.true, tt)
 
 pub loop-i-init : goal.loop-i-init
 loop-i-init c = (omega arith, omega arith, sym (plus-zero _))
@@ -34,9 +34,9 @@ returns-in-Outside c =
     let a = c.args in
     let l = c.loop-i.invariant in
     let m = c.measure_item.ensures.0 in (
-      sym (listed-measured a.t1 a.count a.entries a.octets (omega arith) (omega arith) (omega arith)
+      sym (listed-measured a.items a.count a.entries a.octets (omega arith) (omega arith) (omega arith)
           ∙ l.2
-          ∙ items-outside a.t1 a.count (omega arith) a.entries a.octets _ _ _ (omega arith) (sym m ∙ c.in-Outside.is)),
+          ∙ items-outside a.items a.count (omega arith) a.entries a.octets _ _ _ (omega arith) (sym m ∙ c.in-Outside.is)),
       tt,
     )
 
@@ -48,16 +48,16 @@ loop-i-preserved c =
     let short = subst (Short 900) c.in-Bytes.is m.1 in (
       omega arith,
       omega arith,
-      l.2 ∙ items_more a.t1 a.count (omega arith) a.entries a.octets _ _ _ (omega arith) _ (sym m.0 ∙ c.in-Bytes.is),
+      l.2 ∙ items_more a.items a.count (omega arith) a.entries a.octets _ _ _ (omega arith) _ (sym m.0 ∙ c.in-Bytes.is),
     )
 
 pub returns : goal.returns
 returns c =
     let a = c.args in
     let l = c.loop-i.invariant in
-    let subs = map (value_at a.entries a.octets) (take a.count a.t1) in
+    let subs = map (value_at a.entries a.octets) (take a.count a.items) in
     let n : length subs ≤ c.loop-i.i = simp (length-map, length-take) (omega arith) in (
-      sym (listed-measured a.t1 a.count a.entries a.octets (omega arith) (omega arith) (omega arith)
+      sym (listed-measured a.items a.count a.entries a.octets (omega arith) (omega arith) (omega arith)
           ∙ l.2
           ∙ measure-end writable? suboption_bytes subs c.loop-i.i _ n),
       omega arith,

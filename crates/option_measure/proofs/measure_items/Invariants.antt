@@ -10,7 +10,7 @@ use Rattle.option_measure.proofs.MeasureLaws.{plus}
 use Rattle.option_measure.proofs.measure_items.Given as goal
 
 abbrev pub invariant-loop-i : goal.invariant-loop-i
-invariant-loop-i l =     (l.i ≤ l.count)
+invariant-loop-i l = (l.i ≤ l.count)
     × (l.n ≤ 900 * l.i)
     × (measure_of writable? suboption_bytes (map (value_at l.entries l.octets) (take l.count l.items))
     ≡ plus l.n (measure_of writable? suboption_bytes (drop l.i (map (value_at l.entries l.octets) (take l.count l.items)))))
