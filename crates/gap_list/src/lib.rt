@@ -1,5 +1,6 @@
 // Free space as a list of gaps in two lent columns: the first address of each gap and its last one, ascending. An ask looks at the gaps alone.
 #![tactic(auto)]
+
 ghost use Rattle.std.specs.Prelude.{◌≡◌, false, ◌++◌, ◌+◌, ◌-◌, ◌≤◌, ◌<◌, length as length_of, take};
 ghost use Rattle.std.specs.Int.Bits.{bit_or};
 ghost use Rattle.prefix.specs.Prefixes.{prefix};
