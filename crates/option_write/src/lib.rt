@@ -1,5 +1,6 @@
 // Option 220 (RFC 6656): a whole list of suboptions, written into a buffer; nothing is written before all of it has been measured.
 #![tactic(auto)]
+
 ghost use Rattle.std.specs.Prelude.{◌≡◌, true, map, ◌+◌, ◌*◌, ◌≤◌, ◌<◌, length, take};
 ghost use Rattle.lists.specs.Lists.{all?, concat_map};
 ghost use Rattle.lists.specs.Put.{put};
