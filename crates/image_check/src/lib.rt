@@ -1,5 +1,6 @@
 // Whether bytes are the image of a sound table, in one pass over the bytes: no table is made.
 #![tactic(auto)]
+
 ghost use Rattle.std.specs.Prelude.{◌≡◌, cond, ℕ, ◌+◌, ◌*◌, ◌/◌, ◌≤◌, ◌<◌, length, drop};
 ghost use Rattle.std.proofs.Math.Option.{some};
 ghost use Rattle.image.specs.declared.Head.{Head};

@@ -19,6 +19,7 @@ use Rattle.table.specs.Table.{pool_slots, lease_slots, unused?, empty?, prefix_o
 use Rattle.table.proofs.Ascending.{ascending-low}
 use Rattle.table.proofs.Ascending as table
 use Rattle.table.proofs.TableLaws.{sound-used, sound-fine, sound-slots, sound-pool-slots, present-padded, present?}
+use Rattle.prefix.specs.Prefixes.{end}
 use Rattle.image.specs.Image.{head_size, pool_size, lease_size, head_record, pool_record, lease_record, used_pools, used_leases, head_of, image_as, image_of}
 use Rattle.image.proofs.ImageLaws.{length-head, length-pool, length-concat_map, table-whole}
 use Rattle.image_records.specs.Records.{Records, Ascending}
@@ -32,7 +33,7 @@ unfolding Ascending
 ascending-prefixes from [] s = tt
 ascending-prefixes from (x ∷ xs) s = (
   all_map (λ y h. omega (arith, size-positive x.length)) xs (ascending-low prefix_of _ xs s.1),
-  ascending-prefixes _ xs s.1,
+  ascending-prefixes (end (prefix_of x)) xs s.1,
 )
 
 module _ (f : Lease → Bool) where

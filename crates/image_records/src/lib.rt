@@ -1,5 +1,6 @@
 // Records in a lent buffer: writing one, and leases that stand as records one after another.
 #![tactic(auto)]
+
 ghost use Rattle.std.specs.Prelude.{◌≡◌, List, ◌∷◌, ◌++◌, ◌+◌, ◌-◌, ◌*◌, ◌≤◌, ◌<◌, length, take, drop, replicate, leb};
 ghost use Rattle.lists.specs.Lists.{filter, concat_map};
 ghost use Rattle.lists.specs.Put.{put};
