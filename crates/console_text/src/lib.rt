@@ -1,5 +1,6 @@
 // Text into a lent buffer, from a place on: each function answers the place after what it wrote, and leaves all other bytes.
 #![tactic(auto)]
+
 ghost use Rattle.std.specs.Prelude.{◌≡◌, ◌+◌, ◌-◌, ◌*◌, ◌^◌, ◌≤◌, ◌<◌, length};
 ghost use Rattle.lists.specs.Lists.{concat_map};
 ghost use Rattle.lists.specs.Put.{put};
