@@ -1,6 +1,7 @@
 // How much is left, counted in an image: the whole free blocks of each pool and each length, by levels, in one pass over its leases. Of a lease
 // only network and length are read.
 #![tactic(auto)]
+
 ghost use Rattle.std.specs.Prelude.{◌≡◌, [], ◌+◌, ◌-◌, ◌*◌, ◌≤◌, ◌<◌, length};
 ghost use Rattle.prefix.specs.Prefixes.{longest, end};
 ghost use Rattle.table.specs.declared.LeaseTable.{LeaseTable};
