@@ -123,12 +123,12 @@ module _ (from to : Form) (s : List ℕ) (at : ℕ) (l : List ℕ) (place : ℕ)
 -- THE HEAD AND THE POOLS
 
 pub front-put : (form : Form) (n k : ℕ) (s l l₁ l₂ : List ℕ) → n ≤ length s → n ≤ length l → k ≡ start_of head_size (head_kind form)
-    → l₁ ≡ take (length (take n s)) (take n s) ++ drop (length (take n s)) l → l₂ ≡ put l₁ 0 (le32 k) → l₂ ≡ put l 0 (front_as form n s)
+    → l₁ ≡ take n s ++ drop (length (take n s)) l → l₂ ≡ put l₁ 0 (le32 k) → l₂ ≡ put l 0 (front_as form n s)
 unfolding front_as le32
 front-put form n k s l l₁ l₂ hs hl start e₁ e₂ =
     let xs : List ℕ = take n s in
     let size : length xs ≡ n = length-take-le n s hs in
-    let copied : l₁ ≡ put l 0 xs = e₁ ∙ ap (λ (ys : List ℕ). ys ++ drop (length xs) l) (take_all (length xs) xs (omega arith)) ∙ sym (put_front xs l (omega arith)) in
+    let copied : l₁ ≡ put l 0 xs = e₁ ∙ sym (put_front xs l (omega arith)) in
     e₂ ∙ ap₂ (λ (m : List ℕ) (j : ℕ). put m 0 (le32 j)) copied start ∙ put-upon xs (le32 (start_of head_size (head_kind form))) l 0
 
 head_as : (from to : Form) (t : LeaseTable) (q : List ℕ) → le32 (start_of head_size (head_kind to)) ++ drop body_at (head_record_in from (head_of t) ++ q) ≡ head_record_in to (head_of t) ++ q

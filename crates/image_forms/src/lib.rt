@@ -1,5 +1,6 @@
 // The two saved forms: an image of the first widened to the second, and one narrowed to the first, in lent buffers.
 #![tactic(auto)]
+
 ghost use Rattle.std.specs.Prelude.{◌≡◌, true, not, List, ◌++◌, ℕ, ◌+◌, ◌*◌, ◌≤◌, length, take, drop};
 ghost use Rattle.lists.specs.Lists.{any?};
 ghost use Rattle.lists.specs.Put.{put};

@@ -1,0 +1,12 @@
+use Prim.Native.Nat.{◌-◌, ◌≤◌}
+use mathlib.Core.Path.{◌≡◌}
+use lib.ListN.{length}
+use Rattle.image.specs.declared.Form.TheVariants.{First, Second}
+use Rattle.image_forms.specs.Forms.{Moved}
+use Rattle.image_forms.proofs.narrow_leases.Given as goal
+
+abbrev pub invariant-loop-i : goal.invariant-loop-i
+invariant-loop-i l = (l.i ≤ l.n) × Moved Second First l.image l.at l.i l.initial.buffer l.to l.buffer × (length l.buffer ≡ length l.initial.buffer)
+
+abbrev pub decreases-loop-i : goal.decreases-loop-i
+decreases-loop-i l = l.n - l.i
