@@ -1,5 +1,6 @@
 // The figures sheet in a lent buffer, place for place beside the leases of an image: a row for each slot of the table.
 #![tactic(auto)]
+
 ghost use Rattle.std.specs.Prelude.{◌≡◌, true, false, List, map, ◌++◌, ◌+◌, ◌-◌, ◌*◌, ◌≤◌, ◌<◌, length, take, drop, get_or, set, replicate};
 ghost use Rattle.lists.specs.Lists.{All, cat_maybes, all?};
 ghost use Rattle.lists.specs.Put.{put};
