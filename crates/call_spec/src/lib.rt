@@ -1,5 +1,6 @@
 // What comes with a message beside its bytes, and the answers of calls. What a call leaves of what it is lent is a definition, in `specs/`.
 #![tactic(auto)]
+
 ghost use Rattle.std.specs.Prelude.{◌≡◌, cond, ltb};
 ghost use Rattle.ledger.specs.Ledger.{refusal, acceptance};
 
