@@ -1,5 +1,6 @@
 // The free space of an image: the gaps of some of its pools and leases, pushed into two lent columns in one pass over both.
 #![tactic(auto)]
+
 ghost use Rattle.std.specs.Prelude.{◌≡◌, List, ℕ, ◌+◌, ◌-◌, ◌*◌, ◌≤◌, ◌<◌, length, drop};
 ghost use Rattle.prefix.specs.declared.Prefix.{Prefix};
 ghost use Rattle.prefix.specs.Prefixes.{end};
