@@ -1,6 +1,7 @@
 // Open as a call: the table that pools, a term, a default length and a start time make, as an image in a lent buffer,
 // its figures sheet, and the counts of its whole free blocks.
 #![tactic(auto)]
+
 ghost use Rattle.std.specs.Prelude.{◌≡◌, [], ◌+◌, ◌*◌, ◌≤◌, length};
 ghost use Rattle.lists.specs.Lists.{concat_map};
 ghost use Rattle.lists.specs.Put.{put};
