@@ -1,5 +1,6 @@
 // The lines of a script: the command of each, with the numbers that its words spell and the places where its octets and other words stand.
 #![tactic(auto)]
+
 ghost use Rattle.std.specs.Prelude.{◌≡◌, false, ◌+◌, ◌*◌, ◌≤◌, length, drop};
 ghost use Rattle.counts.specs.Counts.{counted_lengths};
 ghost use Rattle.console_script.specs.Commands.{value_in, message_in, Within, MessageWithin, counts_size};
