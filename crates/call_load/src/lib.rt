@@ -1,6 +1,7 @@
 // Load as a call: saved bytes that are the image of a sound table, in either form, are checked and put into a lent buffer in the
 // second form, the figures sheet is filled, and the whole free blocks are counted.
 #![tactic(auto)]
+
 ghost use Rattle.std.specs.Prelude.{◌≡◌, true, [], ◌++◌, ◌+◌, ◌*◌, ◌≤◌, length, drop};
 ghost use Rattle.table.specs.declared.LeaseTable.{LeaseTable};
 ghost use Rattle.image.specs.Image.{full_image, head_size, pool_size, lease_size, lease_size_in, used_pools, used_leases, image_as, image_of, fits_form};
