@@ -1,6 +1,7 @@
 // A client that asks again: the leases that it holds already, found in one pass over the records of an image, each for the
 // first request that it is for, and held anew in place.
 #![tactic(auto)]
+
 ghost use Rattle.std.specs.Prelude.{◌≡◌, true, cond, List, ◌+◌, ◌*◌, ◌≤◌, ◌<◌, eqb, length as length_of, take, get_or, replicate};
 ghost use Rattle.lists.specs.Lists.{All, concat_map, cat_maybes};
 ghost use Rattle.lists.specs.Put.{put};
