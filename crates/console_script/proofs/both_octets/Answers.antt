@@ -1,6 +1,8 @@
 -- `both_octets` meets its contract: the two parts of the line that it lends have nothing in common.
 use Prim.Native.Nat.{◌-◌, ◌≤◌}
 use native.Mathlib.Omega.{arith}
+use mathlib.Core.Path.{◌≡◌}
+use mathlib.Core.Bool.{true}
 use lib.ListN.{length}
 use borrow.Rule.Slice.PartMut.{post_of}
 use borrow.Author.Tests.{not-true, not-false}
@@ -23,7 +25,7 @@ returns c =
     let second = c.last_octets-second in
     let first = c.read_octets-first in
     let post = post_of end (length s - end) s in
-    let is-good = not-false _ c.if-not-second.false in
+    let is-good : second.result.good ≡ true = not-false _ c.if-not-second.false in
     let few : second.result.end ≤ length second.new.s = omega (arith, second.ensures.start_le_end.1, second.auto.s) in
     let few-first : first.result.end ≤ length first.new.s = omega (arith, first.ensures.start_le_end.1, first.auto.s) in record {
       message_within = (
