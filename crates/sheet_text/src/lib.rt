@@ -1,5 +1,6 @@
 // The sheet of an image's lease table, as text into a lent buffer. The leases are read where they stand in the image.
 #![tactic(auto)]
+
 ghost use Rattle.std.specs.Prelude.{◌≡◌, ◌+◌, ◌-◌, ◌*◌, ◌≤◌, ◌<◌, length, ltb};
 ghost use Rattle.prefix.specs.Prefixes.{longest, end};
 ghost use Rattle.table.specs.Table.{lease_slots};
