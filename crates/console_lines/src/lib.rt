@@ -1,5 +1,6 @@
 // What calls answer, what the reader finds, the figures sheet and the counts, as lines of text in a lent buffer.
 #![tactic(auto)]
+
 ghost use Rattle.std.specs.Prelude.{◌≡◌, ◌+◌, ◌-◌, ◌*◌, ◌≤◌, ◌<◌, ◌++◌, length, take};
 ghost use Rattle.text.specs.Ascii.{ascii};
 ghost use Rattle.option.specs.declared.Suboption.TheVariants as Suboption;

@@ -1,0 +1,31 @@
+-- `suboptions` stays within the buffer: 28 bytes for each byte that is left of the option. That is the measure too.
+use Prim.Native.Nat.{◌-◌}
+use mathlib.Core.Path.{sym, ◌∙◌}
+use native.Mathlib.Omega.{arith}
+use Rattle.console_lines.proofs.SizeLaws.{Taken, taken}
+use Rattle.console_lines.proofs.suboptions.Goals as goal
+
+-- What the turn's answer tells.
+taken_here : (c : goal.After-suboption-arg-1) → Taken c.args.s.now c.loop-x.cursor.at c.in-Piece.x c.in-Piece.next
+taken_here c = taken _ _ _ _ (sym c.in-Piece.is ∙ c.step.ensures)
+
+-- What the turn's answer tells.
+taken_here-2 : (c : goal.After-slice_known-in-Piece-1) → Taken c.args.s.now c.loop-x.cursor.at c.in-Piece.x c.in-Piece.next
+taken_here-2 c = taken _ _ _ _ (sym c.in-Piece.is ∙ c.step.ensures)
+
+pub suboption-end-requires : goal.suboption-end-requires
+suboption-end-requires c =
+    let l = c.loop-x in
+    let t = taken_here c in record { x_in_bounds = omega (arith, l.invariant.0, l.invariant.1, t.two, t.inside, t.room); within = t.within }
+
+pub loop-x-smaller : goal.loop-x-smaller
+loop-x-smaller c =
+    let t = taken_here-2 c in
+    omega (arith, t.two, t.inside)
+
+pub loop-x-preserved : goal.loop-x-preserved
+loop-x-preserved c =
+    let l = c.loop-x in
+    let t = taken_here-2 c in
+    let x = c.suboption-end in
+    (omega (arith, l.invariant.0, t.two, t.inside, t.room, x.ensures), x.auto.out ∙ l.invariant.1)
