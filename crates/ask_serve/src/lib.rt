@@ -1,5 +1,6 @@
 // The requests of an ask served in order, each on the gaps that the one before left.
 #![tactic(auto)]
+
 ghost use Rattle.std.specs.Prelude.{◌≡◌, List, ℕ, ◌+◌, ◌≤◌, ◌<◌, length as length_of};
 ghost use Rattle.names.specs.declared.Name.{Name};
 ghost use Rattle.table.specs.declared.Lease.{Lease};
