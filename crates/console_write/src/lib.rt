@@ -1,5 +1,6 @@
 // The words of `write`, which are those that `read` prints: a list of suboptions or an address, and the option that they make.
 #![tactic(auto)]
+
 ghost use Rattle.std.specs.Prelude.{◌≡◌, ◌+◌, ◌≤◌, ◌<◌, length};
 ghost use Rattle.option.specs.Selection.{write_selection};
 ghost use Rattle.option.specs.Writer.{write_option};
