@@ -1,5 +1,6 @@
 // Sheet as a call on saved bytes, in either form.
 #![tactic(auto)]
+
 ghost use Rattle.std.specs.Prelude.{◌≡◌};
 ghost use Rattle.call_sheet.specs.SheetImage.{sheet_image};
 
