@@ -1,11 +1,23 @@
-// What the programs have in common: what their command line asks for, the input that it names, and what they say on standard error. A program of this language has no
-// exit status, so that standard error is where a failure shows.
+// What the programs have in common: what their command line asks for, the input that it names, and what they say on standard error. Their exit status is always 0, so that
+// standard error is where a failure shows.
 #![tactic(auto)]
-ghost use Rattle.std.specs.Prelude.{length};
+
+ghost use Rattle.std.specs.Prelude.{◌≤◌, length};
 ghost use Rattle.program.specs.Inputs.{Within};
+
+use std::env::{Env, FillError};
+use std::fs::Files;
+use std::io::{ErrorKind, Read, Write};
+use std::{fs, io, str};
 
 // The version of the repository; include/flockdrift.h has the same.
 const VERSION: [u8; 18] = *b"flockdrift 0.16.0\n";
+
+// Room for an argument: any path, and the 0 that ends it.
+const ARGUMENT: usize = 4096;
+
+// Room for the reason of an error.
+const REASON: usize = 512;
 
 // How a program is to run: whether commands are echoed, and the number of the argument that names its input; 0 where none does.
 #[derive(Clone, Copy)]
@@ -38,40 +50,87 @@ pub enum Input {
     Unreadable,
 }
 
+// The input that is read: a file, or standard input.
+#[derive(Drop)]
+pub enum Source<F, S> {
+    File(F),
+    Standard(S),
+}
+
+impl<F: Read, S: Read> Read for Source<F, S> {
+    fn read(&mut self, buf: &mut [u8]) -> io::Result<usize> {
+        match self {
+            Source::File(f) => f.read(buf),
+            Source::Standard(s) => s.read(buf),
+        }
+    }
+}
+
 // STANDARD ERROR
 
+// Says a text. What cannot be said is left out: there is no other place to say it.
+pub fn say(errors: &impl Print, text: &[u8]) {
+    let _ = errors.write_all(text);
+}
+
+// Where the system's own words end in an error's text, which zeros follow: the error's number stands behind them, as ` (os error 2)`.
+fn words_end(text: &[u8]) -> usize
+    ensures { result ≤ length text.now }
+{
+    let end = octets::find(text, 0, 0);
+    let number = octets::find(&text[..end], 0, b'(');
+    if 0 < number && number < end {
+        number - 1
+    } else {
+        end
+    }
+}
+
+// Says what cannot be done, and why.
+fn fail(errors: &impl Print, name: &[u8], what: &[u8], error: io::Error) {
+    let mut text = [0u8; REASON];
+    let mut to = &mut text[..];
+    let _ = write!(to, "{error}");
+    let n = words_end(&text);
+    say(errors, name);
+    say(errors, what);
+    say(errors, b": ");
+    say(errors, &text[..n]);
+    say(errors, b"\n");
+}
+
 // Says that an argument is none, and how the program is called: the first line of its help.
-fn complain(name: &[u8], what: &[u8], word: &[u8], help: &[u8]) {
+fn complain(errors: &impl Print, name: &[u8], what: &[u8], word: &[u8], help: &[u8]) {
     let end = octets::find(help, 0, b'\n');
-    io::write_all(2, name);
-    io::write_all(2, what);
-    io::write_all(2, word);
-    io::write_all(2, b"\n");
-    io::write_all(2, &help[0..end]);
-    io::write_all(2, b"\n");
+    say(errors, name);
+    say(errors, what);
+    say(errors, word);
+    say(errors, b"\n");
+    say(errors, &help[0..end]);
+    say(errors, b"\n");
 }
 
 // Says that a read has just failed, and why.
-pub fn unreadable(name: &[u8]) {
-    io::write_all(2, name);
-    os::fail(b": the input cannot be read");
+pub fn unreadable(errors: &impl Print, name: &[u8], error: io::Error) {
+    fail(errors, name, b": the input cannot be read", error);
 }
 
 // Says that a write has just failed, and why.
-pub fn unwritable(name: &[u8]) {
-    io::write_all(2, name);
-    os::fail(b": the output cannot be written");
+pub fn unwritable(errors: &impl Print, name: &[u8], error: io::Error) {
+    fail(errors, name, b": the output cannot be written", error);
 }
 
 // STANDARD OUTPUT
 
 // Writes a text out; whether all of it is written.
-pub fn write_output(name: &[u8], text: &[u8]) -> bool {
-    if io::write_all(1, text) {
-        return true;
+pub fn write_output(rt: &impl Print, errors: &impl Print, name: &[u8], text: &[u8]) -> bool {
+    match rt.write_all(text) {
+        Ok(()) => true,
+        Err(error) => {
+            unwritable(errors, name, error);
+            false
+        }
     }
-    unwritable(name);
-    false
 }
 
 // ARGUMENTS
@@ -103,18 +162,20 @@ fn read_argument(word: &[u8], echoes: bool) -> Argument {
 }
 
 // The options with the argument of this number; or a text is written, and all is done.
-fn with_argument(o: Options, i: usize, name: &[u8], help: &[u8], echoes: bool) -> Request {
-    let mut word = io::buffer();
-    let n = os::arg(i, &mut word);
-    if os::errno() != 0 {
-        io::write_all(2, name);
-        os::fail(b": an argument");
-        return Request::Done;
-    }
-    match read_argument(&word[..n], echoes) {
+fn with_argument(
+    rt: &impl Print,
+    errors: &impl Print,
+    o: Options,
+    i: usize,
+    word: &[u8],
+    name: &[u8],
+    help: &[u8],
+    echoes: bool,
+) -> Request {
+    match read_argument(word, echoes) {
         Argument::File => {
             if o.file != 0 {
-                complain(name, b": no more than one file: ", &word[..n], help);
+                complain(errors, name, b": no more than one file: ", word, help);
                 return Request::Done;
             }
             Request::Run(Options {
@@ -127,78 +188,120 @@ fn with_argument(o: Options, i: usize, name: &[u8], help: &[u8], echoes: bool) -
             file: o.file,
         }),
         Argument::Help => {
-            write_output(name, help);
+            write_output(rt, errors, name, help);
             Request::Done
         }
         Argument::Version => {
-            write_output(name, &VERSION);
+            write_output(rt, errors, name, &VERSION);
             Request::Done
         }
         Argument::Unknown => {
-            complain(name, b": no such option: ", &word[..n], help);
+            complain(errors, name, b": no such option: ", word, help);
             Request::Done
         }
     }
 }
 
 // What the command line asks of the program of this name. The first line of its help says how it is called; not every program can echo.
-pub fn command_line(name: &[u8], help: &[u8], echoes: bool) -> Request {
-    let count = os::arg_count();
+pub fn command_line(
+    rt: &(impl Env + Print),
+    errors: &impl Print,
+    name: &[u8],
+    help: &[u8],
+    echoes: bool,
+) -> Request {
     let mut o = Options {
         echo: false,
         file: 0,
     };
-    let mut i: usize = 1;
-    while i < count {
-        let Request::Run(next) = with_argument(o, i, name, help, echoes) else {
-            return Request::Done;
-        };
-        o = next;
-        i = i + 1;
+    let mut word = [0u8; ARGUMENT];
+    for i in 1..usize::MAX {
+        match rt.arg(i, &mut word) {
+            Ok(n) => {
+                let Request::Run(next) = with_argument(
+                    rt,
+                    errors,
+                    o,
+                    i,
+                    &word[..n],
+                    name,
+                    help,
+                    echoes,
+                ) else {
+                    return Request::Done;
+                };
+                o = next;
+            }
+            Err(FillError::NotPresent) => return Request::Run(o),
+            Err(FillError::TooLong) => {
+                say(errors, name);
+                say(errors, b": an argument: File name too long\n");
+                return Request::Done;
+            }
+        }
     }
     Request::Run(o)
 }
 
 // INPUT
 
-// The descriptor of the input that the argument of this number names, or of standard input; negative where the file cannot be opened, as is said then.
-pub fn open_input(name: &[u8], file: usize) -> i32 {
+// The file of this name.
+fn open_file<R: Files>(rt: &R, path: &[u8]) -> io::Result<R::File> {
+    match str::from_utf8(path) {
+        Ok(path) => fs::open(rt, path),
+        Err(_) => Err(io::Error::new(ErrorKind::InvalidInput, "the name is no UTF-8")),
+    }
+}
+
+// The input that the argument of this number names, or standard input; none where the file cannot be opened, as is said then.
+pub fn open_input<R: Env + Files + io::Input>(
+    rt: &R,
+    errors: &impl Print,
+    name: &[u8],
+    file: usize,
+) -> Option<Source<R::File, R::Reader>> {
     if file == 0 {
-        return 0;
+        return Some(Source::Standard(rt.reader()));
     }
-    let mut path = io::buffer();
-    let n = os::arg(file, &mut path);
-    if check::same(&path[..n], b"-") {
-        return 0;
+    let mut word = [0u8; ARGUMENT];
+    let n = match rt.arg(file, &mut word) {
+        Ok(n) => n,
+        Err(_) => 0,
+    };
+    let path = &word[..n];
+    if check::same(path, b"-") {
+        return Some(Source::Standard(rt.reader()));
     }
-    let fd = os::open_read(&path[..n]);
-    if fd < 0 {
-        io::write_all(2, name);
-        io::write_all(2, b": ");
-        os::fail(&path[..n]);
+    match open_file(rt, path) {
+        Ok(f) => Some(Source::File(f)),
+        Err(error) => {
+            say(errors, name);
+            fail(errors, b": ", path, error);
+            None
+        }
     }
-    fd
 }
 
 // Reads once; no bytes are the end of the input. Where it cannot be read, that is said.
-pub fn read_some(name: &[u8], fd: i32, buf: &mut [u8]) -> Input
+pub fn read_some<R: Read>(errors: &impl Print, name: &[u8], from: &mut R, buf: &mut [u8]) -> Input
     ensures { Within result (length buf.old) }
 {
-    let got = libc::read(fd, buf);
-    if got < 0 {
-        unreadable(name);
-        return Input::Unreadable;
+    match from.read(buf) {
+        Ok(n) => Input::Bytes(n),
+        Err(error) => {
+            unreadable(errors, name, error);
+            Input::Unreadable
+        }
     }
-    Input::Bytes(io::count(got, buf))
 }
 
 // Reads until the buffer is full or the input ends.
-pub fn read_full(name: &[u8], fd: i32, buf: &mut [u8]) -> Input
+pub fn read_full<R: Read>(errors: &impl Print, name: &[u8], from: &mut R, buf: &mut [u8]) -> Input
     ensures { Within result (length buf.old) }
 {
     let mut n: usize = 0;
     while n < buf.len() {
-        let Input::Bytes(more) = read_some(name, fd, &mut buf[n..]) else {
+        let Input::Bytes(more) = read_some(errors, name, from, &mut buf[n..]) else {
             return Input::Unreadable;
         };
         if more == 0 {
