@@ -1,6 +1,7 @@
 // Runs a script of calls, and writes what each call answers to standard output. Everything that matters is in the proved libraries.
 // Memory is constant: a chunk of the input, one line and a copy of it, the book, the figures sheet, the counts, the reply buffer and the output, each of a fixed size.
 #![tactic(auto)]
+
 ghost use Rattle.std.specs.Prelude.{◌≡◌, ◌≤◌, ◌<◌, length, drop};
 ghost use Rattle.image_figures.specs.Sheets.{figures_size};
 ghost use Rattle.call_spec.specs.Books.{book_of};
@@ -18,6 +19,7 @@ use console_session::State;
 use counts::Counts;
 use image::FULL_IMAGE;
 use program::Request;
+use std::io::Read;
 
 const HELP: [u8; 904] = *b"usage: console [--echo] [FILE]
 
@@ -39,6 +41,9 @@ Commands:
 A line that is no command answers 'error line N', and standard error has the reason. What
 cannot be read or written is told there too. The exit status is always 0.
 ";
+
+// How much of the input is read at once, at most.
+const CHUNK: usize = 65536;
 
 // A turn of the loop over the input: the state, and what was read.
 #[derive(Clone, Copy)]
@@ -169,7 +174,7 @@ fn echo(s: State, command: Command, line: &[u8], out: &mut [u8]) -> State
 }
 
 // Says on standard error why a line is no command, where that is the answer from the output's end up to a place.
-fn explain(s: State, end: usize, line: &[u8], out: &[u8])
+fn explain(errors: &impl Print, s: State, end: usize, line: &[u8], out: &[u8])
     requires { (s.at ≤ end) × (end ≤ length out.now) }
 {
     let at = s.at;
@@ -178,11 +183,12 @@ fn explain(s: State, end: usize, line: &[u8], out: &[u8])
     }
     let mut text = [0u8; REASON];
     let n = console_reason::reason(&mut text, s.lines, line);
-    io::write_all(2, &text[0..n]);
+    program::say(errors, &text[0..n]);
 }
 
 // Runs a line without its newline. Octets are written over the words that spell them: the line as it was read is lent beside it.
 fn run_line(
+    errors: &impl Print,
     s: State,
     line: &mut [u8],
     kept: &[u8],
@@ -211,12 +217,13 @@ fn run_line(
         counts,
         out,
     );
-    explain(begun, end, kept, out);
+    explain(errors, begun, end, kept, out);
     set(console_session::with_output(begun, end), command)
 }
 
 // Runs the line if it is whole, unless the output has failed.
 fn end_line(
+    errors: &impl Print,
     t: Turn,
     line: &mut [u8],
     kept: &mut [u8],
@@ -242,6 +249,7 @@ fn end_line(
         let n = console_script::without_return(&line[0..pending]);
         octets::copy(&line[0..n], kept);
         return run_line(
+            errors,
             s,
             &mut line[0..n],
             &kept[0..n],
@@ -270,8 +278,10 @@ fn turns_left(turns: u64, s: State, r: Reader) -> u64
 }
 
 // A proved loop has to end, and nothing says that the input does: it counts its turns down from a number that no run uses up.
-fn run_script(
-    fd: i32,
+fn run_script<R: Read>(
+    rt: &impl Print,
+    errors: &impl Print,
+    from: &mut R,
     echo: bool,
     input: &mut [u8],
     line: &mut [u8],
@@ -291,10 +301,11 @@ fn run_script(
     let mut counts = console_session::first_counts();
     let mut turns = u64::MAX;
     while 0 < turns {
-        s = console_session::make_room(s, r.from == r.to, out);
-        r = console_input::go_on(fd, r, input, line);
+        s = console_session::make_room(rt, errors, s, r.from == r.to, out);
+        r = console_input::go_on(errors, from, r, input, line);
         let t = Turn { s, r };
         s = end_line(
+            errors,
             t,
             line,
             kept,
@@ -306,19 +317,21 @@ fn run_script(
         );
         turns = turns_left(turns, s, r);
     }
-    console_session::flush(s, out);
+    console_session::flush(rt, errors, s, out);
 }
 
 // Runs what is read, in buffers of its own.
-fn run_input(fd: i32, echo: bool) {
-    let mut input = io::large_buffer();
+fn run_input<R: Read>(rt: &impl Print, errors: &impl Print, from: &mut R, echo: bool) {
+    let mut input = [0u8; CHUNK];
     let mut line = console_input::line();
     let mut kept = console_input::line();
     let mut image = [0u8; FULL_IMAGE];
     let mut figures = console_session::first_figures();
     let mut out = console_session::output();
     run_script(
-        fd,
+        rt,
+        errors,
+        from,
         echo,
         &mut input,
         &mut line,
@@ -329,12 +342,12 @@ fn run_input(fd: i32, echo: bool) {
     );
 }
 
-fn main() {
-    let Request::Run(o) = program::command_line(&NAME, &HELP, true) else {
+fn main(rt: HostRuntime) {
+    let errors = rt.stderr();
+    let Request::Run(o) = program::command_line(&rt, &errors, &NAME, &HELP, true) else {
         return;
     };
-    let fd = program::open_input(&NAME, o.file);
-    if 0 <= fd {
-        run_input(fd, o.echo);
+    if let Some(mut from) = program::open_input(&rt, &errors, &NAME, o.file) {
+        run_input(&rt, &errors, &mut from, o.echo);
     }
 }

@@ -1,10 +1,12 @@
 // Lines from an input, in two lent buffers: a chunk of the input, and the line that is being read.
 #![tactic(auto)]
+
 ghost use Rattle.std.specs.Prelude.{◌≡◌, ◌≤◌, ◌<◌, length};
 ghost use Rattle.console_input.specs.Lines.{line_space};
 
 use console_script::LONGEST;
 use program::Input;
+use std::io::Read;
 
 // What was read and not yet run: the input from a place to another, behind the `pending` bytes of a line. The line is whole once its newline was read,
 // or the input has ended.
@@ -55,10 +57,10 @@ fn at_end(pending: usize) -> Reader
 }
 
 // Reads once, behind `pending` bytes of a line. A line that is cut by a failed read is not run.
-fn read_more(fd: i32, pending: usize, input: &mut [u8]) -> Reader
+fn read_more<R: Read>(errors: &impl Print, from: &mut R, pending: usize, input: &mut [u8]) -> Reader
     ensures { (result.from ≡ 0) × (result.to ≤ length input.old) × (result.pending ≤ pending) }
 {
-    let Input::Bytes(to) = program::read_some(&NAME, fd, input) else {
+    let Input::Bytes(to) = program::read_some(errors, &NAME, from, input) else {
         return at_end(0);
     };
     if to == 0 {
@@ -116,7 +118,13 @@ fn begun(r: Reader) -> usize
 }
 
 // Takes a piece of what was read, or reads once.
-pub fn go_on(fd: i32, r: Reader, input: &mut [u8], line: &mut [u8]) -> Reader
+pub fn go_on<R: Read>(
+    errors: &impl Print,
+    from: &mut R,
+    r: Reader,
+    input: &mut [u8],
+    line: &mut [u8],
+) -> Reader
     requires from_le_to { (r.from ≤ r.to) × (r.to ≤ length input.old) }
     requires pending_in_bounds { r.pending ≤ length line.old }
     ensures { (result.from ≤ result.to) × (result.to ≤ length input.old) × (result.pending ≤ length line.old) }
@@ -125,5 +133,5 @@ pub fn go_on(fd: i32, r: Reader, input: &mut [u8], line: &mut [u8]) -> Reader
     if r.from < r.to {
         return take_piece(r, pending, input, line);
     }
-    read_more(fd, pending, input)
+    read_more(errors, from, pending, input)
 }

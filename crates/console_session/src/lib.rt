@@ -1,5 +1,6 @@
 // What goes from line to line of a script beside the book, the figures sheet and the counts at first, and the output written out.
 #![tactic(auto)]
+
 ghost use Rattle.std.specs.Prelude.{◌≡◌, ◌≤◌, length};
 ghost use Rattle.console_session.specs.States.{
   Unchanged,
@@ -126,26 +127,26 @@ pub fn output() -> [u8; OUTPUT]
 }
 
 // Writes the output out.
-pub fn flush(s: State, out: &[u8]) -> State
+pub fn flush(rt: &impl Print, errors: &impl Print, s: State, out: &[u8]) -> State
     requires { s.at ≤ length out.now }
     ensures { (result.at ≡ 0) × Unchanged s result }
 {
     let n = s.at;
     let mut next = with_output(s, 0);
-    next.failed = !program::write_output(&NAME, &out[0..n]);
+    next.failed = !program::write_output(rt, errors, &NAME, &out[0..n]);
     next
 }
 
 // Writes the output out before more is read, so that whoever types sees each answer at once, and before it has less room than any answer takes.
-pub fn make_room(s: State, reads: bool, out: &[u8]) -> State
+pub fn make_room(rt: &impl Print, errors: &impl Print, s: State, reads: bool, out: &[u8]) -> State
     requires { (s.at ≤ length out.now) × OutputHolds out.now }
     ensures { LineFits result.at out.now × Unchanged s result }
 {
     if reads {
-        return flush(s, out);
+        return flush(rt, errors, s, out);
     }
     if WAITING < s.at {
-        return flush(s, out);
+        return flush(rt, errors, s, out);
     }
     s
 }

@@ -1,8 +1,10 @@
 // Prints the sheet of the saved image that its argument names, or of the one on standard input, or `refused 5`.
 #![tactic(auto)]
+
 use image::FULL_IMAGE;
 use program::{Input, Request};
 use sheet_text::SheetAnswer;
+use std::io::Read;
 
 const NAME: [u8; 5] = *b"sheet";
 
@@ -23,26 +25,26 @@ status is always 0.
 const INPUT: usize = FULL_IMAGE + 1;
 
 // Prints the sheet of what is read.
-fn show(fd: i32) {
+fn show<R: Read>(rt: &impl Print, errors: &impl Print, from: &mut R) {
     let mut input = [0u8; INPUT];
-    let Input::Bytes(n) = program::read_full(&NAME, fd, &mut input) else {
+    let Input::Bytes(n) = program::read_full(errors, &NAME, from, &mut input) else {
         return;
     };
     // Holds every sheet, so what is not written is refused for its bytes.
     let mut out = sheet_text::buffer();
     let SheetAnswer::Written(bytes) = sheet_text::sheet_of_image(&input[..n], &mut out) else {
-        program::write_output(&NAME, b"refused 5\n");
+        program::write_output(rt, errors, &NAME, b"refused 5\n");
         return;
     };
-    program::write_output(&NAME, &out[..bytes]);
+    program::write_output(rt, errors, &NAME, &out[..bytes]);
 }
 
-fn main() {
-    let Request::Run(o) = program::command_line(&NAME, &HELP, false) else {
+fn main(rt: HostRuntime) {
+    let errors = rt.stderr();
+    let Request::Run(o) = program::command_line(&rt, &errors, &NAME, &HELP, false) else {
         return;
     };
-    let fd = program::open_input(&NAME, o.file);
-    if 0 <= fd {
-        show(fd);
+    if let Some(mut from) = program::open_input(&rt, &errors, &NAME, o.file) {
+        show(&rt, &errors, &mut from);
     }
 }
