@@ -1,5 +1,6 @@
 // Octets copied and sought: what several layers do with bytes, and the library has in no one call.
 #![tactic(auto)]
+
 ghost use Rattle.std.specs.Prelude.{◌≡◌, ◌+◌, ◌≤◌, ◌++◌, ◌<◌, ◌==◌, length, drop, position, IfSome};
 ghost use Rattle.octets.specs.Seeking.{index_of};
 

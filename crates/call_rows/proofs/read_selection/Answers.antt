@@ -1,13 +1,14 @@
 -- `read_selection` meets its contract: not carried, and answer by answer.
-use mathlib.Core.Path.{refl}
+use mathlib.Core.Path.{refl, ap}
+use mathlib.Core.Bool.{not}
 use Rattle.call_rows.proofs.SelectionLaws.{not_carried, carried-read}
 use Rattle.call_rows.proofs.read_selection.Goals as goal
 
 pub returns-then-not-carried : goal.returns-then-not-carried
-returns-then-not-carried c = not_carried _ _ _ c.if-not-carried.true refl
+returns-then-not-carried c = not_carried _ _ _ (ap not c.if-not-carried.true) refl
 
 pub returns-in-Address : goal.returns-in-Address
-returns-in-Address c = carried-read _ _ _ _ _ c.if-not-carried.false c.read_selection.ensures c.in-Address.is refl refl
+returns-in-Address c = carried-read _ _ _ _ _ (ap not c.if-not-carried.false) c.read_selection.ensures c.in-Address.is refl refl
 
 pub returns-in-NotTheOption : goal.returns-in-NotTheOption
-returns-in-NotTheOption c = carried-read _ _ _ _ _ c.if-not-carried.false c.read_selection.ensures c.in-NotTheOption.is refl refl
+returns-in-NotTheOption c = carried-read _ _ _ _ _ (ap not c.if-not-carried.false) c.read_selection.ensures c.in-NotTheOption.is refl refl
