@@ -64,7 +64,7 @@ returns-then-figures-ne-FIGURES c =
     let b : Book = book_of c.args.image.now c.args.image_bytes.now c.args.figures.now c.args.counts.now in
     let r : Read s c.check_in-summary.result = reads s _ _ (bytes-all s (λ i. omega (arith, c.type_inv.saved i))) c.check_in-summary.ensures c.form_of-form.ensures (not-false _ c.if-not-summary.false) in
     ap (λ (r : Answer). outcome r b []) c.refused-then-figures-ne-FIGURES.ensures
-    ∙ load-refuses b s 14 (λ z. omega (arith, z)) (load-other b.lent s (table_of s) r.loads c.if-image-lt-FULL_IMAGE.false c.if-figures-ne-FIGURES.true)
+    ∙ load-refuses b s 14 (λ z. omega (arith, z)) (load-other b.lent s (table_of s) r.loads (omega arith) c.if-figures-ne-FIGURES.true)
 
 pub put_image-n-requires : goal.put_image-n-requires
 put_image-n-requires c =
@@ -72,7 +72,7 @@ put_image-n-requires c =
     let b : Book = book_of c.args.image.now c.args.image_bytes.now c.args.figures.now c.args.counts.now in
     let r : Read s c.check_in-summary.result = reads s _ _ (bytes-all s (λ i. omega (arith, c.type_inv.saved i))) c.check_in-summary.ensures c.form_of-form.ensures (not-false _ c.if-not-summary.false) in
     let w = read-within b.lent s (table_of s) r.loads r.bytes c.check_in-summary.result r.tells in
-    (saved-size b.lent s (table_of s) r.loads r.bytes c.check_in-summary.result r.tells _ c.form_of-form.ensures, w.1, c.if-image-lt-FULL_IMAGE.false)
+    (saved-size b.lent s (table_of s) r.loads r.bytes c.check_in-summary.result r.tells _ c.form_of-form.ensures, w.1, omega arith)
 
 pub overflow_mul-summary : goal.overflow_mul-summary
 overflow_mul-summary c =
@@ -96,7 +96,7 @@ fill-requires c =
     let b : Book = book_of c.args.image.now c.args.image_bytes.now c.args.figures.now c.args.counts.now in
     let r : Read s c.check_in-summary.result = reads s _ _ (bytes-all s (λ i. omega (arith, c.type_inv.saved i))) c.check_in-summary.ensures c.form_of-form.ensures (not-false _ c.if-not-summary.false) in
     let w = read-within b.lent s (table_of s) r.loads r.bytes c.check_in-summary.result r.tells in
-    (w.0, c.if-figures-ne-FIGURES.false, omega (arith, w.1, c.if-image-lt-FULL_IMAGE.false, c.clear.auto.image, c.put_image-n.auto.image))
+    (w.0, c.if-figures-ne-FIGURES.false, omega (arith, w.1, c.clear.auto.image, c.put_image-n.auto.image))
 
 pub recount-requires : goal.recount-requires
 recount-requires c =
@@ -104,7 +104,7 @@ recount-requires c =
     let b : Book = book_of c.args.image.now c.args.image_bytes.now c.args.figures.now c.args.counts.now in
     let r : Read s c.check_in-summary.result = reads s _ _ (bytes-all s (λ i. omega (arith, c.type_inv.saved i))) c.check_in-summary.ensures c.form_of-form.ensures (not-false _ c.if-not-summary.false) in
     let p = c.put_image-n.ensures (table_of s) (read-image b.lent s (table_of s) r.loads r.bytes _ c.form_of-form.ensures) (read_fits b.lent s (table_of s) r.loads r.bytes _ c.form_of-form.ensures) (pools-are b.lent s (table_of s) r.loads r.bytes c.check_in-summary.result r.tells) (leases-are b.lent s (table_of s) r.loads r.bytes c.check_in-summary.result r.tells) in
-    read_some b.lent s (table_of s) r.loads r.bytes c.check_in-summary.result r.tells c.if-image-lt-FULL_IMAGE.false c.put_image-n.result p.0 c.put_image-n.new.image c.clear.new.image p.1 c.clear.ensures
+    read_some b.lent s (table_of s) r.loads r.bytes c.check_in-summary.result r.tells (omega arith) c.put_image-n.result p.0 c.put_image-n.new.image c.clear.new.image p.1 c.clear.ensures
 
 pub returns : goal.returns
 returns c =
@@ -116,4 +116,4 @@ returns c =
     let g : Lent = lent c.clear.new.image c.put_image-n.result f in
     let counts = c.recount.new.counts in
     ap (λ (r : Answer). outcome r (record { lent = g; counts = counts }) []) c.accepted.ensures
-    ∙ load-accepts b s r.bytes g (load-accepted b.lent s (table_of s) r.loads r.bytes c.check_in-summary.result r.tells c.if-image-lt-FULL_IMAGE.false c.put_image-n.result p.0 c.put_image-n.new.image c.clear.new.image p.1 c.clear.ensures c.if-figures-ne-FIGURES.false f (load-filled b.lent s (table_of s) r.loads r.bytes c.check_in-summary.result r.tells c.if-image-lt-FULL_IMAGE.false c.put_image-n.result p.0 c.put_image-n.new.image c.clear.new.image p.1 c.clear.ensures f c.fill.ensures)) counts (c.recount.ensures (table_of s) (read-stands b.lent s (table_of s) r.loads r.bytes c.check_in-summary.result r.tells c.if-image-lt-FULL_IMAGE.false c.put_image-n.result p.0 c.put_image-n.new.image c.clear.new.image p.1 c.clear.ensures))
+    ∙ load-accepts b s r.bytes g (load-accepted b.lent s (table_of s) r.loads r.bytes c.check_in-summary.result r.tells (omega arith) c.put_image-n.result p.0 c.put_image-n.new.image c.clear.new.image p.1 c.clear.ensures c.if-figures-ne-FIGURES.false f (load-filled b.lent s (table_of s) r.loads r.bytes c.check_in-summary.result r.tells (omega arith) c.put_image-n.result p.0 c.put_image-n.new.image c.clear.new.image p.1 c.clear.ensures f c.fill.ensures)) counts (c.recount.ensures (table_of s) (read-stands b.lent s (table_of s) r.loads r.bytes c.check_in-summary.result r.tells (omega arith) c.put_image-n.result p.0 c.put_image-n.new.image c.clear.new.image p.1 c.clear.ensures))

@@ -62,7 +62,7 @@ returns-then-figures-ne-FIGURES c =
     let b : Book = book_of a.image.now a.image_bytes.now a.figures.now a.counts.now in
     ap (λ (r : Answer). outcome r b []) c.refused-then-figures-ne-FIGURES.ensures
     ∙ open-refuses b a.networks.now a.lengths.now a.terms.term a.terms.default_length a.terms.start 14 (λ z. omega (arith, z))
-    (open-other b.lent a.networks.now a.lengths.now a.terms.term a.terms.default_length a.terms.start (decides a.networks.now a.lengths.now a.terms _ _ true c.admits.ensures.value c.length_of-length.ensures c.if-not-admits.false) c.if-image-lt-FULL_IMAGE.false c.if-figures-ne-FIGURES.true)
+    (open-other b.lent a.networks.now a.lengths.now a.terms.term a.terms.default_length a.terms.start (decides a.networks.now a.lengths.now a.terms _ _ true c.admits.ensures.value c.length_of-length.ensures c.if-not-admits.false) (omega arith) c.if-figures-ne-FIGURES.true)
 
 pub open-t-requires : goal.open-t-requires
 open-t-requires c =
@@ -74,7 +74,7 @@ pub put_pools-requires : goal.put_pools-requires
 put_pools-requires c =
     let a = c.args in
     let few : length a.networks.now ≤ pool_slots = pools-few a.networks.now a.lengths.now a.terms.term _ a.terms.start (decides a.networks.now a.lengths.now a.terms _ _ true c.admits.ensures.value c.length_of-length.ensures c.if-not-admits.false) in
-    (omega (arith, few, c.put_head.auto.out, c.if-image-lt-FULL_IMAGE.false), few, omega (arith, few, c.admits.auto.keys))
+    (omega (arith, few, c.put_head.auto.out), few, omega (arith, few, c.admits.auto.keys))
 
 pub overflow_mul-n : goal.overflow_mul-n
 overflow_mul-n c =
@@ -106,7 +106,7 @@ fill-requires c =
     let few : length a.networks.now ≤ pool_slots = pools-few a.networks.now a.lengths.now a.terms.term _ a.terms.start (decides a.networks.now a.lengths.now a.terms _ _ true c.admits.ensures.value c.length_of-length.ensures c.if-not-admits.false) in (
       omega arith,
       c.if-figures-ne-FIGURES.false,
-      omega (arith, few, c.if-image-lt-FULL_IMAGE.false, c.clear.auto.image, c.put_pools.auto.image, c.put_head.auto.out),
+      omega (arith, few, c.clear.auto.image, c.put_pools.auto.image, c.put_head.auto.out),
     )
 
 pub recount-requires : goal.recount-requires
@@ -119,7 +119,7 @@ recount-requires c =
     let pools = pools-are c.put_head.new.out c.put_pools.new.image _ _ sorted c.put_pools.ensures in
     record {
       table = _;
-      stands = open-stands b.lent a.networks.now a.lengths.now a.terms.term a.terms.default_length a.terms.start ok c.if-image-lt-FULL_IMAGE.false c.put_head.new.out c.put_pools.new.image c.clear.new.image head pools c.clear.ensures;
+      stands = open-stands b.lent a.networks.now a.lengths.now a.terms.term a.terms.default_length a.terms.start ok (omega arith) c.put_head.new.out c.put_pools.new.image c.clear.new.image head pools c.clear.ensures;
     }
 
 pub overflow_mul-image_bytes : goal.overflow_mul-image_bytes
@@ -142,12 +142,12 @@ returns c =
     let sorted : pools_in (length a.networks.now) c.admits.new.keys ≡ sort_pools (given a.networks.now a.lengths.now) = c.admits.ensures.keys_after c.if-not-admits.false in
     let head = head-is a.image.now c.put_head.new.out _ (given a.networks.now a.lengths.now) a.terms _ c.open-t.result c.open-t.ensures c.length_of-length.ensures sorted c.put_head.ensures in
     let pools = pools-are c.put_head.new.out c.put_pools.new.image _ _ sorted c.put_pools.ensures in
-    let stands = open-stands b.lent a.networks.now a.lengths.now a.terms.term a.terms.default_length a.terms.start ok c.if-image-lt-FULL_IMAGE.false c.put_head.new.out c.put_pools.new.image c.clear.new.image head pools c.clear.ensures in
+    let stands = open-stands b.lent a.networks.now a.lengths.now a.terms.term a.terms.default_length a.terms.start ok (omega arith) c.put_head.new.out c.put_pools.new.image c.clear.new.image head pools c.clear.ensures in
     let from = head_size + pool_size * length a.networks.now in
     let g : Lent = lent c.clear.new.image from c.fill.new.sheet in
     let counts = c.recount.new.counts in
     ap (λ (r : Answer). outcome r (record { lent = g; counts = counts }) []) c.accepted.ensures
     ∙ open-accepts b a.networks.now a.lengths.now a.terms.term a.terms.default_length a.terms.start g
-    (open-accepted b.lent a.networks.now a.lengths.now a.terms.term a.terms.default_length a.terms.start ok c.if-image-lt-FULL_IMAGE.false c.put_head.new.out c.put_pools.new.image c.clear.new.image head pools c.clear.ensures c.if-figures-ne-FIGURES.false
+    (open-accepted b.lent a.networks.now a.lengths.now a.terms.term a.terms.default_length a.terms.start ok (omega arith) c.put_head.new.out c.put_pools.new.image c.clear.new.image head pools c.clear.ensures c.if-figures-ne-FIGURES.false
     c.fill.new.sheet (c.fill.ensures [] (no-records c.clear.new.image from) refl))
     counts (c.recount.ensures _ stands)
