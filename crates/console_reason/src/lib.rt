@@ -1,5 +1,6 @@
 // Why a line is no command: the word that is not what it should be, as a line of text.
 #![tactic(auto)]
+
 ghost use Rattle.std.specs.Prelude.{◌+◌, ◌*◌, ◌≤◌, length};
 ghost use Rattle.console_reason.specs.InnerFaults.{
   Within,
