@@ -33,7 +33,7 @@ loop-i-preserved c =
     let x = c.lease_at-x.result in
     elim j.branch [
       | then-time-x+else-stop-first w ↦
-          let cursor-is : j.cursor ≡ end (prefix_of x) = w.cursor-is ∙ ap (λ (s : ℕ). x.network + s) w.size.ensures.value in (
+          let cursor-is : j.cursor ≡ end (prefix_of x) = omega arith in (
             omega arith,
             omega arith,
             omega (arith, w.push-gaps.ensures.few, w.gaps-is),
