@@ -1,5 +1,6 @@
 // Save as a call: the image of an open book that is sound, in one of the two saved forms, into a lent buffer.
 #![tactic(auto)]
+
 ghost use Rattle.std.specs.Prelude.{◌≡◌, ◌&&◌, [], ℕ, ◌+◌, ◌*◌, ◌≤◌, length, take, ltb};
 ghost use Rattle.table.specs.declared.LeaseTable.{LeaseTable};
 ghost use Rattle.table.specs.Table.{pool_slots, lease_slots, older_slots};
