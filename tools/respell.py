@@ -20,6 +20,7 @@ TABLE = [
     ("four_bytes", "four_bytes_fit", ["ledger/proofs/InRange.antt"]),
     ("ended_by", "ended_alike", ["ledger/proofs/Following.antt"]),
     ("outcome", "granted_outcome", ["ask_commit/proofs/GrantLaws.antt"]),
+    ("outcome", "settled_outcome", [f"call_{c}" for c in ("mark", "list", "release", "take")]),
     ("by_rows", "by_rows_lem", None),
     ("lastDigits", "lowest_digits", None),
     ("askH", "asked_h", None),
@@ -132,7 +133,7 @@ def main():
     for path in files + sorted(glob.glob("crates/*/must-fail/*.edit") + glob.glob("tests/more-edits/**/*.edit", recursive=True)):
         text = read(path)
         short = path[len("crates/") :]
-        table = {old: new for old, new, only in TABLE if only is None or short in only}
+        table = {old: new for old, new, only in TABLE if only is None or any(short == it or short.startswith(it + "/proofs/") for it in only)}
         new = mapped(text, names, table)
         if path.endswith(".antt"):
             new = TOKEN.sub(lambda m: "outcome" if m.group() == "result" and not new[: m.start()].endswith(".") else m.group(), new)

@@ -61,12 +61,12 @@ abbrev wanted : List SuboptionValue → Bool
 wanted subs = for_list (requests subs)
 
 -- WHAT IT LEAVES where it is accepted.
-abbrev outcome : State → List Lease → List ℕ → Result State
-outcome s gs reply = accept s (option_bytes (information true (ltb most_entries (length gs)) (map entry_of (take most_entries gs)) ∷ [])) (length (take most_entries gs)) reply
+abbrev settled_outcome : State → List Lease → List ℕ → Result State
+settled_outcome s gs reply = accept s (option_bytes (information true (ltb most_entries (length gs)) (map entry_of (take most_entries gs)) ∷ [])) (length (take most_entries gs)) reply
 
 -- The bytes that the ledger writes, and how many they are.
 outcome-is : (s : State) (gs : List Lease) (reply : List ℕ) → least_reply ≤ length reply
-    → outcome s gs reply ≡ outcome (acceptance (7 * length (take most_entries gs) + 6) (length (take most_entries gs))) s (put reply 0 (reply_bytes true (ltb most_entries (length gs)) (take most_entries gs)))
+    → settled_outcome s gs reply ≡ outcome (acceptance (7 * length (take most_entries gs) + 6) (length (take most_entries gs))) s (put reply 0 (reply_bytes true (ltb most_entries (length gs)) (take most_entries gs)))
 unfolding reply_bytes
 outcome-is s gs reply room =
     let w : List ℕ = reply_bytes true (ltb most_entries (length gs)) (take most_entries gs) in
@@ -87,7 +87,7 @@ page-none now client reply (x ∷ xs) e from = absurd (omega arith)
 module _ (h : Lent) (now : ℕ) (c : Call) where
   by_row : RefusedBy (rows_with8 false (ltb (length c.reply) least_reply) h now c wanted (eleven h now c)) h c (list_image h now c)
   unfolding list list_rows
-  by_row = list-row-refuses h (list_rows (state_in h) now c) (refusal_place c.option) c.reply (outcome (state_in h) (listed_by h now c) c.reply)
+  by_row = list-row-refuses h (list_rows (state_in h) now c) (refusal_place c.option) c.reply (settled_outcome (state_in h) (listed_by h now c) c.reply)
 
   pub list-refused : (a : Admission) → Admits false (ltb (length c.reply) least_reply) h now c.client a → (a.number ≡ 0 → ⊥) → outcome (refusal a.number 0) h c.reply ≡ list_image h now c
   list-refused = refused-admission false (ltb (length c.reply) least_reply) h now c wanted (eleven h now c) (list_image h now c) by_row
@@ -125,7 +125,7 @@ module _ (h : Lent) (now : ℕ) (c : Call) (summary : ImageSummary) (m : Content
     -- Whichever row refuses it.
     by-row-11 : RefusedBy (list_rows (state_in h) now c) h c (list_image h now c)
     unfolding list
-    by-row-11 = list-row-refuses h (list_rows (state_in h) now c) (refusal_place c.option) c.reply (outcome (state_in h) (listed_by h now c) c.reply)
+    by-row-11 = list-row-refuses h (list_rows (state_in h) now c) (refusal_place c.option) c.reply (settled_outcome (state_in h) (listed_by h now c) c.reply)
 
     shown-are : filter (shown? now c.client) (drop from (used_leases (table_in h))) ≡ gs
     unfolding gs
@@ -161,12 +161,12 @@ module _ (h : Lent) (now : ℕ) (c : Call) (summary : ImageSummary) (m : Content
         ∙ ap (λ (s : Bool). put c.reply 0 (reply_bytes true s (take most_entries gs))) more-is in
         let n-is : n ≡ 7 * length (take most_entries gs) + 6 = omega (arith, size, count-is) in
         let left : Result State = outcome (acceptance n page.count) (state_in h) reply₂ in
-        let left_is : left ≡ outcome (state_in h) gs c.reply =
+        let left_is : left ≡ settled_outcome (state_in h) gs c.reply =
         ap (λ (l : List ℕ). outcome (acceptance n page.count) (state_in h) l) whole
         ∙ ap₂ (λ (x y : ℕ). outcome (acceptance x y) (state_in h) (put c.reply 0 (reply_bytes true (ltb most_entries (length gs)) (take most_entries gs)))) n-is count-is
         ∙ sym (outcome-is (state_in h) gs c.reply listing-is.room) in
         ap (λ (w : Result State). outcome w.answer h w.reply) left_is
-        ∙ list-no-row h (list_rows (state_in h) now c) (refusal_place c.option) c.reply (outcome (state_in h) gs c.reply)
+        ∙ list-no-row h (list_rows (state_in h) now c) (refusal_place c.option) c.reply (settled_outcome (state_in h) gs c.reply)
         (none_left h c (list_rows (state_in h) now c) (list_image h now c) by-row-11 gs listing-is.left-rows (λ w. k (count-is ∙ short-of most_entries gs w)))
 
   -- Row 11 of a table without leases.

@@ -46,8 +46,8 @@ use Rattle.call_release.specs.InnerReleasing.{found_by, eleven, Releasing}
 abbrev others : Lent → ℕ → Call → List Lease
 others h now c = filter (λ x. not (named_by? c.client (entries_in c.option) x)) (present now (table_in h).leases)
 
-abbrev outcome : Lent → ℕ → Call → Result State
-outcome h now c = accept (left (state_in h) now (others h now c)) [] (length (found_by h now c)) c.reply
+abbrev settled_outcome : Lent → ℕ → Call → Result State
+settled_outcome h now c = accept (left (state_in h) now (others h now c)) [] (length (found_by h now c)) c.reply
 
 -- THE CALL, UP TO ROW 8
 
@@ -55,7 +55,7 @@ module _ (h : Lent) (now : ℕ) (c : Call) where
   -- A row that applies refuses it.
   by_row : RefusedBy (release_rows (state_in h) now c) h c (release_image h now c)
   unfolding release
-  by_row = row-refuses h (release_rows (state_in h) now c) (refusal_place c.option) c.reply (outcome h now c)
+  by_row = row-refuses h (release_rows (state_in h) now c) (refusal_place c.option) c.reply (settled_outcome h now c)
 
   pub release-refused : (a : Admission) → Admits true false h now c.client a → (a.number ≡ 0 → ⊥) → outcome (refusal a.number 0) h c.reply ≡ release_image h now c
   unfolding release_rows
@@ -64,7 +64,7 @@ module _ (h : Lent) (now : ℕ) (c : Call) where
   module _ (s : EntriesCall false h now c) where
     pub release-unread : (s.read.answer.number ≡ 0 → ⊥) → outcome s.read.answer h c.reply ≡ release_image h now c
     unfolding release release_rows
-    release-unread = refused-entries false h now c (eleven h now c) s (outcome h now c)
+    release-unread = refused-entries false h now c (eleven h now c) s (settled_outcome h now c)
 
     -- Every row before 11 has passed.
     pub release-passed : s.read.answer.number ≡ 0 → Releasing h now c s.admission.summary (up_to s.read.count s.networks) (up_to s.read.count s.lengths)
@@ -139,9 +139,9 @@ module _ (h : Lent) (now : ℕ) (c : Call) (summary : ImageSummary) (networks le
           let left-are : present now ys ≡ others h now c =
           struck-left now c.client 0 (omega arith) es xs ∙ ap (filter (λ (x : Lease). not (named_by? c.client es x))) (sym o.present-used) in
           let after : Result State = outcome (acceptance 0 strikes.count) (left (state_in h) now (present now ys)) c.reply in
-          let after_is : after ≡ outcome h now c =
+          let after_is : after ≡ settled_outcome h now c =
           ap₂ (λ (l : List Lease) (m : ℕ). outcome (acceptance 0 m) (left (state_in h) now l) c.reply) left-are struck-is in
-          accepts h (release_rows (state_in h) now c) (refusal_place c.option) c.reply (outcome h now c)
+          accepts h (release_rows (state_in h) now c) (refusal_place c.option) c.reply (settled_outcome h now c)
           (none_left h c (release_rows (state_in h) now c) (release_image h now c) (by_row h now c) (found_by h now c) t.left-rows (λ w. k (struck-is ∙ w))) after refl after_is (lent l₂ n sheet)
           (changed-in-place h now c summary o 0 es l₁ done.after_is l₂ n removed.finished (left (state_in h) now (present now ys)).rows sheet rows_left)
 

@@ -73,8 +73,8 @@ leases_after h now c = renew_named now (table_in h).term c.client (usable_in h c
 abbrev state_with : Lent → ℕ → Call → List Lease → State
 state_with h now c zs = let u = store (table_in h) now zs in state u (taken now c.client (usable_in h c) (table_in h) (state_in h).rows u)
 
-abbrev outcome : Lent → ℕ → Call → Result State
-outcome h now c =
+abbrev settled_outcome : Lent → ℕ → Call → Result State
+settled_outcome h now c =
     let gs = found_by h now c in
     accept (renewed (state_in h) now c) (option_bytes (information false false (map entry_of gs) ∷ []) ++ returned c.selection) (length gs) c.reply
 
@@ -124,7 +124,7 @@ module _ (h : Lent) (now : ℕ) (c : Call) where
   -- A row that applies refuses it.
   by_row : RefusedBy (take_rows (state_in h) now c) h c (take_image h now c)
   unfolding take_of
-  by_row = row-refuses h (take_rows (state_in h) now c) (refusal_place c.option) c.reply (outcome h now c)
+  by_row = row-refuses h (take_rows (state_in h) now c) (refusal_place c.option) c.reply (settled_outcome h now c)
 
   pub take-refused : (a : Admission) → Admits true short h now c.client a → (a.number ≡ 0 → ⊥) → outcome (refusal a.number 0) h c.reply ≡ take_image h now c
   unfolding take_rows
@@ -137,7 +137,7 @@ module _ (h : Lent) (now : ℕ) (c : Call) where
   module _ (s : EntriesCall short h now c) where
     pub take-unread : (s.read.answer.number ≡ 0 → ⊥) → outcome s.read.answer h c.reply ≡ take_image h now c
     unfolding take_of take_rows
-    take-unread = refused-entries short h now c own s (outcome h now c)
+    take-unread = refused-entries short h now c own s (settled_outcome h now c)
 
     -- What `renewal_of` requires.
     pub take-timed : (s.admission.summary.pools ≤ pool_slots) × (now + s.admission.summary.term < addresses)
@@ -371,12 +371,12 @@ module _ (h : Lent) (now : ℕ) (c : Call) (summary : ImageSummary) (ground : Gr
           put-more c.reply reply₂ (put reply₂ written more) 0 (reply_bytes false false gs) written more option-whole (omega (arith, size, shown-is, reply-length false false gs)) refl in
           let written_is : written + length more ≡ 7 * length gs + 6 + length more = omega (arith, size, shown-is) in
           let after : Result State = outcome (acceptance (written + length more) shown) (state_with h now c (present now ys)) (put reply₂ written more) in
-          let after-are : after ≡ outcome h now c =
+          let after-are : after ≡ settled_outcome h now c =
           ap₂ (λ (l : List Lease) (m : List ℕ). outcome (acceptance (written + length more) shown) (state_with h now c l) m) left-are whole
           ∙ ap₂ (λ (x y : ℕ). outcome (acceptance x y) (state_with h now c (leases_after h now c)) (put c.reply 0 (reply_bytes false false gs ++ more))) written_is shown-is
           ∙ sym (outcome-is (renewed (state_in h) now c) gs c.reply more (omega (arith, shown-is)) t.room) in
           returning-accepted c.selection written shown (lent l₂ n sheet) reply₂
-          ∙ accepts h (take_rows (state_in h) now c) (refusal_place c.option) c.reply (outcome h now c)
+          ∙ accepts h (take_rows (state_in h) now c) (refusal_place c.option) c.reply (settled_outcome h now c)
           (none_left h c (take_rows (state_in h) now c) (take_image h now c) (by_row h now c) gs t.passed.left-rows (λ w. k (shown-is ∙ w))) after refl after-are (lent l₂ n sheet)
           (changed-in-place h now c summary o until es l₁ after_is l₂ n finished (state_with h now c (present now ys)).rows sheet rows_left)
 
