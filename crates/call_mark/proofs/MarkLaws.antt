@@ -138,13 +138,13 @@ abbrev own : Lent → ℕ → ℕ → ℕ → List Row
 own h now network len = (11, not (meant? h now network len)) ∷ []
 
 -- What it leaves where no row applies.
-abbrev outcome : Lent → ℕ → ℕ → ℕ → Bool → Result State
-outcome h now network len d = accept (left (state_in h) now (map (λ x. cond (at? network len x) (with_d d x) x) (present now (table_in h).leases))) [] 0 []
+abbrev settled_outcome : Lent → ℕ → ℕ → ℕ → Bool → Result State
+settled_outcome h now network len d = accept (left (state_in h) now (map (λ x. cond (at? network len x) (with_d d x) x) (present now (table_in h).leases))) [] 0 []
 
 module _ (h : Lent) (now network len : ℕ) (d : Bool) where
   by_row : (n : ℕ) → (n ≡ 0 → ⊥) → first_of (admission_rows true false h now 1 ++ own h now network len) ≡ some n → outcome (refusal n 0) h [] ≡ mark_image h now network len d
   unfolding mark mark_rows
-  by_row n k e = row-refuses h (mark_rows (state_in h) now network len) (λ m. 0) [] (outcome h now network len d) n k e
+  by_row n k e = row-refuses h (mark_rows (state_in h) now network len) (λ m. 0) [] (settled_outcome h now network len d) n k e
 
   pub mark-refused : (a : Admission) → Admits true false h now 1 a → (a.number ≡ 0 → ⊥) → outcome (refusal a.number 0) h [] ≡ mark_image h now network len d
   mark-refused a ad k = by_row a.number k (not-admitted true false h now 1 a ad (own h now network len) k).0
@@ -270,7 +270,7 @@ module _ (h : Lent) (now network len : ℕ) (d : Bool) where
             unfolding ys mark mark_rows left
             mark-found s strikes =
                 let sheet : s ≡ sheet_of (struck_if summary.expired now ys (state_in h).rows) = strikes (state_in h).rows ys (o.sheet-in refl).whole held (sym counted) in
-                accepts h (mark_rows (state_in h) now network len) (λ m. 0) [] (outcome h now network len d) no-row-left (outcome (acceptance 0 0) (left (state_in h) now (present now ys)) []) refl
+                accepts h (mark_rows (state_in h) now network len) (λ m. 0) [] (settled_outcome h now network len d) no-row-left (outcome (acceptance 0 0) (left (state_in h) now (present now ys)) []) refl
                 (ap (λ (zs : List Lease). outcome (acceptance 0 0) (left (state_in h) now zs) []) (sym leases-are)) (lent l₂ n s)
                 (finished-in-place true h now 1 summary o ys counted l₁ (e₁ ∙ edit-is h.image (leases_from summary) (leases_in h) o.records (r - 1) inside (with_d d x)) l₂ n finished
                 (followed now (table_in h) (state_in h).rows (store (table_in h) now (present now ys))) s (sheet ∙ ap sheet_of rows-follow))
