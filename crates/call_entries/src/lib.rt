@@ -1,5 +1,6 @@
 // What take and release have in common: the entries of an option, and the leases that they name, found and changed in place.
 #![tactic(auto)]
+
 ghost use Rattle.std.specs.Prelude.{◌≡◌, List, ◌∷◌, ◌+◌, ◌*◌, ◌≤◌, ◌<◌, length as count};
 ghost use Rattle.table.specs.declared.Lease.{Lease};
 ghost use Rattle.image.specs.Image.{lease_size};

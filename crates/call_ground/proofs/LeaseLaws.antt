@@ -34,6 +34,7 @@ same_tests false false f g = refl
 
 -- Of prefixes that share no address, one has the start of a and another the whole of it: they are the same.
 start-whole : (pools : List Prefix) → Pairwise Apart pools → (a p : Prefix) → Any (Inside a) pools → Any (λ q. q ≡ p) pools → p.network ≤ a.network → a.network < end p → Inside a p
+start-whole [] d a p x5 _ l h = elim x5 [ ]
 start-whole (q ∷ qs) d a p (inl i) (inl e) l h = subst (Inside a) e i
 start-whole (q ∷ qs) d a p (inl i) (inr m) l h =
     let k = any-all qs m d.0 in

@@ -57,6 +57,7 @@ module _ (t : LeaseTable) (e : sound t ≡ true) (image : List ℕ) (bytes : ℕ
         member ps k l = any-image ps (all-at (λ v. Any (λ x. x ≡ v) ps) ps (all-member ps) k no_pool l)
           where
             any-image : (qs : List Pool) → Any (λ x. x ≡ get_or ps k no_pool) qs → Any (λ q. q ≡ pool_prefix (get_or ps k no_pool)) (map pool_prefix qs)
+            any-image [] x' = elim x' [ ]
             any-image (x ∷ qs) (inl z) = inl (ap pool_prefix z)
             any-image (x ∷ qs) (inr z) = inr (any-image qs z)
 

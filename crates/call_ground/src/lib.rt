@@ -1,6 +1,7 @@
 // The ground of a call: with option 118 the pool that contains its address and the leases that lie in that pool, without it all of
 // them; and that option in the reply.
 #![tactic(auto)]
+
 ghost use Rattle.std.specs.Prelude.{◌≡◌, true, List, ℕ, ◌+◌, ◌*◌, ◌≤◌, length};
 ghost use Rattle.prefix.specs.Prefixes.{end};
 ghost use Rattle.table.specs.declared.Lease.{Lease};

@@ -1,5 +1,6 @@
 // Mark as a call on an open book, in place.
 #![tactic(auto)]
+
 ghost use Rattle.std.specs.Prelude.{◌≡◌, true, not, [], eqb};
 ghost use Rattle.ledger.specs.Ledger.{outcome};
 ghost use Rattle.call_spec.specs.ImageCalls.{lent, mark_image};
