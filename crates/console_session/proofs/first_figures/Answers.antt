@@ -1,5 +1,4 @@
 -- `first_figures` meets its contract: the rows of no leases are those of empty slots.
--- Assumes nothing.
 use Prim.Native.Nat.{ℕ, zero, suc}
 use mathlib.Core.Path.{◌≡◌, refl, ap, ◌∙◌}
 use mathlib.Core.List.{[], ◌∷◌, map}
@@ -8,9 +7,7 @@ use Rattle.table.specs.Table.{lease_slots, no_lease}
 use Rattle.image_records.specs.Records.{Records}
 use Rattle.figures.specs.Figures.{untold_row, empty_row}
 use Rattle.image_figures.specs.Sheets.{sheet_of}
-use borrow.Author.Rules.{rules}
-use Rattle.console_session.proofs.first_figures.Statement.{statement}
-use Rattle.console_session.proofs.first_figures.Tie as tie
+use Rattle.console_session.proofs.first_figures.Goals as goal
 
 empty-rows : (n : ℕ) → map untold_row (replicate n no_lease) ≡ replicate n empty_row
 empty-rows zero = refl
@@ -20,10 +17,5 @@ no-leases : Records [] 0 []
 unfolding Records
 no-leases = refl
 
-returns : tie.Need-returns
-returns c = c.before.fill.ensures [] no-leases refl ∙ ap sheet_of (empty-rows lease_slots)
-
-pub first-figures-spec : {M : Type 1} → statement M
-first-figures-spec =
-    tie.close
-    (tie.spec (λ c. search rules) (λ c. search rules) (λ c κs. search rules) returns)
+pub returns : goal.returns
+returns c = c.fill.ensures [] no-leases refl ∙ ap sheet_of (empty-rows lease_slots)
