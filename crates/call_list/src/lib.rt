@@ -1,5 +1,6 @@
 // List as a call on an image: a client's leases above a position, at most 35 of them, shown from where they stand.
 #![tactic(auto)]
+
 ghost use Rattle.std.specs.Prelude.{◌≡◌, List, [], true, not, cond, ◌&&◌, ◌+◌, ◌*◌, ◌≤◌, length, drop, eqb};
 ghost use Rattle.std.proofs.Math.Option.{none, some};
 ghost use Rattle.lists.specs.Lists.{filter};

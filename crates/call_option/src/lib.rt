@@ -1,5 +1,6 @@
 // Options as a server meets them before it makes a call: option 118 (RFC 3011) read and written, and the check of option 220.
 #![tactic(auto)]
+
 ghost use Rattle.std.specs.Prelude.{◌≡◌};
 ghost use Rattle.call_option.specs.Options.{selection_in, selection_into, option_check};
 

@@ -1,6 +1,7 @@
 // Queries on an open book: whether it is sound, its head, a pool or a lease by its index, and how many whole free blocks of a
 // length it has. Each checks the book and reads what it is asked for where it stands.
 #![tactic(auto)]
+
 ghost use Rattle.std.specs.Prelude.{◌≡◌, cond, []};
 ghost use Rattle.image.specs.Image.{bit};
 ghost use Rattle.call_spec.specs.Books.{book_of, lent_in, whole_book};

@@ -1,5 +1,6 @@
 // Return as a call on an open book, in place; `return` is a keyword.
 #![tactic(auto)]
+
 ghost use Rattle.std.specs.Prelude.{◌≡◌, List, [], ℕ, ◌+◌, ◌*◌, ◌≤◌, length};
 ghost use Rattle.option.specs.Values.{Entry};
 ghost use Rattle.table.specs.declared.Lease.{Lease};

@@ -1,5 +1,6 @@
 // Take as a call on an open book, in place.
 #![tactic(auto)]
+
 ghost use Rattle.std.specs.Prelude.{◌≡◌, List, ◌++◌, ℕ, ◌+◌, ◌*◌, ◌≤◌, ◌<◌, length, take as up_to};
 ghost use Rattle.std.proofs.Math.Option.{Option};
 ghost use Rattle.option.specs.Values.{longest_option, Entry};
