@@ -1,6 +1,7 @@
 // The end of ask as a call on an image: what its requests get, leases again and new ones on the gaps of the image, becomes records
 // and rows of the figures sheet, and the reply.
 #![tactic(auto)]
+
 ghost use Rattle.std.specs.Prelude.{◌≡◌, true, List, [], ◌∷◌, ◌++◌, map, ℕ, ◌+◌, ◌-◌, ◌*◌, ◌≤◌, length as length_of, drop};
 ghost use Rattle.std.proofs.Math.Option.{Option};
 ghost use Rattle.lists.specs.Lists.{All, cat_maybes};
