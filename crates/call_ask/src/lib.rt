@@ -1,5 +1,6 @@
 // Ask as a call on an image, in place.
 #![tactic(auto)]
+
 ghost use Rattle.std.specs.Prelude.{◌≡◌, not, ◌&&◌, [], ◌∷◌, leb, eqb};
 ghost use Rattle.lists.specs.Lists.{and};
 ghost use Rattle.option.specs.Values.{most_requests};
