@@ -2,6 +2,7 @@
 // book that it is lent: image, figures sheet and counts. A slice is a pointer and a length; nothing is allocated and nothing is kept
 // between two calls.
 #![tactic(auto)]
+
 ghost use Rattle.std.specs.Prelude.{◌≡◌, not, [], eqb};
 ghost use Rattle.image.specs.Image.{form_numbered};
 ghost use Rattle.ledger.specs.Ledger.{call, call_with, outcome};
