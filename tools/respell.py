@@ -6,7 +6,8 @@ usage: python3 tools/respell.py            at the top, once, after the port scri
 Definitions, lemmas and local names in camel case become snake case (`poolsOf` is `pools_of`); types, modules and
 constructors keep their capital. A new spelling that another name of the same file has already gives that other name,
 or itself, another word: TABLE says which. `result` is a word of clauses now, so the ledger's own `result` is
-`outcome`, and the clauses that kept a lambda because of it lose it. Functions of src/, exported names, strings and
+`outcome`, and the clauses that kept a lambda because of it lose it; `ground` is a tactic, so parameters and fields of that
+name are `area`. Functions of src/, exported names, strings and
 files that are no Rattle keep their names.
 """
 import glob
@@ -27,6 +28,8 @@ TABLE = [
     ("askLength", "asked_length", None),
     ("askLengths", "asked_lengths", None),
 ]
+# A word that is a tactic in clauses and definitions. Comments keep it, and so does the text of the program `sheet`.
+TACTIC = {"ground": "area"}
 # Labels of the clauses that lose their lambda; `fact` with a second one beside it states bounds.
 CLAUSES = {"r_bound": "upper_bound", "r_in_bounds": "in_bounds", "fact": "equation", "fact_2": "equation"}
 
@@ -77,6 +80,20 @@ def mapped(text, names, table):
         return snake(word) if word in names else word
 
     return TOKEN.sub(one, text)
+
+
+def without_tactics(path, text):
+    if path.startswith("crates/sheet/"):
+        return text
+    lines = []
+    for line in text.split("\n"):
+        if path.endswith(".edit"):
+            code, rest = (line, "") if line.startswith(("old:", "new:")) else ("", line)
+        else:
+            at = line.find("--" if path.endswith(".antt") else "//")
+            code, rest = (line, "") if at < 0 else (line[:at], line[at:])
+        lines.append(TOKEN.sub(lambda m: TACTIC.get(m.group(), m.group()), code) + rest)
+    return "\n".join(lines)
 
 
 def close(text, at):
@@ -139,6 +156,7 @@ def main():
             new = TOKEN.sub(lambda m: "outcome" if m.group() == "result" and not new[: m.start()].endswith(".") else m.group(), new)
         elif path.endswith(".rt"):
             new = without_lambdas(path, new)
+        new = without_tactics(path, new)
         if new != text:
             with open(path, "w", encoding="utf-8", newline="") as it:
                 it.write(new)

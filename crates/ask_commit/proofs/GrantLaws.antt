@@ -36,7 +36,7 @@ use Rattle.figures.specs.Figures.{followed}
 use Rattle.image_figures.specs.Sheets.{sheet_of}
 use Rattle.ledger.specs.Ledger.{State, left, Call, call_with, Result, outcome, refusal, acceptance, accept, first_of, refusal_place, nothing?, narrowed, usable_leases, returned, ask_name, hold_time, offers, add_all, again, rest_of, held_again, in_turn, ask_held, ask_offers, ask_gives, ask_leases, information_for, grant_rows, ask_rows, ask}
 use Rattle.ledger.proofs.AgainLaws.{again-length, held-fine, held-length, rest_all, rest-fills, turn-length, turn-count, rest-offers}
-use Rattle.ledger.proofs.GroundLaws.{Ground, ground, narrowed-default}
+use Rattle.ledger.proofs.GroundLaws.{Ground, area, narrowed-default}
 use Rattle.ledger.proofs.OfferLaws as offer-laws
 use Rattle.ledger.proofs.RowLaws.{nothing-none, nothing-some}
 use Rattle.ledger.proofs.ReadLaws.{requests-short}
@@ -91,10 +91,10 @@ module _ (h : Lent) (now client : ℕ) (reply : List ℕ) (site : Site) (asked_l
 
   -- Where the leases of the ground begin among those of the image, and how many they are.
   abbrev first : ℕ
-  first = site.ground.first
+  first = site.area.first
 
   abbrev count : ℕ
-  count = site.ground.leases
+  count = site.area.leases
 
   abbrev whole : LeaseTable
   whole = table_in h
@@ -104,7 +104,7 @@ module _ (h : Lent) (now client : ℕ) (reply : List ℕ) (site : Site) (asked_l
 
   -- Those on the ground.
   abbrev ms : List Lease
-  ms = take site.ground.leases (drop site.ground.first (used_leases (table_in h)))
+  ms = take site.area.leases (drop site.area.first (used_leases (table_in h)))
 
   abbrev xs : List Lease
   xs = here h now
@@ -133,7 +133,7 @@ module _ (h : Lent) (now client : ℕ) (reply : List ℕ) (site : Site) (asked_l
     hs = usable_leases (table_in h) c xs
 
     hs-are : hs ≡ present now ms
-    hs-are = grounds-present h c summary site.ground k.grounds now client a.admitted
+    hs-are = grounds-present h c summary site.area k.grounds now client a.admitted
 
     pub asks-are : Asks (narrowed (table_in h) (call_with client option selection reply)) (requests_in option) site.summary.default_length asked_lengths asked_h
     asks-are = record { by_default = a.admitted.default ∙ sym (narrowed-default whole c); lengths = k.lengths; flags = k.flags }
@@ -159,7 +159,7 @@ module _ (h : Lent) (now client : ℕ) (reply : List ℕ) (site : Site) (asked_l
 
     -- The leases after it are good, and fit the table.
     on-ground : Ground (pools_of whole) t
-    on-ground = ground whole c a.admitted.sound
+    on-ground = area whole c a.admitted.sound
 
     after-good : offer-laws.Inv t now client label on-ground.good (pools_of whole) after
     after-good =
@@ -265,7 +265,7 @@ module _ (h : Lent) (now client : ℕ) (reply : List ℕ) (site : Site) (asked_l
         edited-is : image ≡ put h.image (leases_from summary) (concat_map lease_record zs)
         edited-is =
             edited
-            ∙ inner-put h.image (leases_from summary) us a.admitted.records first count few_on (held_again now given ms) (held-length now given ms ∙ grounds-count h c summary site.ground k.grounds now client a.admitted)
+            ∙ inner-put h.image (leases_from summary) us a.admitted.records first count few_on (held_again now given ms) (held-length now given ms ∙ grounds-count h c summary site.area k.grounds now client a.admitted)
             ∙ ap (λ (ys : List Lease). put h.image (leases_from summary) (concat_map lease_record ys)) (sym among)
 
         zs-many : length zs ≡ summary.leases

@@ -28,7 +28,7 @@ use Rattle.image_records.specs.Records.{Records}
 use Rattle.gap_list.specs.Gaps.{gaps_of}
 use Rattle.gap_list.specs.Columns.{held_in}
 use Rattle.ask_gaps.specs.Ground as gap-ground
-use Rattle.ask_gaps.proofs.GroundLaws.{ground, ground-ends, held-few}
+use Rattle.ask_gaps.proofs.GroundLaws.{area, ground-ends, held-few}
 use Rattle.option.specs.Contents.{Request}
 use Rattle.ledger.specs.Ledger.{Call, narrowed, usable_leases, hold_time}
 use Rattle.ask_again.specs.Places.{no_place, lease_at, given_in, others_in, flags_of}
@@ -109,7 +109,7 @@ module _ (image : List ℕ) (now client : ℕ) (summary : ImageSummary) (q : Adm
     from = leases_from summary + lease_size * g.first
 
     whole : gap-ground.Ground h.image 0 (length (used_pools t)) (head_size + pool_size * length (used_pools t)) (length (used_leases t)) (pools_of t) (used_leases t)
-    whole = ground t o.sound h.image h.bytes o.image
+    whole = area t o.sound h.image h.bytes o.image
 
     pub pools-fit : head_size + pool_size * (g.pool + g.pools) ≤ length image
     pools-fit = omega (arith, records-fit image now client summary q)

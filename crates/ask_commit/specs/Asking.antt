@@ -12,7 +12,7 @@ use Rattle.ask_commit.specs.declared.Site.{Site}
 
 -- The ground lies within the image.
 abbrev pub WithinSite : Site → Type 0
-WithinSite site = (site.ground.pool + site.ground.pools ≤ site.summary.pools) × (site.ground.first + site.ground.leases ≤ site.summary.leases)
+WithinSite site = (site.area.pool + site.area.pools ≤ site.summary.pools) × (site.area.first + site.area.leases ≤ site.summary.leases)
 
 -- The call is admitted, with its figures sheet, the reply has room for every offer, and two columns have as many requests.
 pub record Ready (h : Lent) (now client : ℕ) (reply : List ℕ) (site : Site) (asked_lengths asked_h : List ℕ) : Type 0 where
@@ -25,7 +25,7 @@ pub record Ready (h : Lent) (now client : ℕ) (reply : List ℕ) (site : Site) 
 -- Rows 9 and 10 are left, the ground is that of the call, the columns hold the requests, the name is that of the ask, and option 118 has room after the offers.
 pub record Asking (h : Lent) (now : ℕ) (name : Name) (c : Call) (site : Site) (asked_lengths asked_h : List ℕ) : Type 0 where
   pub left-rows : first_of (ask_rows (state_in h) now c) ≡ first_of (grant_rows (state_in h) now c)
-  pub grounds : Grounds h c site.summary site.ground
+  pub grounds : Grounds h c site.summary site.area
   pub named : name ≡ ask_name c
   pub lengths : asked_lengths ≡ map (λ r. r.length) (requests_in c.option)
   pub flags : asked_h ≡ map (λ r. flag_of r.h) (requests_in c.option)

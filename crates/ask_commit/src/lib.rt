@@ -130,7 +130,7 @@ fn serve_rest(
     requires { AdmittedImage image.now asker.time asker.client site.summary × WithinSite site × (length_of places.now ≡ length_of ask_lengths.now) × (again ≡ others_in no_place places.now (length_of ask_lengths.now))
         × (length_of ask_lengths.now ≤ length_of networks.old) × (length_of ask_lengths.now ≤ length_of lengths.old) × (leases_in lengths.old (length_of ask_lengths.now) ≡ 0) }
     ensures bounds { (result ≤ length_of ask_lengths.now) × (result ≤ lease_slots - (site.summary.leases - site.summary.expired)) × (result ≡ leases_in lengths.new (length_of ask_lengths.now)) }
-    ensures equation { ((h : Lent) (c : Call) (us : List Lease) (rs : List Request) → h.image ≡ image.now → Admitted true h asker.time asker.client site.summary → Grounds h c site.summary site.ground
+    ensures equation { ((h : Lent) (c : Call) (us : List Lease) (rs : List Request) → h.image ≡ image.now → Admitted true h asker.time asker.client site.summary → Grounds h c site.summary site.area
         → ask_lengths.now ≡ map (λ r. r.length) rs → All (λ r. r.length ≤ longest) rs
         → Granted (narrowed (table_in h) c) asker.time asker.client asker.name (present asker.time (table_in h).leases) (given_in us places.now) rs networks.new lengths.new) }
 {
@@ -142,12 +142,12 @@ fn serve_rest(
     if LEASES <= present {
         return 0;
     }
-    let ground = site.ground;
+    let area = site.area;
     let span = Span {
-        pool: ground.pool,
-        pools: ground.pools,
-        from: HEAD + POOL * summary.pools + LEASE * ground.first,
-        leases: ground.leases,
+        pool: area.pool,
+        pools: area.pools,
+        from: HEAD + POOL * summary.pools + LEASE * area.first,
+        leases: area.leases,
     };
     let mut starts = [0u32; GAPS];
     let mut lasts = [0u32; GAPS];
@@ -188,15 +188,15 @@ pub fn grant(
         ≡ ask_image (lent image.old image_bytes.old figures.old) asker.time (call_with asker.client option selection reply.old)) }
 {
     let summary = site.summary;
-    let ground = site.ground;
+    let area = site.area;
     // Where the leases on the ground begin: places are counted from there.
-    let from = HEAD + POOL * summary.pools + LEASE * ground.first;
+    let from = HEAD + POOL * summary.pools + LEASE * area.first;
     let requests = ask_lengths.len();
     let mut places = [0u16; MOST_REQUESTS];
     let again = ask_again::find_held(
         image,
         from,
-        ground.leases,
+        area.leases,
         asker,
         summary.default_length,
         ask_lengths,

@@ -33,9 +33,9 @@ module _ (t : LeaseTable) (e : sound t ≡ true) (l : List ℕ) (bytes : ℕ) (i
   ground-pools : (k : ℕ) → k < length (used_pools t) → nth_pool (drop head_size l) k ≡ pool_prefix (get_or (used_pools t) k no_pool)
   ground-pools k h = ap pool_prefix (image-pools t l bytes image k h)
 
-  pub ground : Ground l 0 (length (used_pools t)) (head_size + pool_size * length (used_pools t)) (length (used_leases t)) (pools_of t) (used_leases t)
+  pub area : Ground l 0 (length (used_pools t)) (head_size + pool_size * length (used_pools t)) (length (used_leases t)) (pools_of t) (used_leases t)
   unfolding prefixes_of
-  ground = record {
+  area = record {
     pools-are = sym (length-map (used_pools t) pool_prefix);
     pool-at = λ k h. let lt : k < length (used_pools t) = omega (arith, length-map (used_pools t) pool_prefix) in ap (nth_pool (drop head_size l)) (zero-add k) ∙ ground-pools k lt ∙ sym (get_or-map pool_prefix (used_pools t) k no_pool);
     leases-are = refl;

@@ -127,25 +127,25 @@ module _ (image : List ℕ) (pool pools from leases time : ℕ) where
 
   pub passed_none : (ss ls : List ℕ) → Passed 0 (record { leases = 0; gaps = 0 }) ss ls
   unfolding Passed
-  passed_none ss ls ps xs ground = refl
+  passed_none ss ls ps xs area = refl
 
   module _ (k : ℕ) (p : Pass) (ss ls : List ℕ) (passed : Passed k p ss ls) where
     pub passed-pool : k < pools → (q : Pass) (ss₁ ls₁ : List ℕ) (here : Prefix) → here ≡ nth_pool (drop head_size image) (pool + k)
         → Went image from leases time here.network (end here) p ss ls q ss₁ ls₁ → Passed (k + 1) q ss₁ ls₁
     unfolding Passed
-    passed-pool lt q ss₁ ls₁ here is went ps xs ground =
-        let it : here ≡ get_or ps k (prefix 0 0) = is ∙ ground.pool-at k (omega (arith, ground.pools-are)) in
+    passed-pool lt q ss₁ ls₁ here is went ps xs area =
+        let it : here ≡ get_or ps k (prefix 0 0) = is ∙ area.pool-at k (omega (arith, area.pools-are)) in
         let s : PoolGaps = pool_gaps here.network (end here) (ahead time p.leases xs) in
         let rest : List Prefix = drop (k + 1) ps in
-        let pools-left : drop k ps ≡ here ∷ rest = drop_at ps k (prefix 0 0) (omega (arith, ground.pools-are)) ∙ ap (λ (y : Prefix). y ∷ rest) (sym it) in
-        ap₂ (λ (hs : List Gap) (qs : List Prefix). hs ++ gaps_of rest qs) (went.gaps xs ground.leases-at ground.leases-are) (went.left xs ground.leases-at ground.leases-are)
+        let pools-left : drop k ps ≡ here ∷ rest = drop_at ps k (prefix 0 0) (omega (arith, area.pools-are)) ∙ ap (λ (y : Prefix). y ∷ rest) (sym it) in
+        ap₂ (λ (hs : List Gap) (qs : List Prefix). hs ++ gaps_of rest qs) (went.gaps xs area.leases-at area.leases-are) (went.left xs area.leases-at area.leases-are)
         ∙ append_assoc (held_in ss ls p.gaps) s.gaps (gaps_of rest s.left)
         ∙ ap (λ (qs : List Prefix). held_in ss ls p.gaps ++ gaps_of qs (ahead time p.leases xs)) (sym pools-left)
-        ∙ passed ps xs ground
+        ∙ passed ps xs area
 
     pub passed-all : pools ≤ k → (ps : List Prefix) (xs : List Lease) → Ground image pool pools from leases ps xs → held_in ss ls p.gaps ≡ gaps_of ps (ahead time 0 xs)
     unfolding Passed
-    passed-all past ps xs ground =
+    passed-all past ps xs area =
         sym (append-nil (held_in ss ls p.gaps))
-        ∙ ap (λ (qs : List Prefix). held_in ss ls p.gaps ++ gaps_of qs (ahead time p.leases xs)) (sym (drop-end ps k (omega (arith, ground.pools-are))))
-        ∙ passed ps xs ground
+        ∙ ap (λ (qs : List Prefix). held_in ss ls p.gaps ++ gaps_of qs (ahead time p.leases xs)) (sym (drop-end ps k (omega (arith, area.pools-are))))
+        ∙ passed ps xs area

@@ -27,7 +27,7 @@ use Rattle.table.specs.Table.{pool_prefix, prefix_of, network_of, unused?, prefi
 use Rattle.table.proofs.Ascending.{used}
 use Rattle.table.proofs.TableLaws.{Fine}
 use Rattle.ledger.specs.Ledger.{Call, contains?, narrowed_to, narrowed, on_ground, usable_leases}
-use Rattle.ledger.proofs.GroundLaws.{ground-filtered, ground}
+use Rattle.ledger.proofs.GroundLaws.{ground-filtered, area}
 use Rattle.ledger.proofs.OfferLaws.{ordered}
 use Rattle.ask_serve.specs.InnerServing.{within}
 
@@ -136,7 +136,7 @@ module _ (t : LeaseTable) (c : Call) (e : sound t ≡ true) where
         let o = ordered t e now ys fine in
         let f : Prefix → Bool = λ p. any? (inside? p) own in
         record {
-          good = (ground t c e).good;
+          good = (area t c e).good;
           pools_ascend = pools-ascend o.pools_ascend;
           leases_ascend = pairwise-filter f Before (map prefix_of ys) o.leases_ascend;
           pooled = all_map (λ p (k : f p ≡ true). any?-to (inside? p) (inside-to p) own k) (filter f (map prefix_of ys)) (filter-pass f (map prefix_of ys));

@@ -26,7 +26,7 @@ use Rattle.option.specs.Contents.{Request}
 use Rattle.option_scan.specs.Scanned.{flag_of}
 use Rattle.ledger.specs.Ledger.{Call, narrowed, usable_leases, asked_length, hold_time, offer, add, add_all, rest_of}
 use Rattle.ledger.proofs.AgainLaws.{rest_all}
-use Rattle.ledger.proofs.GroundLaws.{ground, narrowed-default}
+use Rattle.ledger.proofs.GroundLaws.{area, narrowed-default}
 use Rattle.ledger.proofs.OfferLaws as offer-laws
 use Rattle.ask_again.specs.Places.{no_place, lease_at, given_in, flags_of}
 use Rattle.ask_serve.specs.declared.Progress.{Progress}
@@ -91,7 +91,7 @@ module _ (u : LeaseTable) (call : Call) (time client : ℕ) (name : Name) (xs us
 
     fine-so-far : (j : ℕ) → j ≤ length rs → Fine (pools_of u) time 0 (add_all (offered j) xs)
     fine-so-far j h =
-        let g = ground u call ready.sound_table in
+        let g = area u call ready.sound_table in
         subst (Fine (pools_of u) time 0) (sym (rest-added t time client name (given j) (take j rs) xs xs (given-many j h)))
         (offer-laws.offers-inv t time client name g.good (pools_of u) g ready.named (rest_of (given j) (take j rs)) xs
         (rest_all (λ r. r.length ≤ longest) (given j) (take j rs) (all_take j rs ready.long))
@@ -111,7 +111,7 @@ module _ (u : LeaseTable) (call : Call) (time client : ℕ) (name : Name) (xs us
           parted = ground-parted u call ready.sound_table time (add_all (offered j) xs) so_far;
           asked = comes;
           block = subst (λ (l : ℕ). (1 ≤ l) × (l ≤ longest)) comes
-              (offer-laws.length-bounds t (ground u call ready.sound_table).default r (all-at (λ q. q.length ≤ longest) rs ready.long j nothing lt));
+              (offer-laws.length-bounds t (area u call ready.sound_table).default r (all-at (λ q. q.length ≤ longest) rs ready.long j nothing lt));
         }
 
     -- One more request.

@@ -170,7 +170,7 @@ module _ (h : Lent) (now : ℕ) (c : Call) (short : Bool) (short-is : short ≡ 
           module _ (some-pool : g.pools ≡ 0 → ⊥) where
             -- Every row before 9 has passed.
             pub ask-ready : Long s.columns
-                → Ready h now c.client c.reply (record { summary = s.admission.summary; ground = g }) (take s.contents.requests s.columns.asked_lengths) (take s.contents.requests s.columns.asked_h)
+                → Ready h now c.client c.reply (record { summary = s.admission.summary; area = g }) (take s.contents.requests s.columns.asked_lengths) (take s.contents.requests s.columns.asked_h)
             ask-ready long =
                 let many = length-take-le s.contents.requests s.columns.asked_lengths (omega (arith, ask-few, long.asked_lengths)) in
                 record {
@@ -182,7 +182,7 @@ module _ (h : Lent) (now : ℕ) (c : Call) (short : Bool) (short-is : short ≡ 
                 }
 
             pub ask-asking : (name : Name) → name ≡ name_of (take s.contents.name_bytes (drop s.contents.name c.option))
-                → Asking h now name c (record { summary = s.admission.summary; ground = g }) (take s.contents.requests s.columns.asked_lengths) (take s.contents.requests s.columns.asked_h)
+                → Asking h now name c (record { summary = s.admission.summary; area = g }) (take s.contents.requests s.columns.asked_lengths) (take s.contents.requests s.columns.asked_h)
             ask-asking name e = record {
               left-rows = asked ∙ ground-left h c (rows_with8 true short h now c wanted (later h now c)) (ask_image h now c) by_row (grant_rows (state_in h) now c) ground-rows (k.row ∙ ne_eqb g.pools 0 some-pool);
               grounds = k;

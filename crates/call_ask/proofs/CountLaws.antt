@@ -26,7 +26,7 @@ use Rattle.counts.specs.Counts.{counts_of}
 use Rattle.option.specs.Contents.{Request, requests_in}
 use Rattle.ledger.specs.declared.Answer.{Answer}
 use Rattle.ledger.specs.Ledger.{State, left, Call, Result, outcome, or_else, refuse, accept, refusal_place, returned, narrowed, usable_leases, ask_name, offers, add_all, rest_of, again, hold_again, held_again, ask_held, ask_offers, gives_in, leases_in, information_for, ask_rows, ask}
-use Rattle.ledger.proofs.GroundLaws.{ground}
+use Rattle.ledger.proofs.GroundLaws.{area}
 use Rattle.option.specs.Writing.{option_bytes}
 use Rattle.ledger.proofs.RowLaws.{accepted-none, numbered-ask}
 use Rattle.ledger.proofs.OfferLaws.{offers-all, add_all-all}
@@ -68,7 +68,7 @@ any-request (r ∷ rs) = (tt, any-request rs)
 
 offers-late : (t : LeaseTable) (c : Call) (now : ℕ) → sound t ≡ true → (xs : List Lease) (rs : List Request) → All (Late now) (cat_maybes (offers (narrowed t c) now c.client (ask_name c) xs rs))
 offers-late t c now so xs rs =
-    offers-all (narrowed t c) now c.client (ask_name c) (ground t c so).good (λ r. Unit {0}) (Late now) (λ us r x q f. lt-ltb now x.expires (omega (arith, f.until))) rs xs (any-request rs)
+    offers-all (narrowed t c) now c.client (ask_name c) (area t c so).good (λ r. Unit {0}) (Late now) (λ us r x q f. lt-ltb now x.expires (omega (arith, f.until))) rs xs (any-request rs)
 
 -- What becomes of each lease that is present.
 abbrev held_one : ℕ → List Lease → Lease → Lease

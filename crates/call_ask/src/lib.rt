@@ -91,8 +91,8 @@ pub fn ask(
         return call_spec::refused(17, 0);
     }
     let summary = admission.summary;
-    let ground = call_ground::ground_of(image, summary, selected, chosen.address);
-    if ground.pools == 0 {
+    let area = call_ground::ground_of(image, summary, selected, chosen.address);
+    if area.pools == 0 {
         return call_spec::refused(19, 0);
     }
     let name = names::name_in(option, contents.name, name_bytes);
@@ -102,7 +102,7 @@ pub fn ask(
         figures,
         Asker { client, time, name },
         reply,
-        Site { summary, ground },
+        Site { summary, area },
         &ask_lengths[..n],
         &ask_h[..n],
     );

@@ -82,7 +82,7 @@ module _ (image : List ℕ) (pools address r : ℕ) (within : r ≤ pools) (fail
   pub pool-of : PoolOf image pools address r
   pool-of = record {
     within = within;
-    ground = λ t bytes e i n s f.
+    area = λ t bytes e i n s f.
         let ps : List Pool = used_pools t in
         let at : (k : ℕ) → k < pools → pool_at image k ≡ get_or ps k no_pool =
         λ k h. ap pool_in (sym (drop-drop (pool_size * k) head_size image)) ∙ image-pools t image bytes i k (omega (arith, n)) in

@@ -32,7 +32,7 @@ module _ (t : LeaseTable) (e : sound t ≡ true) (image : List ℕ) (bytes : ℕ
     (p : PoolOf image pools address r) (c : Call) (s : List ℕ) (carries : c.selection ≡ some s) (four_is : address ≡ four s 2) where
   pub ground-is : pools_of (narrowed t c) ≡ one_pool (used_pools t) r
   unfolding narrowed
-  ground-is = ap (λ (o : Option (List ℕ)). pools_of (narrowed_to o t)) carries ∙ p.ground t bytes e i many s four_is
+  ground-is = ap (λ (o : Option (List ℕ)). pools_of (narrowed_to o t)) carries ∙ p.area t bytes e i many s four_is
 
   -- Row 19 applies, or not.
   pub groundless : pools ≤ r → nothing? (pools_of (narrowed t c)) ≡ true

@@ -29,7 +29,7 @@ one_pool ps k = map pool_prefix (take 1 (drop k ps))
 -- The pools that the call may use are the one with this index; none, where there is no such index.
 pub record PoolOf (image : List ℕ) (pools address r : ℕ) : Type 0 where
   pub within : r ≤ pools
-  pub ground : (t : LeaseTable) (bytes : ℕ) → sound t ≡ true → image_of t ≡ take bytes image → pools ≡ length (used_pools t) → (s : List ℕ) → address ≡ four s 2
+  pub area : (t : LeaseTable) (bytes : ℕ) → sound t ≡ true → image_of t ≡ take bytes image → pools ≡ length (used_pools t) → (s : List ℕ) → address ≡ four s 2
       → pools_of (narrowed_to (some s) t) ≡ one_pool (used_pools t) r
 
 -- The first r leases have a network below this one, and the others not.

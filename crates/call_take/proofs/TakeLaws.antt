@@ -159,21 +159,21 @@ module _ (h : Lent) (now : ℕ) (c : Call) where
         let six : length w ≡ selection_size = selection-size w (ap bad_selection? (sym it) ∙ s.selected) in
         (six, omega (arith, fits, same, six, take-room, ap (λ (o : Option (List ℕ)). length (returned o)) it), fits)
 
-    module _ (good : s.read.answer.number ≡ 0) (ground : Ground) (g : Grounds h c s.admission.summary ground) where
+    module _ (good : s.read.answer.number ≡ 0) (area : Ground) (g : Grounds h c s.admission.summary area) where
       up-to-8 : Passed h now c (first_of (take_rows (state_in h) now c)) own s.admission.summary (up_to s.read.count s.networks) (up_to s.read.count s.lengths)
       unfolding take_rows
       up-to-8 = entries-passed short h now c own s good
 
       -- Row 19.
-      pub take-groundless : ground.pools ≡ 0 → outcome (refusal 19 0) h c.reply ≡ take_image h now c
-      take-groundless z = no-ground h c (take_rows (state_in h) now c) (take_image h now c) by_row (eleven h now c) up-to-8.left-rows (g.row ∙ eq-eqb ground.pools 0 z)
+      pub take-groundless : area.pools ≡ 0 → outcome (refusal 19 0) h c.reply ≡ take_image h now c
+      take-groundless z = no-ground h c (take_rows (state_in h) now c) (take_image h now c) by_row (eleven h now c) up-to-8.left-rows (g.row ∙ eq-eqb area.pools 0 z)
 
       -- Every row before 11 has passed.
-      pub take-passed : (ground.pools ≡ 0 → ⊥) → Taking h now c s.admission.summary ground (up_to s.read.count s.networks) (up_to s.read.count s.lengths)
+      pub take-passed : (area.pools ≡ 0 → ⊥) → Taking h now c s.admission.summary area (up_to s.read.count s.networks) (up_to s.read.count s.lengths)
       take-passed k = record {
         passed = record {
           admitted = up-to-8.admitted;
-          left-rows = ground-left h c (take_rows (state_in h) now c) (take_image h now c) by_row (eleven h now c) up-to-8.left-rows (g.row ∙ ne_eqb ground.pools 0 k);
+          left-rows = ground-left h c (take_rows (state_in h) now c) (take_image h now c) by_row (eleven h now c) up-to-8.left-rows (g.row ∙ ne_eqb area.pools 0 k);
           hold = up-to-8.hold;
           left = up-to-8.left;
         };
@@ -181,7 +181,7 @@ module _ (h : Lent) (now : ℕ) (c : Call) where
         room = take-room;
       }
 
-      pub take-sized : (renewal : Renewal) → renewal ≡ renewal_of c.client now s.admission.summary ground
+      pub take-sized : (renewal : Renewal) → renewal ≡ renewal_of c.client now s.admission.summary area
           → TakeSized h renewal c.reply (up_to s.read.count s.networks) (up_to s.read.count s.lengths)
       take-sized renewal is =
           let o = s.admits.admitted s.admitted in
@@ -221,7 +221,7 @@ abbrev Finishes : List ℕ → List ℕ → ℕ → Renewal → Type 0
 Finishes image after n r = (zs : List Lease) → Records image r.from zs → r.n ≡ length zs → (r.expired ≡ 0 → present r.expiry.time zs ≡ zs)
     → Finished image r.from zs r.expiry.time after n
 
-module _ (h : Lent) (now : ℕ) (c : Call) (summary : ImageSummary) (ground : Ground) (networks lengths : List ℕ) (t : Taking h now c summary ground networks lengths) where
+module _ (h : Lent) (now : ℕ) (c : Call) (summary : ImageSummary) (area : Ground) (networks lengths : List ℕ) (t : Taking h now c summary area networks lengths) where
   o : Admitted true h now c.client summary
   o = t.passed.admitted
 
@@ -230,10 +230,10 @@ module _ (h : Lent) (now : ℕ) (c : Call) (summary : ImageSummary) (ground : Gr
 
   -- The leases on the ground: all entries, and those that lie there, name the same of them.
   mid : List Lease
-  mid = leases_in ground (used_leases (table_in h))
+  mid = leases_in area (used_leases (table_in h))
 
   there : ℕ
-  there = leases_from summary + lease_size * ground.first
+  there = leases_from summary + lease_size * area.first
 
   es : List Entry
   es = usable_in h c
@@ -249,20 +249,20 @@ module _ (h : Lent) (now : ℕ) (c : Call) (summary : ImageSummary) (ground : Gr
   rows-match = (rows-matched (table_in h) o.sound (state_in h).rows (o.sheet-in refl).matched).leases
 
   -- The leases that the entries name are renewed and shown.
-  module _ (renewal : Renewal) (is : renewal ≡ renewal_of c.client now summary ground) (l₁ places reply₁ : List ℕ) (shown : ℕ)
+  module _ (renewal : Renewal) (is : renewal ≡ renewal_of c.client now summary area) (l₁ places reply₁ : List ℕ) (shown : ℕ)
       (renew : Renews h c networks lengths l₁ places reply₁ shown renewal) where
     done : Renewed h.image there mid now c.client until (entries_in c.option) c.reply l₁ places reply₁ shown
     unfolding mid until o there
     done =
-        subst (Renews h c networks lengths l₁ places reply₁ shown) is renew mid (grounds-records h c summary ground t.grounds now c.client o)
-        (sym (grounds-count h c summary ground t.grounds now c.client o)) (grounds-ascending h c summary ground t.grounds now c.client o) (entries_in c.option) t.passed.hold
+        subst (Renews h c networks lengths l₁ places reply₁ shown) is renew mid (grounds-records h c summary area t.grounds now c.client o)
+        (sym (grounds-count h c summary area t.grounds now c.client o)) (grounds-ascending h c summary area t.grounds now c.client o) (entries_in c.option) t.passed.hold
 
     gs : List Lease
     gs = found_by h now c
 
     found_here : found c.client (present now mid) (entries_in c.option) ≡ found c.client (present now xs) es
     unfolding xs mid es o
-    found_here = found-on-ground h now c summary ground t.grounds o
+    found_here = found-on-ground h now c summary area t.grounds o
 
     gs-are : found c.client (present now xs) es ≡ gs
     unfolding xs es gs o
@@ -277,7 +277,7 @@ module _ (h : Lent) (now : ℕ) (c : Call) (summary : ImageSummary) (ground : Gr
     -- Of all leases those on the ground that are named are changed.
     after_is : l₁ ≡ changed_in now c.client until es h.image (leases_from summary) xs
     unfolding xs mid es there o
-    after_is = changed-on-ground h now c summary ground t.grounds o until l₁ done.after_is
+    after_is = changed-on-ground h now c summary area t.grounds o until l₁ done.after_is
 
     -- Row 11: there are none, so nothing was written.
     pub take-nothing : shown ≡ 0 → returning c.selection (outcome (refusal 11 0) (lent l₁ h.bytes h.figures) reply₁) ≡ take_image h now c
@@ -300,18 +300,18 @@ module _ (h : Lent) (now : ℕ) (c : Call) (summary : ImageSummary) (ground : Gr
       filed-are : figures₁ ≡ sheet_of filed_rows
       unfolding xs mid es filed_rows o rows
       filed-are =
-          let first : ℕ = ground.first in
+          let first : ℕ = area.first in
           subst (Files h c places figures₁) is file now c.client mid (entries_in c.option) (up_to first rows) (drop first rows)
           (record {
             left = t.passed.left;
             places-are = done.places-are;
-            counted = sym (grounds-count h c summary ground t.grounds now c.client o);
-            ascending = grounds-ascending h c summary ground t.grounds now c.client o;
-            behind = rows_before h now c summary ground t.grounds o rows rows-match;
+            counted = sym (grounds-count h c summary area t.grounds now c.client o);
+            ascending = grounds-ascending h c summary area t.grounds now c.client o;
+            behind = rows_before h now c summary area t.grounds o rows rows-match;
             sheet-is = (o.sheet-in refl).whole ∙ ap sheet_of (sym (take-append-drop first rows));
-            matched = rows-on-ground h now c summary ground t.grounds o rows rows-match;
+            matched = rows-on-ground h now c summary area t.grounds o rows rows-match;
           })
-          ∙ ap sheet_of (filed-on-ground h now c summary ground t.grounds o rows rows-match)
+          ∙ ap sheet_of (filed-on-ground h now c summary area t.grounds o rows rows-match)
 
       later : now < until
       unfolding until
@@ -433,9 +433,9 @@ module _ (b : Book) (now : ℕ) (c : Call) where
     pub book-unread : (s.read.answer.number ≡ 0 → ⊥) → outcome s.read.answer b c.reply ≡ take_book b now c
     book-unread k = refused-on s.read.answer s.read.answer refl k (take-unread (lent_in b) now c s k)
 
-    pub book-groundless : s.read.answer.number ≡ 0 → (ground : Ground) → Grounds (lent_in b) c s.admission.summary ground → ground.pools ≡ 0 → (r : Answer) → r ≡ refusal 19 0
+    pub book-groundless : s.read.answer.number ≡ 0 → (area : Ground) → Grounds (lent_in b) c s.admission.summary area → area.pools ≡ 0 → (r : Answer) → r ≡ refusal 19 0
         → outcome r b c.reply ≡ take_book b now c
-    book-groundless good ground g z r is = refused-on r (refusal 19 0) is (λ e. omega arith) (take-groundless (lent_in b) now c s good ground g z)
+    book-groundless good area g z r is = refused-on r (refusal 19 0) is (λ e. omega arith) (take-groundless (lent_in b) now c s good area g z)
 
     -- What it leaves, and the counts.
     module _ (a : Answer) (g : Lent) (reply : List ℕ) (is : returning c.selection (outcome a g reply) ≡ take_image b.lent now c) where

@@ -17,11 +17,11 @@ use Rattle.call_take.specs.declared.Renewal.{Renewal}
 
 -- The leases of an image, and those of them on the ground, renewed from now on for its term.
 abbrev pub renewal_of : ℕ → ℕ → ImageSummary → Ground → Renewal
-renewal_of client now summary ground = record {
+renewal_of client now summary area = record {
   from = leases_from summary;
   n = summary.leases;
-  first = ground.first;
-  leases = ground.leases;
+  first = area.first;
+  leases = area.leases;
   expired = summary.expired;
   expiry = record { client = client; time = now; expires = now + summary.term };
 }
@@ -49,7 +49,7 @@ abbrev pub eleven : Lent → ℕ → Call → List Row
 eleven h now c = (11, nothing? (found_by h now c)) ∷ []
 
 -- The call has its ground, and its reply buffer has room for option 118 as well.
-pub record Taking (h : Lent) (now : ℕ) (c : Call) (summary : ImageSummary) (ground : Ground) (networks lengths : List ℕ) : Type 0 where
+pub record Taking (h : Lent) (now : ℕ) (c : Call) (summary : ImageSummary) (area : Ground) (networks lengths : List ℕ) : Type 0 where
   pub passed : Passed h now c (first_of (take_rows (state_in h) now c)) (eleven h now c) summary networks lengths
-  pub grounds : Grounds h c summary ground
+  pub grounds : Grounds h c summary area
   pub room : least_reply + length (returned c.selection) ≤ length c.reply

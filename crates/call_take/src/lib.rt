@@ -45,13 +45,13 @@ struct Renewal {
 
 fn renewal_of(summary: ImageSummary, ground: Ground, client: u32, time: u32) -> Renewal
     requires { (summary.pools ≤ pool_slots) × (time + summary.term < addresses) }
-    ensures { result ≡ renewal_of client time summary ground }
+    ensures { result ≡ renewal_of client time summary area }
 {
     Renewal {
         from: HEAD + POOL * summary.pools,
         n: summary.leases,
-        first: ground.first,
-        leases: ground.leases,
+        first: area.first,
+        leases: area.leases,
         expired: summary.expired,
         expiry: Expiry {
             client,
@@ -149,9 +149,9 @@ fn renew_found(
 ) -> Answer
     requires { TakeSized (lent image.old image_bytes.old figures.old) renewal reply.old networks.now lengths.now }
     ensures bytes_bound { result.bytes ≤ longest_option }
-    ensures equation { ((client time : ℕ) (summary : ImageSummary) (ground : Ground) (selection : Option (List ℕ)) → renewal ≡ renewal_of client time summary ground
+    ensures equation { ((client time : ℕ) (summary : ImageSummary) (area : Ground) (selection : Option (List ℕ)) → renewal ≡ renewal_of client time summary area
         → Taking (lent image.old image_bytes.old figures.old) time (call_with client option.now selection reply.old)
-        summary ground networks.now lengths.now
+        summary area networks.now lengths.now
         → returning selection (outcome result (lent image.new image_bytes.new figures.new) reply.new)
         ≡ take_image (lent image.old image_bytes.old figures.old) time (call_with client option.now selection reply.old)) }
 {
@@ -214,11 +214,11 @@ pub fn take(
     }
     let n = read.count;
     let summary = admission.summary;
-    let ground = call_ground::ground_of(image, summary, selected, chosen.address);
-    if ground.pools == 0 {
+    let area = call_ground::ground_of(image, summary, selected, chosen.address);
+    if area.pools == 0 {
         return call_spec::refused(19, 0);
     }
-    let renewal = renewal_of(summary, ground, client, time);
+    let renewal = renewal_of(summary, area, client, time);
     let answer = renew_found(
         image,
         image_bytes,

@@ -69,21 +69,21 @@ wholes-kept f leases (p ∷ ps) l a =
 
 -- Inside one of the pools, or apart from all of them.
 abbrev pub InOrOut : List Prefix → Prefix → Type 0
-InOrOut ground x = Any (Inside x) ground ⊎ All (Apart x) ground
+InOrOut area x = Any (Inside x) area ⊎ All (Apart x) area
 
 -- The leases inside one of the pools.
 abbrev pub within : List Prefix → List Prefix → List Prefix
-within ground leases = filter (λ x. any? (inside? x) ground) leases
+within area leases = filter (λ x. any? (inside? x) area) leases
 
-out : (ground : List Prefix) (x : Prefix) → InOrOut ground x → any? (inside? x) ground ≡ false → All (Apart x) ground
-out ground x (inl i) e = absurd (true≢false (sym (any?-of (inside? x) (inside_of x) ground i) ∙ e))
-out ground x (inr a) e = a
+out : (area : List Prefix) (x : Prefix) → InOrOut area x → any? (inside? x) area ≡ false → All (Apart x) area
+out area x (inl i) e = absurd (true≢false (sym (any?-of (inside? x) (inside_of x) area i) ∙ e))
+out area x (inr a) e = a
 
-module _ (ground leases : List Prefix) (lengths : All (λ p. Length p.length) ground) (parted : All (InOrOut ground) leases) where
-  pub wholes-within : wholes ground leases ≡ wholes ground (within ground leases)
-  wholes-within = wholes-kept (λ x. any? (inside? x) ground) leases ground lengths (all_map (out ground) leases parted)
+module _ (area leases : List Prefix) (lengths : All (λ p. Length p.length) area) (parted : All (InOrOut area) leases) where
+  pub wholes-within : wholes area leases ≡ wholes area (within area leases)
+  wholes-within = wholes-kept (λ x. any? (inside? x) area) leases area lengths (all_map (out area) leases parted)
 
-  pub grant-within : (l : ℕ) → grant ground leases l ≡ grant ground (within ground leases) l
+  pub grant-within : (l : ℕ) → grant area leases l ≡ grant area (within area leases) l
   grant-within l = ap (λ (ws : List Prefix). lowest_part l (best l ws)) wholes-within
 
 -- PART OF THE POOLS OF A SOUND TABLE
@@ -96,7 +96,7 @@ in-or-out-each (p ∷ ps) x d (inr i) =
     let t = any-all ps i d.0 in
     (inr (apart-sub x t.0 p t.1 (apart-sym p t.0 t.2)), in-or-out-each ps x d.1 i)
 
-in-or-out : (ground : List Prefix) (x : Prefix) → All (λ p. Inside x p ⊎ Apart x p) ground → InOrOut ground x
+in-or-out : (area : List Prefix) (x : Prefix) → All (λ p. Inside x p ⊎ Apart x p) area → InOrOut area x
 in-or-out [] x a = inr tt
 in-or-out (p ∷ ps) x a = go a.0 (in-or-out ps x a.1)
   where
@@ -106,14 +106,14 @@ in-or-out (p ∷ ps) x a = go a.0 (in-or-out ps x a.1)
     go (inr o) (inr os) = inr (o, os)
 
 -- `part`: what holds of all pools holds of all of the ground.
-pub parted-part : (pools ground leases : List Prefix) → Pairwise Apart pools → ((P : Prefix → Type 0) → All P pools → All P ground)
-    → All (λ x. Any (Inside x) pools) leases → All (InOrOut ground) leases
-parted-part pools ground leases d part pooled =
-    all_map (λ x i. in-or-out ground x (part (λ p. Inside x p ⊎ Apart x p) (in-or-out-each pools x d i))) leases pooled
+pub parted-part : (pools area leases : List Prefix) → Pairwise Apart pools → ((P : Prefix → Type 0) → All P pools → All P area)
+    → All (λ x. Any (Inside x) pools) leases → All (InOrOut area) leases
+parted-part pools area leases d part pooled =
+    all_map (λ x i. in-or-out area x (part (λ p. Inside x p ⊎ Apart x p) (in-or-out-each pools x d i))) leases pooled
 
-module _ (pools ground leases : List Prefix) (good : Pools pools) (part : (P : Prefix → Type 0) → All P pools → All P ground) (pooled : All (λ x. Any (Inside x) pools) leases) where
-  pub wholes-part : wholes ground leases ≡ wholes ground (within ground leases)
-  wholes-part = wholes-within ground leases (part (λ p. Length p.length) good.lengths) (parted-part pools ground leases good.disjoint part pooled)
+module _ (pools area leases : List Prefix) (good : Pools pools) (part : (P : Prefix → Type 0) → All P pools → All P area) (pooled : All (λ x. Any (Inside x) pools) leases) where
+  pub wholes-part : wholes area leases ≡ wholes area (within area leases)
+  wholes-part = wholes-within area leases (part (λ p. Length p.length) good.lengths) (parted-part pools area leases good.disjoint part pooled)
 
-  pub grant-part : (l : ℕ) → grant ground leases l ≡ grant ground (within ground leases) l
-  grant-part = grant-within ground leases (part (λ p. Length p.length) good.lengths) (parted-part pools ground leases good.disjoint part pooled)
+  pub grant-part : (l : ℕ) → grant area leases l ≡ grant area (within area leases) l
+  grant-part = grant-within area leases (part (λ p. Length p.length) good.lengths) (parted-part pools area leases good.disjoint part pooled)

@@ -23,7 +23,7 @@ use Rattle.table.proofs.TableLaws.{sound-fine}
 use Rattle.ledger.specs.Ledger.{State, Call, ask_name, add_all, held_by?, held_for?, first_that, but_first, again, rest_of, in_turn, held_again, narrowed, usable_leases, ask_held, ask_offers, ask}
 use Rattle.ledger.specs.Demand3.{well_formed, asks_of, held_before, lease_for, granted}
 use Rattle.ledger.specs.AskingTwice.{GivenAgain, granted_to_rest, AsksTwice}
-use Rattle.ledger.proofs.GroundLaws.{ground, narrowed-default, again-same, usable-fine}
+use Rattle.ledger.proofs.GroundLaws.{area, narrowed-default, again-same, usable-fine}
 use Rattle.ledger.proofs.OfferLaws.{add_all-perm}
 use Rattle.ledger.proofs.AgainLaws.{first_some, but-first-all, again-all, Fills, rest-fills, turn-none}
 use Rattle.ledger.proofs.AskLaws.{entry?}
@@ -135,7 +135,7 @@ module _ (s : State) (now : ℕ) (c : Call) (e : well_formed now s c ≡ true) w
   made =
       ap (λ (es : List (Option Entry)). map (lease_for now c.client (ask_name c)) (granted_to_rest gs es)) (granted-is now s c e)
       ∙ ap (map (lease_for now c.client (ask_name c))) (rest-turn now gs os (rest-fills own now c.client (ask_name c) us held (asks_of c)))
-      ∙ told own (ground t c (well now s c e).sound).good now c.client (ask_name c) (rest_of gs (asks_of c)) held
+      ∙ told own (area t c (well now s c e).sound).good now c.client (ask_name c) (rest_of gs (asks_of c)) held
 
   left-gs : Permᴰ (present now (ask s now c).state.table.leases) (held ++ map (lease_for now c.client (ask_name c)) (granted_to_rest gs (granted (λ u. u) ask now s c)))
   left-gs =

@@ -29,7 +29,7 @@ use Rattle.ledger.specs.Demand3.{none?, well_formed, Accepts, asks_of, reply_ent
 use Rattle.ledger.proofs.RowLaws.{first-none, none-to, none-not, answer_ask, ask-served, ask-refused}
 use Rattle.ledger.proofs.LeftLaws.{left-matches}
 use Rattle.ledger.proofs.ReadLaws.{requests-short}
-use Rattle.ledger.proofs.GroundLaws.{Ground, ground, narrowed-pools, narrowed-default, pairs-same, usable-all, usable-members}
+use Rattle.ledger.proofs.GroundLaws.{Ground, area, narrowed-pools, narrowed-default, pairs-same, usable-all, usable-members}
 use Rattle.ledger.proofs.OfferLaws.{Inv, offers-inv, offers-good}
 use Rattle.ledger.proofs.AgainLaws.{again-all, hold-good, held_none, held-fine, held-length, rest_all, rest-fills, turn-all, turn-none, nothing-gives, nothing-leases}
 use Rattle.ledger.proofs.ReplyLaws.{reads_none, reads-back}
@@ -46,7 +46,7 @@ pub record WellFormed (now : ℕ) (t : State) (c : Call) : Type 0 where
   pub named : c.client ≡ 0 → ⊥
   pub accepted : Accepts t.table now
   pub asks : for_ask (asks_of c) ≡ true
-  pub ground : nothing? (pools_of (narrowed t.table c)) ≡ false
+  pub area : nothing? (pools_of (narrowed t.table c)) ≡ false
 
 pub well : (now : ℕ) (t : State) (c : Call) → well_formed now t c ≡ true → WellFormed now t c
 unfolding well_formed ask_rows
@@ -59,7 +59,7 @@ well now t c e =
       named = eqb-false c.client 0 r.1.1.1.0;
       accepted = (ltb-false now t.table.last r.1.1.1.1.0, ltb-false latest now r.1.1.1.1.1.0);
       asks = not-false (for_ask (asks_of c)) r.1.1.1.1.1.1.1.1.1.0;
-      ground = r.1.1.1.1.1.1.1.1.1.1.1.0;
+      area = r.1.1.1.1.1.1.1.1.1.1.1.0;
     }
 
 run-well : (now : ℕ) (t : State) (c : Call) → well_formed now t c ≡ true
@@ -131,7 +131,7 @@ module _ (now : ℕ) (t : State) (c : Call) (w : WellFormed now t c) where
   own = narrowed t.table c
 
   on_it : Ground (pools_of t.table) (narrowed t.table c)
-  on_it = ground t.table c w.sound
+  on_it = area t.table c w.sound
 
   good : Pools (pools_of (narrowed t.table c))
   good = on_it.good

@@ -35,7 +35,7 @@ use Rattle.ledger.proofs.RowLaws.{first-none, first-number, Numbered, by_rows_le
 use Rattle.ledger.proofs.EmptySlots.{present-or-ended, present-later}
 use Rattle.ledger.proofs.ReplyLaws.{reads_none}
 use Rattle.free_space.specs.Serving.{Pools}
-use Rattle.ledger.proofs.GroundLaws.{ground, usable-all}
+use Rattle.ledger.proofs.GroundLaws.{area, usable-all}
 use Rattle.ledger.proofs.OfferLaws.{prefixes, insert-perm, offers-new}
 use Rattle.ledger.proofs.AgainLaws.{again-all, held, held_place, held-prefixes, Fills, rest-fills, turn-none}
 use Rattle.ledger.proofs.CallLaws.{rows_for, number_for, state_for, well, run-refused, gives_on, leases_on, called}
@@ -193,7 +193,7 @@ ask-balance t now c = ⊎_elim good bad (bool_cases (well_formed now t c))
         let b : Balance t.table now made 0 (number_for xs granted) (state_for t now (leases_on now t c) granted).table =
         asked-balance t.table now w.sound w.accepted.0 t.rows made granted (leases_on now t c) nothing k.good (ask-total t.table now w.sound w.accepted.0 own c.client (ask_name c) us (asks_of c)) in
         let m : addresses_in (newly_made now t.table (reply_entries (ask t now c))) ≡ made =
-        ap (λ (es : List Entry). addresses_in (newly_made now t.table es)) k.told ∙ ap addresses_in (newly-made now t.table own (ground t.table c w.sound).good c.client (ask_name c) us (usable-all t.table c (λ x. any? (same? (prefix_of x)) (in_use now t.table) ≡ true) xs (all_in_use xs)) (asks_of c)) ∙ total-entries (cat_maybes os) in
+        ap (λ (es : List Entry). addresses_in (newly_made now t.table es)) k.told ∙ ap addresses_in (newly-made now t.table own (area t.table c w.sound).good c.client (ask_name c) us (usable-all t.table c (λ x. any? (same? (prefix_of x)) (in_use now t.table) ≡ true) xs (all_in_use xs)) (asks_of c)) ∙ total-entries (cat_maybes os) in
         subst (λ (n : ℕ). Balance t.table now n 0 (ask t now c).answer.number (ask t now c).state.table) (sym m)
         (subst (λ (n : ℕ). Balance t.table now made 0 n (ask t now c).state.table) (sym k.number)
         (subst (λ (u : State). Balance t.table now made 0 (number_for xs granted) u.table) (sym k.left-state) b))

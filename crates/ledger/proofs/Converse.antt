@@ -31,7 +31,7 @@ use Rattle.ledger.specs.Ledger.{State, Call, asked_length, ask_name, offer, add,
 use Rattle.ledger.specs.Demand3.{Received, received, well_formed, Accepts, asks_of, granted, entry_prefix, in_use, well_formed_calls, well_formed_asks, lengths_asked, prefixes_at, FirstAsks, CanBeChosen}
 use Rattle.lists.proofs.PartLaws.{split-some}
 use Rattle.ledger.proofs.EmptySlots.{empty-slots}
-use Rattle.ledger.proofs.GroundLaws.{ground}
+use Rattle.ledger.proofs.GroundLaws.{area}
 use Rattle.ledger.proofs.OfferLaws.{prefixes, prefix?, Offer, offer-is, add-perm, offers-length}
 use Rattle.ledger.proofs.AskLaws.{entry?}
 use Rattle.ledger.proofs.CallLaws.{run-not, called-first, granted-first}
@@ -129,7 +129,7 @@ module _ (t : State) (now : ℕ) (st : sound t.table ≡ true) (ac : Accepts t.t
       let vs : List (Received State) = received (λ s. s) ask now (ask u now c).state cs in
       let js : List ℕ = map (asked_length t.table) (asks_of c) in
       let own : LeaseTable = narrowed u.table c in
-      let good : Pools (pools_of own) = (ground u.table c s.sound).good in
+      let good : Pools (pools_of own) = (area u.table c s.sound).good in
       let here = over-well t now st ac pools c cs b over in
       let its : pools_of own ≡ pools = pools-same t now st ac u c s ∙ here.0 in
       let w : well_formed now u c ≡ true = same t now st ac u c s ∙ b in

@@ -33,7 +33,7 @@ use Rattle.ledger.specs.Ledger.{State, Call, hold_time, asked_length, ask_name, 
 use Rattle.ledger.specs.Demand3.{Received, received, after_all, well_formed, Accepts, asks_of, granted, entry_prefix, in_use, well_formed_asks, lengths_asked, prefixes_at, HoldsNothing, FirstAsks, CanBeChosen, lease_for, made, AllGranted, Untouched, Demand3}
 use Rattle.lists.proofs.PartLaws.{cat_maybes-some, split-some}
 use Rattle.ledger.proofs.EmptySlots.{empty-slots}
-use Rattle.ledger.proofs.GroundLaws.{ground, narrowed-pools, narrowed-default, lengths-same}
+use Rattle.ledger.proofs.GroundLaws.{area, narrowed-pools, narrowed-default, lengths-same}
 use Rattle.ledger.proofs.OfferLaws.{prefixes, prefix?, Offer, offer-is, offers-all, add_all-all, add_all-perm, offers-serve, offers-after, offers-length}
 use Rattle.ledger.proofs.AskLaws.{entry?}
 use Rattle.ledger.proofs.CallLaws.{well, run-not, well-same, called, called-first, granted-first}
@@ -48,8 +48,8 @@ placed-lengths [] (l ∷ lens) e = absurd (omega (arith, e))
 placed-lengths (n ∷ ns) [] e = absurd (omega (arith, e))
 placed-lengths (n ∷ ns) (l ∷ lens) e = ap (λ (js : List ℕ). l ∷ js) (placed-lengths ns lens (omega (arith, e)))
 
-choice : (now : ℕ) (t : State) (ground : List Prefix) (cs : List Call) (p : CanBeChosen now t ground cs) → Packing ground (in_use now t.table) (lengths_asked now t cs) (prefixes_at p.networks (lengths_asked now t cs))
-choice now t ground cs p = record {
+choice : (now : ℕ) (t : State) (area : List Prefix) (cs : List Call) (p : CanBeChosen now t area cs) → Packing area (in_use now t.table) (lengths_asked now t cs) (prefixes_at p.networks (lengths_asked now t cs))
+choice now t area cs p = record {
   asked = placed-lengths p.networks (lengths_asked now t cs) p.enough;
   free = p.free;
   disjoint = p.apart;
@@ -167,7 +167,7 @@ module _ (t : State) (now : ℕ) (st : sound t.table ≡ true) (ac : Accepts t.t
       let xs : List Lease = present now u.table.leases in
       let own : LeaseTable = narrowed u.table c in
       let os : List (Option Lease) = offers own now c.client (ask_name c) xs (asks_of c) in
-      let good : Pools (pools_of own) = (ground u.table c s.sound).good in
+      let good : Pools (pools_of own) = (area u.table c s.sound).good in
       let g : All (λ d. HoldsNothing now u.table d.client) (c ∷ filter (well_formed now t) cs) × Pairwise (λ d e. d.client ≡ e.client → ⊥) (c ∷ filter (well_formed now t) cs) =
       subst (λ (ds : List Call). All (λ d. HoldsNothing now u.table d.client) ds × Pairwise (λ d e. d.client ≡ e.client → ⊥) ds) (filter-yes (well_formed now t) c cs b) f in
       let still : (d : Call) → (c.client ≡ d.client → ⊥) → HoldsNothing now u.table d.client → HoldsNothing now (ask u now c).state.table d.client =
@@ -227,7 +227,7 @@ module _ (t : State) (now : ℕ) (st : sound t.table ≡ true) (ac : Accepts t.t
       let xs : List Lease = present now u.table.leases in
       let w : well_formed now u c ≡ true = same u c s ∙ e in
       let own : LeaseTable = narrowed u.table c in
-      let good : Pools (pools_of own) = (ground u.table c s.sound).good in
+      let good : Pools (pools_of own) = (area u.table c s.sound).good in
       let v : Received State = record { call = c; got = u } in
       let vs : List (Received State) = received (λ s. s) ask now (ask u now c).state cs in
       let f : filter kept? (v ∷ vs) ≡ v ∷ filter kept? vs = cond-true (well_formed now t c) (v ∷ filter kept? vs) (filter kept? vs) e in
@@ -258,25 +258,25 @@ module _ (t : State) (now : ℕ) (st : sound t.table ≡ true) (ac : Accepts t.t
 
   -- The calls that are well-formed all have this ground.
   abbrev pub Over : List Prefix → List Call → Type 0
-  Over ground cs = All (λ c. pools_of (narrowed t.table c) ≡ ground) (filter (well_formed now t) cs)
+  Over area cs = All (λ c. pools_of (narrowed t.table c) ≡ area) (filter (well_formed now t) cs)
 
-  pub over-not : (ground : List Prefix) (c : Call) (cs : List Call) → well_formed now t c ≡ false → Over ground (c ∷ cs) → Over ground cs
-  over-not ground c cs b a = subst (All (λ c. pools_of (narrowed t.table c) ≡ ground)) (filter-no (well_formed now t) c cs b) a
+  pub over-not : (area : List Prefix) (c : Call) (cs : List Call) → well_formed now t c ≡ false → Over area (c ∷ cs) → Over area cs
+  over-not area c cs b a = subst (All (λ c. pools_of (narrowed t.table c) ≡ area)) (filter-no (well_formed now t) c cs b) a
 
-  pub over-well : (ground : List Prefix) (c : Call) (cs : List Call) → well_formed now t c ≡ true → Over ground (c ∷ cs) → (pools_of (narrowed t.table c) ≡ ground) × Over ground cs
-  over-well ground c cs b a = subst (All (λ c. pools_of (narrowed t.table c) ≡ ground)) (filter-yes (well_formed now t) c cs b) a
+  pub over-well : (area : List Prefix) (c : Call) (cs : List Call) → well_formed now t c ≡ true → Over area (c ∷ cs) → (pools_of (narrowed t.table c) ≡ area) × Over area cs
+  over-well area c cs b a = subst (All (λ c. pools_of (narrowed t.table c) ≡ area)) (filter-yes (well_formed now t) c cs b) a
 
   -- So it is good ground, where any call is well-formed.
-  pub over-good : (ground : List Prefix) (cs : List Call) → Over ground cs → (lengths_asked now t cs ≡ []) ⊎ Pools ground
+  pub over-good : (area : List Prefix) (cs : List Call) → Over area cs → (lengths_asked now t cs ≡ []) ⊎ Pools area
   over-good pools cs a = go (filter (well_formed now t) cs) refl a
     where
       go : (ds : List Call) → filter (well_formed now t) cs ≡ ds → All (λ c. pools_of (narrowed t.table c) ≡ pools) ds → (lengths_asked now t cs ≡ []) ⊎ Pools pools
       go [] e b = inl (ap (λ (ds : List Call). map (asked_length t.table) (concat_map asks_of ds)) e)
-      go (c ∷ ds) e b = inr (subst Pools b.0 (ground t.table c st).good)
+      go (c ∷ ds) e b = inr (subst Pools b.0 (area t.table c st).good)
 
   abbrev Claim : List Prefix → List Call → Type 0
-  Claim ground cs = (u : State) (ls gs : List Prefix) → Reached t now u → Permᴰ (in_use now u.table) ls → serve ground ls (lengths_asked now t cs) ≡ map some gs
-      → length (present now u.table.leases) + length (well_formed_asks now t cs) ≤ lease_slots → FirstOn u cs → Over ground cs → Goes cs u gs
+  Claim area cs = (u : State) (ls gs : List Prefix) → Reached t now u → Permᴰ (in_use now u.table) ls → serve area ls (lengths_asked now t cs) ≡ map some gs
+      → length (present now u.table.leases) + length (well_formed_asks now t cs) ≤ lease_slots → FirstOn u cs → Over area cs → Goes cs u gs
 
   step-not : (pools : List Prefix) (c : Call) (cs : List Call) → well_formed now t c ≡ false → Claim pools cs → Claim pools (c ∷ cs)
   step-not pools c cs b k u ls gs s p e l a over =
@@ -295,7 +295,7 @@ module _ (t : State) (now : ℕ) (st : sound t.table ≡ true) (ac : Accepts t.t
       let xs : List Lease = present now u.table.leases in
       let js : List ℕ = map (asked_length t.table) (asks_of c) in
       let own : LeaseTable = narrowed u.table c in
-      let good : Pools (pools_of own) = (ground u.table c s.sound).good in
+      let good : Pools (pools_of own) = (area u.table c s.sound).good in
       let w : well_formed now u c ≡ true = same u c s ∙ b in
       let later = first-well c cs u s b first in
       let here = over-well pools c cs b over in

@@ -34,7 +34,7 @@ use Rattle.option.specs.Contents.{Request}
 use Rattle.ledger.specs.Ledger.{State, Call, asked_length, ask_name, offer, add, offers, held_for?, first_that, but_first, again, rest_of, hold_again, in_turn, narrowed, usable_leases, ask_held, ask_gives, gives_in, ask}
 use Rattle.ledger.specs.Demand3.{well_formed, asks_of, held_before, granted, entry_prefix, in_use, same?, meets, wants_slot, wants_space, fate, NoneFree, OfTheRest, Rightly, RefusedRightly}
 use Rattle.ledger.specs.Choice.{Chosen, ChosenRightly}
-use Rattle.ledger.proofs.GroundLaws.{ground, narrowed-default, again-same, usable-all}
+use Rattle.ledger.proofs.GroundLaws.{area, narrowed-default, again-same, usable-all}
 use Rattle.ledger.proofs.OfferLaws.{prefixes, Offer, offer-is, add-perm}
 use Rattle.ledger.proofs.AgainLaws.{first_some, but-first-all, held-prefixes, gives}
 use Rattle.ledger.proofs.AskLaws.{entry?}
@@ -171,7 +171,7 @@ pub first-sentence : (t : State) (now : ℕ) (c : Call) → well_formed now t c 
     → RefusedRightly (narrowed t.table c) (in_use now t.table) (asks_of c) (held_before now t.table c) (granted (λ s. s) ask now t c)
 first-sentence t now c e =
     let own : LeaseTable = narrowed t.table c in
-    let good : Pools (pools_of own) = (ground t.table c (well now t c e).sound).good in
+    let good : Pools (pools_of own) = (area t.table c (well now t c e).sound).good in
     subst (RefusedRightly own (in_use now t.table) (asks_of c) (held_before now t.table c)) (sym (granted-is now t c e))
     (of-call t now c (Rightly own) good (λ xs used r o p f. (space own good now c.client (ask_name c) xs used r o p f, slot own good now c.client (ask_name c) xs used r o p f)))
 
@@ -185,6 +185,6 @@ pub chosen-rightly : (t : State) (now : ℕ) (c : Call) → well_formed now t c 
     → ChosenRightly (narrowed t.table c) (in_use now t.table) (asks_of c) (held_before now t.table c) (granted (λ s. s) ask now t c)
 chosen-rightly t now c e =
     let own : LeaseTable = narrowed t.table c in
-    let good : Pools (pools_of own) = (ground t.table c (well now t c e).sound).good in
+    let good : Pools (pools_of own) = (area t.table c (well now t c e).sound).good in
     subst (ChosenRightly own (in_use now t.table) (asks_of c) (held_before now t.table c)) (sym (granted-is now t c e))
     (of-call t now c (Chosen own) good (chosen own good now c.client (ask_name c)))

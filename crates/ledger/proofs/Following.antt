@@ -80,8 +80,8 @@ module _ {S : Type 0} (state_of : S → State) (server : Server S) (follows : (s
       go true rest = ap₂ (λ (a b : List B). a ++ b) (e (record { call = c; got = s })) rest
       go false rest = rest
 
-  all-granted : (s : S) (now : ℕ) (ground : List Prefix) (cs : List Call) → AllGranted (λ t. t) ask now (state_of s) ground cs → AllGranted state_of server now s ground cs
-  all-granted s now ground cs g = record {
+  all-granted : (s : S) (now : ℕ) (area : List Prefix) (cs : List Call) → AllGranted (λ t. t) ask now (state_of s) area cs → AllGranted state_of server now s area cs
+  all-granted s now area cs g = record {
     given = g.given;
     all =
         gathered (state_of s) now (λ v. granted state_of server now v.got v.call) (λ v. granted (λ t. t) ask now v.got v.call) (λ v. granted-same now v.got v.call) cs s
@@ -128,7 +128,7 @@ module _ {S : Type 0} (state_of : S → State) (server : Server S) (follows : (s
     sentence =
         λ s now c e. let t : LeaseTable = (state_of s).table in
         subst (RefusedRightly (narrowed t c) (in_use now t) (asks_of c) (held_before now t c)) (sym (granted-same now s c)) (demand3.sentence (state_of s) now c e);
-    lists = λ s now ground cs so a f p. all-granted s now ground cs (demand3.lists (state_of s) now ground cs so a f p);
+    lists = λ s now area cs so a f p. all-granted s now area cs (demand3.lists (state_of s) now area cs so a f p);
     untouched = untouched;
   }
 

@@ -87,9 +87,9 @@ ground-of (some s) t e =
       default = sound-default t e;
     }
 
-pub ground : (t : LeaseTable) (c : Call) → sound t ≡ true → Ground (pools_of t) (narrowed t c)
+pub area : (t : LeaseTable) (c : Call) → sound t ≡ true → Ground (pools_of t) (narrowed t c)
 unfolding narrowed
-ground t c e = ground-of c.selection t e
+area t c e = ground-of c.selection t e
 
 -- The table itself has all of its ground, and so has a call without the option.
 pub ground-whole : (t : LeaseTable) → sound t ≡ true → Ground (pools_of t) t

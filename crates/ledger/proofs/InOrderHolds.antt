@@ -20,7 +20,7 @@ use Rattle.table.specs.declared.{Lease.Lease, LeaseTable.LeaseTable}
 use Rattle.table.specs.Table.{prefix_of, network_of, pools_of, present, sound}
 use Rattle.ledger.specs.Ledger.{offer, add, offers, add_all, held_by?, held_for?, first_that, but_first, again, rest_of, hold_again, held_again, in_turn, Call, ask_name, narrowed, usable_leases}
 use Rattle.ledger.specs.InOrder.{again_or, left_by, one_by_one, left_one_by_one, ServedInOrder}
-use Rattle.ledger.proofs.GroundLaws.{ground, usable-all}
+use Rattle.ledger.proofs.GroundLaws.{area, usable-all}
 use Rattle.ledger.proofs.OfferLaws.{prefixes, add-fewer, Offer, offer-is}
 use Rattle.ledger.proofs.AgainLaws.{but-first-all, again-all, held, held_place, held-prefixes, held_none, gives, offer-prefixes, add-prefixes, offers-prefixes, rest-offers}
 use Rattle.ledger.proofs.AsksTwiceHolds.{apart-networks}
@@ -111,7 +111,7 @@ module _ (t : LeaseTable) (good : Pools (pools_of t)) (now client : ℕ) (name :
 pub served-in-order : (t : LeaseTable) → sound t ≡ true → (now : ℕ) (c : Call) → ServedInOrder t now c
 served-in-order t so now c =
     let own : LeaseTable = narrowed t c in
-    let good : Pools (pools_of own) = (ground t c so).good in
+    let good : Pools (pools_of own) = (area t c so).good in
     let client : ℕ = c.client in
     let name : Name = ask_name c in
     let rs : List Request = requests_in c.option in

@@ -50,7 +50,7 @@ use Rattle.ledger.proofs.RowLaws.{first-none, by-numbers}
 use Rattle.ledger.proofs.ReadLaws.{requests-short, figures-short, name-bytes, entries-few, option-short, place_short}
 use Rattle.ledger.proofs.Counts.{up_to-all, granted-few, ask-fits, found-few, information-fits}
 use Rattle.option.specs.Selection.{selection_size}
-use Rattle.ledger.proofs.GroundLaws.{Ground, ground, usable-all, usable-entries, usable-entries-fewer, returned-short}
+use Rattle.ledger.proofs.GroundLaws.{Ground, area, usable-all, usable-entries, usable-entries-fewer, returned-short}
 use Rattle.ledger.proofs.OfferLaws.{pools-within, Offered, offers-all, add_all-all, offers-good, length-bounds}
 use Rattle.ledger.proofs.AgainLaws.{again-all, held_all, rest_all, turn-all}
 
@@ -304,9 +304,9 @@ module _ (s : State) (now : ℕ) (c : Call) (f : StateInRange s) (k : CallInRang
       let told : All Told gs =
       turn-all now Told given os
       (all_map (λ x (b : (held_by? c.client x ≡ true) × Told x). b.1) (cat_maybes given) (again-all own c.client Told rs us (usable-all t c Told xs (present-told t now so))))
-      (good-told t now so (cat_maybes os) (offers-good own now c.client (ask_name c) (ground t c so).good (pools_of t) (ground t c so) named (rest_of given rs) held short)) in
+      (good-told t now so (cat_maybes os) (offers-good own now c.client (ask_name c) (area t c so).good (pools_of t) (area t c so) named (rest_of given rs) held short)) in
       let there : All LeaseInRange ys =
-      add_all-all LeaseInRange os held (offers-in-range (pools_of t) own now c.client (ask_name c) (pools-within t so) (ground t c so) l k.client (ask-name-in-range c.option k.option) (rest_of given rs) held short)
+      add_all-all LeaseInRange os held (offers-in-range (pools_of t) own now c.client (ask_name c) (pools-within t so) (area t c so) l k.client (ask-name-in-range c.option k.option) (rest_of given rs) held short)
       (held_all now (cat_maybes given) LeaseInRange (held-in-range now l) xs (present-in-range t now f.table)) in
       let out = with-back (option_bytes (map information_for gs)) (ask-bytes gs few told) (omega (arith, ask-fits gs few)) (row-six (refuses? 6 (read_option c.option)) (bad_selection? c.selection) r.1.1.1.1.1.1.0).1 in
       accepted-in-range StateInRange (left s now ys) (option_bytes (map information_for gs) ++ back) (length gs) c.reply (left-in-range s now ys f (store-in-range t now ys f.table l there))

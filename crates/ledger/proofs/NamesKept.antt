@@ -28,7 +28,7 @@ use Rattle.ledger.specs.Sizes.{Bytes}
 use Rattle.ledger.specs.NamesKept.{Stood, Keeps, NamesStay, NamesMade, NamesKept}
 use Rattle.ledger.proofs.RowLaws.{accepted-by, numbered-ask, numbered-take, numbered-release, numbered-mark}
 use Rattle.ledger.proofs.ReadLaws.{requests-short, name-bytes, name-ends}
-use Rattle.ledger.proofs.GroundLaws.{Ground, ground}
+use Rattle.ledger.proofs.GroundLaws.{Ground, area}
 use Rattle.ledger.proofs.OfferLaws.{prefixes, offers-all, offers-new, offers-good, add_all-all}
 use Rattle.ledger.proofs.AgainLaws.{hold-good, held-prefixes, held_all, rest_all}
 use Rattle.ledger.proofs.AsksTwiceHolds.{apart-networks}
@@ -84,7 +84,7 @@ module _ (t : LeaseTable) (now : ℕ) (so : sound t ≡ true) where
 
   -- AN ASK: leases given again, and leases newly made, which share no address with those present
   module _ (client : ℕ) (name : Name) (some-client : client ≡ 0 → ⊥) (rs : List Request) (short : All (λ r. r.length ≤ longest) rs)
-      (own : LeaseTable) (ground : Ground (pools_of t) own) (us : List Lease) where
+      (own : LeaseTable) (area : Ground (pools_of t) own) (us : List Lease) where
     abbrev given : List (Option Lease)
     given = again own client us rs
 
@@ -98,7 +98,7 @@ module _ (t : LeaseTable) (now : ℕ) (so : sound t ≡ true) where
     new = ask_offers own now client name us here rs
 
     abbrev good : Pools (pools_of own)
-    good = ground.good
+    good = area.good
 
     abbrev Made : Lease → Type 0
     Made y = ((Stood here y → ⊥) → y.name ≡ name) × Keeps here y
@@ -126,7 +126,7 @@ module _ (t : LeaseTable) (now : ℕ) (so : sound t ≡ true) where
         subst (All Made)
         (sym (stored t now (ask_leases own now client name us here rs)
         (add_all-all (Good (pools_of t) now) new held
-        (offers-good own now client name good (pools_of t) ground some-client rest held (rest_all (λ r. r.length ≤ longest) given rs short))
+        (offers-good own now client name good (pools_of t) area some-client rest held (rest_all (λ r. r.length ≤ longest) given rs short))
         (held_all now (cat_maybes given) (Good (pools_of t) now) (hold-good (pools_of t) now) here (sound-fine t so now).0))))
         (add_all-all Made new held new-made held-made)
 
@@ -139,7 +139,7 @@ module _ (s : State) (now : ℕ) (c : Call) where
       accepted-by (NamesMade (ask_name c) now s) (ask_rows s now c) (refusal_place c.option) s c.reply _ (numbered-ask s now c)
       (λ r.
       let so : sound s.table ≡ true = not-false (sound s.table) r.1.0 in
-      ask-names s.table now so c.client (ask_name c) (eqb-false c.client 0 r.1.1.1.0) (requests_in c.option) (requests-short c.option) (narrowed s.table c) (ground s.table c so)
+      ask-names s.table now so c.client (ask_name c) (eqb-false c.client 0 r.1.1.1.0) (requests_in c.option) (requests-short c.option) (narrowed s.table c) (area s.table c so)
       (usable_leases s.table c (present now s.table.leases)))
 
   takes-names : (take s now c).answer.number ≡ 0 → NamesStay now s (take s now c).state

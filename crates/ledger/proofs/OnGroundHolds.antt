@@ -28,7 +28,7 @@ use Rattle.ledger.specs.Ledger.{State, Call, contains?, narrowed_to, narrowed, o
 use Rattle.ledger.specs.Demand3.{well_formed, asks_of, entry_prefix, reply_entries}
 use Rattle.ledger.specs.ReadBack.{read_in}
 use Rattle.ledger.specs.OnGround.{Within, Contains, OnGround}
-use Rattle.ledger.proofs.GroundLaws.{ground-filtered, ground}
+use Rattle.ledger.proofs.GroundLaws.{ground-filtered, area}
 use Rattle.ledger.proofs.OfferLaws.{offers-all}
 use Rattle.ledger.proofs.AgainLaws.{again-all, turn-all}
 use Rattle.ledger.proofs.ReplyLaws.{reads_none}
@@ -112,7 +112,7 @@ gives-inside t now c so =
     let P : Lease → Type 0 = λ x. Any (Inside (prefix_of x)) (pools_of own) in
     turn-all now P gs (ask_offers own now c.client (ask_name c) us here (asks_of c))
     (all_map (λ x (k : (held_by? c.client x ≡ true) × Any (Inside (prefix_of x)) (pools_of own)). k.1) (cat_maybes gs) (again-all own c.client P (asks_of c) us (usable-inside t.table now so c)))
-    (offers-all own now c.client (ask_name c) (ground t.table c so).good (λ r. Unit {0}) P (λ ys r x _ o. o.free.pooled) (rest_of gs (asks_of c)) held (all-every (λ r. tt) (rest_of gs (asks_of c))))
+    (offers-all own now c.client (ask_name c) (area t.table c so).good (λ r. Unit {0}) P (λ ys r x _ o. o.free.pooled) (rest_of gs (asks_of c)) held (all-every (λ r. tt) (rest_of gs (asks_of c))))
 
 ask-within : (t : State) (now : ℕ) (c : Call) → Within t.table c (ask t now c)
 ask-within t now c =

@@ -140,18 +140,18 @@ prefixes_at (n ∷ ns) (len ∷ lens) = prefix n len ∷ prefixes_at ns lens
 abbrev pub HoldsNothing : ℕ → LeaseTable → ℕ → Type 0
 HoldsNothing now t client = All (λ x. held_by? client x ≡ false) (present now t.leases)
 
-pub record FirstAsks (now : ℕ) (s : State) (ground : List Prefix) (cs : List Call) : Type 0 where
+pub record FirstAsks (now : ℕ) (s : State) (area : List Prefix) (cs : List Call) : Type 0 where
   pub nothing : All (λ c. HoldsNothing now s.table c.client) (filter (well_formed now s) cs)
   -- "lists that all name the same root, over that root's ground, or all name none, over all of it"
-  pub over : All (λ c. pools_of (narrowed s.table c) ≡ ground) (filter (well_formed now s) cs)
+  pub over : All (λ c. pools_of (narrowed s.table c) ≡ area) (filter (well_formed now s) cs)
   pub once : Pairwise (λ c d. c.client ≡ d.client → ⊥) (filter (well_formed now s) cs)
 
 -- "If free aligned blocks can be chosen in the first book, one of its length for each well-formed ask of the list, no two sharing an address, and
 -- that book has an empty line for each"
-pub record CanBeChosen (now : ℕ) (s : State) (ground : List Prefix) (cs : List Call) : Type 0 where
+pub record CanBeChosen (now : ℕ) (s : State) (area : List Prefix) (cs : List Call) : Type 0 where
   pub networks : List ℕ
   pub enough : length networks ≡ length (lengths_asked now s cs)
-  pub free : All (Free ground (in_use now s.table)) (prefixes_at networks (lengths_asked now s cs))
+  pub free : All (Free area (in_use now s.table)) (prefixes_at networks (lengths_asked now s cs))
   pub apart : Pairwise Apart (prefixes_at networks (lengths_asked now s cs))
   pub slots : length (well_formed_asks now s cs) ≤ empty_slots now s.table
 
@@ -189,7 +189,7 @@ module _ {S : Type 0} (state_of : S → State) (server : Server S) where
   abbrev pub made : ℕ → Received S → List Lease
   made now v = map (lease_for now v.call.client (ask_name v.call)) (cat_maybes (granted now v.got v.call))
 
-  pub record AllGranted (now : ℕ) (s : S) (ground : List Prefix) (cs : List Call) : Type 0 where
+  pub record AllGranted (now : ℕ) (s : S) (area : List Prefix) (cs : List Call) : Type 0 where
     -- what was granted
     pub given : List Entry
     -- "then every well-formed ask is granted"
@@ -197,7 +197,7 @@ module _ {S : Type 0} (state_of : S → State) (server : Server S) where
     -- each of the length asked for
     pub lengths : map (λ e. e.length) given ≡ lengths_asked now (state_of s) cs
     -- "In that case the blocks granted were free in the first book and share no address"
-    pub free : All (Free ground (in_use now (table_of s))) (map entry_prefix given)
+    pub free : All (Free area (in_use now (table_of s))) (map entry_prefix given)
     pub apart : Pairwise Apart (map entry_prefix given)
     -- "after the list the lines present are those present at its start and those granted, one for each well-formed ask"
     pub left : List-as-Permᴰ (present now (table_of (after_all now s cs)).leases) (present now (table_of s).leases ++ concat_map (made now) (well_formed_calls now s cs))
@@ -215,7 +215,7 @@ module _ {S : Type 0} (state_of : S → State) (server : Server S) where
         → RefusedRightly (narrowed (table_of s) c) (in_use now (table_of s)) (asks_of c) (held_before now (table_of s) c) (granted now s c)
     -- "take every list of ask calls, in whatever order, refused ones included, from any sound book and all at one time that the desk accepts", and what
     -- `FirstAsks`, `CanBeChosen` and `AllGranted` quote.
-    pub lists : (s : S) (now : ℕ) (ground : List Prefix) (cs : List Call) → sound (table_of s) ≡ true → Accepts (table_of s) now → FirstAsks now (state_of s) ground cs
-        → CanBeChosen now (state_of s) ground cs → AllGranted now s ground cs
+    pub lists : (s : S) (now : ℕ) (area : List Prefix) (cs : List Call) → sound (table_of s) ≡ true → Accepts (table_of s) now → FirstAsks now (state_of s) area cs
+        → CanBeChosen now (state_of s) area cs → AllGranted now s area cs
     -- "In every case a call not well-formed leaves the book as it was."
     pub untouched : (s : S) (now : ℕ) (cs : List Call) → Untouched now s cs

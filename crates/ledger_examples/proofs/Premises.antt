@@ -86,15 +86,15 @@ alike (p ∷ ps) (q ∷ qs) e =
 
 -- The tests of a sample over some ground: sound, the time accepted, the networks can be chosen, every call has that ground.
 abbrev tests_over : List Prefix → Sample → List Bool
-tests_over ground s =
+tests_over area s =
     sound s.start.table
     ∷ leb s.start.table.last s.now
     ∷ leb s.now latest
     ∷ eqb (length s.networks) (length (lengths_asked s.now s.start s.calls))
-    ∷ all? (free? ground (in_use s.now s.start.table)) (prefixes_at s.networks (lengths_asked s.now s.start s.calls))
+    ∷ all? (free? area (in_use s.now s.start.table)) (prefixes_at s.networks (lengths_asked s.now s.start s.calls))
     ∷ apart_all? (prefixes_at s.networks (lengths_asked s.now s.start s.calls))
     ∷ leb (length (well_formed_asks s.now s.start s.calls)) (empty_slots s.now s.start.table)
-    ∷ all? (λ c. alike? (pools_of (narrowed s.start.table c)) ground) (filter (well_formed s.now s.start) s.calls)
+    ∷ all? (λ c. alike? (pools_of (narrowed s.start.table c)) area) (filter (well_formed s.now s.start) s.calls)
     ∷ []
 
 -- Over all of the ground: no call names a root.
@@ -103,26 +103,26 @@ tests s = tests_over (pools_of s.start.table) s
 
 -- The calls of a list over the same ground, and over all of it.
 abbrev pub Over : List Prefix → ℕ → State → List Call → Type 0
-Over ground now s cs = All (λ c. pools_of (narrowed s.table c) ≡ ground) (filter (well_formed now s) cs)
+Over area now s cs = All (λ c. pools_of (narrowed s.table c) ≡ area) (filter (well_formed now s) cs)
 
 abbrev pub OverAll : ℕ → State → List Call → Type 0
 OverAll now s cs = Over (pools_of s.table) now s cs
 
-pub chosen-over : (ground : List Prefix) (s : Sample) → and (tests_over ground s) ≡ true
-    → (sound s.start.table ≡ true) × Accepts s.start.table s.now × CanBeChosen s.now s.start ground s.calls × Over ground s.now s.start s.calls
-chosen-over ground s e =
-    let r = and-list-to (tests_over ground s) e in
+pub chosen-over : (area : List Prefix) (s : Sample) → and (tests_over area s) ≡ true
+    → (sound s.start.table ≡ true) × Accepts s.start.table s.now × CanBeChosen s.now s.start area s.calls × Over area s.now s.start s.calls
+chosen-over area s e =
+    let r = and-list-to (tests_over area s) e in
     let ps : List Prefix = prefixes_at s.networks (lengths_asked s.now s.start s.calls) in (
       r.0,
       (leb-true s.start.table.last s.now r.1.0, leb-true s.now latest r.1.1.0),
       record {
         networks = s.networks;
         enough = eqb-true (length s.networks) (length (lengths_asked s.now s.start s.calls)) r.1.1.1.0;
-        free = all?-to (free? ground (in_use s.now s.start.table)) (free-to ground (in_use s.now s.start.table)) ps r.1.1.1.1.0;
+        free = all?-to (free? area (in_use s.now s.start.table)) (free-to area (in_use s.now s.start.table)) ps r.1.1.1.1.0;
         apart = apart-all ps r.1.1.1.1.1.0;
         slots = leb-true (length (well_formed_asks s.now s.start s.calls)) (empty_slots s.now s.start.table) r.1.1.1.1.1.1.0;
       },
-      all?-to (λ c. alike? (pools_of (narrowed s.start.table c)) ground) (λ c k. alike (pools_of (narrowed s.start.table c)) ground k)
+      all?-to (λ c. alike? (pools_of (narrowed s.start.table c)) area) (λ c k. alike (pools_of (narrowed s.start.table c)) area k)
           (filter (well_formed s.now s.start) s.calls) r.1.1.1.1.1.1.1.0,
     )
 
@@ -144,17 +144,17 @@ pub ask-once : (s : Sample) → once? s ≡ true → Pairwise (λ c d. c.client 
 ask-once s e = other-clients (filter (well_formed s.now s.start) s.calls) e
 
 abbrev pub meets_over? : List Prefix → Sample → Bool
-meets_over? ground s = and (and (tests_over ground s) ∷ hold_nothing? s ∷ once? s ∷ [])
+meets_over? area s = and (and (tests_over area s) ∷ hold_nothing? s ∷ once? s ∷ [])
 
 abbrev pub meets? : Sample → Bool
 meets? s = meets_over? (pools_of s.start.table) s
 
 -- What a server that meets demand 3 grants where a sample passes.
-pub served-over : (server : Server State) → Demand3 (λ s. s) server → (ground : List Prefix) (s : Sample) → meets_over? ground s ≡ true → AllGranted (λ s. s) server s.now s.start ground s.calls
-served-over server d ground s e =
-    let r = and-list-to (and (tests_over ground s) ∷ hold_nothing? s ∷ once? s ∷ []) e in
-    let c = chosen-over ground s r.0 in
-    d.lists s.start s.now ground s.calls c.0 c.1 (record { nothing = hold-nothing s r.1.0; over = c.3; once = ask-once s r.1.1.0 }) c.2
+pub served-over : (server : Server State) → Demand3 (λ s. s) server → (area : List Prefix) (s : Sample) → meets_over? area s ≡ true → AllGranted (λ s. s) server s.now s.start area s.calls
+served-over server d area s e =
+    let r = and-list-to (and (tests_over area s) ∷ hold_nothing? s ∷ once? s ∷ []) e in
+    let c = chosen-over area s r.0 in
+    d.lists s.start s.now area s.calls c.0 c.1 (record { nothing = hold-nothing s r.1.0; over = c.3; once = ask-once s r.1.1.0 }) c.2
 
 pub served : (server : Server State) → Demand3 (λ s. s) server → (s : Sample) → meets? s ≡ true → AllGranted (λ s. s) server s.now s.start (pools_of s.start.table) s.calls
 served server d s e = served-over server d (pools_of s.start.table) s e

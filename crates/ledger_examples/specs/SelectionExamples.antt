@@ -47,8 +47,8 @@ unfoldable pub mine : List Lease
 mine = held 7 0x0a000800 27 false false 1100 ∷ []
 
 -- "every block of that ask comes from the root that contains its address"
-unfoldable pub ground : List (List (List ℕ))
-ground =
+unfoldable pub area : List (List (List ℕ))
+area =
     shown (asks [] none 27)
     ∷ shown (asks [] (some (selecting 0 5)) 27)
     ∷ shown (asks [] (some (selecting 8 63)) 27)

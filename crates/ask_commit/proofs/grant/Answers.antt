@@ -51,12 +51,12 @@ places_count c =
 
 -- Where the leases on the ground begin, and these leases.
 abbrev from-of : After-find_held-again → ℕ
-from-of c = let a = c.args in leases_from a.site.summary + lease_size * a.site.ground.first
+from-of c = let a = c.args in leases_from a.site.summary + lease_size * a.site.area.first
 
 abbrev on_of : After-find_held-again → List Lease
-on_of c = leases_on c.args.site.ground (used_leases (table_in (lent_of c)))
+on_of c = leases_on c.args.site.area (used_leases (table_in (lent_of c)))
 
-within : (c : After-find_held-again) → All (Within c.args.site.ground.leases) (places_of c)
+within : (c : After-find_held-again) → All (Within c.args.site.area.leases) (places_of c)
 within c = c.find_held-again.ensures.all
 
 fit-in : (c : After-find_held-again) → All (InBuffer (from-of c) (length c.args.image.now)) (places_of c)
@@ -96,12 +96,12 @@ granted : (c : After-serve_rest-granted) → let a = c.args in let h = lent a.im
     let places = take (length a.ask_lengths.now) c.find_held-again.new.places in
     (option : List ℕ) (selection : Option (List ℕ)) → let it = call_with a.asker.client option selection a.reply.now in
     Asking h a.asker.time a.asker.name it a.site a.ask_lengths.now a.ask_h.now
-    → Granted (narrowed (table_in h) it) a.asker.time a.asker.client a.asker.name (present a.asker.time (table_in h).leases) (given_in (leases_on a.site.ground (used_leases (table_in h))) places)
+    → Granted (narrowed (table_in h) it) a.asker.time a.asker.client a.asker.name (present a.asker.time (table_in h).leases) (given_in (leases_on a.site.area (used_leases (table_in h))) places)
     (requests_in option) (networks-of c) (lengths-of c)
 granted c option selection k =
     let a = c.args in
     let h = lent a.image.now a.image_bytes.now a.figures.now in
-    c.serve_rest-granted.ensures.equation h (call_with a.asker.client option selection a.reply.now) (leases_on a.site.ground (used_leases (table_in h))) (requests_in option) refl c.requires.admitted k.grounds k.lengths (requests-short option)
+    c.serve_rest-granted.ensures.equation h (call_with a.asker.client option selection a.reply.now) (leases_on a.site.area (used_leases (table_in h))) (requests_in option) refl c.requires.admitted k.grounds k.lengths (requests-short option)
 
 -- HOW MANY get something: each of the two numbers is small.
 few-count : (c : After-serve_rest-granted) → (c.find_held-again.result ≤ most_requests) × (c.serve_rest-granted.result ≤ most_requests)

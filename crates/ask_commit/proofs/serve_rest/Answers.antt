@@ -72,7 +72,7 @@ gaps_in-gaps-requires c =
     let q = c.requires.0 in
     let w = c.requires.1 in
     let o = q.admitted in
-    let g = c.args.site.ground in (
+    let g = c.args.site.area in (
       pools-fit _ _ _ _ q g w.0 w.1,
       leases-fit _ _ _ _ q g w.0 w.1,
       omega (arith, w.0, w.1, o.few-pools, o.few-leases),
@@ -85,7 +85,7 @@ serve-requires c =
     let pre = c.requires in
     let w = pre.1 in
     let o = pre.0.admitted in
-    let few = gaps-few _ _ _ _ pre.0 c.args.site.ground w.0 w.1 (starts-of (goal.at.serve-requires c).After-gaps_in-gaps) (lasts-of (goal.at.serve-requires c).After-gaps_in-gaps) c.gaps_in-gaps.result c.gaps_in-gaps.ensures.result_after
+    let few = gaps-few _ _ _ _ pre.0 c.args.site.area w.0 w.1 (starts-of (goal.at.serve-requires c).After-gaps_in-gaps) (lasts-of (goal.at.serve-requires c).After-gaps_in-gaps) c.gaps_in-gaps.result c.gaps_in-gaps.ensures.result_after
     (omega (arith, w.0, w.1, o.few-pools, o.few-leases, c.gaps_in-gaps.ensures.upper_bound, c.gaps_in-gaps.auto.starts))
     (omega (arith, w.0, w.1, o.few-pools, o.few-leases, c.gaps_in-gaps.ensures.upper_bound, c.gaps_in-gaps.auto.lasts)) in
     (pre.2, omega (arith, few, c.gaps_in-gaps.auto.starts), omega (arith, few, c.gaps_in-gaps.auto.lasts), default-long _ _ _ _ pre.0, pre.4, pre.5)
@@ -97,5 +97,5 @@ returns c =
       bounds = (r.upper_bound, r.upper_bound_2, r.value);
       equation = λ h call us rs e o k asked long.
           r.granted (table_in h) call a.asker.time a.asker.client a.asker.name (present a.asker.time (table_in h).leases) us rs
-          (rest-ready a.image.now a.asker.time a.asker.client a.site.summary (admitted h a.image.now a.asker.time a.asker.client a.site.summary e o) a.site.ground k.few-pools k.few-leases (starts-of (goal.at.returns c).After-gaps_in-gaps) (lasts-of (goal.at.returns c).After-gaps_in-gaps) c.gaps_in-gaps.result c.gaps_in-gaps.ensures.result_after call k rs a.ask_lengths.now asked long);
+          (rest-ready a.image.now a.asker.time a.asker.client a.site.summary (admitted h a.image.now a.asker.time a.asker.client a.site.summary e o) a.site.area k.few-pools k.few-leases (starts-of (goal.at.returns c).After-gaps_in-gaps) (lasts-of (goal.at.returns c).After-gaps_in-gaps) c.gaps_in-gaps.result c.gaps_in-gaps.ensures.result_after call k rs a.ask_lengths.now asked long);
     }

@@ -51,11 +51,11 @@ abbrev book-of-5 : goal.After-summary-1 → Book
 book-of-5 c = let a = c.args in book_of a.image.now a.image_bytes.now a.figures.now a.counts.now
 
 -- The book, the call, and its time.
-abbrev book-of-6 : goal.After-refused-then-ground-eq0 → Book
+abbrev book-of-6 : goal.After-refused-then-area-eq0 → Book
 book-of-6 c = let a = c.args in book_of a.image.now a.image_bytes.now a.figures.now a.counts.now
 
 -- The book, the call, and its time.
-abbrev book-of-7 : goal.Else-ground-eq0 → Book
+abbrev book-of-7 : goal.Else-area-eq0 → Book
 book-of-7 c = let a = c.args in book_of a.image.now a.image_bytes.now a.figures.now a.counts.now
 
 -- The book, the call, and its time.
@@ -89,10 +89,10 @@ call-of-4 c = let a = c.args in call_with a.message.client a.option.now (carried
 abbrev call-of-5 : goal.After-summary-1 → Call
 call-of-5 c = let a = c.args in call_with a.message.client a.option.now (carried_if a.message.selected a.selection.now) a.reply.now
 
-abbrev call-of-6 : goal.After-refused-then-ground-eq0 → Call
+abbrev call-of-6 : goal.After-refused-then-area-eq0 → Call
 call-of-6 c = let a = c.args in call_with a.message.client a.option.now (carried_if a.message.selected a.selection.now) a.reply.now
 
-abbrev call-of-7 : goal.Else-ground-eq0 → Call
+abbrev call-of-7 : goal.Else-area-eq0 → Call
 call-of-7 c = let a = c.args in call_with a.message.client a.option.now (carried_if a.message.selected a.selection.now) a.reply.now
 
 abbrev call-of-8 : goal.After-ask_h-3-1 → Call
@@ -122,10 +122,10 @@ time-of-4 c = c.args.message.time
 abbrev time-of-5 : goal.After-summary-1 → ℕ
 time-of-5 c = c.args.message.time
 
-abbrev time-of-6 : goal.After-refused-then-ground-eq0 → ℕ
+abbrev time-of-6 : goal.After-refused-then-area-eq0 → ℕ
 time-of-6 c = c.args.message.time
 
-abbrev time-of-7 : goal.Else-ground-eq0 → ℕ
+abbrev time-of-7 : goal.Else-area-eq0 → ℕ
 time-of-7 c = c.args.message.time
 
 abbrev time-of-8 : goal.After-ask_h-3-1 → ℕ
@@ -157,11 +157,11 @@ abbrev short-of-4 : goal.After-refused-then-name_bytes-gt-LONGEST → Bool
 short-of-4 c = c.too_short-short.result
 
 -- Row 1.
-abbrev short-of-5 : goal.After-refused-then-ground-eq0 → Bool
+abbrev short-of-5 : goal.After-refused-then-area-eq0 → Bool
 short-of-5 c = c.too_short-short.result
 
 -- Row 1.
-abbrev short-of-6 : goal.Else-ground-eq0 → Bool
+abbrev short-of-6 : goal.Else-area-eq0 → Bool
 short-of-6 c = c.too_short-short.result
 
 -- Row 1.
@@ -192,10 +192,10 @@ short-is-3 c = c.too_short-short.ensures c.args.selection.now
 short-is-4 : (c : goal.After-refused-then-name_bytes-gt-LONGEST) → short-of-4 c ≡ ltb (length (call-of-4 c).reply) (least_for (call-of-4 c).selection)
 short-is-4 c = c.too_short-short.ensures c.args.selection.now
 
-short-is-5 : (c : goal.After-refused-then-ground-eq0) → short-of-5 c ≡ ltb (length (call-of-6 c).reply) (least_for (call-of-6 c).selection)
+short-is-5 : (c : goal.After-refused-then-area-eq0) → short-of-5 c ≡ ltb (length (call-of-6 c).reply) (least_for (call-of-6 c).selection)
 short-is-5 c = c.too_short-short.ensures c.args.selection.now
 
-short-is-6 : (c : goal.Else-ground-eq0) → short-of-6 c ≡ ltb (length (call-of-7 c).reply) (least_for (call-of-7 c).selection)
+short-is-6 : (c : goal.Else-area-eq0) → short-of-6 c ≡ ltb (length (call-of-7 c).reply) (least_for (call-of-7 c).selection)
 short-is-6 c = c.too_short-short.ensures c.args.selection.now
 
 short-is-7 : (c : goal.After-ask_h-3-1) → short-of-7 c ≡ ltb (length (call-of-8 c).reply) (least_for (call-of-8 c).selection)
@@ -223,11 +223,11 @@ good-selection-3 : (c : goal.After-refused-then-name_bytes-gt-LONGEST) → bad_s
 good-selection-3 c = sym c.read_selection-chosen.ensures.bad ∙ c.if-chosen.false
 
 -- Row 6 of option 118 has passed.
-good-selection-4 : (c : goal.After-refused-then-ground-eq0) → bad_selection? (call-of-6 c).selection ≡ false
+good-selection-4 : (c : goal.After-refused-then-area-eq0) → bad_selection? (call-of-6 c).selection ≡ false
 good-selection-4 c = sym c.read_selection-chosen.ensures.bad ∙ c.if-chosen.false
 
 -- Row 6 of option 118 has passed.
-good-selection-5 : (c : goal.Else-ground-eq0) → bad_selection? (call-of-7 c).selection ≡ false
+good-selection-5 : (c : goal.Else-area-eq0) → bad_selection? (call-of-7 c).selection ≡ false
 good-selection-5 c = sym c.read_selection-chosen.ensures.bad ∙ c.if-chosen.false
 
 -- Row 6 of option 118 has passed.
@@ -258,11 +258,11 @@ abbrev read-call-3 : (c : goal.After-refused-then-name_bytes-gt-LONGEST) → Rea
 read-call-3 c =
     record { admission = c.admit-admission.result; admits = c.admit-admission.ensures; admitted = c.if-admission-ne0.false; selected = good-selection-3 c; contents = c.read-contents.result; columns = _; reads = c.read-contents.ensures; answer = c.option_refusal-refusal.result; answer-is = c.option_refusal-refusal.ensures }
 
-abbrev read-call-4 : (c : goal.After-refused-then-ground-eq0) → ReadCall true (short-of-5 c) (lent_in (book-of-6 c)) (time-of-6 c) (call-of-6 c)
+abbrev read-call-4 : (c : goal.After-refused-then-area-eq0) → ReadCall true (short-of-5 c) (lent_in (book-of-6 c)) (time-of-6 c) (call-of-6 c)
 read-call-4 c =
     record { admission = c.admit-admission.result; admits = c.admit-admission.ensures; admitted = c.if-admission-ne0.false; selected = good-selection-4 c; contents = c.read-contents.result; columns = _; reads = c.read-contents.ensures; answer = c.option_refusal-refusal.result; answer-is = c.option_refusal-refusal.ensures }
 
-abbrev read-call-5 : (c : goal.Else-ground-eq0) → ReadCall true (short-of-6 c) (lent_in (book-of-7 c)) (time-of-7 c) (call-of-7 c)
+abbrev read-call-5 : (c : goal.Else-area-eq0) → ReadCall true (short-of-6 c) (lent_in (book-of-7 c)) (time-of-7 c) (call-of-7 c)
 read-call-5 c =
     record { admission = c.admit-admission.result; admits = c.admit-admission.ensures; admitted = c.if-admission-ne0.false; selected = good-selection-5 c; contents = c.read-contents.result; columns = _; reads = c.read-contents.ensures; answer = c.option_refusal-refusal.result; answer-is = c.option_refusal-refusal.ensures }
 
@@ -337,7 +337,7 @@ few-of-3 : (c : goal.After-ask_h-3-1) → c.read-contents.result.requests ≤ mo
 few-of-3 c = let m = c.read-contents.result in and-few m.requests m.listing c.for_ask.result c.for_ask.ensures c.if-not-for_ask.false
 
 -- Row 17: the first name of the option stands where it was found.
-named-of : (c : goal.Else-ground-eq0) → let option = (call-of-7 c).option in NamedIn option c.read-contents.result (first_name_in option)
+named-of : (c : goal.Else-area-eq0) → let option = (call-of-7 c).option in NamedIn option c.read-contents.result (first_name_in option)
 named-of c =
     named (lent_in (book-of-7 c)) (time-of-7 c) (call-of-7 c) (short-of-6 c) (short-is-6 c) (read-call-5 c) c.if-refusal-ne0.false c.for_ask.result c.for_ask.ensures c.if-not-for_ask.false
 
@@ -354,7 +354,7 @@ abbrev admitted_of : (c : goal.After-summary-1) → Admitted true (lent_in (book
 admitted_of c = c.admit-admission.ensures.admitted c.if-admission-ne0.false
 
 -- The call is admitted, so its book is what is lent.
-abbrev admitted_of-2 : (c : goal.After-refused-then-ground-eq0) → Admitted true (lent_in (book-of-6 c)) (time-of-6 c) (call-of-6 c).client c.admit-admission.result.summary
+abbrev admitted_of-2 : (c : goal.After-refused-then-area-eq0) → Admitted true (lent_in (book-of-6 c)) (time-of-6 c) (call-of-6 c).client c.admit-admission.result.summary
 admitted_of-2 c = c.admit-admission.ensures.admitted c.if-admission-ne0.false
 
 -- The call is admitted, so its book is what is lent.
@@ -372,7 +372,7 @@ admitted_of-5 c = c.admit-admission.ensures.admitted c.if-admission-ne0.false
 same_of : (c : goal.After-summary-1) → lent_in (book-of-5 c) ≡ (book-of-5 c).lent
 same_of c = admitted-lent true (book-of-5 c) (time-of-5 c) (call-of-5 c).client c.admit-admission.result.summary (admitted_of c)
 
-same_of-2 : (c : goal.After-refused-then-ground-eq0) → lent_in (book-of-6 c) ≡ (book-of-6 c).lent
+same_of-2 : (c : goal.After-refused-then-area-eq0) → lent_in (book-of-6 c) ≡ (book-of-6 c).lent
 same_of-2 c = admitted-lent true (book-of-6 c) (time-of-6 c) (call-of-6 c).client c.admit-admission.result.summary (admitted_of-2 c)
 
 same_of-3 : (c : goal.After-ask_h-3-1) → lent_in (book-of-8 c) ≡ (book-of-8 c).lent
@@ -384,42 +384,42 @@ same_of-4 c = admitted-lent true (book-of-9 c) (time-of-9 c) (call-of-9 c).clien
 same_of-5 : (c : goal.After-slice_known-7-1) → lent_in (book-of-11 c) ≡ (book-of-11 c).lent
 same_of-5 c = admitted-lent true (book-of-11 c) (time-of-11 c) (call-of-11 c).client c.admit-admission.result.summary (admitted_of-5 c)
 
-pub ground_of-ground-requires : goal.ground_of-ground-requires
-ground_of-ground-requires c = record { lent = lent_in (book-of-5 c); time = time-of-5 c; client = (call-of-5 c).client; same = ap (λ (h : Lent). h.image) (same_of c); admitted = admitted_of c }
+pub ground_of-area-requires : goal.ground_of-area-requires
+ground_of-area-requires c = record { lent = lent_in (book-of-5 c); time = time-of-5 c; client = (call-of-5 c).client; same = ap (λ (h : Lent). h.image) (same_of c); admitted = admitted_of c }
 
 -- The ground of the call.
-grounds-of : (c : goal.After-refused-then-ground-eq0) → Grounds (lent_in (book-of-6 c)) (call-of-6 c) c.admit-admission.result.summary c.ground_of-ground.result
+grounds-of : (c : goal.After-refused-then-area-eq0) → Grounds (lent_in (book-of-6 c)) (call-of-6 c) c.admit-admission.result.summary c.ground_of-area.result
 grounds-of c =
-    c.ground_of-ground.ensures.equation (lent_in (book-of-6 c)) (time-of-6 c) (call-of-6 c) c.args.selection.now (ap (λ (h : Lent). h.image) (same_of-2 c)) (admitted_of-2 c) refl
+    c.ground_of-area.ensures.equation (lent_in (book-of-6 c)) (time-of-6 c) (call-of-6 c) c.args.selection.now (ap (λ (h : Lent). h.image) (same_of-2 c)) (admitted_of-2 c) refl
     (λ e. c.read_selection-chosen.ensures.address e c.if-chosen.false)
 
 -- The ground of the call.
-grounds-of-2 : (c : goal.After-ask_h-3-1) → Grounds (lent_in (book-of-8 c)) (call-of-8 c) c.admit-admission.result.summary c.ground_of-ground.result
+grounds-of-2 : (c : goal.After-ask_h-3-1) → Grounds (lent_in (book-of-8 c)) (call-of-8 c) c.admit-admission.result.summary c.ground_of-area.result
 grounds-of-2 c =
-    c.ground_of-ground.ensures.equation (lent_in (book-of-8 c)) (time-of-8 c) (call-of-8 c) c.args.selection.now (ap (λ (h : Lent). h.image) (same_of-3 c)) (admitted_of-3 c) refl
+    c.ground_of-area.ensures.equation (lent_in (book-of-8 c)) (time-of-8 c) (call-of-8 c) c.args.selection.now (ap (λ (h : Lent). h.image) (same_of-3 c)) (admitted_of-3 c) refl
     (λ e. c.read_selection-chosen.ensures.address e c.if-chosen.false)
 
 -- The ground of the call.
-grounds-of-3 : (c : goal.After-settle-arg-1) → Grounds (lent_in (book-of-9 c)) (call-of-9 c) c.admit-admission.result.summary c.ground_of-ground.result
+grounds-of-3 : (c : goal.After-settle-arg-1) → Grounds (lent_in (book-of-9 c)) (call-of-9 c) c.admit-admission.result.summary c.ground_of-area.result
 grounds-of-3 c =
-    c.ground_of-ground.ensures.equation (lent_in (book-of-9 c)) (time-of-9 c) (call-of-9 c) c.args.selection.now (ap (λ (h : Lent). h.image) (same_of-4 c)) (admitted_of-4 c) refl
+    c.ground_of-area.ensures.equation (lent_in (book-of-9 c)) (time-of-9 c) (call-of-9 c) c.args.selection.now (ap (λ (h : Lent). h.image) (same_of-4 c)) (admitted_of-4 c) refl
     (λ e. c.read_selection-chosen.ensures.address e c.if-chosen.false)
 
 -- The ground of the call.
-grounds-of-4 : (c : goal.After-slice_known-7-1) → Grounds (lent_in (book-of-11 c)) (call-of-11 c) c.admit-admission.result.summary c.ground_of-ground.result
+grounds-of-4 : (c : goal.After-slice_known-7-1) → Grounds (lent_in (book-of-11 c)) (call-of-11 c) c.admit-admission.result.summary c.ground_of-area.result
 grounds-of-4 c =
-    c.ground_of-ground.ensures.equation (lent_in (book-of-11 c)) (time-of-11 c) (call-of-11 c) c.args.selection.now (ap (λ (h : Lent). h.image) (same_of-5 c)) (admitted_of-5 c) refl
+    c.ground_of-area.ensures.equation (lent_in (book-of-11 c)) (time-of-11 c) (call-of-11 c) c.args.selection.now (ap (λ (h : Lent). h.image) (same_of-5 c)) (admitted_of-5 c) refl
     (λ e. c.read_selection-chosen.ensures.address e c.if-chosen.false)
 
 -- Row 19.
-pub returns-then-ground-eq0 : goal.returns-then-ground-eq0
-returns-then-ground-eq0 c =
+pub returns-then-area-eq0 : goal.returns-then-area-eq0
+returns-then-area-eq0 c =
     let b : Book = book-of-6 c in
-    refuses-book b (ask_image (lent_in b) (time-of-6 c) (call-of-6 c)) c.refused-then-ground-eq0.result (lent_in b) (call-of-6 c).reply
-    (ap (λ (r : Answer). outcome r (lent_in b) (call-of-6 c).reply) c.refused-then-ground-eq0.ensures
+    refuses-book b (ask_image (lent_in b) (time-of-6 c) (call-of-6 c)) c.refused-then-area-eq0.result (lent_in b) (call-of-6 c).reply
+    (ap (λ (r : Answer). outcome r (lent_in b) (call-of-6 c).reply) c.refused-then-area-eq0.ensures
     ∙ ask-groundless (lent_in b) (time-of-6 c) (call-of-6 c) (short-of-5 c) (short-is-5 c) (read-call-4 c) c.if-refusal-ne0.false c.for_ask.result c.for_ask.ensures c.if-not-for_ask.false
-    c.if-name_bytes-gt-LONGEST.false c.ground_of-ground.result (grounds-of c) c.if-ground-eq0.true)
-    (number_of c.refused-then-ground-eq0.result 19 c.refused-then-ground-eq0.ensures (λ z. omega arith))
+    c.if-name_bytes-gt-LONGEST.false c.ground_of-area.result (grounds-of c) c.if-area-eq0.true)
+    (number_of c.refused-then-area-eq0.result 19 c.refused-then-area-eq0.ensures (λ z. omega arith))
 
 pub name_in-name-requires : goal.name_in-name-requires
 name_in-name-requires c = (omega (arith, (named-of c).within), omega (arith, c.if-name_bytes-gt-LONGEST.false))
@@ -438,9 +438,9 @@ slice_bounds-grant-end-2 c = sym (length-take-le _ _ (omega (arith, few-of-3 c, 
 
 pub grant-answer-requires : goal.grant-answer-requires
 grant-answer-requires c =
-    (subst (λ (h : Lent). Ready h (time-of-8 c) (call-of-8 c).client (call-of-8 c).reply (record { summary = c.admit-admission.result.summary; ground = c.ground_of-ground.result }) (take c.read-contents.result.requests c.read-contents.new.asks) (take c.read-contents.result.requests c.read-contents.new.h)) (same_of-3 c)
+    (subst (λ (h : Lent). Ready h (time-of-8 c) (call-of-8 c).client (call-of-8 c).reply (record { summary = c.admit-admission.result.summary; area = c.ground_of-area.result }) (take c.read-contents.result.requests c.read-contents.new.asks) (take c.read-contents.result.requests c.read-contents.new.h)) (same_of-3 c)
     (ask-ready (lent_in (book-of-8 c)) (time-of-8 c) (call-of-8 c) (short-of-7 c) (short-is-7 c) (read-call-6 c) c.if-refusal-ne0.false c.for_ask.result c.for_ask.ensures c.if-not-for_ask.false
-    c.if-name_bytes-gt-LONGEST.false c.ground_of-ground.result (grounds-of-2 c) c.if-ground-eq0.false
+    c.if-name_bytes-gt-LONGEST.false c.ground_of-area.result (grounds-of-2 c) c.if-area-eq0.false
     (record {
       asked_lengths = omega (arith, c.read-contents.auto.asks);
       asked_h = omega (arith, c.read-contents.auto.h);
@@ -457,16 +457,16 @@ granted-of-2 c = outcome c.grant-answer.result (lent c.grant-answer.new.image c.
 granted-is : (c : goal.After-settle-arg-1) → returning (call-of-9 c).selection (granted-of c) ≡ ask_image (book-of-9 c).lent (time-of-9 c) (call-of-9 c)
 granted-is c =
     c.grant-answer.ensures.equation (call-of-9 c).option (call-of-9 c).selection
-    (subst (λ (h : Lent). Asking h (time-of-9 c) c.name_in-name.result (call-of-9 c) (record { summary = c.admit-admission.result.summary; ground = c.ground_of-ground.result }) (take c.read-contents.result.requests c.read-contents.new.asks) (take c.read-contents.result.requests c.read-contents.new.h)) (same_of-4 c)
+    (subst (λ (h : Lent). Asking h (time-of-9 c) c.name_in-name.result (call-of-9 c) (record { summary = c.admit-admission.result.summary; area = c.ground_of-area.result }) (take c.read-contents.result.requests c.read-contents.new.asks) (take c.read-contents.result.requests c.read-contents.new.h)) (same_of-4 c)
     (ask-asking (lent_in (book-of-9 c)) (time-of-9 c) (call-of-9 c) (short-of-8 c) (short-is-8 c) (read-call-7 c) c.if-refusal-ne0.false c.for_ask.result c.for_ask.ensures c.if-not-for_ask.false
-    c.if-name_bytes-gt-LONGEST.false c.ground_of-ground.result (grounds-of-3 c) c.if-ground-eq0.false c.name_in-name.result c.name_in-name.ensures))
+    c.if-name_bytes-gt-LONGEST.false c.ground_of-area.result (grounds-of-3 c) c.if-area-eq0.false c.name_in-name.result c.name_in-name.ensures))
 
 granted-is-2 : (c : goal.After-slice_known-7-1) → returning (call-of-11 c).selection (granted-of-2 c) ≡ ask_image (book-of-11 c).lent (time-of-11 c) (call-of-11 c)
 granted-is-2 c =
     c.grant-answer.ensures.equation (call-of-11 c).option (call-of-11 c).selection
-    (subst (λ (h : Lent). Asking h (time-of-11 c) c.name_in-name.result (call-of-11 c) (record { summary = c.admit-admission.result.summary; ground = c.ground_of-ground.result }) (take c.read-contents.result.requests c.read-contents.new.asks) (take c.read-contents.result.requests c.read-contents.new.h)) (same_of-5 c)
+    (subst (λ (h : Lent). Asking h (time-of-11 c) c.name_in-name.result (call-of-11 c) (record { summary = c.admit-admission.result.summary; area = c.ground_of-area.result }) (take c.read-contents.result.requests c.read-contents.new.asks) (take c.read-contents.result.requests c.read-contents.new.h)) (same_of-5 c)
     (ask-asking (lent_in (book-of-11 c)) (time-of-11 c) (call-of-11 c) (short-of-10 c) (short-is-10 c) (read-call-9 c) c.if-refusal-ne0.false c.for_ask.result c.for_ask.ensures c.if-not-for_ask.false
-    c.if-name_bytes-gt-LONGEST.false c.ground_of-ground.result (grounds-of-4 c) c.if-ground-eq0.false c.name_in-name.result c.name_in-name.ensures))
+    c.if-name_bytes-gt-LONGEST.false c.ground_of-area.result (grounds-of-4 c) c.if-area-eq0.false c.name_in-name.result c.name_in-name.ensures))
 
 pub settle-requires : goal.settle-requires
 settle-requires c =

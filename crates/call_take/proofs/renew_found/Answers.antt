@@ -24,13 +24,13 @@ pub returns-then-shown-eq0 : goal.returns-then-shown-eq0
 returns-then-shown-eq0 c =
     record {
       bytes_bound = omega (arith, ap (λ (r : Answer). r.bytes) c.refused.ensures);
-      equation = λ client time summary ground selection is t.
+      equation = λ client time summary area selection is t.
           let a = c.args in
           let h = lent a.image.now a.image_bytes.now a.figures.now in
           let by = call_with client a.option.now selection a.reply.now in
           let named = c.renew_named-shown in
           ap (λ (r : Answer). returning selection (outcome r (lent named.new.image a.image_bytes.now a.figures.now) named.new.reply)) c.refused.ensures
-          ∙ take-nothing h time by summary ground a.networks.now a.lengths.now t a.renewal is _ _ _ named.result named.ensures.equation c.if-shown-eq0.true;
+          ∙ take-nothing h time by summary area a.networks.now a.lengths.now t a.renewal is _ _ _ named.result named.ensures.equation c.if-shown-eq0.true;
     }
 
 pub slice_bounds-file_named-end : goal.slice_bounds-file_named-end
@@ -47,10 +47,10 @@ returns c =
     let a = c.args in
     let named = c.renew_named-shown in record {
       bytes_bound = omega (arith, ap (λ (r : Answer). r.bytes) c.accepted.ensures, few-2 c, c.put_heads-reply_bytes.ensures.value);
-      equation = λ client time summary ground selection is t.
+      equation = λ client time summary area selection is t.
           let h = lent a.image.now a.image_bytes.now a.figures.now in
           let by = call_with client a.option.now selection a.reply.now in
           ap (λ (r : Answer). returning selection (outcome r (lent c.remove_expired.new.image c.remove_expired.result c.strike_expired.new.figures) c.put_heads-reply_bytes.new.reply)) c.accepted.ensures
-          ∙ take_found h time by summary ground a.networks.now a.lengths.now t a.renewal is _ _ _ named.result named.ensures.equation c.requires.later _ c.file_named.ensures _ _ _ c.strike_expired.ensures c.remove_expired.ensures
+          ∙ take_found h time by summary area a.networks.now a.lengths.now t a.renewal is _ _ _ named.result named.ensures.equation c.requires.later _ c.file_named.ensures _ _ _ c.strike_expired.ensures c.remove_expired.ensures
           c.if-shown-eq0.false (few-2 c) _ _ c.put_heads-reply_bytes.ensures.value c.put_heads-reply_bytes.ensures.reply_after;
     }

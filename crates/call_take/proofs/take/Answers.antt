@@ -31,11 +31,11 @@ abbrev book-of-4 : goal.After-summary-1 → Book
 book-of-4 c = let a = c.args in book_of a.image.now a.image_bytes.now a.figures.now a.counts.now
 
 -- The open book, and the call.
-abbrev book-of-5 : goal.After-refused-then-ground-eq0 → Book
+abbrev book-of-5 : goal.After-refused-then-area-eq0 → Book
 book-of-5 c = let a = c.args in book_of a.image.now a.image_bytes.now a.figures.now a.counts.now
 
 -- The open book, and the call.
-abbrev book-of-6 : goal.Else-ground-eq0 → Book
+abbrev book-of-6 : goal.Else-area-eq0 → Book
 book-of-6 c = let a = c.args in book_of a.image.now a.image_bytes.now a.figures.now a.counts.now
 
 -- The open book, and the call.
@@ -66,10 +66,10 @@ call-of-3 c = let a = c.args in call_with a.message.client a.option.now (carried
 abbrev call-of-4 : goal.After-summary-1 → Call
 call-of-4 c = let a = c.args in call_with a.message.client a.option.now (carried_if a.message.selected a.selection.now) a.reply.now
 
-abbrev call-of-5 : goal.After-refused-then-ground-eq0 → Call
+abbrev call-of-5 : goal.After-refused-then-area-eq0 → Call
 call-of-5 c = let a = c.args in call_with a.message.client a.option.now (carried_if a.message.selected a.selection.now) a.reply.now
 
-abbrev call-of-6 : goal.Else-ground-eq0 → Call
+abbrev call-of-6 : goal.Else-area-eq0 → Call
 call-of-6 c = let a = c.args in call_with a.message.client a.option.now (carried_if a.message.selected a.selection.now) a.reply.now
 
 abbrev call-of-7 : goal.After-renew_found-arg-4-1 → Call
@@ -109,13 +109,13 @@ admits-4 c =
     subst (λ (b : Bool). Admits true b (lent_in (book-of-4 c)) a.message.time a.message.client c.admit-admission.result) (c.too_short-short.ensures a.selection.now) c.admit-admission.ensures
 
 -- Row 1 is the ledger's.
-admits-5 : (c : goal.After-refused-then-ground-eq0) → Admits true (short (lent_in (book-of-5 c)) c.args.message.time (call-of-5 c)) (lent_in (book-of-5 c)) c.args.message.time (call-of-5 c).client c.admit-admission.result
+admits-5 : (c : goal.After-refused-then-area-eq0) → Admits true (short (lent_in (book-of-5 c)) c.args.message.time (call-of-5 c)) (lent_in (book-of-5 c)) c.args.message.time (call-of-5 c).client c.admit-admission.result
 admits-5 c =
     let a = c.args in
     subst (λ (b : Bool). Admits true b (lent_in (book-of-5 c)) a.message.time a.message.client c.admit-admission.result) (c.too_short-short.ensures a.selection.now) c.admit-admission.ensures
 
 -- Row 1 is the ledger's.
-admits-6 : (c : goal.Else-ground-eq0) → Admits true (short (lent_in (book-of-6 c)) c.args.message.time (call-of-6 c)) (lent_in (book-of-6 c)) c.args.message.time (call-of-6 c).client c.admit-admission.result
+admits-6 : (c : goal.Else-area-eq0) → Admits true (short (lent_in (book-of-6 c)) c.args.message.time (call-of-6 c)) (lent_in (book-of-6 c)) c.args.message.time (call-of-6 c).client c.admit-admission.result
 admits-6 c =
     let a = c.args in
     subst (λ (b : Bool). Admits true b (lent_in (book-of-6 c)) a.message.time a.message.client c.admit-admission.result) (c.too_short-short.ensures a.selection.now) c.admit-admission.ensures
@@ -170,7 +170,7 @@ entries-call-2 c =
       reads = c.read_entries-read.ensures;
     }
 
-abbrev entries-call-3 : (c : goal.After-refused-then-ground-eq0) → EntriesCall (short (lent_in (book-of-5 c)) c.args.message.time (call-of-5 c)) (lent_in (book-of-5 c)) c.args.message.time (call-of-5 c)
+abbrev entries-call-3 : (c : goal.After-refused-then-area-eq0) → EntriesCall (short (lent_in (book-of-5 c)) c.args.message.time (call-of-5 c)) (lent_in (book-of-5 c)) c.args.message.time (call-of-5 c)
 entries-call-3 c =
     record {
       admission = c.admit-admission.result;
@@ -183,7 +183,7 @@ entries-call-3 c =
       reads = c.read_entries-read.ensures;
     }
 
-abbrev entries-call-4 : (c : goal.Else-ground-eq0) → EntriesCall (short (lent_in (book-of-6 c)) c.args.message.time (call-of-6 c)) (lent_in (book-of-6 c)) c.args.message.time (call-of-6 c)
+abbrev entries-call-4 : (c : goal.Else-area-eq0) → EntriesCall (short (lent_in (book-of-6 c)) c.args.message.time (call-of-6 c)) (lent_in (book-of-6 c)) c.args.message.time (call-of-6 c)
 entries-call-4 c =
     record {
       admission = c.admit-admission.result;
@@ -252,7 +252,7 @@ abbrev lent-call : (c : goal.After-summary-1) → EntriesCall (short (lent_in (b
 lent-call c =
     on-lent (short (lent_in (book-of-4 c)) c.args.message.time (call-of-4 c)) (book-of-4 c) c.args.message.time (call-of-4 c) (entries-call-2 c)
 
-abbrev lent-call-2 : (c : goal.Else-ground-eq0) → EntriesCall (short (lent_in (book-of-6 c)) c.args.message.time (call-of-6 c)) (book-of-6 c).lent c.args.message.time (call-of-6 c)
+abbrev lent-call-2 : (c : goal.Else-area-eq0) → EntriesCall (short (lent_in (book-of-6 c)) c.args.message.time (call-of-6 c)) (book-of-6 c).lent c.args.message.time (call-of-6 c)
 lent-call-2 c =
     on-lent (short (lent_in (book-of-6 c)) c.args.message.time (call-of-6 c)) (book-of-6 c) c.args.message.time (call-of-6 c) (entries-call-4 c)
 
@@ -273,44 +273,44 @@ lent-call-6 c =
     on-lent (short (lent_in (book-of-10 c)) c.args.message.time (call-of-10 c)) (book-of-10 c) c.args.message.time (call-of-10 c) (entries-call-8 c)
 
 -- The ground of the call.
-grounds : (c : goal.After-refused-then-ground-eq0) → (h : Lent) → h.image ≡ c.args.image.now → Admitted true h c.args.message.time (call-of-5 c).client c.admit-admission.result.summary
-    → Grounds h (call-of-5 c) c.admit-admission.result.summary c.ground_of-ground.result
+grounds : (c : goal.After-refused-then-area-eq0) → (h : Lent) → h.image ≡ c.args.image.now → Admitted true h c.args.message.time (call-of-5 c).client c.admit-admission.result.summary
+    → Grounds h (call-of-5 c) c.admit-admission.result.summary c.ground_of-area.result
 grounds c h same o =
     let a = c.args in
-    c.ground_of-ground.ensures.equation h a.message.time (call-of-5 c) a.selection.now same o refl
+    c.ground_of-area.ensures.equation h a.message.time (call-of-5 c) a.selection.now same o refl
     (λ carried. c.read_selection-chosen.ensures.address carried c.if-chosen.false)
 
 -- The ground of the call.
 grounds-2 : (c : goal.After-renew_found-arg-4-1) → (h : Lent) → h.image ≡ c.args.image.now → Admitted true h c.args.message.time (call-of-7 c).client c.admit-admission.result.summary
-    → Grounds h (call-of-7 c) c.admit-admission.result.summary c.ground_of-ground.result
+    → Grounds h (call-of-7 c) c.admit-admission.result.summary c.ground_of-area.result
 grounds-2 c h same o =
     let a = c.args in
-    c.ground_of-ground.ensures.equation h a.message.time (call-of-7 c) a.selection.now same o refl
+    c.ground_of-area.ensures.equation h a.message.time (call-of-7 c) a.selection.now same o refl
     (λ carried. c.read_selection-chosen.ensures.address carried c.if-chosen.false)
 
 -- The ground of the call.
 grounds-3 : (c : goal.After-settle-arg-1) → (h : Lent) → h.image ≡ c.args.image.now → Admitted true h c.args.message.time (call-of-8 c).client c.admit-admission.result.summary
-    → Grounds h (call-of-8 c) c.admit-admission.result.summary c.ground_of-ground.result
+    → Grounds h (call-of-8 c) c.admit-admission.result.summary c.ground_of-area.result
 grounds-3 c h same o =
     let a = c.args in
-    c.ground_of-ground.ensures.equation h a.message.time (call-of-8 c) a.selection.now same o refl
+    c.ground_of-area.ensures.equation h a.message.time (call-of-8 c) a.selection.now same o refl
     (λ carried. c.read_selection-chosen.ensures.address carried c.if-chosen.false)
 
 -- The ground of the call.
 grounds-4 : (c : goal.After-slice_known-7-1) → (h : Lent) → h.image ≡ c.args.image.now → Admitted true h c.args.message.time (call-of-10 c).client c.admit-admission.result.summary
-    → Grounds h (call-of-10 c) c.admit-admission.result.summary c.ground_of-ground.result
+    → Grounds h (call-of-10 c) c.admit-admission.result.summary c.ground_of-area.result
 grounds-4 c h same o =
     let a = c.args in
-    c.ground_of-ground.ensures.equation h a.message.time (call-of-10 c) a.selection.now same o refl
+    c.ground_of-area.ensures.equation h a.message.time (call-of-10 c) a.selection.now same o refl
     (λ carried. c.read_selection-chosen.ensures.address carried c.if-chosen.false)
 
-abbrev on-book : (c : goal.After-renew_found-arg-4-1) → Grounds (book-of-7 c).lent (call-of-7 c) c.admit-admission.result.summary c.ground_of-ground.result
+abbrev on-book : (c : goal.After-renew_found-arg-4-1) → Grounds (book-of-7 c).lent (call-of-7 c) c.admit-admission.result.summary c.ground_of-area.result
 on-book c = let s = lent-call-3 c in grounds-2 c _ refl (s.admits.admitted s.admitted)
 
-abbrev on-book-2 : (c : goal.After-settle-arg-1) → Grounds (book-of-8 c).lent (call-of-8 c) c.admit-admission.result.summary c.ground_of-ground.result
+abbrev on-book-2 : (c : goal.After-settle-arg-1) → Grounds (book-of-8 c).lent (call-of-8 c) c.admit-admission.result.summary c.ground_of-area.result
 on-book-2 c = let s = lent-call-4 c in grounds-3 c _ refl (s.admits.admitted s.admitted)
 
-abbrev on-book-3 : (c : goal.After-slice_known-7-1) → Grounds (book-of-10 c).lent (call-of-10 c) c.admit-admission.result.summary c.ground_of-ground.result
+abbrev on-book-3 : (c : goal.After-slice_known-7-1) → Grounds (book-of-10 c).lent (call-of-10 c) c.admit-admission.result.summary c.ground_of-area.result
 on-book-3 c = let s = lent-call-6 c in grounds-4 c _ refl (s.admits.admitted s.admitted)
 
 pub returns-then-admission-ne0 : goal.returns-then-admission-ne0
@@ -324,17 +324,17 @@ returns-then-chosen c =
 pub returns-then-refusal-ne0 : goal.returns-then-refusal-ne0
 returns-then-refusal-ne0 c = book-unread (book-of-3 c) c.args.message.time (call-of-3 c) (entries-call c) c.if-refusal-ne0.true
 
-pub ground_of-ground-requires : goal.ground_of-ground-requires
-ground_of-ground-requires c =
+pub ground_of-area-requires : goal.ground_of-area-requires
+ground_of-area-requires c =
     let s = lent-call c in
     record { lent = (book-of-4 c).lent; time = c.args.message.time; client = (call-of-4 c).client; same = refl; admitted = s.admits.admitted s.admitted }
 
-pub returns-then-ground-eq0 : goal.returns-then-ground-eq0
-returns-then-ground-eq0 c =
+pub returns-then-area-eq0 : goal.returns-then-area-eq0
+returns-then-area-eq0 c =
     let s = entries-call-3 c in
     let same = as_lent (short (lent_in (book-of-5 c)) c.args.message.time (call-of-5 c)) (book-of-5 c) c.args.message.time (call-of-5 c) s in
-    book-groundless (book-of-5 c) c.args.message.time (call-of-5 c) s c.if-refusal-ne0.false c.ground_of-ground.result
-    (grounds c (lent_in (book-of-5 c)) (ap (λ (h : Lent). h.image) same) (s.admits.admitted s.admitted)) c.if-ground-eq0.true c.refused-then-ground-eq0.result c.refused-then-ground-eq0.ensures
+    book-groundless (book-of-5 c) c.args.message.time (call-of-5 c) s c.if-refusal-ne0.false c.ground_of-area.result
+    (grounds c (lent_in (book-of-5 c)) (ap (λ (h : Lent). h.image) same) (s.admits.admitted s.admitted)) c.if-area-eq0.true c.refused-then-area-eq0.result c.refused-then-area-eq0.ensures
 
 pub renewal_of-renewal-requires : goal.renewal_of-renewal-requires
 renewal_of-renewal-requires c = take-timed (book-of-6 c).lent c.args.message.time (call-of-6 c) (lent-call-2 c)
@@ -347,7 +347,7 @@ slice_bounds-renew_found-end-2 c = sym (length-take-le _ _ (search rules))
 
 pub renew_found-answer-requires : goal.renew_found-answer-requires
 renew_found-answer-requires c =
-    take-sized (book-of-7 c).lent c.args.message.time (call-of-7 c) (lent-call-3 c) c.if-refusal-ne0.false c.ground_of-ground.result (on-book c)
+    take-sized (book-of-7 c).lent c.args.message.time (call-of-7 c) (lent-call-3 c) c.if-refusal-ne0.false c.ground_of-area.result (on-book c)
     c.renewal_of-renewal.result c.renewal_of-renewal.ensures
 
 -- What is lent and the reply after it, and that they are what the call leaves, but for option 118 in the reply.
@@ -361,14 +361,14 @@ left-of-2 c = lent c.renew_found-answer.new.image c.renew_found-answer.new.image
 renewed : (c : goal.After-settle-arg-1) → returning (call-of-8 c).selection (outcome c.renew_found-answer.result (left-of c) c.renew_found-answer.new.reply)
     ≡ take_image (book-of-8 c).lent c.args.message.time (call-of-8 c)
 renewed c =
-    c.renew_found-answer.ensures.equation (call-of-8 c).client c.args.message.time c.admit-admission.result.summary c.ground_of-ground.result (call-of-8 c).selection c.renewal_of-renewal.ensures
-    (take-passed (book-of-8 c).lent c.args.message.time (call-of-8 c) (lent-call-4 c) c.if-refusal-ne0.false c.ground_of-ground.result (on-book-2 c) c.if-ground-eq0.false)
+    c.renew_found-answer.ensures.equation (call-of-8 c).client c.args.message.time c.admit-admission.result.summary c.ground_of-area.result (call-of-8 c).selection c.renewal_of-renewal.ensures
+    (take-passed (book-of-8 c).lent c.args.message.time (call-of-8 c) (lent-call-4 c) c.if-refusal-ne0.false c.ground_of-area.result (on-book-2 c) c.if-area-eq0.false)
 
 renewed-2 : (c : goal.After-slice_known-7-1) → returning (call-of-10 c).selection (outcome c.renew_found-answer.result (left-of-2 c) c.renew_found-answer.new.reply)
     ≡ take_image (book-of-10 c).lent c.args.message.time (call-of-10 c)
 renewed-2 c =
-    c.renew_found-answer.ensures.equation (call-of-10 c).client c.args.message.time c.admit-admission.result.summary c.ground_of-ground.result (call-of-10 c).selection c.renewal_of-renewal.ensures
-    (take-passed (book-of-10 c).lent c.args.message.time (call-of-10 c) (lent-call-6 c) c.if-refusal-ne0.false c.ground_of-ground.result (on-book-3 c) c.if-ground-eq0.false)
+    c.renew_found-answer.ensures.equation (call-of-10 c).client c.args.message.time c.admit-admission.result.summary c.ground_of-area.result (call-of-10 c).selection c.renewal_of-renewal.ensures
+    (take-passed (book-of-10 c).lent c.args.message.time (call-of-10 c) (lent-call-6 c) c.if-refusal-ne0.false c.ground_of-area.result (on-book-3 c) c.if-area-eq0.false)
 
 pub settle-requires : goal.settle-requires
 settle-requires c = take-countable (book-of-8 c) c.args.message.time (call-of-8 c) (entries-call-6 c) c.renew_found-answer.result (left-of c) _ (renewed c)
