@@ -188,6 +188,5 @@ module _ (at n : ℕ) (l out : List ℕ) (fits : AnswerFits at out) (le : n ≤ 
 -- FIGURES
 
 -- All of a sheet copied over another is that sheet.
-pub copied-whole : (octets old new : List ℕ) → length octets ≡ length old → new ≡ take (length octets) octets ++ drop (length octets) old → new ≡ octets
-copied-whole octets old new size e =
-    e ∙ ap₂ (λ (l m : List ℕ). l ++ m) (take_all (length octets) octets (omega arith)) (drop-end old (length octets) (omega arith)) ∙ append-nil octets
+pub copied-whole : (octets old new : List ℕ) → length octets ≡ length old → new ≡ octets ++ drop (length octets) old → new ≡ octets
+copied-whole octets old new size e = e ∙ ap (λ (m : List ℕ). octets ++ m) (drop-end old (length octets) (omega arith)) ∙ append-nil octets
