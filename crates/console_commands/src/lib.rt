@@ -1,5 +1,6 @@
 // The commands of a script: each is its call with the arguments of its line, and the line of its answer in the output.
 #![tactic(auto)]
+
 ghost use Rattle.std.specs.Prelude.{◌≡◌, ◌&&◌, ℕ, ◌≤◌, length, drop, List};
 ghost use Rattle.image_figures.specs.Sheets.{figures_size};
 ghost use Rattle.call_spec.specs.ImageCalls.{carried_if};
