@@ -43,7 +43,7 @@ struct Renewal {
     expiry: Expiry,
 }
 
-fn renewal_of(summary: ImageSummary, ground: Ground, client: u32, time: u32) -> Renewal
+fn renewal_of(summary: ImageSummary, area: Ground, client: u32, time: u32) -> Renewal
     requires { (summary.pools ≤ pool_slots) × (time + summary.term < addresses) }
     ensures { result ≡ renewal_of client time summary area }
 {
