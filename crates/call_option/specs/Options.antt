@@ -1,6 +1,6 @@
 -- OPTIONS, read, written and checked with no table: option 118 both ways, and whether bytes are an option 220. Each is what crate `option` says, as an answer
 -- in numbers.
-use Rattle.lists.specs.Basics.{ℕ, List, ◌++◌, length, drop}
+use Rattle.std.specs.Prelude.{ℕ, List, ◌++◌, length, drop}
 use Rattle.option.specs.Values.{Outcome, refused, accepted}
 use Rattle.option.specs.Reading.{read_option}
 use Rattle.option.specs.Writing.{Writing, refused_with, written}

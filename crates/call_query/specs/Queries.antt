@@ -1,7 +1,7 @@
 -- QUERIES: what the table of a lent image has, in fields, so that nobody reads the image's bytes or the sheet's text. They change nothing and have no time:
 -- of what stands in the image some may have ended since.
 -- Each goes by its rows. "A refusal returns its number (7 also its place), all counts 0": so every field but the number is 0 then.
-use Rattle.lists.specs.Basics.{ℕ, List, [], ◌∷◌, ◌++◌, length, get_or, leb}
+use Rattle.std.specs.Prelude.{ℕ, List, [], ◌∷◌, ◌++◌, length, get_or, leb}
 use Rattle.names.specs.Names.{name_octets, name_length}
 use Rattle.table.specs.declared.{Pool.Pool, Lease.Lease, LeaseTable.LeaseTable}
 use Rattle.table.specs.Table.{no_pool, no_lease}

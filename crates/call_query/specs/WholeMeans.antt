@@ -1,5 +1,5 @@
 -- WHAT THE QUERY ANSWERS (document 02, M-102): "The shift lead asks 'how many /26 are whole?' all day."
-use Rattle.lists.specs.Basics.{ℕ, ◌≡◌, ◌⊎◌, ◌↔◌, false, map}
+use Rattle.std.specs.Prelude.{ℕ, ◌≡◌, ◌⊎◌, ◌↔◌, false, map}
 use Rattle.table.specs.Table.{prefix_of, pools_of, present, sound}
 use Rattle.counts.specs.Meaning.{CountsWholes}
 use Rattle.call_spec.specs.Books.{Book, state_in_book, whole_book}

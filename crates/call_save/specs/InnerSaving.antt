@@ -1,5 +1,5 @@
 -- What the private functions answer: a save of a table that is sound and not too large, in one form. Nothing here stands in the promise of `save`.
-use Rattle.lists.specs.Basics.{ℕ, not, List, [], ◌∷◌, ◌++◌, length, drop, ltb}
+use Rattle.std.specs.Prelude.{ℕ, not, List, [], ◌∷◌, ◌++◌, length, drop, ltb}
 use Rattle.table.specs.declared.LeaseTable.{LeaseTable}
 use Rattle.image.specs.declared.Form.{Form}
 use Rattle.image.specs.Image.{image_as, fits_form}

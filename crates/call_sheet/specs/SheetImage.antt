@@ -1,5 +1,5 @@
 -- Sheet as a call on an image.
-use Rattle.lists.specs.Basics.{ℕ, List, [], ◌∷◌, ◌++◌, length, drop, ltb}
+use Rattle.std.specs.Prelude.{ℕ, List, [], ◌∷◌, ◌++◌, length, drop, ltb}
 use Rattle.image.specs.Image.{loaded_table}
 use Rattle.image.specs.Reading.{load_saved}
 use Rattle.ledger.specs.declared.Answer.{Answer}

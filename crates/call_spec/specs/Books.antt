@@ -1,6 +1,6 @@
 -- THE OPEN BOOK (document 02, M-102): what a server holds from call to call. Beside what is lent for the table it has "a count of whole free blocks for each
 -- root and each length 8 to 30, eight rows of twenty-three, in the open book". Each call is the one on what is lent (`ImageCalls`), and counts again.
-use Rattle.lists.specs.Basics.{ℕ, Bool, cond, List, [], eqb}
+use Rattle.std.specs.Prelude.{ℕ, Bool, cond, List, [], eqb}
 use Rattle.image.specs.declared.Form.{Form}
 use Rattle.counts.specs.Counts.{counts_of, same_counts?, sum_at}
 use Rattle.ledger.specs.declared.Answer.{Answer}

@@ -1,5 +1,5 @@
 -- HOW MUCH IS LEFT (document 02, M-102), of the open book: the counts are kept, and a book whose counts differ is unsound.
-use Rattle.lists.specs.Basics.{ℕ, ◌≡◌, Bool, false}
+use Rattle.std.specs.Prelude.{ℕ, ◌≡◌, Bool, false}
 use Rattle.table.specs.Table.{sound}
 use Rattle.counts.specs.Counts.{counts_of}
 use Rattle.ledger.specs.Ledger.{Call, Result}

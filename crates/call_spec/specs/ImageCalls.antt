@@ -1,7 +1,8 @@
 -- THE CALLS ON WHAT THE CODE IS LENT. A server that embeds the calls holds the table as its image, at the front of a buffer, the image's length beside it,
 -- and the figures sheet; all three go from call to call. Each call is the ledger's on the table that the image is of and the sheet's rows, and leaves the
 -- image and the sheet of what the ledger leaves.
-use Rattle.lists.specs.Basics.{ℕ, ◌-◌, Bool, not, cond, ◌&&◌, ◌||◌, List, [], ◌∷◌, ◌++◌, Option, none, some, length, drop, replicate, take as up_to, leb, ltb, eqb}
+use Rattle.std.specs.Prelude.{ℕ, ◌-◌, Bool, not, cond, ◌&&◌, ◌||◌, List, [], ◌∷◌, ◌++◌, length, drop, replicate, take as up_to, leb, ltb, eqb}
+use Rattle.std.proofs.Math.Option.{Option, none, some}
 use Rattle.table.specs.declared.LeaseTable.{LeaseTable}
 use Rattle.table.specs.Table.{older_slots, sound}
 use Rattle.table_open.specs.Open.{given, fresh}

@@ -1,5 +1,5 @@
 -- Where a history of calls on what is lent begins, and what holds of the calls that make a book or have no sheet.
-use Rattle.lists.specs.Basics.{ℕ, ◌≡◌, Bool, List, []}
+use Rattle.std.specs.Prelude.{ℕ, ◌≡◌, Bool, List, []}
 use Rattle.image.specs.declared.Form.{Form}
 use Rattle.ledger.specs.Sizes.{Bytes}
 use Rattle.ledger.specs.Ledger.{Call, Result, outcome}

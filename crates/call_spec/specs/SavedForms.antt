@@ -1,5 +1,6 @@
 -- THE TWO SAVED FORMS (document 02, M-105), of the open book: what load accepts, that load and save undo each other, and what an older desk reads (M-107).
-use Rattle.lists.specs.Basics.{ℕ, ◌≤◌, ◌<◌, ◌≡◌, ◌⊎◌, ◌↔◌, Bool, true, false, List, some, length, take}
+use Rattle.std.specs.Prelude.{ℕ, ◌≤◌, ◌<◌, ◌≡◌, ◌⊎◌, ◌↔◌, Bool, true, false, List, length, take}
+use Rattle.std.proofs.Math.Option.{some}
 use Rattle.table.specs.declared.LeaseTable.{LeaseTable}
 use Rattle.table.specs.Table.{older_slots, sound, cut}
 use Rattle.image.specs.declared.Form.{Form}

@@ -1,6 +1,6 @@
 -- HOW MUCH IS LEFT (document 02, M-102): "Keep a count of whole free blocks for each root and each length 8 to 30, eight rows of twenty-three, in the open
 -- book."
-use Rattle.lists.specs.Basics.{ℕ, zero, suc, ◌+◌, ◌-◌, Bool, true, false, cond, ◌&&◌, List, [], ◌∷◌, ◌++◌, map, length, get_or, replicate, leb, eqb}
+use Rattle.std.specs.Prelude.{ℕ, zero, suc, ◌+◌, ◌-◌, Bool, true, false, cond, ◌&&◌, List, [], ◌∷◌, ◌++◌, map, length, get_or, replicate, leb, eqb}
 use Rattle.lists.specs.Lists.{and}
 use Rattle.prefix.specs.declared.Prefix.{Prefix}
 use Rattle.prefix.specs.Prefixes.{longest}

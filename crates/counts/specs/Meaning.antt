@@ -1,5 +1,5 @@
 -- What a count means, in document 01's terms.
-use Rattle.lists.specs.Basics.{ℕ, ◌≡◌, List, length}
+use Rattle.std.specs.Prelude.{ℕ, ◌≡◌, List, length}
 use Rattle.lists.specs.Lists.{All, Any, Pairwise}
 use Rattle.prefix.specs.declared.Prefix.{Prefix}
 use Rattle.free_space.specs.Space.{Whole}

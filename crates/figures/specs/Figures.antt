@@ -1,6 +1,7 @@
 -- USAGE FIGURES: "Planning wants them kept, one row of three for each line, on a figures sheet beside the book; a row also holds its line's network and
 -- length." Which rows match which leases, and what becomes of them.
-use Rattle.lists.specs.Basics.{ℕ, Bool, true, false, not, cond, ◌&&◌, ◌||◌, List, [], ◌∷◌, map, Option, none, some, ltb, eqb}
+use Rattle.std.specs.Prelude.{ℕ, Bool, true, false, not, cond, ◌&&◌, ◌||◌, List, [], ◌∷◌, map, ltb, eqb}
+use Rattle.std.proofs.Math.Option.{Option, none, some}
 use Rattle.lists.specs.Lists.{and}
 use Rattle.option_entry.specs.declared.{Figures.Figures, HighWater.HighWater, InUse.InUse, Unusable.Unusable}
 use Rattle.option_entry.specs.Entries.{Entry, figures_of}

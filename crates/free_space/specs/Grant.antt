@@ -1,6 +1,7 @@
 -- What an ask is granted, as functions that compute: the whole free prefixes from halves, the best of them, its lowest part. Nobody has to
 -- believe them: an ask takes what the rule `Takes` of Space says, exactly (`grant-takes`).
-use Rattle.lists.specs.Basics.{ℕ, zero, suc, ◌-◌, Bool, true, false, ◌&&◌, ◌||◌, List, [], ◌∷◌, ◌++◌, Option, none, some, leb, ltb, eqb}
+use Rattle.std.specs.Prelude.{ℕ, zero, suc, ◌-◌, Bool, true, false, ◌&&◌, ◌||◌, List, [], ◌∷◌, ◌++◌, leb, ltb, eqb}
+use Rattle.std.proofs.Math.Option.{Option, none, some}
 use Rattle.lists.specs.Lists.{any?, concat_map}
 use Rattle.prefix.specs.declared.Prefix.{Prefix}
 use Rattle.prefix.specs.Prefixes.{prefix, inside?, lower, upper}

@@ -1,6 +1,6 @@
 -- Free space (document 01: ground): which prefixes are free, which are whole, what an ask takes, and what a list of asks is granted.
 -- `pools` are document 01's roots and `leases` the lines that are present, each as a prefix. A length is a prefix length.
-use Rattle.lists.specs.Basics.{ℕ, ◌-◌, ◌*◌, ◌/◌, ◌≤◌, ◌<◌, ◌≡◌, ◌⊎◌, Bool, List}
+use Rattle.std.specs.Prelude.{ℕ, ◌-◌, ◌*◌, ◌/◌, ◌≤◌, ◌<◌, ◌≡◌, ◌⊎◌, Bool, List}
 use Rattle.lists.specs.Lists.{All, Any, all?}
 use Rattle.prefix.specs.declared.Prefix.{Prefix}
 use Rattle.prefix.specs.Prefixes.{size, prefix, Aligned, Inside, Apart, apart?}

@@ -1,5 +1,6 @@
 -- Fields of a record: numbers of two and of four bytes, and records read one after another.
-use Rattle.lists.specs.Basics.{ℕ, zero, suc, ◌+◌, ◌*◌, List, [], ◌∷◌, Option, none, some, drop, get_or}
+use Rattle.std.specs.Prelude.{ℕ, zero, suc, ◌+◌, ◌*◌, List, [], ◌∷◌, drop, get_or}
+use Rattle.std.proofs.Math.Option.{Option, none, some}
 
 -- The numbers that the two and the four bytes from a position on spell.
 unfoldable pub number16 : List ℕ → ℕ → ℕ

@@ -1,6 +1,7 @@
 -- The image of a lease table (document 01: the saved book) in its two forms: what save writes and what load reads. The calls work on the second form
 -- (document 02, M-105); the first has no names, and is loaded and saved only.
-use Rattle.lists.specs.Basics.{ℕ, ◌+◌, ◌-◌, ◌*◌, ◌/◌, ◌%◌, Bool, true, not, cond, List, [], ◌∷◌, ◌++◌, Option, none, some, length, eqb}
+use Rattle.std.specs.Prelude.{ℕ, ◌+◌, ◌-◌, ◌*◌, ◌/◌, ◌%◌, Bool, true, not, cond, List, [], ◌∷◌, ◌++◌, length, eqb}
+use Rattle.std.proofs.Math.Option.{Option, none, some}
 use Rattle.lists.specs.Lists.{all?, filter, concat_map}
 use Rattle.names.specs.declared.Name.{Name}
 use Rattle.names.specs.Names.{unnamed?, name_octets, name_length}

@@ -1,6 +1,7 @@
 -- What load reads: a record is read where the bytes have its length and its kind, and its fields are in range. Nobody has to believe it: what loads is
 -- exactly the image of a sound table in a form that fits it (`loads⇔image`, `loads⇔saved`).
-use Rattle.lists.specs.Basics.{ℕ, ◌+◌, ◌-◌, ◌*◌, ◌/◌, ◌%◌, Bool, true, not, cond, List, [], ◌∷◌, Option, none, some, length, drop, get_or, leb, eqb}
+use Rattle.std.specs.Prelude.{ℕ, ◌+◌, ◌-◌, ◌*◌, ◌/◌, ◌%◌, Bool, true, not, cond, List, [], ◌∷◌, length, drop, get_or, leb, eqb}
+use Rattle.std.proofs.Math.Option.{Option, none, some}
 use Rattle.lists.specs.Lists.{and}
 use Rattle.names.specs.declared.Name.{Name}
 use Rattle.names.specs.Names.{no_name, name_in, name_length}

@@ -1,5 +1,5 @@
 -- The image of a sound table at the front of a buffer.
-use Rattle.lists.specs.Basics.{ℕ, ◌≡◌, true, List, length, take}
+use Rattle.std.specs.Prelude.{ℕ, ◌≡◌, true, List, length, take}
 use Rattle.table.specs.declared.LeaseTable.{LeaseTable}
 use Rattle.table.specs.Table.{sound}
 use Rattle.image.specs.Image.{used_pools, used_leases, image_of}

@@ -1,5 +1,5 @@
 -- The figures sheet as bytes, in a lent buffer: a row for each slot of the table, one after another.
-use Rattle.lists.specs.Basics.{ℕ, zero, suc, ◌*◌, cond, List, [], ◌∷◌, ◌++◌, length, drop, get_or, eqb}
+use Rattle.std.specs.Prelude.{ℕ, zero, suc, ◌*◌, cond, List, [], ◌∷◌, ◌++◌, length, drop, get_or, eqb}
 use Rattle.lists.specs.Lists.{concat_map}
 use Rattle.table.specs.Table.{lease_slots}
 use Rattle.image.specs.Fields.{number16, number32}

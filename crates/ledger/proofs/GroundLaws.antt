@@ -11,7 +11,7 @@ use native.Mathlib.Omega.{arith}
 use lib.ListN.{length, get_or}
 use lib.Dec.{leb, eqb}
 use borrow.Author.Tests.{eqb-true, not-false}
-use Rattle.lists.specs.Basics.{cond}
+use Rattle.std.specs.Prelude.{cond}
 use Rattle.lists.specs.Lists.{All, Any, and, any?, filter}
 use Rattle.lists.proofs.Tests.{bool_cases, and-to}
 use Rattle.lists.proofs.ListLaws.{all_map, all-image, all-member, pairwise_image}

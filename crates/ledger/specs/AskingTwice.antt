@@ -1,6 +1,8 @@
 -- A CLIENT THAT ASKS TWICE: what document 02 says in M-101 of the requests that get a lease again, as claims about any server of ask calls, in the terms of
 -- demand 3. (Of the rest speak `Demand3` and `Choice`.)
-use Rattle.lists.specs.Basics.{ℕ, ◌≡◌, true, List, [], ◌∷◌, ◌++◌, map, List-as-Permᴰ, Option, none, some}
+use Rattle.std.specs.Prelude.{ℕ, ◌≡◌, true, List, [], ◌∷◌, ◌++◌, map}
+use mathlib.Core.List.{Permᴰ}
+use Rattle.std.proofs.Math.Option.{Option, none, some}
 use Rattle.lists.specs.Lists.{Pairwise, cat_maybes}
 use Rattle.option.specs.Values.{Entry}
 use Rattle.option_reply.specs.Reply.{entry_of}
@@ -37,7 +39,7 @@ module _ {S : Type 0} (state_of : S → State) (server : Server S) where
     -- "Only the rest take new ground": the leases present afterwards are those that were present, what is given again held until now + 120, and one more for
     -- each of the rest that is granted.
     pub left : (s : S) (now : ℕ) (c : Call) → well_formed now (state_of s) c ≡ true
-        → List-as-Permᴰ (present now (table_of (server s now c).state).leases)
+        → Permᴰ (present now (table_of (server s now c).state).leases)
         (held_again now (cat_maybes (held_before now (table_of s) c)) (present now (table_of s).leases)
         ++ map (lease_for now c.client (ask_name c)) (granted_to_rest (held_before now (table_of s) c) (granted state_of server now s c)))
     -- "A re-given line needs no empty line, so 9 and 10 apply only to the rest."

@@ -1,6 +1,6 @@
 -- CONSERVATION: "The addresses of all lines together equal those granted by accepted asks, less those returned, less those struck as ended, summed over
 -- the history from open; after a load, from the loaded lines." (Document 02, M-101: "The conservation count speaks of lines newly made.")
-use Rattle.lists.specs.Basics.{ℕ, ◌+◌, ◌≡◌, true, not, cond, List, [], ◌∷◌, leb, eqb}
+use Rattle.std.specs.Prelude.{ℕ, ◌+◌, ◌≡◌, true, not, cond, List, [], ◌∷◌, leb, eqb}
 use Rattle.lists.specs.Lists.{any?, filter}
 use Rattle.prefix.specs.Prefixes.{size}
 use Rattle.option.specs.Values.{Entry}

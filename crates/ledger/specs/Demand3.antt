@@ -1,6 +1,9 @@
 -- DEMAND 3, sentence by sentence, in the terms of document 01's paragraph "In demand 3 a call is well-formed if ..", and as document 02 reads it from M-101
 -- on, as a claim about any server of ask calls: a call is known by its answer, its reply and the table after it, and nothing here speaks of how an ask is served.
-use Rattle.lists.specs.Basics.{ℕ, ◌+◌, ◌≤◌, ◌<◌, ◌≡◌, ◌↔◌, Bool, true, false, not, cond, Bool·beq, List, [], ◌∷◌, ◌++◌, map, List-as-Permᴰ, Option, none, some, length, get_or, take as up_to, leb, eqb}
+use Rattle.std.specs.Prelude.{ℕ, ◌+◌, ◌≤◌, ◌<◌, ◌≡◌, ◌↔◌, Bool, true, false, not, cond, List, [], ◌∷◌, ◌++◌, map, length, get_or, take as up_to, leb, eqb}
+use Rattle.std.specs.Bool.{beq}
+use mathlib.Core.List.{Permᴰ}
+use Rattle.std.proofs.Math.Option.{Option, none, some}
 use Rattle.lists.specs.Lists.{All, Pairwise, and, any?, filter, concat_map, cat_maybes}
 use Rattle.prefix.specs.declared.Prefix.{Prefix}
 use Rattle.prefix.specs.Prefixes.{prefix, Apart}
@@ -51,7 +54,7 @@ reply_entries r = cond (eqb r.answer.number 0) (entries_in (option220 (up_to r.a
 
 -- "entries pair off in order, each with the next ask of its length and h"
 abbrev pub answers? : LeaseTable → Request → Entry → Bool
-answers? t r e = and (eqb (asked_length t r) e.length ∷ Bool·beq r.h e.h ∷ [])
+answers? t r e = and (eqb (asked_length t r) e.length ∷ beq r.h e.h ∷ [])
 
 abbrev pub pair_off : LeaseTable → List Request → List Entry → List (Option Entry)
 pair_off t [] es = []
@@ -200,7 +203,7 @@ module _ {S : Type 0} (state_of : S → State) (server : Server S) where
     pub free : All (Free area (in_use now (table_of s))) (map entry_prefix given)
     pub apart : Pairwise Apart (map entry_prefix given)
     -- "after the list the lines present are those present at its start and those granted, one for each well-formed ask"
-    pub left : List-as-Permᴰ (present now (table_of (after_all now s cs)).leases) (present now (table_of s).leases ++ concat_map (made now) (well_formed_calls now s cs))
+    pub left : Permᴰ (present now (table_of (after_all now s cs)).leases) (present now (table_of s).leases ++ concat_map (made now) (well_formed_calls now s cs))
 
   -- "a call not well-formed leaves the book as it was", and its reply buffer
   abbrev pub Untouched : ℕ → S → List Call → Type 0

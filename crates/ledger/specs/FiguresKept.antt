@@ -1,7 +1,7 @@
 -- USAGE FIGURES, what document 02 says of them in M-100: rows match leases after every accepted call, and a lease's figures are those that it was told last.
 -- "A high water figure must never end up filed as an in_use one": that needs no claim, for high water, in use and unusable are each a type of their own
 -- (`HighWater`, `InUse`, `Unusable`), here as in the code, and one in another's place is a type error.
-use Rattle.lists.specs.Basics.{ℕ, ◌<◌, ◌≡◌, ◌⊎◌, Bool, true, not, List, [], ◌∷◌, map, get_or, eqb}
+use Rattle.std.specs.Prelude.{ℕ, ◌<◌, ◌≡◌, ◌⊎◌, Bool, true, not, List, [], ◌∷◌, map, get_or, eqb}
 use Rattle.lists.specs.Lists.{All, filter}
 use Rattle.option.specs.Values.{Entry}
 use Rattle.table.specs.declared.Lease.{Lease}

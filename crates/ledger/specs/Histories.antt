@@ -1,5 +1,5 @@
 -- Histories of calls: what follows on an open or a load.
-use Rattle.lists.specs.Basics.{ℕ, ◌≡◌, Bool, true, List, [], ◌∷◌, map}
+use Rattle.std.specs.Prelude.{ℕ, ◌≡◌, Bool, true, List, [], ◌∷◌, map}
 use Rattle.lists.specs.Lists.{Pairwise}
 use Rattle.prefix.specs.Prefixes.{Apart}
 use Rattle.table.specs.declared.{Lease.Lease, LeaseTable.LeaseTable}

@@ -1,6 +1,7 @@
 -- SERVED IN ORDER: "They are served in order, each on the book that the one before left." The ledger's ask gives leases again first and then serves the rest.
 -- Here each request is served in its turn, on the leases that the one before left: the claim is that this comes to the same.
-use Rattle.lists.specs.Basics.{ℕ, ◌≡◌, List, [], ◌∷◌, Option, none, some}
+use Rattle.std.specs.Prelude.{ℕ, ◌≡◌, List, [], ◌∷◌}
+use Rattle.std.proofs.Math.Option.{Option, none, some}
 use Rattle.names.specs.declared.Name.{Name}
 use Rattle.table.specs.declared.{Lease.Lease, LeaseTable.LeaseTable}
 use Rattle.table.specs.Table.{present}

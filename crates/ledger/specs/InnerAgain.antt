@@ -1,6 +1,7 @@
 -- ONE PASS OVER THE LEASES, as the code gives them again: each lease, from the lowest on, goes to the first request that has none yet and that it is for.
 -- Request by request that is `again` (`pass-gives` and `pass-skips` in PassLaws).
-use Rattle.lists.specs.Basics.{ℕ, cond, List, [], ◌∷◌, Option, none, some}
+use Rattle.std.specs.Prelude.{ℕ, cond, List, [], ◌∷◌}
+use Rattle.std.proofs.Math.Option.{Option, none, some}
 use Rattle.table.specs.declared.{Lease.Lease, LeaseTable.LeaseTable}
 use Rattle.option.specs.Contents.{Request}
 use Rattle.ledger.specs.Ledger.{held_for?}

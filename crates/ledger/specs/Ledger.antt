@@ -1,7 +1,9 @@
 -- THE LEDGER: document 01's sections "Ground, blocks and the book" and "The calls". A call is a function of what it is given (`State`), the time and what
 -- comes with it (`Call`), to its answer, what it leaves, and the reply buffer after it; a refused one gives the first row that applies. Save and load stand
 -- in crate `image`. Numbers may be of any size here; within the code's types they stay within them (`InRange`).
-use Rattle.lists.specs.Basics.{ℕ, ◌+◌, Bool, true, false, not, cond, ◌&&◌, ◌||◌, Bool·beq, List, [], ◌∷◌, ◌++◌, map, Option, none, some, length, drop, take as up_to, leb, ltb, eqb}
+use Rattle.std.specs.Prelude.{ℕ, ◌+◌, Bool, true, false, not, cond, ◌&&◌, ◌||◌, List, [], ◌∷◌, ◌++◌, map, length, drop, take as up_to, leb, ltb, eqb}
+use Rattle.std.specs.Bool.{beq}
+use Rattle.std.proofs.Math.Option.{Option, none, some}
 use Rattle.lists.specs.Lists.{and, all?, any?, filter, concat_map, cat_maybes}
 use Rattle.prefix.specs.declared.Prefix.{Prefix}
 use Rattle.prefix.specs.Prefixes.{prefix, end, inside?}
@@ -267,7 +269,7 @@ held_by? client x = and (eqb x.client client ∷ not x.leased ∷ [])
 
 -- "a present line of the same length and h"; "prefix 0 means the default length here too".
 abbrev pub held_for? : LeaseTable → ℕ → Request → Lease → Bool
-held_for? t client r x = and (held_by? client x ∷ eqb (asked_length t r) x.length ∷ Bool·beq r.h x.h ∷ [])
+held_for? t client r x = and (held_by? client x ∷ eqb (asked_length t r) x.length ∷ beq r.h x.h ∷ [])
 
 -- The first lease that passes a test, "lowest network first" where leases ascend; and all but that one, for "each line at most once in a message".
 abbrev pub first_that : (Lease → Bool) → List Lease → Option Lease

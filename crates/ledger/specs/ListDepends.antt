@@ -1,6 +1,6 @@
 -- "A list's answer depends only on its option, the time, the book's last time, the reply buffer's length, the station number and that station's lines,
 -- over sound books."
-use Rattle.lists.specs.Basics.{ℕ, ◌≡◌, true, not, List, [], ◌∷◌, length, take as up_to, eqb}
+use Rattle.std.specs.Prelude.{ℕ, ◌≡◌, true, not, List, [], ◌∷◌, length, take as up_to, eqb}
 use Rattle.lists.specs.Lists.{and, filter}
 use Rattle.table.specs.declared.{Lease.Lease, LeaseTable.LeaseTable}
 use Rattle.table.specs.Table.{empty?, sound}

@@ -1,6 +1,6 @@
 -- NAMES, what document 02 says of them in M-105: the lines that an ask newly makes get the name of its message, and nothing else gives a line a name or
 -- takes it away.
-use Rattle.lists.specs.Basics.{ℕ, ◌≡◌, Bool, List}
+use Rattle.std.specs.Prelude.{ℕ, ◌≡◌, Bool, List}
 use Rattle.lists.specs.Lists.{All, Any}
 use Rattle.names.specs.declared.Name.{Name}
 use Rattle.table.specs.declared.Lease.{Lease}

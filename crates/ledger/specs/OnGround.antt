@@ -1,6 +1,7 @@
 -- ON ITS GROUND (document 02, M-106): "every block of that ask comes from the root that contains its address", re-given ones too; and a take confirms nothing
 -- outside it.
-use Rattle.lists.specs.Basics.{ℕ, ◌≤◌, ◌<◌, ◌≡◌, List, some}
+use Rattle.std.specs.Prelude.{ℕ, ◌≤◌, ◌<◌, ◌≡◌, List}
+use Rattle.std.proofs.Math.Option.{some}
 use Rattle.lists.specs.Lists.{All, Any}
 use Rattle.prefix.specs.Prefixes.{end, Inside}
 use Rattle.option.specs.Reading.{four}

@@ -1,5 +1,5 @@
 -- REFUSALS: "A refusal returns its number (7 also its place), all counts 0, and the old bytes everywhere."
-use Rattle.lists.specs.Basics.{ℕ, ◌≡◌, Bool, List, []}
+use Rattle.std.specs.Prelude.{ℕ, ◌≡◌, Bool, List, []}
 use Rattle.ledger.specs.Ledger.{Call, Result, Calls}
 
 pub record Unchanged {S : Type 0} (s : S) (reply : List ℕ) (r : Result S) : Type 0 where

@@ -1,5 +1,5 @@
 -- The sizes of the code's types, on the ledger's numbers.
-use Rattle.lists.specs.Basics.{ℕ, ◌<◌, List}
+use Rattle.std.specs.Prelude.{ℕ, ◌<◌, List}
 use Rattle.lists.specs.Lists.{All}
 
 abbrev pub Byte : ℕ → Type 0

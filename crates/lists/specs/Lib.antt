@@ -1,4 +1,3 @@
-pub mod Basics
 pub mod Lists
 pub mod Walk
 pub mod Properties

@@ -1,5 +1,6 @@
 -- What holds of all elements of a list, of some, of each two; tests of these; those elements that pass a test.
-use Rattle.lists.specs.Basics.{Bool, true, false, cond, ◌&&◌, ◌||◌, ◌⊎◌, List, [], ◌∷◌, ◌++◌, Option, none, some, ℕ, ltb}
+use Rattle.std.specs.Prelude.{Bool, true, false, cond, ◌&&◌, ◌||◌, ◌⊎◌, List, [], ◌∷◌, ◌++◌, ℕ, ltb}
+use Rattle.std.proofs.Math.Option.{Option, none, some}
 
 -- P holds of every element.
 abbrev pub All : {A : Type 0} → (A → Type 0) → List A → Type 0

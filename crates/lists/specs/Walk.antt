@@ -1,5 +1,5 @@
 -- Reading pieces one after another from a position on, until a turn stops: what every reader of records does.
-use Rattle.lists.specs.Basics.{ℕ, zero, suc, List, [], ◌∷◌}
+use Rattle.std.specs.Prelude.{ℕ, zero, suc, List, [], ◌∷◌}
 
 -- What stands at a position: a piece with the position after it, or the end of the reading with its reason.
 pub data Turn (A B : Type 0) : Type 0 where

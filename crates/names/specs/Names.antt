@@ -1,6 +1,6 @@
 -- A lease's name (document 02, M-105): "a name of 0 to 24 octets, the last not zero". It is kept as 24 octets, "zero after the name", eight to a word: a name
 -- does not end in zero, so these octets tell it (`name-reads`, `name-rules`).
-use Rattle.lists.specs.Basics.{ℕ, zero, suc, ◌+◌, ◌-◌, ◌*◌, ◌/◌, ◌%◌, Bool, cond, List, [], ◌∷◌, ◌++◌, length, drop, take, replicate, eqb}
+use Rattle.std.specs.Prelude.{ℕ, zero, suc, ◌+◌, ◌-◌, ◌*◌, ◌/◌, ◌%◌, Bool, cond, List, [], ◌∷◌, ◌++◌, length, drop, take, replicate, eqb}
 use Rattle.lists.specs.Lists.{and}
 use Rattle.names.specs.declared.Name.{Name}
 

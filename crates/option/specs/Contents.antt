@@ -1,5 +1,6 @@
 -- What calls look at in an option 220: its requests, its entries, its first name, and the position from which a list goes on.
-use Rattle.lists.specs.Basics.{ℕ, Bool, false, cond, ◌&&◌, List, [], ◌∷◌, ◌++◌, Option, some, eqb}
+use Rattle.std.specs.Prelude.{ℕ, Bool, false, cond, ◌&&◌, List, [], ◌∷◌, ◌++◌, eqb}
+use Rattle.std.proofs.Math.Option.{Option, some}
 use Rattle.option.specs.Values.{Entry, SuboptionValue, request, information, name, unknown, Outcome, refused, accepted}
 use Rattle.option.specs.Reading.{read_option}
 

@@ -1,6 +1,6 @@
 -- Option 220 (RFC 6656) as bytes: what a list of bytes reads as. The rules are those of document 01, "Option 220 as bytes".
 -- Each suboption has a framing test, of its Len and what that must hold, and the field test of Rules.
-use Rattle.lists.specs.Basics.{ℕ, suc, ◌+◌, ◌-◌, List, Bool, false, cond, ◌&&◌, length, get_or, take, drop, eqb, leb, ltb}
+use Rattle.std.specs.Prelude.{ℕ, suc, ◌+◌, ◌-◌, List, Bool, false, cond, ◌&&◌, length, get_or, take, drop, eqb, leb, ltb}
 use Rattle.lists.specs.Walk.{Turn, more, stop, walk}
 pub use Rattle.option_entry.specs.Entries.{two, four, bit1, bit2, entry_end}
 unfoldable pub use Rattle.option_entry.specs.Entries.{figures_at, entry_at, entry_framed?, read_entry}

@@ -1,5 +1,5 @@
 -- The rules of a suboption's fields, which the reader and the writer share. (How its bytes are framed is in Reading.)
-use Rattle.lists.specs.Basics.{ℕ, ◌-◌, Bool, true, not, List, length, get_or, eqb, leb}
+use Rattle.std.specs.Prelude.{ℕ, ◌-◌, Bool, true, not, List, length, get_or, eqb, leb}
 use Rattle.lists.specs.Lists.{all?}
 use Rattle.prefix.specs.Prefixes.{checked, longest}
 pub use Rattle.prefix.specs.Prefixes.{block?}

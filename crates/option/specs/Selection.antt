@@ -1,5 +1,5 @@
 -- Option 118 (RFC 3011, subnet selection) as bytes: "code 118, Len 4, four address bytes".
-use Rattle.lists.specs.Basics.{ℕ, ◌+◌, List, ◌∷◌, Bool, cond, ◌&&◌, length, get_or, eqb, leb}
+use Rattle.std.specs.Prelude.{ℕ, ◌+◌, List, ◌∷◌, Bool, cond, ◌&&◌, length, get_or, eqb, leb}
 use Rattle.option.specs.Reading.{four}
 use Rattle.option.specs.Writing.{four_bytes, Writing, refused_with, written}
 

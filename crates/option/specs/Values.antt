@@ -1,5 +1,5 @@
 -- What an option 220 says: its suboptions as values.
-use Rattle.lists.specs.Basics.{ℕ, Bool, List}
+use Rattle.std.specs.Prelude.{ℕ, Bool, List}
 pub use Rattle.option_entry.specs.Entries.{Entry}
 
 -- Len is a byte, and leaves out Code and Len: no option is longer.

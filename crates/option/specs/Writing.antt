@@ -1,5 +1,5 @@
 -- Option 220 (RFC 6656) as bytes: what a list of suboptions is written as. The rules are those of document 01, "Option 220 as bytes".
-use Rattle.lists.specs.Basics.{ℕ, ◌+◌, ◌*◌, ◌/◌, ◌%◌, List, [], ◌∷◌, ◌++◌, Bool, true, false, length}
+use Rattle.std.specs.Prelude.{ℕ, ◌+◌, ◌*◌, ◌/◌, ◌%◌, List, [], ◌∷◌, ◌++◌, Bool, true, false, length}
 use Rattle.lists.specs.Lists.{concat_map}
 use Rattle.option.specs.Values.{Entry, SuboptionValue, request, information, name, unknown}
 

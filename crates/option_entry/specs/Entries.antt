@@ -1,5 +1,5 @@
 -- An entry of an information of option 220 as bytes (document 01, "Option 220 as bytes", rule 4), and as the code holds it.
-use Rattle.lists.specs.Basics.{ℕ, ◌+◌, ◌*◌, ◌/◌, ◌%◌, List, ◌∷◌, [], Bool, true, false, cond, ◌&&◌, length, get_or, take, eqb, leb}
+use Rattle.std.specs.Prelude.{ℕ, ◌+◌, ◌*◌, ◌/◌, ◌%◌, List, ◌∷◌, [], Bool, true, false, cond, ◌&&◌, length, get_or, take, eqb, leb}
 use Rattle.lists.specs.Walk.{Turn, more, stop}
 use Rattle.option_entry.specs.declared.Figures.{Figures}
 

@@ -1,5 +1,5 @@
 -- The reply of take and list.
-use Rattle.lists.specs.Basics.{ℕ, Bool, List, [], ◌∷◌, map}
+use Rattle.std.specs.Prelude.{ℕ, Bool, List, [], ◌∷◌, map}
 pub use Rattle.option.specs.Values.{most_entries}
 use Rattle.option.specs.Values.{Entry, information}
 use Rattle.option.specs.Writing.{option_bytes}

@@ -1,5 +1,5 @@
 -- Address prefixes (document 01: blocks): a network and a length, from which every size and end comes.
-use Rattle.lists.specs.Basics.{ℕ, ◌+◌, ◌-◌, ◌^◌, ◌%◌, ◌≤◌, ◌<◌, ◌≡◌, ◌⊎◌, Bool, true, false, cond, not, ◌&&◌, ◌||◌, leb, eqb}
+use Rattle.std.specs.Prelude.{ℕ, ◌+◌, ◌-◌, ◌^◌, ◌%◌, ◌≤◌, ◌<◌, ◌≡◌, ◌⊎◌, Bool, true, false, cond, not, ◌&&◌, ◌||◌, leb, eqb}
 use Rattle.prefix.specs.declared.{Prefix.Prefix, Checked.Checked}
 use Rattle.prefix.specs.declared.Checked.TheVariants.{Good, BadLength, Misaligned}
 

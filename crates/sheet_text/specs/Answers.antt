@@ -1,5 +1,6 @@
 -- What the sheet of an image answers, as the code says it: written, or why not.
-use Rattle.lists.specs.Basics.{ℕ, not, cond, List, ◌++◌, Option, none, some, length, drop, ltb}
+use Rattle.std.specs.Prelude.{ℕ, not, cond, List, ◌++◌, length, drop, ltb}
+use Rattle.std.proofs.Math.Option.{Option, none, some}
 use Rattle.table.specs.declared.LeaseTable.{LeaseTable}
 use Rattle.table.specs.Table.{sound}
 use Rattle.image.specs.Reading.{load_saved}

@@ -1,5 +1,5 @@
 -- The lease table (document 01: the book): what is present at a time, when a table is sound, and what an accepted call stores.
-use Rattle.lists.specs.Basics.{ℕ, ◌-◌, Bool, true, false, not, cond, ◌&&◌, List, [], ◌∷◌, ◌++◌, map, length, take, replicate, leb, ltb, eqb}
+use Rattle.std.specs.Prelude.{ℕ, ◌-◌, Bool, true, false, not, cond, ◌&&◌, List, [], ◌∷◌, ◌++◌, map, length, take, replicate, leb, ltb, eqb}
 use Rattle.lists.specs.Lists.{and, all?, any?, filter, insert_by}
 use Rattle.prefix.specs.declared.Prefix.{Prefix}
 use Rattle.prefix.specs.Prefixes.{shortest, longest, prefix, end, aligned?, inside?}

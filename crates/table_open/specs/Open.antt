@@ -1,5 +1,5 @@
 -- Open: the table that pools, a term, a default length and a start time make.
-use Rattle.lists.specs.Basics.{ℕ, Bool, true, ◌&&◌, List, [], ◌∷◌, length, replicate, leb, ltb, eqb}
+use Rattle.std.specs.Prelude.{ℕ, Bool, true, ◌&&◌, List, [], ◌∷◌, length, replicate, leb, ltb, eqb}
 use Rattle.lists.specs.Lists.{and, all?, sort_by}
 use Rattle.prefix.specs.Prefixes.{apart?}
 use Rattle.table.specs.declared.{Pool.Pool, LeaseTable.LeaseTable}

@@ -1,5 +1,5 @@
 -- The bytes of a text in ASCII.
-use Rattle.lists.specs.Basics.{ℕ, List, [] as nothing, ◌∷◌ as ◌then◌}
+use Rattle.std.specs.Prelude.{ℕ, List, [] as nothing, ◌∷◌ as ◌then◌}
 use Prim.Native.Char.{code}
 use Prim.Native.String.{String, [], ◌∷◌}
 

@@ -1,5 +1,5 @@
 -- Decimal numbers as text.
-use Rattle.lists.specs.Basics.{ℕ, zero, suc, ◌+◌, ◌/◌, ◌%◌, cond, List, [], ◌∷◌, ◌++◌, ltb}
+use Rattle.std.specs.Prelude.{ℕ, zero, suc, ◌+◌, ◌/◌, ◌%◌, cond, List, [], ◌∷◌, ◌++◌, ltb}
 
 -- The last digit of a number.
 abbrev pub digit : ℕ → ℕ
