@@ -92,7 +92,7 @@ def without_tactics(path, text):
         else:
             at = line.find("--" if path.endswith(".antt") else "//")
             code, rest = (line, "") if at < 0 else (line[:at], line[at:])
-        lines.append(TOKEN.sub(lambda m: TACTIC.get(m.group(), m.group()), code) + rest)
+        lines.append(TOKEN.sub(lambda m: TACTIC.get(m.group().rstrip(":"), m.group().rstrip(":")) + ":" * m.group().endswith(":"), code) + rest)
     return "\n".join(lines)
 
 

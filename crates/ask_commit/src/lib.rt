@@ -112,7 +112,7 @@ fn put_offers(
 #[derive(Clone, Copy)]
 pub struct Site {
     pub summary: ImageSummary,
-    pub ground: Ground,
+    pub area: Ground,
 }
 
 // The requests that have no place, served on the gaps of the ground; answers how many are granted. Where there are none, or no slot
