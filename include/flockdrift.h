@@ -43,7 +43,7 @@
  * `count` the entries of option 220.
  *
  * C99 or later, C++ too; flockdrift.rs beside this file has the same for Rust, rust/flockdrift a safe wrapper. Link
- * with libflockdrift.a, which `rt staticlib flockdrift` makes in target/staticlib.
+ * with libflockdrift.a, which `tools/build flockdrift` makes in target/staticlib.
  *
  * THE IMAGE is records, one after another with nothing between or after them: one head, then 1 to 8 pools, then up to
  * 1,024 leases, pools and leases each ascending by network. All numbers are little-endian. It has two forms, and one

@@ -1,4 +1,4 @@
-//! Links libflockdrift.a, from the folder that FLOCKDRIFT_LIBRARY names or from where `rt staticlib flockdrift` makes it.
+//! Links libflockdrift.a, from the folder that FLOCKDRIFT_LIBRARY names or from where `tools/build flockdrift` makes it.
 
 use std::env;
 use std::path::{Path, PathBuf};
