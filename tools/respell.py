@@ -86,13 +86,19 @@ def without_tactics(path, text):
     if path.startswith("crates/sheet/"):
         return text
     lines = []
+
+    def plain(found):
+        word = found.group()
+        end = ":" if word.endswith(":") and word[:-1] in TACTIC else ""
+        return TACTIC.get(word[: -1] if end else word, word[: -1] if end else word) + end
+
     for line in text.split("\n"):
         if path.endswith(".edit"):
             code, rest = (line, "") if line.startswith(("old:", "new:")) else ("", line)
         else:
             at = line.find("--" if path.endswith(".antt") else "//")
             code, rest = (line, "") if at < 0 else (line[:at], line[at:])
-        lines.append(TOKEN.sub(lambda m: TACTIC.get(m.group().rstrip(":"), m.group().rstrip(":")) + ":" * m.group().endswith(":"), code) + rest)
+        lines.append(TOKEN.sub(plain, code) + rest)
     return "\n".join(lines)
 
 
