@@ -7,12 +7,7 @@ use mathlib.Core.Bool.{Bool, true, false, not, ◌&&◌, false≢true}
 use mathlib.Core.Option.{Option, none, some}
 use mathlib.Core.List.{List, [], ◌++◌, append_assoc}
 use lib.ListN.{length, take, drop, length-append}
-use lib.Seq.{length-take-le, drop_at, take_at, take_all}
-use lib.Dec.{T}
-use mir.Val.{has_key}
-use types.Run.{OneOf, miss}
-use denote.Enum.Declared.{tag_of}
-use Rattle.console_script.specs.contracts.Command.{the_type}
+use lib.Seq.{length-take-le, drop_at, take_at}
 use Rattle.lists.specs.Put.{put}
 use Rattle.lists.proofs.PutLaws.{put-nothing, put-fits}
 use Rattle.text.specs.Ascii.{ascii}
@@ -33,10 +28,6 @@ use Rattle.console.specs.Runs.{reply_after, selected_after, passed_over?, echo_t
 use Rattle.console.specs.InnerRuns.{Echoed, Set}
 
 -- COMMANDS
-
--- A command of another kind.
-pub other : (c this : Command) (tags : List ℕ) → T (not (has_key tags (tag_of the_type this))) → OneOf tags (tag_of the_type c) → c ≡ this → ⊥
-other c this tags away one e = miss tags (tag_of the_type this) away (subst (λ (x : Command). OneOf tags (tag_of the_type x)) e one)
 
 -- An open is not passed over, nor does it set anything, whatever its words are.
 module _ (term len start : ℕ) where
@@ -223,7 +214,5 @@ module _ (s next begun r : State) (line kept words : List ℕ) (c : Command) (en
   )
 
 -- A copy of the front of a line is that front.
-pub copied : (line kept kept₁ : List ℕ) (n : ℕ) → n ≤ length line → kept₁ ≡ take (length (take n line)) (take n line) ++ drop (length (take n line)) kept → take n kept₁ ≡ take n line
-copied line kept kept₁ n le e =
-    ap (take n) (e ∙ ap (λ (l : List ℕ). l ++ drop (length (take n line)) kept) (take_all (length (take n line)) (take n line) (omega arith)))
-    ∙ take_at (take n line) (drop (length (take n line)) kept) n (length-take-le n line le)
+pub copied : (line kept kept₁ : List ℕ) (n : ℕ) → n ≤ length line → kept₁ ≡ take n line ++ drop (length (take n line)) kept → take n kept₁ ≡ take n line
+copied line kept kept₁ n le e = ap (take n) e ∙ take_at (take n line) (drop (length (take n line)) kept) n (length-take-le n line le)
