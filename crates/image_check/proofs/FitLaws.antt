@@ -78,6 +78,9 @@ module _ (word : ℕ) where
       let t = and-list-to (bytes_ok word) e in
       (leb-true 1 (word / 256 % 256) t.0, leb-true (word / 256 % 256) 2 t.1.0, leb-true (word / 65536 % 256) 3 t.1.1.0)
 
+-- What the two tests tell of state and flags.
+pub ruleset state_and_flags_rules = (state-bad, flags-tell)
+
 -- The word from the length on, by its bytes.
 pub word_bytes : (s : List ℕ) → Bytes s → (word : ℕ) → word ≡ number32 s 8 → (word % 256 ≡ length_in s) × (word / 256 % 256 ≡ state_byte_in s) × (word / 65536 % 256 ≡ flags_byte_in s)
 unfolding number32

@@ -123,6 +123,7 @@ enum Fit {
 
 // Whether state and flags, the second and third byte of a word, are as a lease has them: 1 or 2, and at most 3. One more than the
 // state is 2 or 3, so that the tests are of single bits, and compiled they are one mask.
+#[tactic(auto, using(crate::proofs::FitLaws::state_and_flags_rules))]
 fn state_and_flags(word: u32) -> bool
     ensures { result ≡ state_and_flags? word }
 {

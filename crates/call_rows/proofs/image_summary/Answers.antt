@@ -19,7 +19,7 @@ pub returns-then-image-bytes : goal.returns-then-image-bytes
 returns-then-image-bytes c figures =
     let a = c.args in
     let b : Bytes a.image.now = bytes-all a.image.now (λ i. omega (arith, c.type_inv.image i)) in
-    summary-of-nothing (lent a.image.now a.bytes figures) a.time b c.check-then-image-bytes.result (holds-not-within (lent a.image.now a.bytes figures) c.if-image-lt-FULL_IMAGE.false c.if-image-bytes.true) c.check-then-image-bytes.ensures
+    summary-of-nothing (lent a.image.now a.bytes figures) a.time b c.check-then-image-bytes.result (holds-not-within (lent a.image.now a.bytes figures) (omega arith) c.if-image-bytes.true) c.check-then-image-bytes.ensures
 
 pub slice_bounds-check-end-2 : goal.slice_bounds-check-end-2
 slice_bounds-check-end-2 c = let a = c.args in sym (length-take-le a.bytes a.image.now (search rules))
@@ -28,4 +28,4 @@ pub returns : goal.returns
 returns c figures =
     let a = c.args in
     let b : Bytes a.image.now = bytes-all a.image.now (λ i. omega (arith, c.type_inv.image i)) in
-    summary-of-image (lent a.image.now a.bytes figures) a.time b c.check-2.result c.if-image-lt-FULL_IMAGE.false c.if-image-bytes.false c.check-2.ensures
+    summary-of-image (lent a.image.now a.bytes figures) a.time b c.check-2.result (omega arith) c.if-image-bytes.false c.check-2.ensures

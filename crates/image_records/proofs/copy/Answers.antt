@@ -1,8 +1,7 @@
 -- `image_records::copy` meets its contract: what the array was given goes on to the buffer.
-use mathlib.Core.Path.{◌≡◌, refl, sym, ap, ap₂, ◌∙◌}
+use mathlib.Core.Path.{◌≡◌, refl, ap, ap₂, ◌∙◌}
 use mathlib.Core.List.{List, ◌++◌}
 use Prim.Native.Nat.{ℕ}
-use native.Mathlib.Omega.{arith}
 use lib.ListN.{length, take, drop}
 use lib.Seq.{take_at}
 use Rattle.image_records.proofs.copy.Goals as goal
@@ -10,12 +9,6 @@ use Rattle.image_records.proofs.copy.Goals as goal
 -- All of some bytes, copied to the front of others, and taken from there.
 taken : (xs l q : List ℕ) (n : ℕ) → n ≡ length xs → l ≡ xs ++ drop (length xs) q → take n l ≡ xs
 taken xs l q n size e = ap₂ take size e ∙ take_at xs (drop (length xs) q) (length xs) refl
-
-pub slice_bounds-copy-end-2 : goal.slice_bounds-copy-end-2
-slice_bounds-copy-end-2 c = c.copy-n.ensures.count ∙ ap length (sym (taken _ _ _ _ c.copy-n.ensures.count c.copy-n.ensures.value))
-
-pub copy-requires : goal.copy-requires
-copy-requires c = omega (arith, ap length (taken _ _ _ _ c.copy-n.ensures.count c.copy-n.ensures.value), c.requires.1)
 
 pub returns : goal.returns
 returns c =
