@@ -73,5 +73,5 @@ returns c =
     let a = c.args in record {
       upper_bound = omega (arith, c.place_after-place.ensures.upper_bound);
       found_at = find-here a.time a.client a.network a.length a.image.now a.from a.n c.place_after-place.result c.place_after-place.ensures.value (some-place-5 c) c.lease_at-x.result c.lease_at-x.ensures
-          (c.if-x-time.false, c.if-x-client.false, c.if-x-network.false, c.if-x-length.false);
+          (c.if-x-time.false, omega arith, c.if-x-network.false, c.if-x-length.false);
     }
