@@ -1,7 +1,8 @@
 -- `whole` meets its contract.
 use Prim.Native.Nat.{ℕ}
-use mathlib.Core.Path.{sym, ap, ◌∙◌}
+use mathlib.Core.Path.{◌≡◌, sym, ap, ◌∙◌}
 use mathlib.Core.List.{[]}
+use native.Mathlib.Omega.{arith}
 use Rattle.ledger.specs.declared.Answer.{Answer}
 use Rattle.ledger.specs.Ledger.{acceptance}
 use Rattle.call_spec.specs.Books.{Book, book_of}
@@ -21,6 +22,7 @@ returns-then-checked-ne0 c =
 
 pub returns : goal.returns
 returns c =
+    let passed : c.check-checked.result.number ≡ 0 = omega arith in
     c.accepted.ensures
     ∙ ap (λ (n : ℕ). acceptance 0 n) c.sum.ensures
-    ∙ whole-accepted (book-of-2 c) c.args.length (sym (ap (λ (r : Answer). r.number) c.check-checked.ensures) ∙ c.if-checked-ne0.false)
+    ∙ whole-accepted (book-of-2 c) c.args.length (sym (ap (λ (r : Answer). r.number) c.check-checked.ensures) ∙ passed)

@@ -22,10 +22,10 @@ returns-then-struck-eq0 c option t =
     ∙ release-nothing (lent_of c) a.time (call a.client option []) a.summary a.networks.now a.lengths.now t _ c.strike_named-strikes.result c.strike_named-strikes.ensures.equation c.if-struck-eq0.true
 
 pub remove_struck-requires : goal.remove_struck-requires
-remove_struck-requires c = (omega arith, c.strike_named-strikes.ensures.bounds.2 (omega (arith, c.if-struck-eq0.false)), c.strike_named-strikes.ensures.bounds.1, search rules, search rules)
+remove_struck-requires c = (omega arith, c.strike_named-strikes.ensures.bounds.2 (omega arith), c.strike_named-strikes.ensures.bounds.1, search rules, search rules)
 
 pub returns : goal.returns
 returns c option t =
     let a = c.args in
     ap (λ (r : Answer). outcome r (lent c.remove_struck.new.image c.remove_struck.result c.remove_struck.new.figures) []) c.accepted.ensures
-    ∙ release-found (lent_of-2 c) a.time (call a.client option []) a.summary a.networks.now a.lengths.now t _ c.strike_named-strikes.result c.strike_named-strikes.ensures.equation _ _ _ c.remove_struck.ensures c.if-struck-eq0.false
+    ∙ release-found (lent_of-2 c) a.time (call a.client option []) a.summary a.networks.now a.lengths.now t _ c.strike_named-strikes.result c.strike_named-strikes.ensures.equation _ _ _ c.remove_struck.ensures (omega arith)

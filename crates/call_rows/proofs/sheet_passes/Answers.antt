@@ -1,10 +1,11 @@
 -- `sheet_passes` meets its contract.
 use Prim.Native.Nat.{◌+◌, ◌*◌, ◌≤◌}
-use mathlib.Core.Path.{sym, ap, ◌∙◌}
-use mathlib.Core.Bool.{not, Bool, ◌||◌, true≢false}
+use mathlib.Core.Path.{◌≡◌, sym, ap, ◌∙◌}
+use mathlib.Core.Bool.{not, Bool, false, ◌||◌, true≢false}
 use lib.ListN.{length}
 use native.Mathlib.Omega.{arith}
 use borrow.Author.Tests.{not-true, not-false}
+use borrow.Author.Rules.{rules}
 use Rattle.figures.specs.Figures.{matches?}
 use Rattle.table.specs.Table.{lease_slots, padded}
 use Rattle.image.specs.Image.{lease_size}
@@ -37,4 +38,5 @@ matches-requires c = inside c
 pub returns : goal.returns
 returns c xs s r e used =
     let a = c.args in
-    c.matches.ensures xs r e used ∙ sym (ap (λ (b : Bool). not b || matches? (padded xs) (sheet_rows a.figures.now)) c.if-not-has_sheet.false)
+    let judged : not a.has_sheet ≡ false = search rules in
+    c.matches.ensures xs r e used ∙ sym (ap (λ (b : Bool). not b || matches? (padded xs) (sheet_rows a.figures.now)) judged)

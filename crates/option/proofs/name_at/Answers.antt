@@ -1,5 +1,7 @@
 -- `name_at` meets its contract: the framing, then the final octet.
-use Prim.Native.Nat.{◌+◌}
+use Prim.Native.Nat.{◌+◌, ◌-◌}
+use mathlib.Core.Path.{◌≡◌}
+use lib.ListN.{get_or}
 use native.Mathlib.Omega.{arith}
 use Rattle.option.proofs.SuboptionLaws.{final-byte}
 use borrow.Author.Tests.{eq-eqb, ne_eqb, lt-ltb, le-ltb}
@@ -23,4 +25,5 @@ unfolding read_name when_good fields?
 returns c =
     let a = c.args in
     let last = final-byte a.s.now (a.at + 2) a.end (omega arith) (omega arith) in
-    simp (lt-ltb _ _ c.if-end-at.false, last, ne_eqb _ _ c.if-s-end-eq0.false)
+    let other : get_or a.s.now (a.end - 1) 0 ≡ 0 → ⊥ = omega arith in
+    simp (lt-ltb _ _ c.if-end-at.false, last, ne_eqb _ _ other)

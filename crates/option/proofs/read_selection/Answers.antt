@@ -1,5 +1,8 @@
 -- `read_selection` meets its contract: row 6, test by test, then the address.
+use mathlib.Core.Path.{◌≡◌}
 use mathlib.Core.Bool.{and-false}
+use native.Mathlib.Omega.{arith}
+use lib.ListN.{get_or}
 use borrow.Author.Tests.{eq-eqb, ne_eqb, le-leb, lt-leb}
 use Rattle.option.specs.Selection.{selection?, read_selection}
 use Rattle.option.proofs.read_selection.Goals as goal
@@ -28,5 +31,5 @@ pub returns : goal.returns
 unfolding read_selection selection?
 returns c =
     let len = simp c.wide-counted.ensures.0 at c.if-counted-s.false in
-    let four = simp c.wide-counted.ensures.0 at c.if-counted-ne4.false in
+    let four : get_or c.args.s.now 1 0 ≡ 4 = omega arith in
     simp (le-leb _ _ c.if-s-lt2.false, eq-eqb _ _ c.if-s-ne118.false, eq-eqb _ _ len, eq-eqb _ _ four, c.four_at.ensures)

@@ -1,4 +1,7 @@
 -- `request_at` meets its contract: the framing, then the length.
+use Prim.Native.Nat.{◌+◌}
+use native.Mathlib.Omega.{arith}
+use lib.ListN.{get_or}
 use borrow.Author.Tests.{eq-eqb, ne_eqb, le-leb, lt-leb}
 use Rattle.option.specs.Rules.{fields?}
 use Rattle.option.specs.Reading.{read_request, when_good}
@@ -14,4 +17,4 @@ returns-then-length-gt-LONGEST c = simp (eq-eqb _ _ c.if-end-at.false, lt-leb _ 
 
 pub returns : goal.returns
 unfolding read_request when_good fields?
-returns c = simp (eq-eqb _ _ c.if-end-at.false, le-leb _ _ c.if-length-gt-LONGEST.false)
+returns c = simp (eq-eqb _ _ c.if-end-at.false, le-leb (get_or c.args.s.now (c.args.at + 3) 0) 30 (omega arith))

@@ -1,4 +1,5 @@
 -- `write_selection` meets its contract.
+use native.Mathlib.Omega.{arith}
 use Rattle.option_reply.proofs.SelectionPuts.{selection-full, selection-written}
 use Rattle.option_reply.proofs.write_selection.Goals as goal
 
@@ -8,4 +9,4 @@ returns-then-buf-lt6 c = selection-full _ _ c.if-buf-lt6.true
 pub returns : goal.returns
 returns c =
     let a = c.args in
-    selection-written a.address a.buf.now _ _ _ c.if-buf-lt6.false c.store.ensures c.store-2.ensures c.put_four.ensures
+    selection-written a.address a.buf.now _ _ _ (omega arith) c.store.ensures c.store-2.ensures c.put_four.ensures
