@@ -1,7 +1,7 @@
 -- `sheet_passes` meets its contract.
 use Prim.Native.Nat.{◌+◌, ◌*◌, ◌≤◌}
 use mathlib.Core.Path.{◌≡◌, sym, ap, ◌∙◌}
-use mathlib.Core.Bool.{not, Bool, false, ◌||◌, true≢false}
+use mathlib.Core.Bool.{not, Bool, true, ◌||◌, true≢false}
 use lib.ListN.{length}
 use native.Mathlib.Omega.{arith}
 use borrow.Author.Tests.{not-true, not-false}
@@ -38,5 +38,5 @@ matches-requires c = inside c
 pub returns : goal.returns
 returns c xs s r e used =
     let a = c.args in
-    let judged : not a.has_sheet ≡ false = search rules in
+    let judged : a.has_sheet ≡ true = search rules in
     c.matches.ensures xs r e used ∙ sym (ap (λ (b : Bool). not b || matches? (padded xs) (sheet_rows a.figures.now)) judged)
