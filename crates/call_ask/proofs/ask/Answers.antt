@@ -418,11 +418,11 @@ returns-then-area-eq0 c =
     refuses-book b (ask_image (lent_in b) (time-of-6 c) (call-of-6 c)) c.refused-then-area-eq0.result (lent_in b) (call-of-6 c).reply
     (ap (λ (r : Answer). outcome r (lent_in b) (call-of-6 c).reply) c.refused-then-area-eq0.ensures
     ∙ ask-groundless (lent_in b) (time-of-6 c) (call-of-6 c) (short-of-5 c) (short-is-5 c) (read-call-4 c) c.if-refusal-ne0.false c.for_ask.result c.for_ask.ensures c.if-not-for_ask.false
-    c.if-name_bytes-gt-LONGEST.false c.ground_of-area.result (grounds-of c) c.if-area-eq0.true)
+    (omega arith) c.ground_of-area.result (grounds-of c) c.if-area-eq0.true)
     (number_of c.refused-then-area-eq0.result 19 c.refused-then-area-eq0.ensures (λ z. omega arith))
 
 pub name_in-name-requires : goal.name_in-name-requires
-name_in-name-requires c = (omega (arith, (named-of c).within), omega (arith, c.if-name_bytes-gt-LONGEST.false))
+name_in-name-requires c = (omega (arith, (named-of c).within), omega arith)
 
 pub slice_bounds-ask_lengths-end : goal.slice_bounds-ask_lengths-end
 slice_bounds-ask_lengths-end c = omega (arith, few-of c, c.read-contents.auto.asks)
@@ -440,7 +440,7 @@ pub grant-answer-requires : goal.grant-answer-requires
 grant-answer-requires c =
     (subst (λ (h : Lent). Ready h (time-of-8 c) (call-of-8 c).client (call-of-8 c).reply (record { summary = c.admit-admission.result.summary; area = c.ground_of-area.result }) (take c.read-contents.result.requests c.read-contents.new.asks) (take c.read-contents.result.requests c.read-contents.new.h)) (same_of-3 c)
     (ask-ready (lent_in (book-of-8 c)) (time-of-8 c) (call-of-8 c) (short-of-7 c) (short-is-7 c) (read-call-6 c) c.if-refusal-ne0.false c.for_ask.result c.for_ask.ensures c.if-not-for_ask.false
-    c.if-name_bytes-gt-LONGEST.false c.ground_of-area.result (grounds-of-2 c) c.if-area-eq0.false
+    (omega arith) c.ground_of-area.result (grounds-of-2 c) c.if-area-eq0.false
     (record {
       asked_lengths = omega (arith, c.read-contents.auto.asks);
       asked_h = omega (arith, c.read-contents.auto.h);
@@ -459,14 +459,14 @@ granted-is c =
     c.grant-answer.ensures.equation (call-of-9 c).option (call-of-9 c).selection
     (subst (λ (h : Lent). Asking h (time-of-9 c) c.name_in-name.result (call-of-9 c) (record { summary = c.admit-admission.result.summary; area = c.ground_of-area.result }) (take c.read-contents.result.requests c.read-contents.new.asks) (take c.read-contents.result.requests c.read-contents.new.h)) (same_of-4 c)
     (ask-asking (lent_in (book-of-9 c)) (time-of-9 c) (call-of-9 c) (short-of-8 c) (short-is-8 c) (read-call-7 c) c.if-refusal-ne0.false c.for_ask.result c.for_ask.ensures c.if-not-for_ask.false
-    c.if-name_bytes-gt-LONGEST.false c.ground_of-area.result (grounds-of-3 c) c.if-area-eq0.false c.name_in-name.result c.name_in-name.ensures))
+    (omega arith) c.ground_of-area.result (grounds-of-3 c) c.if-area-eq0.false c.name_in-name.result c.name_in-name.ensures))
 
 granted-is-2 : (c : goal.After-slice_known-7-1) → returning (call-of-11 c).selection (granted-of-2 c) ≡ ask_image (book-of-11 c).lent (time-of-11 c) (call-of-11 c)
 granted-is-2 c =
     c.grant-answer.ensures.equation (call-of-11 c).option (call-of-11 c).selection
     (subst (λ (h : Lent). Asking h (time-of-11 c) c.name_in-name.result (call-of-11 c) (record { summary = c.admit-admission.result.summary; area = c.ground_of-area.result }) (take c.read-contents.result.requests c.read-contents.new.asks) (take c.read-contents.result.requests c.read-contents.new.h)) (same_of-5 c)
     (ask-asking (lent_in (book-of-11 c)) (time-of-11 c) (call-of-11 c) (short-of-10 c) (short-is-10 c) (read-call-9 c) c.if-refusal-ne0.false c.for_ask.result c.for_ask.ensures c.if-not-for_ask.false
-    c.if-name_bytes-gt-LONGEST.false c.ground_of-area.result (grounds-of-4 c) c.if-area-eq0.false c.name_in-name.result c.name_in-name.ensures))
+    (omega arith) c.ground_of-area.result (grounds-of-4 c) c.if-area-eq0.false c.name_in-name.result c.name_in-name.ensures))
 
 pub settle-requires : goal.settle-requires
 settle-requires c =
