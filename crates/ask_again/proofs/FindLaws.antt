@@ -12,6 +12,8 @@ use lib.Dec.{ltb, eqb}
 use lib.ListN.{length, take, drop, get_or, replicate, length-map, take-append-drop}
 use lib.Seq.{take-suc, take_all, length-take-le}
 use borrow.Author.Tests.{ltb-true, ltb-false, lt-ltb, ne_eqb}
+use Rattle.std.specs.Prelude.{Some, None}
+use Rattle.std.specs.Prelude.{Option as Optional}
 use Rattle.lists.specs.Lists.{All, and}
 use Rattle.lists.proofs.Tests.{bool_cases, cond-false, and-to}
 use Rattle.table.specs.declared.{Lease.Lease, LeaseTable.LeaseTable}
@@ -26,7 +28,7 @@ use Rattle.ledger.specs.InnerAgain.{give}
 use Rattle.ledger.proofs.AgainLaws.{none_given}
 use Rattle.ledger.proofs.PassLaws.{pass-starts, pass-gives, pass-skips}
 use Rattle.ask_again.specs.Places.{no_place, Within, given_in, others_in, Asks}
-use Rattle.ask_again.specs.InnerGiving.{held_at?, NextHeld, Given}
+use Rattle.ask_again.specs.InnerGiving.{held_at?, Past, NextHeld, Given}
 use Rattle.ask_again.proofs.Counting.{others-none, others-few, others-all}
 
 -- ALL HAVE ONE: then a further lease goes to none.
@@ -168,8 +170,26 @@ module _ (image : List ℕ) (from n client now default_length : ℕ) (asked_leng
   pub going-none : (k : ℕ) → length asked_lengths ≤ k → Going 0 (replicate k no_place) 0
   going-none k h = record { counted = sym (others-none no_place k (length asked_lengths)); inside = none_within n k (length asked_lengths); found = found_none k h }
 
-  pub going_on : (i : ℕ) (places : List ℕ) (given r : ℕ) → NextHeld image from client now i n r → Going i places given → Going r places given
-  going_on i places given r next g = record { counted = g.counted; inside = g.inside; found = found-skips (r - i) i r (omega (arith, next.on)) next.within places g.found next.past }
+  pub going_on : (i : ℕ) (places : List ℕ) (given r : ℕ) → r ≤ n → Past image from client now i r → Going i places given → Going r places given
+  going_on i places given r within next g = record { counted = g.counted; inside = g.inside; found = found-skips (r - i) i r (omega (arith, next.on)) within places g.found next.past }
+
+  -- At the next lease that the client holds, or past the last.
+  abbrev pub Reached : Optional ℕ → List ℕ → ℕ → Type 0
+  Reached (Some i) places given = (i < n) × (held_at? image (from + lease_size * i) client now ≡ true) × Going i places given
+  Reached None places given = Going n places given
+
+  pub going_to : (i : ℕ) → i ≤ n → (places : List ℕ) (given : ℕ) (o : Optional ℕ) → NextHeld image from client now i n o → Going i places given → Reached o places given
+  going_to i low places given (Some r) next g = (next.1, next.2, going_on i places given r (omega (arith, next.1)) next.0 g)
+  going_to i low places given None next g = going_on i places given n (omega arith) next g
+
+  -- How much is left of the pass, from there.
+  abbrev pub left : Optional ℕ → ℕ
+  left (Some i) = suc n - i
+  left None = 0
+
+  pub left-less : (i : ℕ) → i < n → (o : Optional ℕ) → NextHeld image from client now (i + 1) n o → left o < suc n - i
+  left-less i low (Some r) next = omega (arith, next.0.on, next.1)
+  left-less i low None next = omega arith
 
   pub going_more : (i : ℕ) → i < n → (places : List ℕ) (given : ℕ) → Going i places given → held_at? image (from + lease_size * i) client now ≡ true
       → (len : ℕ) → len ≡ (lease_in (drop (from + lease_size * i) image)).length → (h : Bool) → h ≡ (lease_in (drop (from + lease_size * i) image)).h

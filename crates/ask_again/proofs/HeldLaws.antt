@@ -15,7 +15,7 @@ use Rattle.table.specs.declared.Lease.{Lease}
 use Rattle.image.specs.Image.{lease_size}
 use Rattle.image.specs.Reading.{lease_in}
 use Rattle.ledger.specs.Ledger.{held_by?}
-use Rattle.ask_again.specs.InnerGiving.{held_at?, NextHeld, OthersAt}
+use Rattle.ask_again.specs.InnerGiving.{held_at?, OthersAt}
 
 -- Another client's lease is not one.
 pub another's : (x : Lease) (client now : ℕ) → (x.client ≡ client → ⊥) → and (held_by? client x ∷ ltb now x.expires ∷ []) ≡ false
@@ -40,12 +40,3 @@ module _ (image : List ℕ) (from client now i k : ℕ) (past : (m : ℕ) → m 
       let place : from + lease_size * k + lease_size * (m - k) ≡ from + lease_size * m = omega arith in
       another's (lease_in (drop (from + lease_size * m) image)) client now (subst (λ (at : ℕ). (lease_in (drop at image)).client ≡ client → ⊥) place (others (m - k) (omega arith))))
       (bool_cases (ltb m k))
-
-  -- The search goes on from there.
-  pub held-from : i ≤ k → (n r : ℕ) → NextHeld image from client now k n r → NextHeld image from client now i n r
-  held-from on n r next = record {
-    on = omega (arith, next.on);
-    within = next.within;
-    past = λ m h l. ⊎_elim (λ (b : ltb m k ≡ true). past m (ltb-true m k b) l) (λ (b : ltb m k ≡ false). next.past m h (ltb-false m k b)) (bool_cases (ltb m k));
-    here = next.here;
-  }

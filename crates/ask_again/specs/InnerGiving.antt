@@ -1,5 +1,6 @@
 -- The leases that a client holds, in the records of an image, and the place of one given to the first request that waits for it.
-use Rattle.std.specs.Prelude.{ℕ, ◌+◌, ◌*◌, ◌≤◌, ◌<◌, ◌≡◌, Bool, true, false, List, [], ◌∷◌, ltb, length, take, drop, get_or}
+use Rattle.std.specs.Prelude.{ℕ, ◌+◌, ◌*◌, ◌≤◌, ◌<◌, ◌≡◌, Bool, true, false, List, [], ◌∷◌, ltb, length, take, drop, get_or, Some, None}
+use Rattle.std.specs.Prelude.{Option as Optional}
 use Rattle.lists.specs.Lists.{All, and}
 use Rattle.table.specs.declared.{Lease.Lease, LeaseTable.LeaseTable}
 use Rattle.table.specs.Table.{no_lease}
@@ -14,12 +15,14 @@ use Rattle.ask_again.specs.Places.{no_place, Within, given_in, others_in, Asks}
 abbrev pub held_at? : List ℕ → ℕ → ℕ → ℕ → Bool
 held_at? image at client now = and (held_by? client (lease_in (drop at image)) ∷ ltb now (lease_in (drop at image)).expires ∷ [])
 
--- The next of n records, from the i-th on, that is one.
-pub record NextHeld (image : List ℕ) (from client now i n r : ℕ) : Type 0 where
+-- The next of n records, from the i-th on, that is one, if there is one.
+pub record Past (image : List ℕ) (from client now i r : ℕ) : Type 0 where
   pub on : i ≤ r
-  pub within : r ≤ n
   pub past : (k : ℕ) → k < r → i ≤ k → held_at? image (from + lease_size * k) client now ≡ false
-  pub here : r < n → held_at? image (from + lease_size * r) client now ≡ true
+
+abbrev pub NextHeld : List ℕ → ℕ → ℕ → ℕ → ℕ → ℕ → Optional ℕ → Type 0
+NextHeld image from client now i n (Some r) = Past image from client now i r × (r < n) × (held_at? image (from + lease_size * r) client now ≡ true)
+NextHeld image from client now i n None = Past image from client now i n
 
 -- The next four records are those of other clients' leases.
 abbrev pub OthersAt : List ℕ → ℕ → ℕ → Type 0

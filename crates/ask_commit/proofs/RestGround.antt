@@ -26,6 +26,7 @@ use Rattle.image_check.specs.declared.ImageSummary.{ImageSummary}
 use Rattle.image_check.specs.Inner.{nth_pool}
 use Rattle.image_records.specs.Records.{Records}
 use Rattle.gap_list.specs.Gaps.{gaps_of}
+use Rattle.gap_list.specs.declared.Ends.{Ends}
 use Rattle.gap_list.specs.Columns.{held_in}
 use Rattle.ask_gaps.specs.Ground as gap-ground
 use Rattle.ask_gaps.proofs.GroundLaws.{area, ground-ends, held-few}
@@ -145,17 +146,17 @@ module _ (image : List ℕ) (now client : ℕ) (summary : ImageSummary) (q : Adm
         subst (λ (m : List ℕ). end (nth_pool (drop head_size m) (g.pool + k)) ≤ addresses) q.same
         (ground-ends t o.sound h.image h.bytes o.image (g.pool + k) (omega (arith, o.pools)))
 
-    module _ (starts lasts : List ℕ) (n : ℕ)
-        (gaps : (ps : List Prefix) (xs : List Lease) → gap-ground.Ground image g.pool g.pools from g.leases ps xs → held_in starts lasts n ≡ gaps_of ps (gap-ground.ahead now 0 xs)) where
-      gaps-are : held_in starts lasts n ≡ gaps_of pools (map prefix_of (present now leases))
+    module _ (es : List Ends) (n : ℕ)
+        (gaps : (ps : List Prefix) (xs : List Lease) → gap-ground.Ground image g.pool g.pools from g.leases ps xs → held_in es n ≡ gaps_of ps (gap-ground.ahead now 0 xs)) where
+      gaps-are : held_in es n ≡ gaps_of pools (map prefix_of (present now leases))
       gaps-are = gaps pools leases ground-is
 
       -- There is room for a gap more with each lease more.
-      pub gaps-few : n ≤ length starts → n ≤ length lasts → n + (lease_slots - (summary.leases - summary.expired)) ≤ lease_slots + pool_slots
-      gaps-few long long₁ =
+      pub gaps-few : n ≤ length es → n + (lease_slots - (summary.leases - summary.expired)) ≤ lease_slots + pool_slots
+      gaps-few room =
           omega (
             arith,
-            held-few starts lasts n pools (map prefix_of (present now leases)) long long₁ gaps-are,
+            held-few es n pools (map prefix_of (present now leases)) room gaps-are,
             pools-many,
             few-pools,
             o.few-pools,
@@ -168,7 +169,7 @@ module _ (image : List ℕ) (now client : ℕ) (summary : ImageSummary) (q : Adm
 
       -- Where it is that of a call, the rest is served on it.
       pub rest-ready : (c : Call) → Grounds h c summary g → (rs : List Request) (asked_lengths : List ℕ) → asked_lengths ≡ map (λ r. r.length) rs → All (λ r. r.length ≤ longest) rs
-          → Serving t c now client (here h now) rs starts lasts
+          → Serving t c now client (here h now) rs es
           (record { default_length = summary.default_length; gaps = n; slots = lease_slots - (summary.leases - summary.expired) }) asked_lengths
       unfolding prefixes_of
       rest-ready c k rs asked_lengths asked long =

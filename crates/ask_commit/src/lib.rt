@@ -30,6 +30,7 @@ use ask_again::{Asker, NONE};
 use ask_gaps::Span;
 use ask_serve::Start;
 use call_ground::Ground;
+use gap_list::Ends;
 use image::{HEAD, LEASE, POOL};
 use image_check::ImageSummary;
 use ledger::Answer;
@@ -61,7 +62,7 @@ fn put_one(reply: &mut [u8], at: usize, image: &[u8], from: usize, place: u16, x
         → Shown before reply.new result (xs ++ cat_maybes (given_or place (lease_in (drop (from + lease_size * place) image.now)) x ∷ []))) }
 {
     if place != NONE {
-        let y = image_records::lease_at(image, from + LEASE * (place as usize));
+        let y = image_records::lease_at(image, from + LEASE * usize::from(place));
         put_offer(reply, at, y);
         return at + 10;
     }
@@ -96,11 +97,9 @@ fn put_offers(
         name: names::no_name(),
     };
     let mut at: usize = 3;
-    let mut j: usize = 0;
-    while j < flags.len() {
+    for (j, place) in places.iter().enumerate() {
         let x = ask_insert::granted_at(networks, lengths, flags, j, nobody, 0);
-        at = put_one(reply, at, image, from, places[j], x);
-        j = j + 1;
+        at = put_one(reply, at, image, from, *place, x);
     }
     option_reply::put_option_head(reply, (at - 2) as u8);
     at
@@ -149,23 +148,14 @@ fn serve_rest(
         from: HEAD + POOL * summary.pools + LEASE * area.first,
         leases: area.leases,
     };
-    let mut starts = [0u32; GAPS];
-    let mut lasts = [0u32; GAPS];
-    let gaps = ask_gaps::gaps_in(image, span, asker.time, &mut starts, &mut lasts);
+    let mut gaps = [Ends { first: 0, last: 0 }; GAPS];
+    let n = ask_gaps::gaps_in(image, span, asker.time, &mut gaps);
     let start = Start {
         default_length: summary.default_length,
-        gaps,
+        gaps: n,
         slots: LEASES - present,
     };
-    ask_serve::serve(
-        ask_lengths,
-        places,
-        start,
-        &mut starts,
-        &mut lasts,
-        networks,
-        lengths,
-    )
+    ask_serve::serve(ask_lengths, places, start, &mut gaps, networks, lengths)
 }
 
 // Rows 9 and 10, and what the requests get, once every row before them has passed, but for option 118 in the reply. Nothing is

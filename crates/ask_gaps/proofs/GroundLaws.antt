@@ -1,6 +1,6 @@
 -- The ground of a sound table's image, and how many gaps it can have.
 -- Assumes nothing.
-use Prim.Native.Nat.{ℕ, suc, ◌+◌, ◌*◌, ◌≤◌, ◌<◌}
+use Prim.Native.Nat.{ℕ, ◌+◌, ◌*◌, ◌≤◌, ◌<◌}
 use mathlib.Core.Path.{◌≡◌, refl, sym, ap, subst, ◌∙◌}
 use mathlib.Core.Logic.{⊎_elim}
 use mathlib.Core.Bool.{true, false}
@@ -22,8 +22,9 @@ use Rattle.image.specs.Image.{head_size, pool_size, used_pools, used_leases, ima
 use Rattle.image_check.specs.Inner.{nth_pool}
 use Rattle.image_records.proofs.PoolRecords.{image-pools}
 use Rattle.image_records.proofs.SoundLaws.{image-records}
+use Rattle.gap_list.specs.declared.Ends.{Ends}
 use Rattle.gap_list.specs.Gaps.{Gap, between, PoolGaps, pool_gaps, gaps_of}
-use Rattle.gap_list.specs.Columns.{held, held_in}
+use Rattle.gap_list.specs.Columns.{gap_of, held_in}
 use Rattle.ask_gaps.specs.Ground.{Ground}
 
 -- THE GROUND
@@ -71,13 +72,5 @@ gaps-few (p ∷ ps) xs =
     let s : PoolGaps = pool_gaps p.network (end p) xs in
     omega (arith, length-append s.gaps (gaps_of ps s.left), pool-few p.network (end p) xs, gaps-few ps s.left)
 
-length-held : (ss ls : List ℕ) → length ss ≡ length ls → length (held ss ls) ≡ length ss
-length-held [] ls e = refl
-length-held (s ∷ ss) [] e = absurd (omega arith)
-length-held (s ∷ ss) (l ∷ ls) e = ap suc (length-held ss ls (omega arith))
-
-pub held-few : (starts lasts : List ℕ) (r : ℕ) (ps xs : List Prefix) → r ≤ length starts → r ≤ length lasts → held_in starts lasts r ≡ gaps_of ps xs → r ≤ length ps + length xs
-held-few starts lasts r ps xs h k e =
-    let n = length-take-le r starts h in
-    let m = length-take-le r lasts k in
-    omega (arith, n, ap length e, length-held (take r starts) (take r lasts) (n ∙ sym m), gaps-few ps xs)
+pub held-few : (es : List Ends) (r : ℕ) (ps xs : List Prefix) → r ≤ length es → held_in es r ≡ gaps_of ps xs → r ≤ length ps + length xs
+held-few es r ps xs h e = omega (arith, length-take-le r es h, ap length e, length-map (take r es) gap_of, gaps-few ps xs)

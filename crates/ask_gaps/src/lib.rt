@@ -1,4 +1,4 @@
-// The free space of an image: the gaps of some of its pools and leases, pushed into two lent columns in one pass over both.
+// The free space of an image: the gaps of some of its pools and leases, pushed into a lent buffer in one pass over both.
 #![tactic(auto)]
 
 ghost use Rattle.std.specs.Prelude.{◌≡◌, List, ℕ, ◌+◌, ◌-◌, ◌*◌, ◌≤◌, ◌<◌, length, drop};
@@ -13,6 +13,7 @@ ghost use Rattle.gap_list.specs.Columns.{held_in};
 ghost use Rattle.ask_gaps.specs.Ground.{ahead, Ground};
 ghost use Rattle.ask_gaps.specs.InnerPass.{Went};
 
+use gap_list::Ends;
 use image::{HEAD, LEASE};
 use prefix::Prefix;
 
@@ -21,45 +22,6 @@ use prefix::Prefix;
 pub struct Pass {
     pub leases: usize,
     pub gaps: usize,
-}
-
-// The gaps of a pool, between those of the n leases that are left and present.
-fn in_pool(
-    image: &[u8],
-    from: usize,
-    n: usize,
-    time: u32,
-    pool: Prefix,
-    at: Pass,
-    starts: &mut [u32],
-    lasts: &mut [u32],
-) -> Pass
-    requires { (from + lease_size * n ≤ length image.now) × (end pool ≤ addresses) × (at.leases ≤ n) × (at.gaps + n < length starts.old + at.leases) × (at.gaps + n < length lasts.old + at.leases) }
-    ensures { Went image.now from n time pool.network (end pool) at starts.old lasts.old result starts.new lasts.new }
-{
-    let stop = pool.end();
-    let mut cursor = pool.network as u64;
-    let mut gaps = at.gaps;
-    let mut i = at.leases;
-    while i < n {
-        let x = image_records::lease_at(image, from + LEASE * i);
-        if time < x.expires {
-            let first = x.network as u64;
-            if stop <= first {
-                return Pass {
-                    leases: i,
-                    gaps: gap_list::push(starts, lasts, gaps, cursor, stop),
-                };
-            }
-            gaps = gap_list::push(starts, lasts, gaps, cursor, first);
-            cursor = first + prefix::size(x.length);
-        }
-        i += 1;
-    }
-    Pass {
-        leases: i,
-        gaps: gap_list::push(starts, lasts, gaps, cursor, stop),
-    }
 }
 
 // A part of an image's pools and leases: the pools from a place on, so many of them; so many leases, whose records stand from a byte on.
@@ -71,21 +33,46 @@ pub struct Span {
     pub leases: usize,
 }
 
-// The gaps that those pools and the present ones of those leases leave, in order; how many there are.
-pub fn gaps_in(image: &[u8], span: Span, time: u32, starts: &mut [u32], lasts: &mut [u32]) -> usize
+// The gaps of a pool, between those of the span's leases that are left and present.
+fn in_pool(image: &[u8], span: Span, time: u32, pool: Prefix, at: Pass, gaps: &mut [Ends]) -> Pass
+    requires { (span.from + lease_size * span.leases ≤ length image.now) × (end pool ≤ addresses) × (at.leases ≤ span.leases) × (at.gaps + span.leases < length gaps.old + at.leases) }
+    ensures { Went image.now span.from span.leases time pool.network (end pool) at gaps.old result gaps.new }
+{
+    let stop = pool.end();
+    let mut cursor = u64::from(pool.network);
+    let mut n = at.gaps;
+    for i in at.leases..span.leases {
+        let x = image_records::lease_at(image, span.from + LEASE * i);
+        if time < x.expires {
+            let first = u64::from(x.network);
+            if stop <= first {
+                return Pass {
+                    leases: i,
+                    gaps: gap_list::push(gaps, n, cursor, stop),
+                };
+            }
+            n = gap_list::push(gaps, n, cursor, first);
+            cursor = first + prefix::size(x.length);
+        }
+    }
+    Pass {
+        leases: span.leases,
+        gaps: gap_list::push(gaps, n, cursor, stop),
+    }
+}
+
+// The gaps that the span's pools and the present ones of its leases leave, in order; how many there are.
+pub fn gaps_in(image: &[u8], span: Span, time: u32, gaps: &mut [Ends]) -> usize
     requires { (head_size + pool_size * (span.pool + span.pools) ≤ length image.now) × (span.from + lease_size * span.leases ≤ length image.now)
-        × (span.pools + span.leases ≤ length starts.old) × (span.pools + span.leases ≤ length lasts.old)
-        × ((k : ℕ) → k < span.pools → end (nth_pool (drop head_size image.now) (span.pool + k)) ≤ addresses) }
+        × (span.pools + span.leases ≤ length gaps.old) × ((k : ℕ) → k < span.pools → end (nth_pool (drop head_size image.now) (span.pool + k)) ≤ addresses) }
     ensures upper_bound { result ≤ span.pools + span.leases }
     ensures result_after { (ps : List Prefix) (xs : List Lease) → Ground image.now span.pool span.pools span.from span.leases ps xs
-        → held_in starts.new lasts.new result ≡ gaps_of ps (ahead time 0 xs) }
+        → held_in gaps.new result ≡ gaps_of ps (ahead time 0 xs) }
 {
     let mut at = Pass { leases: 0, gaps: 0 };
-    let mut k: usize = 0;
-    while k < span.pools {
-        let p = image_check::pool(&image[HEAD..], span.pool + k);
-        at = in_pool(image, span.from, span.leases, time, p, at, starts, lasts);
-        k += 1;
+    for k in 0..span.pools {
+        let pool = image_check::pool(&image[HEAD..], span.pool + k);
+        at = in_pool(image, span, time, pool, at, gaps);
     }
     at.gaps
 }

@@ -3,7 +3,7 @@
 use Prim.Native.Nat.{ℕ, ◌+◌, ◌-◌, ◌≤◌, ◌<◌}
 use mathlib.Core.Path.{◌≡◌, refl, sym, ap, ap₂, subst, ◌∙◌}
 use mathlib.Core.Logic.{by_cases}
-use mathlib.Core.Bool.{Bool, true, false, not}
+use mathlib.Core.Bool.{Bool, true, false}
 use mathlib.Core.List.{List, [], ◌∷◌, ◌++◌, map}
 use mathlib.Core.Option.{Option, none, some}
 use native.Mathlib.Decide.{dec_le}
@@ -12,15 +12,17 @@ use lib.Dec.{eqb}
 use lib.ListN.{length, set, get_or, length-set}
 use lib.Seq.{get_or-set_same, set-set}
 use borrow.Author.Tests.{ne_eqb}
-use Rattle.lists.proofs.Tests.{cond-true, cond-false}
+use Rattle.std.specs.Prelude.{Some, None}
+use Rattle.std.specs.Prelude.{Option as Optional}
+use Rattle.lists.proofs.Tests.{cond-false}
 use Rattle.lists.proofs.SortingLaws.{insert_by-longer}
 use Rattle.prefix.specs.declared.Prefix.{Prefix}
 use Rattle.prefix.specs.Prefixes.{prefix}
 use Rattle.free_space.specs.Grant.{lowest_part, grant}
 use Rattle.free_space.proofs.ListTheorem.{granted-free}
 use Rattle.free_space.proofs.WithinLaws.{grant-within}
-use Rattle.gap_list.specs.declared.Choice.{Choice}
-use Rattle.gap_list.specs.Gaps.{Gap, gaps_of, fit_in, without, LiesIn}
+use Rattle.gap_list.specs.declared.{Choice.Choice, Ends.Ends}
+use Rattle.gap_list.specs.Gaps.{gaps_of, fit_in, without, LiesIn}
 use Rattle.gap_list.specs.Columns.{held_in, Carved, fit_of, Fitted}
 use Rattle.gap_list.proofs.FitLaws.{fit-grants}
 use Rattle.gap_list.proofs.SplitLaws.{gaps-split}
@@ -45,15 +47,11 @@ flag-back : (b : Bool) → eqb (flag_of b) 1 ≡ b
 flag-back true = refl
 flag-back false = refl
 
-pub not_back : (b c : Bool) → not b ≡ c → b ≡ not c
-not_back true c e = ap not e
-not_back false c e = ap not e
-
 module _ (place l j : ℕ) (c : Columns) (p : Progress) (hn : j < length c.networks) (hl : j < length c.lengths) where
   -- NOTHING GRANTED: the length in its place is 0.
 
   abbrev cleared : Columns
-  cleared = columns c.starts c.lasts c.networks (set c.lengths j 0)
+  cleared = columns c.gaps c.networks (set c.lengths j 0)
 
   -- The request gets nothing, and the gaps are as before.
   left_out : (t : LeaseTable) (time client : ℕ) (name : Name) (ys : List Lease) (fs : List ℕ) (os : List (Option Lease)) (f : ℕ) → length fs ≡ j → OffersHeld t time client name ys fs os c p
@@ -89,7 +87,7 @@ module _ (place l j : ℕ) (c : Columns) (p : Progress) (hn : j < length c.netwo
   pub served-full : p.left ≡ 0 → Served place l j c p cleared p
   served-full e = nothing-granted (λ z t time client name ys fs os r a k. offer-full t time client name ys r (omega (arith, k.left)))
 
-  module _ (r : Choice) (fitted : Fitted (held_in c.starts c.lasts p.gaps) l r) where
+  module _ (r : Optional Choice) (fitted : Fitted (held_in c.gaps p.gaps) l r) where
     -- The fit is what the ledger grants.
     grant-is : (t : LeaseTable) (time client : ℕ) (name : Name) (ys : List Lease) (fs : List ℕ) (os : List (Option Lease)) (q : Request) → Asked t ys q l → OffersHeld t time client name ys fs os c p
         → grant (pools_of t) (map prefix_of ys) (asked_length t q) ≡ fit_of r l
@@ -98,23 +96,22 @@ module _ (place l j : ℕ) (c : Columns) (p : Progress) (hn : j < length c.netwo
         ∙ grant-within (pools_of t) (map prefix_of ys) a.ordered.good.lengths a.parted l
         ∙ sym (fit-grants (pools_of t) (within (pools_of t) (map prefix_of ys)) a.ordered l a.block)
         ∙ sym (fitted.best (omega (arith, a.block.1))
-        ∙ ap (lowest_part l) (sym (fit-solid l none (held_in c.starts c.lasts p.gaps)) ∙ ap (fit_in l) k.gaps))
+        ∙ ap (lowest_part l) (sym (fit-solid l none (held_in c.gaps p.gaps)) ∙ ap (fit_in l) k.gaps))
 
     -- Nothing fits.
-    pub served-none : not r.found ≡ true → Served place l j c p cleared p
+    pub served-none : r ≡ None → Served place l j c p cleared p
     served-none e =
         nothing-granted (λ z t time client name ys fs os q a k.
         by_cases (dec_le lease_slots (length ys)) (λ full. offer-full t time client name ys q full)
         (λ room.
         offer-room t time client name ys q (omega arith)
-        ∙ ap (offered time client name q.h) (grant-is t time client name ys fs os q a k ∙ cond-false r.found (some (prefix r.network l)) none (not_back r.found true e))))
-
+        ∙ ap (offered time client name q.h) (grant-is t time client name ys fs os q a k ∙ ap (λ (o : Optional Choice). fit_of o l) e)))
     -- A REQUEST THAT IS GRANTED
 
-    module _ (without_place : place ≡ no_place) (e : not r.found ≡ false) (left : 0 < p.left) (starts lasts : List ℕ) (n : ℕ)
-        (kept : Carved p.gaps (without (prefix r.network l) r.index (held_in c.starts c.lasts p.gaps)) n starts lasts) where
+  module _ (r : Choice) (fitted : Fitted (held_in c.gaps p.gaps) l (Some r)) where
+    module _ (without_place : place ≡ no_place) (left : 0 < p.left) (es : List Ends) (n : ℕ) (kept : Carved p.gaps (without (prefix r.network l) r.index (held_in c.gaps p.gaps)) n es) where
       abbrev after : Columns
-      after = columns starts lasts (set c.networks j r.network) (set (set c.lengths j 0) j l)
+      after = columns es (set c.networks j r.network) (set (set c.lengths j 0) j l)
 
       abbrev on : Progress
       on = record { gaps = n; granted = p.granted + 1; left = p.left - 1 }
@@ -138,9 +135,9 @@ module _ (place l j : ℕ) (c : Columns) (p : Progress) (hn : j < length c.netwo
           let x : Lease = record { network = r.network; length = l; client = client; leased = false; h = q.h; d = false; expires = time + hold_time; name = name } in
           let own : List Prefix = within (pools_of t) (map prefix_of ys) in
           let granted : grant (pools_of t) (map prefix_of ys) (asked_length t q) ≡ some (prefix r.network l) =
-          grant-is t time client name ys fs os q a k ∙ cond-true r.found (some (prefix r.network l)) none (not_back r.found false e) in
+          grant-is (Some r) fitted t time client name ys fs os q a k in
           let inside = (granted-free (pools_of t) a.ordered.good (map prefix_of ys) (asked_length t q) (prefix r.network l) granted).0.pooled in
-          let there = lies-solid (prefix r.network l) r.index (held_in c.starts c.lasts p.gaps) (fitted.place (not_back r.found false e)) in
+          let there = lies-solid (prefix r.network l) r.index (held_in c.gaps p.gaps) fitted.place in
           let lies : LiesIn (prefix r.network l) there.index (gaps_of (pools_of t) own) = subst (LiesIn (prefix r.network l) there.index) k.gaps there.lies in
           record {
             gaps =
@@ -161,7 +158,7 @@ module _ (place l j : ℕ) (c : Columns) (p : Progress) (hn : j < length c.netwo
         offered = λ z t time client name ys fs os q s a k.
             subst (λ (o : Option Lease). OffersHeld t time client name (add o ys) (fs ++ (flag_of q.h ∷ [])) (os ++ (o ∷ [])) after on)
             (sym (offer-room t time client name ys q (omega (arith, k.left))
-            ∙ ap (offered time client name q.h) (grant-is t time client name ys fs os q a k ∙ cond-true r.found (some (prefix r.network l)) none (not_back r.found false e))))
+            ∙ ap (offered time client name q.h) (grant-is (Some r) fitted t time client name ys fs os q a k)))
             (holds_more t time client name ys fs os q s a k);
         passed = λ some-place. absurd (some-place without_place);
         counted = λ long e. omega (arith, e, ap (λ (ls : List ℕ). leases_in ls (j + 1)) (set-set c.lengths j 0 l), others-more 0 c.lengths j l hl (λ z. omega arith));

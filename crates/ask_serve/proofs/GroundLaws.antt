@@ -17,9 +17,9 @@ use Rattle.lists.proofs.ListLaws.{all_map, all-image, all-preimage, all-every, p
 use Rattle.lists.proofs.FilterLaws.{filter-yes, filter-no, filter-all, filter-whole, filter-pass}
 use Rattle.lists.proofs.SortingLaws.{insert_by-before, insert_by-after, insert_by-image}
 use Rattle.prefix.specs.declared.Prefix.{Prefix}
-use Rattle.prefix.specs.Prefixes.{Inside, Apart, inside?, end}
+use Rattle.prefix.specs.Prefixes.{Inside, Apart, inside?}
 use Rattle.prefix.proofs.PrefixLaws.{inside_of, inside-to}
-use Rattle.free_space.specs.Serving.{Pools, Before, Ordered}
+use Rattle.free_space.specs.Serving.{Before, Ordered}
 use Rattle.free_space.proofs.WithinLaws.{parted-part}
 use Rattle.option.specs.Reading.{four}
 use Rattle.table.specs.declared.{Pool.Pool, Lease.Lease, LeaseTable.LeaseTable}

@@ -16,6 +16,7 @@ use Rattle.lists.specs.Lists.{All}
 use Rattle.lists.proofs.Tests.{bool_cases, cond-true, cond-false}
 use Rattle.lists.proofs.IndexLaws.{all-at}
 use Rattle.prefix.specs.Prefixes.{longest}
+use Rattle.gap_list.specs.declared.Ends.{Ends}
 use Rattle.gap_list.specs.Gaps.{gaps_of, solid}
 use Rattle.gap_list.proofs.SolidLaws.{gaps-solid}
 use Rattle.names.specs.declared.Name.{Name}
@@ -68,11 +69,11 @@ module _ (u : LeaseTable) (call : Call) (time client : ℕ) (name : Name) (xs us
   abbrev pub After : ℕ → Columns → Progress → Type 0
   After j c p = OffersHeld t time client name (add_all (offered j) xs) (flags_of (take j rs)) (offered j) c p
 
-  module _ (starts lasts : List ℕ) (start : Start) (ask-lengths : List ℕ) (ready : Serving u call time client xs rs starts lasts start ask-lengths) (same : length places ≡ length ask-lengths) where
+  module _ (es : List Ends) (start : Start) (ask-lengths : List ℕ) (ready : Serving u call time client xs rs es start ask-lengths) (same : length places ≡ length ask-lengths) where
     fine_before : Fine (pools_of u) time 0 xs
     fine_before = subst (Fine (pools_of u) time 0) (sym ready.present_leases) (sound-fine u ready.sound_table time)
 
-    pub serve-start : (networks lengths : List ℕ) → After 0 (columns starts lasts networks lengths) (record { gaps = start.gaps; granted = 0; left = start.slots })
+    pub serve-start : (networks lengths : List ℕ) → After 0 (columns es networks lengths) (record { gaps = start.gaps; granted = 0; left = start.slots })
     unfolding rest_offers add_all
     serve-start networks lengths = record {
       gaps =

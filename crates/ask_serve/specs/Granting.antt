@@ -3,6 +3,7 @@ use Rattle.std.specs.Prelude.{ℕ, ◌+◌, ◌-◌, ◌≤◌, ◌≡◌, true,
 use Rattle.std.proofs.Math.Option.{Option, none, some}
 use Rattle.lists.specs.Lists.{All}
 use Rattle.prefix.specs.Prefixes.{longest}
+use Rattle.gap_list.specs.declared.Ends.{Ends}
 use Rattle.gap_list.specs.Gaps.{gaps_of}
 use Rattle.gap_list.specs.Columns.{held_in}
 use Rattle.names.specs.declared.Name.{Name}
@@ -41,13 +42,13 @@ rest_offers t now client name xs [] (r ∷ rs) = []
 rest_offers t now client name xs (some x ∷ gs) (r ∷ rs) = none ∷ rest_offers t now client name xs gs rs
 rest_offers t now client name xs (none ∷ gs) (r ∷ rs) = let o = offer t now client name xs r in o ∷ rest_offers t now client name (add o xs) gs rs
 
--- What serving asks for: a sound table, the leases present in it, the gaps of the ground of a call in columns, how many slots are empty, and requests of lengths that
+-- What serving asks for: a sound table, the leases present in it, the gaps of the ground of a call in a buffer, how many slots are empty, and requests of lengths that
 -- an option can have. The gaps are those of the pools and the leases on that ground; slots are counted for the whole table.
-pub record Serving (t : LeaseTable) (c : Call) (time client : ℕ) (xs : List Lease) (rs : List Request) (starts lasts : List ℕ) (start : Start) (ask-lengths : List ℕ) : Type 0 where
+pub record Serving (t : LeaseTable) (c : Call) (time client : ℕ) (xs : List Lease) (rs : List Request) (es : List Ends) (start : Start) (ask-lengths : List ℕ) : Type 0 where
   pub sound_table : sound t ≡ true
   pub present_leases : xs ≡ present time t.leases
   pub named : client ≡ 0 → ⊥
-  pub gaps : held_in starts lasts start.gaps ≡ gaps_of (pools_of (narrowed t c)) (map prefix_of (usable_leases t c xs))
+  pub gaps : held_in es start.gaps ≡ gaps_of (pools_of (narrowed t c)) (map prefix_of (usable_leases t c xs))
   pub empty : start.slots ≡ lease_slots - length xs
   pub by_default : start.default_length ≡ t.default_length
   pub asked_lengths : ask-lengths ≡ map (λ r. r.length) rs

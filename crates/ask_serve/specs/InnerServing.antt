@@ -5,6 +5,7 @@ use Rattle.lists.specs.Lists.{All, Any, Pairwise, any?, filter}
 use Rattle.prefix.specs.declared.Prefix.{Prefix}
 use Rattle.prefix.specs.Prefixes.{Inside, Apart, inside?}
 use Rattle.free_space.specs.Serving.{Length, Before, Ordered}
+use Rattle.gap_list.specs.declared.Ends.{Ends}
 use Rattle.gap_list.specs.Gaps.{gaps_of, solid}
 use Rattle.gap_list.specs.Columns.{held_in}
 use Rattle.names.specs.declared.Name.{Name}
@@ -19,13 +20,12 @@ use Rattle.ask_serve.specs.Granting.{offers_in, leases_in}
 
 -- The columns: the gaps, and what is granted.
 pub record Columns : Type 0 where
-  pub starts : List ℕ
-  pub lasts : List ℕ
+  pub gaps : List Ends
   pub networks : List ℕ
   pub lengths : List ℕ
 
-abbrev pub columns : List ℕ → List ℕ → List ℕ → List ℕ → Columns
-columns starts lasts networks lengths = record { starts = starts; lasts = lasts; networks = networks; lengths = lengths }
+abbrev pub columns : List Ends → List ℕ → List ℕ → Columns
+columns gaps networks lengths = record { gaps = gaps; networks = networks; lengths = lengths }
 
 -- Those of some prefixes that lie in one of these pools.
 abbrev pub within : List Prefix → List Prefix → List Prefix
@@ -34,7 +34,7 @@ within pools ps = filter (λ p. any? (inside? p) pools) ps
 -- The columns hold the gaps of a table's pools and of those leases of ys that lie in them, beside empty ones, and what the first requests, those with the h fs,
 -- are offered.
 pub record OffersHeld (t : LeaseTable) (time client : ℕ) (name : Name) (ys : List Lease) (fs : List ℕ) (os : List (Option Lease)) (c : Columns) (p : Progress) : Type 0 where
-  pub gaps : solid (held_in c.starts c.lasts p.gaps) ≡ gaps_of (pools_of t) (within (pools_of t) (map prefix_of ys))
+  pub gaps : solid (held_in c.gaps p.gaps) ≡ gaps_of (pools_of t) (within (pools_of t) (map prefix_of ys))
   pub left : p.left ≡ lease_slots - length ys
   pub held : offers_in client (time + hold_time) name c.networks c.lengths fs ≡ os
 

@@ -12,6 +12,7 @@ ghost use Rattle.ask_serve.specs.Granting.{leases_in, Serving, Granted};
 ghost use Rattle.ask_serve.specs.InnerServing.{columns, Served};
 
 use ask_again::NONE;
+use gap_list::Ends;
 
 // How many gaps there are, how many requests are granted, and how many slots are left.
 #[derive(Clone, Copy)]
@@ -24,8 +25,7 @@ pub struct Progress {
 // One request, whose place in the columns is j: granted it splits a gap and takes a slot, refused it has the length 0 there. So
 // does one that gets a lease again, and nothing else changes then.
 fn serve_one(
-    starts: &mut [u32],
-    lasts: &mut [u32],
+    gaps: &mut [Ends],
     networks: &mut [u32],
     lengths: &mut [u8],
     at: Progress,
@@ -33,8 +33,8 @@ fn serve_one(
     j: usize,
     place: u16,
 ) -> Progress
-    requires { (at.gaps + at.left ≤ length_of starts.old) × (at.gaps + at.left ≤ length_of lasts.old) × (at.granted ≤ j) × (j < length_of networks.old) × (j < length_of lengths.old) }
-    ensures { Served place length j (columns starts.old lasts.old networks.old lengths.old) at (columns starts.new lasts.new networks.new lengths.new) result }
+    requires { (at.gaps + at.left ≤ length_of gaps.old) × (at.granted ≤ j) × (j < length_of networks.old) × (j < length_of lengths.old) }
+    ensures { Served place length j (columns gaps.old networks.old lengths.old) at (columns gaps.new networks.new lengths.new) result }
 {
     lengths[j] = 0;
     if place != NONE {
@@ -45,12 +45,11 @@ fn serve_one(
         return at;
     }
     let n = at.gaps;
-    let fit = gap_list::fit(starts, lasts, n, length);
-    if !fit.found {
+    let Some(fit) = gap_list::fit(&gaps[..n], length) else {
         return at;
-    }
+    };
     let network = fit.network;
-    let more = gap_list::carve(starts, lasts, n, fit.index, network, length);
+    let more = gap_list::carve(gaps, n, fit.index, network, length);
     networks[j] = network;
     lengths[j] = length;
     Progress {
@@ -74,17 +73,16 @@ pub fn serve(
     ask_lengths: &[u8],
     places: &[u16],
     start: Start,
-    starts: &mut [u32],
-    lasts: &mut [u32],
+    gaps: &mut [Ends],
     networks: &mut [u32],
     lengths: &mut [u8],
 ) -> usize
-    requires { (length_of places.now ≡ length_of ask_lengths.now) × (start.gaps + start.slots ≤ length_of starts.old) × (start.gaps + start.slots ≤ length_of lasts.old) × (1 ≤ start.default_length) × (length_of ask_lengths.now ≤ length_of networks.old) × (length_of ask_lengths.now ≤ length_of lengths.old) }
+    requires { (length_of places.now ≡ length_of ask_lengths.now) × (start.gaps + start.slots ≤ length_of gaps.old) × (1 ≤ start.default_length) × (length_of ask_lengths.now ≤ length_of networks.old) × (length_of ask_lengths.now ≤ length_of lengths.old) }
     ensures upper_bound { result ≤ length_of ask_lengths.now }
     ensures upper_bound_2 { result ≤ start.slots }
     ensures value { result ≡ leases_in lengths.new (length_of ask_lengths.now) }
     ensures granted { (t : LeaseTable) (c : Call) (time client : ℕ) (name : Name) (xs us : List Lease) (rs : List Request)
-        → Serving t c time client xs rs starts.old lasts.old start ask_lengths.now
+        → Serving t c time client xs rs gaps.old start ask_lengths.now
         → Granted (narrowed t c) time client name xs (given_in us places.now) rs networks.new lengths.new }
 {
     let default_length = start.default_length;
@@ -93,12 +91,9 @@ pub fn serve(
         granted: 0,
         left: start.slots,
     };
-    let requests = ask_lengths.len();
-    let mut j: usize = 0;
-    while j < requests {
-        let length = ask_again::ask_length(ask_lengths[j], default_length);
-        at = serve_one(starts, lasts, networks, lengths, at, length, j, places[j]);
-        j += 1;
+    for (j, asked) in ask_lengths.iter().enumerate() {
+        let length = ask_again::ask_length(*asked, default_length);
+        at = serve_one(gaps, networks, lengths, at, length, j, places[j]);
     }
     at.granted
 }

@@ -139,8 +139,8 @@ module _ (h : Lent) (now : ℕ) (c : Call) (short : Bool) (short-is : short ≡ 
         -- Row 17: the first name stands where it was found.
         pub named : NamedIn c.option s.contents (first_name_in c.option)
         named =
-            let read = option-passed c (option-none c s.selected s.contents s.columns s.reads s.answer s.answer-is good) in
-            subst (λ (o : Outcome). NamedIn c.option s.contents (first_name (suboptions o))) (sym read) (s.reads.named (read_suboptions c.option 3).0 read)
+            let read = option-passed c (option-none c s.selected s.found s.columns s.reads s.answer s.answer-is good) in
+            subst (λ (o : Outcome). NamedIn c.option s.contents (first_name (suboptions o))) (sym read) (s.reads.named s.contents (s.good good) (read_suboptions c.option 3).0 read)
 
         name-many : length (first_name_in c.option) ≡ s.contents.name_bytes
         name-many =

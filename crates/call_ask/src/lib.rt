@@ -69,18 +69,16 @@ pub fn ask(
     let mut ask_h = [0u8; MOST_REQUESTS];
     let mut networks = [0u32; MOST_ENTRIES];
     let mut lengths = [0u8; MOST_ENTRIES];
-    let contents = option_scan::read(
+    let contents = match option_scan::read(
         option,
         &mut ask_lengths,
         &mut ask_h,
         &mut networks,
         &mut lengths,
-    );
-    let checked = contents.checked;
-    let refusal = call_rows::option_refusal(checked);
-    if refusal.number != 0 {
-        return refusal;
-    }
+    ) {
+        Ok(contents) => contents,
+        Err(fault) => return call_rows::option_refusal(fault),
+    };
     let n = contents.requests;
     if !for_ask(n, contents.listing) {
         return call_spec::refused(8, 0);

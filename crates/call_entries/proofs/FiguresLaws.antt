@@ -8,16 +8,13 @@ use mathlib.Core.Bool.{Bool, true, false, cond, ◌&&◌}
 use mathlib.Core.List.{List, [], ◌∷◌, ◌++◌}
 use lib.ListN.{length, get_or}
 use lib.Dec.{eqb, leb, ltb}
-use denote.Enum.Declared.{tag_of}
 use borrow.Author.Tests.{ne_eqb, ltb-true, le-leb}
 use Rattle.lists.specs.Walk.{Turn, more, stop}
 use Rattle.lists.proofs.Tests.{and-to, cond-true}
 use Rattle.option_entry.specs.declared.EntryCursor.{EntryCursor}
 use Rattle.option_entry.specs.declared.EntryFields.{EntryFields}
-use Rattle.option_entry.specs.declared.EntryStep.{EntryStep}
-use Rattle.option_entry.specs.declared.EntryStep.TheVariants as entry-step
+use Rattle.std.specs.Prelude.{Some, Ok}
 use Rattle.option_entry.specs.Steps.{figures_of, fields_of, entries_from, entry_step_of}
-use Rattle.option_entry.specs.contracts.EntryStep.{the_type}
 use Rattle.option.specs.Values.{Entry, SuboptionValue, request, information, name, unknown}
 use Rattle.option.specs.Reading.{bit1, bit2, End, whole, bad_at, sub_end, when_good, read_entry, read_entries, read_request, read_information, read_name, read_body, read_suboption, read_suboptions}
 use Rattle.option.specs.Contents.{entries}
@@ -210,17 +207,12 @@ module _ (s : List ℕ) (c : EntryCursor) (e : Entry) (es : List Entry) (h : Lef
             let ends : false ≡ true = ap (λ (q : List Entry × Bool). q.1) two in
             let z : ◌≡◌ {A = ℕ} 0 1 = cc in absurd (omega arith)
 
-    -- What the step's answer tells.
-    pub left-told : (f : EntryFields) (n : EntryCursor) → entry-step.Entry f n ≡ entry_step_of c.end (read_entry s c.end c.at) → (f.figures ≡ figures_of e.figures) × LeftAt s n es
-    left-told f n k =
-        let t = left-entry in
-        let told : entry-step.Entry f n ≡ entry-step.Entry (fields_of e) (entries_from t.0 c.end) = k ∙ ap (entry_step_of c.end) t.1 in
-        let fields : f ≡ fields_of e = cc in
-        let cursor : entries_from t.0 c.end ≡ n = cc in
-        (ap (λ (g : EntryFields). g.figures) fields, subst (λ (m : EntryCursor). LeftAt s m es) cursor t.2)
+    -- What the step's answer tells: it is this entry.
+    pub left-step : entry_step_of c.end (read_entry s c.end c.at) ≡ Ok (Some (fields_of e, entries_from left-entry.0 c.end))
+    left-step = ap (entry_step_of c.end) left-entry.1
 
-    -- So it is none of the others.
-    pub left-met : (t : EntryStep) → t ≡ entry_step_of c.end (read_entry s c.end c.at) → (tag_of the_type t ≡ 1) ⊎ (tag_of the_type t ≡ 2) → ⊥
-    left-met t k other =
-        let entry : tag_of the_type t ≡ 0 = ap (tag_of the_type) (k ∙ ap (entry_step_of c.end) left-entry.1) in
-        ⊎_elim (λ (cut : tag_of the_type t ≡ 1). omega arith) (λ (end : tag_of the_type t ≡ 2). omega arith) other
+    pub left-told : (f : EntryFields) (n : EntryCursor) → entry_step_of c.end (read_entry s c.end c.at) ≡ Ok (Some (f, n)) → (f.figures ≡ figures_of e.figures) × LeftAt s n es
+    left-told f n k =
+        let told : Ok (Some (fields_of e, entries_from left-entry.0 c.end)) ≡ entry_step_of c.end (read_entry s c.end c.at) = sym left-step in
+        let both : ◌≡◌ {A = EntryFields × EntryCursor} (fields_of e, entries_from left-entry.0 c.end) (f, n) = cc in
+        (sym (ap (λ p. p.0.figures) both), subst (λ (m : EntryCursor). LeftAt s m es) (ap (λ p. p.1) both) left-entry.2)

@@ -16,8 +16,10 @@ use Rattle.ledger.specs.Ledger.{Call, call, first_of, refusal, refusal_place, op
 use Rattle.ledger.proofs.RowLaws.{first-after, nothing-none, nothing-some}
 use Rattle.ledger.proofs.CommonRows.{option-passed}
 use Rattle.ledger.specs.Answers.{checked_answer}
+use Rattle.std.specs.Prelude.{Result, Ok}
+use Rattle.option.specs.declared.OptionFault.{OptionFault}
 use Rattle.option_scan.specs.declared.Contents.{Contents}
-use Rattle.option_scan.specs.Scanned.{Columns, ScannedOf, Reads}
+use Rattle.option_scan.specs.Scanned.{Columns, ScannedOf, checked_by, Reads}
 use Rattle.call_rows.proofs.RowLaws.{option-refuses, option-none, scanned}
 use Rattle.call_entries.specs.EntryFigures.{first_entries, LeftAt}
 use Rattle.call_entries.specs.EntryRows.{entry_rows, ReadsEntries}
@@ -43,7 +45,7 @@ good-option true subs whole others k = (refl, refl)
 good-option true subs (bad_at f p) others k = let z : ◌≡◌ {A = ℕ} 0 1 = cc in absurd (omega arith)
 good-option false subs e others k = let z : ◌≡◌ {A = ℕ} 0 1 = cc in absurd (omega arith)
 
-module _ (option : List ℕ) (m : Contents) (c : Columns) (reads : Reads option m c) (a : Answer) (g : a ≡ checked_answer m.checked) where
+module _ (option : List ℕ) (found : Result Contents OptionFault) (c : Columns) (reads : Reads option found c) (a : Answer) (g : a ≡ checked_answer (checked_by found)) where
   abbrev by : Call
   by = call 0 option []
 
@@ -53,19 +55,19 @@ module _ (option : List ℕ) (m : Contents) (c : Columns) (reads : Reads option 
   -- Rows 6, 7 and 16.
   pub read-bad : (a.number ≡ 0 → ⊥) → ReadsEntries option (record { answer = a; count = 0 }) c.networks c.lengths
   read-bad k = record {
-    refused = option-refuses by refl m c reads a g ((8, not right) ∷ []);
+    refused = option-refuses by refl found c reads a g ((8, not right) ∷ []);
     passed = λ z. absurd (k z);
     few = omega arith;
     left = λ z. absurd (k z);
     hold = λ z. absurd (k z);
   }
 
-  module _ (good : a.number ≡ 0) where
+  module _ (good : a.number ≡ 0) (m : Contents) (is : found ≡ Ok m) where
     none-of-three : first_of (option_rows by) ≡ none
-    none-of-three = option-none by refl m c reads a g good
+    none-of-three = option-none by refl found c reads a g good
 
     holding : ScannedOf m c (suboptions (read_option option))
-    holding = scanned by refl m c reads a g good
+    holding = scanned by refl found c reads a g good m is
 
     -- The figures are left to read.
     figures-left : LeftAt option first_entries (entries_in option)

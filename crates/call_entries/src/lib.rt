@@ -15,8 +15,7 @@ ghost use Rattle.call_entries.specs.EntryFigures.{first_entries, LeftAt};
 
 use image::{EXPIRES, LEASE, STATE};
 use ledger::Answer;
-use option::{EntryCursor, EntryStep, Figures};
-use option_entry::{HighWater, InUse, Unusable, wide};
+use option::{EntryCursor, Figures};
 
 // THE ENTRIES
 
@@ -34,12 +33,15 @@ pub fn read_entries(option: &[u8], networks: &mut [u32], lengths: &mut [u8]) -> 
 {
     let mut asks = [0u8; option_scan::MOST_REQUESTS];
     let mut h = [0u8; option_scan::MOST_REQUESTS];
-    let m = option_scan::read(option, &mut asks, &mut h, networks, lengths);
-    let checked = m.checked;
-    let answer = call_rows::option_refusal(checked);
-    if answer.number != 0 {
-        return EntriesRead { answer, count: 0 };
-    }
+    let m = match option_scan::read(option, &mut asks, &mut h, networks, lengths) {
+        Ok(m) => m,
+        Err(fault) => {
+            return EntriesRead {
+                answer: call_rows::option_refusal(fault),
+                count: 0,
+            };
+        }
+    };
     if m.requests != 0 {
         return EntriesRead {
             answer: call_spec::refused(8, 0),
@@ -53,7 +55,10 @@ pub fn read_entries(option: &[u8], networks: &mut [u32], lengths: &mut [u8]) -> 
             count: 0,
         };
     }
-    EntriesRead { answer, count: n }
+    EntriesRead {
+        answer: call_spec::refused(0, 0),
+        count: n,
+    }
 }
 
 // THE FIGURES OF THE ENTRIES, which only a take looks at: read from an option that has passed the rows, entry by entry. The
@@ -82,7 +87,7 @@ fn information_from(s: &[u8], at: usize) -> EntryCursor
                 end: place,
             };
         }
-        let end = place + 2 + wide(s[place + 1]);
+        let end = place + 2 + usize::from(s[place + 1]);
         if s[place] == INFORMATION {
             return EntryCursor { at: place + 3, end };
         }
@@ -116,22 +121,14 @@ pub fn read_figures(s: &[u8], entries: EntryCursor) -> FiguresRead
 {
     let here = next_entry(s, entries);
     match here.step(s) {
-        EntryStep::Entry(e, next) => {
-            let figures = e.figures;
-            FiguresRead { figures, next }
-        }
-        _ => {
-            let figures = Figures {
-                count: 0,
-                high_water: HighWater(0),
-                in_use: InUse(0),
-                unusable: Unusable(0),
-            };
-            FiguresRead {
-                figures,
-                next: here,
-            }
-        }
+        Ok(Some((e, next))) => FiguresRead {
+            figures: e.figures,
+            next,
+        },
+        _ => FiguresRead {
+            figures: Figures::NONE,
+            next: here,
+        },
     }
 }
 

@@ -33,8 +33,9 @@ use Rattle.ledger.proofs.GroundLaws.{narrowed_none, ground-whole}
 use Rattle.call_spec.specs.ImageCalls.{Lent, table_in}
 use Rattle.call_rows.specs.Admission.{Admitted}
 use Rattle.call_ground.specs.declared.{LeaseRange.LeaseRange, Ground.Ground}
-use Rattle.call_ground.specs.Ground.{PoolOf, LeasesIn, starts_in?, on_it?, leases_in, OfAdmitted, Grounds}
-use Rattle.call_ground.proofs.PoolLaws.{pool_at, no-pool}
+use Rattle.std.specs.Prelude.{Some, None}
+use Rattle.call_ground.specs.Ground.{Index, one_pool, PoolOf, LeasesIn, starts_in?, on_it?, leases_in, OfAdmitted, Grounds}
+use Rattle.call_ground.proofs.PoolLaws.{pool_at}
 use Rattle.call_ground.proofs.RangeLaws.{ascending-drop}
 use Rattle.call_ground.proofs.LeaseLaws.{starts-inside}
 use Rattle.call_ground.proofs.RowLaws.{ground-is, ground-one, ground-member}
@@ -153,19 +154,19 @@ module _ (h : Lent) (time : ℕ) (c : Call) (summary : ImageSummary) (a : Admitt
       drop_all (suc n) (x ∷ l) k = drop_all n l (omega arith)
 
   -- With it the pool that contains its address.
-  module _ (s : List ℕ) (carries : c.selection ≡ some s) (address : ℕ) (four_is : address ≡ four s 2) (image : List ℕ) (same : h.image ≡ image) (r : ℕ)
+  module _ (s : List ℕ) (carries : c.selection ≡ some s) (address : ℕ) (four_is : address ≡ four s 2) (image : List ℕ) (same : h.image ≡ image) (r : Index)
       (found : PoolOf image summary.pools address r) where
     p : PoolOf h.image summary.pools address r
     p = subst (λ (l : List ℕ). PoolOf l summary.pools address r) (sym same) found
 
-    pub grounds-none : r ≡ summary.pools → Grounds h c summary (record { pool = r; pools = 0; first = 0; leases = 0 })
+    pub grounds-none : r ≡ None → Grounds h c summary (record { pool = 0; pools = 0; first = 0; leases = 0 })
     grounds-none out =
         let t : LeaseTable = the_table in
         let no : pools_of (narrowed t c) ≡ [] =
-        ground-is t a.sound h.image h.bytes a.image summary.pools address r a.pools p c s carries four_is ∙ no-pool (used_pools t) r (omega (arith, a.pools)) in
+        ground-is t a.sound h.image h.bytes a.image summary.pools address r a.pools p c s carries four_is ∙ ap (one_pool (used_pools t)) out in
         let here : pools_of (narrowed_to (some s) t) ≡ [] = narrowed-to t c s carries ∙ no in
         record {
-          few-pools = omega (arith, out);
+          few-pools = omega arith;
           few-leases = omega arith;
           row = ap nothing? no;
           pools-are = no;
@@ -175,19 +176,19 @@ module _ (h : Lent) (time : ℕ) (c : Call) (summary : ImageSummary) (a : Admitt
               (all-every (λ x. ap (any? (inside? (prefix_of x))) here) (used_leases t));
         }
 
-    pub grounds-one : r < summary.pools → (range : LeaseRange) → range.first + range.count ≤ summary.leases
-        → ((xs : List Lease) → Records image (head_size + pool_size * summary.pools) xs → summary.leases ≡ length xs → Ascending xs → LeasesIn (pool_prefix (pool_at image r)) xs range)
-        → Grounds h c summary (record { pool = r; pools = 1; first = range.first; leases = range.count })
-    grounds-one k range few finds =
+    pub grounds-one : (k : ℕ) → r ≡ Some k → k < summary.pools → (range : LeaseRange) → range.first + range.count ≤ summary.leases
+        → ((xs : List Lease) → Records image (head_size + pool_size * summary.pools) xs → summary.leases ≡ length xs → Ascending xs → LeasesIn (pool_prefix (pool_at image k)) xs range)
+        → Grounds h c summary (record { pool = k; pools = 1; first = range.first; leases = range.count })
+    grounds-one k one-is lt range few finds =
         let t : LeaseTable = the_table in
-        let is : LeasesIn (theirs t r) (used_leases t) range =
-        subst (λ (q : Prefix). LeasesIn q (used_leases t) range) (pool-there h time c.client summary a image same r k)
+        let is : LeasesIn (theirs t k) (used_leases t) range =
+        subst (λ (q : Prefix). LeasesIn q (used_leases t) range) (pool-there h time c.client summary a image same k lt)
         (finds (used_leases t) (subst (λ (l : List ℕ). Records l (head_size + pool_size * summary.pools) (used_leases t)) same a.records) a.leases a.ascending) in
         let xs : List Lease = used_leases t in
-        let q : Prefix = theirs t r in
-        let one : pools_of (narrowed t c) ≡ q ∷ [] = ground-one t a.sound h.image h.bytes a.image summary.pools address r a.pools p c s carries four_is k in
+        let q : Prefix = theirs t k in
+        let one : pools_of (narrowed t c) ≡ q ∷ [] = ground-one t a.sound h.image h.bytes a.image summary.pools address r a.pools p c s carries four_is k one-is lt in
         let here : pools_of (narrowed_to (some s) t) ≡ q ∷ [] = narrowed-to t c s carries ∙ one in
-        let member = ground-member t a.sound h.image h.bytes a.image summary.pools address r a.pools p c s carries four_is k in
+        let member = ground-member t a.sound h.image h.bytes a.image summary.pools address r a.pools p c s carries four_is k one-is lt in
         let tests : All (λ x. on_it? (some s) t x ≡ starts_in? q x) xs =
         all_map
         (λ (x : Lease) (z : Any (Inside (prefix_of x)) (pools_of t)).
@@ -203,7 +204,7 @@ module _ (h : Lent) (time : ℕ) (c : Call) (summary : ImageSummary) (a : Admitt
           few-pools = omega arith;
           few-leases = few;
           row = ap nothing? one;
-          pools-are = ground-is t a.sound h.image h.bytes a.image summary.pools address r a.pools p c s carries four_is;
+          pools-are = ground-is t a.sound h.image h.bytes a.image summary.pools address r a.pools p c s carries four_is ∙ ap (one_pool (used_pools t)) one-is;
           inside =
               on-it c.selection (some s) t true on carries
               (all-map₂ (λ x (u : same x) (v : starts_in? q x ≡ true). u ∙ v) on (all_left same on after rest) (part-passes (starts_in? q) range.first range.count xs is));

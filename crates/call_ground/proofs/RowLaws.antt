@@ -25,25 +25,26 @@ use Rattle.image.specs.Reading.{pool_in}
 use Rattle.image_records.proofs.PoolRecords.{image-pools}
 use Rattle.ledger.specs.Ledger.{Call, nothing?, narrowed_to, narrowed}
 use Rattle.ledger.proofs.GroundLaws.{narrowed_none}
-use Rattle.call_ground.specs.Ground.{one_pool, PoolOf}
-use Rattle.call_ground.proofs.PoolLaws.{one-pool, no-pool}
+use Rattle.std.specs.Prelude.{Some, None}
+use Rattle.call_ground.specs.Ground.{Index, one_pool, PoolOf}
+use Rattle.call_ground.proofs.PoolLaws.{one-pool}
 
-module _ (t : LeaseTable) (e : sound t ≡ true) (image : List ℕ) (bytes : ℕ) (i : image_of t ≡ take bytes image) (pools address r : ℕ) (many : pools ≡ length (used_pools t))
+module _ (t : LeaseTable) (e : sound t ≡ true) (image : List ℕ) (bytes : ℕ) (i : image_of t ≡ take bytes image) (pools address : ℕ) (r : Index) (many : pools ≡ length (used_pools t))
     (p : PoolOf image pools address r) (c : Call) (s : List ℕ) (carries : c.selection ≡ some s) (four_is : address ≡ four s 2) where
   pub ground-is : pools_of (narrowed t c) ≡ one_pool (used_pools t) r
   unfolding narrowed
   ground-is = ap (λ (o : Option (List ℕ)). pools_of (narrowed_to o t)) carries ∙ p.area t bytes e i many s four_is
 
   -- Row 19 applies, or not.
-  pub groundless : pools ≤ r → nothing? (pools_of (narrowed t c)) ≡ true
-  groundless h = ap nothing? (ground-is ∙ no-pool (used_pools t) r (omega (arith, many)))
+  pub groundless : r ≡ None → nothing? (pools_of (narrowed t c)) ≡ true
+  groundless h = ap nothing? (ground-is ∙ ap (one_pool (used_pools t)) h)
 
-  module _ (h : r < pools) where
+  module _ (k : ℕ) (found : r ≡ Some k) (h : k < pools) where
     abbrev pub theirs : Prefix
-    theirs = pool_prefix (get_or (used_pools t) r no_pool)
+    theirs = pool_prefix (get_or (used_pools t) k no_pool)
 
     pub ground-one : pools_of (narrowed t c) ≡ theirs ∷ []
-    ground-one = ground-is ∙ one-pool (used_pools t) r (omega (arith, many))
+    ground-one = ground-is ∙ ap (one_pool (used_pools t)) found ∙ one-pool (used_pools t) k (omega (arith, many))
 
     pub grounded : nothing? (pools_of (narrowed t c)) ≡ false
     grounded = ap nothing? ground-one
@@ -51,7 +52,7 @@ module _ (t : LeaseTable) (e : sound t ≡ true) (image : List ℕ) (bytes : ℕ
     -- It is one of the table's, ends within the addresses, and stands in the image.
     pub ground-member : Any (λ q. q ≡ theirs) (pools_of t)
     unfolding prefixes_of
-    ground-member = member (used_pools t) r (omega (arith, many))
+    ground-member = member (used_pools t) k (omega (arith, many))
       where
         member : (ps : List Pool) (k : ℕ) → k < length ps → Any (λ q. q ≡ pool_prefix (get_or ps k no_pool)) (map pool_prefix ps)
         member ps k l = any-image ps (all-at (λ v. Any (λ x. x ≡ v) ps) ps (all-member ps) k no_pool l)
@@ -62,10 +63,10 @@ module _ (t : LeaseTable) (e : sound t ≡ true) (image : List ℕ) (bytes : ℕ
             any-image (x ∷ qs) (inr z) = inr (any-image qs z)
 
     pub ground-ends : end theirs ≤ addresses
-    ground-ends = (all-at GoodPool (used_pools t) (sound-pools t e).good r no_pool (omega (arith, many))).within
+    ground-ends = (all-at GoodPool (used_pools t) (sound-pools t e).good k no_pool (omega (arith, many))).within
 
-    pub ground-read : pool_prefix (pool_in (drop (pool_size * r) (drop head_size image))) ≡ theirs
-    ground-read = ap pool_prefix (image-pools t image bytes i r (omega (arith, many)))
+    pub ground-read : pool_prefix (pool_in (drop (pool_size * k) (drop head_size image))) ≡ theirs
+    ground-read = ap pool_prefix (image-pools t image bytes i k (omega (arith, many)))
 
 -- Without option 118 row 19 never applies: a sound table has a pool.
 pub always-grounded : (t : LeaseTable) → sound t ≡ true → (c : Call) → c.selection ≡ none → nothing? (pools_of (narrowed t c)) ≡ false

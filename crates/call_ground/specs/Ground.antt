@@ -1,6 +1,7 @@
 -- THE GROUND OF A CALL that carries option 118, in an image: the pool that contains its address, and the leases in it.
 use Rattle.std.specs.Prelude.{ℕ, ◌+◌, ◌≤◌, ◌<◌, ◌≡◌, Bool, true, false, cond, List, [], ◌∷◌, ◌++◌, map, length, get_or, take, drop, leb, ltb, eqb}
 use Rattle.std.proofs.Math.Option.{Option, none, some}
+use Rattle.std.specs.Prelude.{Option as Found, Some, None, IfSome}
 use Rattle.lists.specs.Lists.{All, and, any?, filter}
 use Rattle.lists.specs.Put.{put}
 use Rattle.prefix.specs.declared.Prefix.{Prefix}
@@ -22,13 +23,18 @@ use Rattle.call_ground.specs.declared.{LeaseRange.LeaseRange, Ground.Ground}
 abbrev pub in_pool? : ℕ → Pool → Bool
 in_pool? address p = and (leb p.network address ∷ ltb address (end (pool_prefix p)) ∷ [])
 
--- The pool with this index, if there is one.
-abbrev pub one_pool : List Pool → ℕ → List Prefix
-one_pool ps k = map pool_prefix (take 1 (drop k ps))
+-- The index of a pool, if there is one.
+abbrev pub Index : Type 0
+Index = Found ℕ
+
+-- The pool with this index.
+abbrev pub one_pool : List Pool → Index → List Prefix
+one_pool ps None = []
+one_pool ps (Some k) = map pool_prefix (take 1 (drop k ps))
 
 -- The pools that the call may use are the one with this index; none, where there is no such index.
-pub record PoolOf (image : List ℕ) (pools address r : ℕ) : Type 0 where
-  pub within : r ≤ pools
+pub record PoolOf (image : List ℕ) (pools address : ℕ) (r : Index) : Type 0 where
+  pub within : IfSome r (λ k. k < pools)
   pub area : (t : LeaseTable) (bytes : ℕ) → sound t ≡ true → image_of t ≡ take bytes image → pools ≡ length (used_pools t) → (s : List ℕ) → address ≡ four s 2
       → pools_of (narrowed_to (some s) t) ≡ one_pool (used_pools t) r
 

@@ -25,26 +25,20 @@ use table::Pool;
 fn contains(p: Pool, address: u32) -> bool
     ensures { result ≡ in_pool? address p }
 {
-    if address < p.network {
-        return false;
-    }
-    (address as u64) < table::pool_prefix(p).end()
+    p.network <= address && u64::from(address) < Prefix::from(p).end()
 }
 
-// The index of the pool that contains an address, or `pools` where none does.
-pub fn pool_of(image: &[u8], pools: usize, address: u32) -> usize
+// The index of the pool that contains an address.
+pub fn pool_of(image: &[u8], pools: usize, address: u32) -> Option<usize>
     requires { head_size + pool_size * pools ≤ length image.now }
     ensures { PoolOf image.now pools address result }
 {
-    let mut k: usize = 0;
-    while k < pools {
-        let p = image::pool_at(image, HEAD + POOL * k);
-        if contains(p, address) {
-            return k;
+    for k in 0..pools {
+        if contains(image::pool_at(image, HEAD + POOL * k), address) {
+            return Some(k);
         }
-        k += 1;
     }
-    k
+    None
 }
 
 // The places of leases that stand together: that of the first, and how many there are.
@@ -103,16 +97,15 @@ pub fn ground_of(image: &[u8], summary: ImageSummary, selected: bool, address: u
             leases: summary.leases,
         };
     }
-    let pool = pool_of(image, summary.pools, address);
-    if pool == summary.pools {
+    let Some(pool) = pool_of(image, summary.pools, address) else {
         return Ground {
-            pool,
+            pool: 0,
             pools: 0,
             first: 0,
             leases: 0,
         };
-    }
-    let p = table::pool_prefix(image::pool_at(image, HEAD + POOL * pool));
+    };
+    let p = Prefix::from(image::pool_at(image, HEAD + POOL * pool));
     let range = leases_in(image, HEAD + POOL * summary.pools, summary.leases, p);
     Ground {
         pool,
@@ -132,17 +125,10 @@ pub fn return_selection(
     requires { MayReturn answer selected selection.now reply.old }
     ensures { ((s : Lent) → outcome result s reply.new ≡ returning (carried_if selected selection.now) (outcome answer s reply.old)) }
 {
-    if answer.number != 0 {
-        return answer;
-    }
-    if !selected {
+    if answer.number != 0 || !selected {
         return answer;
     }
     let bytes = answer.bytes as usize;
-    let mut k: usize = 0;
-    while k < SELECTION {
-        reply[bytes + k] = selection[k];
-        k += 1;
-    }
+    reply[bytes..bytes + SELECTION].copy_from_slice(selection);
     call_spec::accepted((bytes + SELECTION) as u32, answer.count)
 }

@@ -2,7 +2,7 @@
 #![tactic(auto)]
 
 ghost use Rattle.std.specs.Prelude.{◌≡◌, List, [], true, not, cond, ◌&&◌, ◌+◌, ◌*◌, ◌≤◌, length, drop, eqb};
-ghost use Rattle.std.proofs.Math.Option.{none, some};
+ghost use Rattle.option_scan.specs.Scanned.{asked_position};
 ghost use Rattle.lists.specs.Lists.{filter};
 ghost use Rattle.table.specs.declared.Lease.{Lease};
 ghost use Rattle.image_records.specs.Records.{Records, Ascending};
@@ -72,15 +72,15 @@ fn show_page(
 }
 
 // The first lease above the position; all leases are meant where there is none.
-fn first_above(image: &[u8], from: usize, n: usize, resumes: bool, position: u32) -> usize
+fn first_above(image: &[u8], from: usize, n: usize, position: Option<u32>) -> usize
     requires { from + lease_size * n ≤ length image.now }
     ensures upper_bound { result ≤ n }
-    ensures equation { ((xs : List Lease) → Records image.now from xs → n ≡ length xs → Ascending xs → result ≡ start_of (cond resumes (some position) none) xs) }
+    ensures equation { ((xs : List Lease) → Records image.now from xs → n ≡ length xs → Ascending xs → result ≡ start_of (asked_position position) xs) }
 {
-    if resumes {
-        return image_records::place_after(image, from, n, position);
+    match position {
+        Some(network) => image_records::place_after(image, from, n, network),
+        None => 0,
     }
-    0
 }
 
 // Row 8: "at least one request, all with i".
@@ -113,7 +113,7 @@ fn show_listed(
         return call_spec::refused(11, 0);
     }
     let from = HEAD + POOL * summary.pools;
-    let first = first_above(image, from, n, pieces.resumes, pieces.position);
+    let first = first_above(image, from, n, pieces.position);
     let page = show_page(image, from, first, n, time, client, reply);
     let shown = page.count;
     if shown == 0 {
@@ -153,12 +153,10 @@ pub fn list(
     let mut h = [0u8; option_scan::MOST_REQUESTS];
     let mut networks = [0u32; option_scan::MOST_ENTRIES];
     let mut lengths = [0u8; option_scan::MOST_ENTRIES];
-    let pieces = option_scan::read(option, &mut asks, &mut h, &mut networks, &mut lengths);
-    let checked = pieces.checked;
-    let refusal = call_rows::option_refusal(checked);
-    if refusal.number != 0 {
-        return refusal;
-    }
+    let pieces = match option_scan::read(option, &mut asks, &mut h, &mut networks, &mut lengths) {
+        Ok(pieces) => pieces,
+        Err(fault) => return call_rows::option_refusal(fault),
+    };
     if !for_list(pieces.requests, pieces.listing) {
         return call_spec::refused(8, 0);
     }

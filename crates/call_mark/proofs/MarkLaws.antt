@@ -9,19 +9,16 @@ use mathlib.Core.List.{List, [], ◌∷◌, ◌++◌, map}
 use mathlib.Core.Option.{none, some}
 use lib.ListN.{length, get_or, set, drop, length-set}
 use lib.Dec.{leb, ltb, eqb}
-use denote.Enum.Declared.{tag_of}
 use borrow.Author.Tests.{ltb-true, le-ltb, lt-ltb, eqb-true, eq-eqb}
 use Rattle.lists.specs.Lists.{All, any?, filter}
 use Rattle.lists.specs.Put.{put}
 use Rattle.lists.proofs.Tests.{and-to, and-of, not-true⇒false, and-list-to, and-list-of, cond-true, cond-false, not-of, not-to}
 use Rattle.lists.proofs.MapLaws.{filter_map, any?-filter}
 use Rattle.lists.proofs.ListLaws.{all_map}
+use Rattle.std.specs.Prelude.{Ok}
 use Rattle.prefix.specs.declared.Prefix.{Prefix}
-use Rattle.prefix.specs.declared.Checked.{Checked}
-use Rattle.prefix.specs.declared.Checked.TheVariants.{Good}
 use Rattle.prefix.specs.Prefixes.{size, prefix, checked}
-use Rattle.prefix.specs.contracts.Checked.{the_type}
-use Rattle.prefix.proofs.BlockLaws.{Block, refused-block, made-block}
+use Rattle.prefix.proofs.BlockLaws.{Block, block-made, made-block}
 use Rattle.table.specs.declared.Lease.{Lease}
 use Rattle.table.specs.Table.{lease_slots, latest, no_lease, prefix_of, present, store, pools_of, sound}
 use Rattle.table.proofs.TableLaws.{Good as GoodLease, present?, sound-fine}
@@ -59,11 +56,11 @@ use Rattle.call_rows.proofs.StruckLaws.{struck-is}
 
 module _ (network len : ℕ) where
   -- It refuses no block.
-  pub no_block : (r : Checked) → r ≡ checked network (cond (ltb 255 len) 0 len) → (tag_of the_type r ≡ 1) ⊎ (tag_of the_type r ≡ 2) → Block (prefix network len) → ⊥
-  no_block r e k b = refused-block network len r (e ∙ ap (checked network) (cond-false (ltb 255 len) 0 len (le-ltb 255 len (omega (arith, b.long))))) k b
+  pub no_block : ((p : Prefix) → checked network (cond (ltb 255 len) 0 len) ≡ Ok p → ⊥) → Block (prefix network len) → ⊥
+  no_block absent b = absent (prefix network len) (ap (checked network) (cond-false (ltb 255 len) 0 len (le-ltb 255 len (omega (arith, b.long)))) ∙ block-made network len b)
 
   -- What it makes has this network and length.
-  pub block-is : (p : Prefix) → checked network (cond (ltb 255 len) 0 len) ≡ Good p → p ≡ prefix network len
+  pub block-is : (p : Prefix) → checked network (cond (ltb 255 len) 0 len) ≡ Ok p → p ≡ prefix network len
   block-is p e =
       let m = made-block network (cond (ltb 255 len) 0 len) p e in
       m.0 ∙ ap (prefix network) (held (ltb 255 len) m.1.short)

@@ -11,7 +11,7 @@ use counts::Counts;
 use image::{HEAD, LEASE, POOL};
 use image_check::ImageSummary;
 use ledger::Answer;
-use prefix::{Checked, Prefix};
+use prefix::Prefix;
 
 // Mark has no client and no reply: what stands for them at the admission is refused by no row.
 const ANY_CLIENT: u32 = 1;
@@ -33,7 +33,7 @@ fn mark_lease(
         ≡ mark_image (lent image.old image_bytes.old figures.old) time network length (not (eqb deprecated 0)) }
 {
     // Every lease is a block, so what is none is no lease's prefix.
-    let Checked::Good(p) = Prefix::new(network, call_spec::length_of(length)) else {
+    let Ok(p) = Prefix::new(network, call_spec::length_of(length)) else {
         return call_spec::refused(11, 0);
     };
     let from = HEAD + POOL * summary.pools;

@@ -2,11 +2,11 @@
 // its figures sheet, and the counts of its whole free blocks.
 #![tactic(auto)]
 
-ghost use Rattle.std.specs.Prelude.{◌≡◌, [], ◌+◌, ◌*◌, ◌≤◌, length};
+ghost use Rattle.std.specs.Prelude.{◌≡◌, [], ◌+◌, ◌*◌, ◌≤◌, length, map};
 ghost use Rattle.lists.specs.Lists.{concat_map};
 ghost use Rattle.lists.specs.Put.{put};
 ghost use Rattle.table.specs.Table.{pool_slots};
-ghost use Rattle.table_open.specs.Keys.{pools_in};
+ghost use Rattle.table_open.specs.Keys.{pool_of};
 ghost use Rattle.image.specs.Image.{head_size, pool_size, pool_record};
 ghost use Rattle.ledger.specs.Ledger.{outcome};
 ghost use Rattle.call_spec.specs.Books.{book_of, open_book};
@@ -25,16 +25,13 @@ pub struct Terms {
     pub start: u32,
 }
 
-// The records of the first n pools, after the head, each from the number that stands for it.
-fn put_pools(image: &mut [u8], keys: &[u64], n: usize)
-    requires { (head_size + pool_size * n ≤ length image.old) × (n ≤ pool_slots) × (n ≤ length keys.now) }
-    ensures { image.new ≡ put image.old head_size (concat_map pool_record (pools_in n keys.now)) }
+// The records of pools, after the head, each from the number that stands for it.
+fn put_pools(image: &mut [u8], keys: &[u64])
+    requires { (head_size + pool_size * length keys.now ≤ length image.old) × (length keys.now ≤ pool_slots) }
+    ensures { image.new ≡ put image.old head_size (concat_map pool_record (map pool_of keys.now)) }
 {
-    let mut i: usize = 0;
-    while i < n {
-        let p = table_open::pool_of(keys[i]);
-        image_records::put_pool(image, HEAD + POOL * i, p);
-        i = i + 1;
+    for (i, key) in keys.iter().enumerate() {
+        image_records::put_pool(image, HEAD + POOL * i, table_open::pool_of(*key));
     }
 }
 
@@ -66,14 +63,15 @@ pub fn open(
         return call_spec::refused(14, 0);
     }
     let n = networks.len();
-    let t = table_open::open(&keys, n, term, length, start);
+    let pools = &keys[..n];
+    let t = table_open::open(pools, term, length, start);
     let head = Head {
         term: t.term,
         default_length: t.default_length,
         last: t.last,
     };
     image_records::put_head(image, head);
-    put_pools(image, &keys, n);
+    put_pools(image, pools);
     image_records::clear(image, HEAD + POOL * n, FULL_IMAGE);
     image_figures::fill(figures, image, HEAD + POOL * n, 0);
     image_counts::recount(image, n, 0, counts);

@@ -5,11 +5,10 @@ ghost use Rattle.std.specs.Prelude.{◌≡◌};
 ghost use Rattle.call_option.specs.Options.{selection_in, selection_into, option_check};
 
 use ledger::Answer;
-use option::Selection;
-use option_reply::Written;
 use option_scan::{MOST_ENTRIES, MOST_REQUESTS};
 
 // The address of an option 118; 0 of a refusal.
+// Stays: the C interface passes it so.
 #[repr(C)]
 #[derive(Clone, Copy)]
 pub struct SelectionAnswer {
@@ -21,8 +20,8 @@ pub fn read_selection(option: &[u8]) -> SelectionAnswer
     ensures { result ≡ selection_in option.now }
 {
     match option::read_selection(option) {
-        Selection::Address(address) => SelectionAnswer { number: 0, address },
-        Selection::NotTheOption => SelectionAnswer {
+        Some(address) => SelectionAnswer { number: 0, address },
+        None => SelectionAnswer {
             number: 6,
             address: 0,
         },
@@ -32,11 +31,7 @@ pub fn read_selection(option: &[u8]) -> SelectionAnswer
 pub fn write_selection(address: u32, buffer: &mut [u8]) -> Answer
     ensures { (result, buffer.new) ≡ selection_into address buffer.old }
 {
-    match option_reply::write_selection(address, buffer) {
-        Written::Bytes(n) => call_spec::accepted(n as u32, 0),
-        Written::OutsideRules => call_spec::refused(13, 0),
-        Written::TooLong => call_spec::refused(14, 0),
-    }
+    call_spec::written(option_reply::write_selection(address, buffer))
 }
 
 // By the reader of the calls, so that the library has it once; what it finds in the option is not looked at.
@@ -47,7 +42,8 @@ pub fn check_option(option: &[u8]) -> Answer
     let mut h = [0u8; MOST_REQUESTS];
     let mut networks = [0u32; MOST_ENTRIES];
     let mut lengths = [0u8; MOST_ENTRIES];
-    let contents = option_scan::read(option, &mut asks, &mut h, &mut networks, &mut lengths);
-    let checked = contents.checked;
-    call_rows::option_refusal(checked)
+    match option_scan::read(option, &mut asks, &mut h, &mut networks, &mut lengths) {
+        Ok(_) => call_spec::accepted(0, 0),
+        Err(fault) => call_rows::option_refusal(fault),
+    }
 }

@@ -17,10 +17,13 @@ use Rattle.option.specs.Reading.{read_suboptions, read_option}
 use Rattle.option.specs.Values.{SuboptionValue, Outcome}
 use Rattle.option.specs.Values as values
 use Rattle.option.specs.Contents.{refuses?, place_in, suboptions}
-use Rattle.option.specs.Answers.{checked_of, place_of}
+use Rattle.option.specs.Answers.{fault_of, checked_of, place_of}
+use Rattle.option.specs.declared.Fault.{Fault}
 use Rattle.option.specs.declared.Fault.TheVariants.{Framing, Field}
-use Rattle.option.specs.declared.Checked.{Checked}
-use Rattle.option.specs.declared.Checked.TheVariants.{NotTheOption, BadSuboption}
+use Rattle.option.specs.Reading.{fault_number}
+use Rattle.std.specs.Prelude.{Result as Answered, Ok, Err}
+use Rattle.option.specs.declared.OptionFault.{OptionFault}
+use Rattle.option.specs.declared.OptionFault.TheVariants.{NotTheOption, BadSuboption}
 use Rattle.table.specs.Table.{pools_of}
 use Rattle.ledger.specs.declared.Answer.{Answer}
 use Rattle.ledger.specs.Ledger.{State, Call, call, Result, outcome, refusal, Row, first_of, by_rows, placed?, refusal_place, nothing?, bad_selection?, narrowed, option_rows, ground_rows}
@@ -30,7 +33,7 @@ use Rattle.ledger.proofs.ReadLaws.{place_short}
 use Rattle.ledger.proofs.RowLaws.{Numbered, first-none, first-number, first-before, first-after, nothing-none, nothing-some}
 use Rattle.ledger.proofs.CommonRows.{option-rows, option-passed}
 use Rattle.option_scan.specs.declared.Contents.{Contents}
-use Rattle.option_scan.specs.Scanned.{Columns, ScannedOf, Reads}
+use Rattle.option_scan.specs.Scanned.{Columns, ScannedOf, checked_by, Reads}
 use Rattle.call_spec.specs.ImageCalls.{Lent, table_in, state_in, stored_in, settled}
 use Rattle.call_spec.proofs.StoreLaws.{settled-accepted, no_row}
 use Rattle.call_rows.specs.declared.Admission.{Admission}
@@ -38,16 +41,25 @@ use Rattle.call_rows.specs.Admission.{admission_rows, number_of, Admits}
 
 -- WHAT option_refusal REQUIRES: the place of a bad suboption is within the option.
 
-checked-place : (o : Outcome) → place_in o ≤ 257 → place_of (checked_of o) ≤ 257
-checked-place (values.accepted subs) h = omega arith
-checked-place (values.refused number place) h = pick (eqb number 6)
+checked-place : (o : Outcome) → place_in o ≤ 257 → (f : OptionFault) → Err f ≡ checked_of o → place_of f ≤ 257
+checked-place (values.accepted subs) h f e = absurd cc
+checked-place (values.refused number place) h f e = let same : f ≡ fault_of number place = cc in subst (λ (x : OptionFault). place_of x ≤ 257) (sym same) (pick (eqb number 6))
   where
-    pick : (b : Bool) → place_of (cond b NotTheOption (BadSuboption (cond (eqb number 7) Framing Field) place)) ≤ 257
+    pick : (b : Bool) → place_of (cond b NotTheOption (BadSuboption (record { fault = cond (eqb number 7) Framing Field; place = place }))) ≤ 257
     pick true = omega arith
     pick false = h
 
-pub place-small : (option : List ℕ) → Bytes option → (c : Checked) → c ≡ checked_of (read_option option) → place_of c ≤ 257
-place-small option b c e = subst (λ (x : Checked). place_of x ≤ 257) (sym e) (checked-place (read_option option) (place_short option b 7))
+pub place-small : (option : List ℕ) → Bytes option → (r : Answered Contents OptionFault) (k : Columns) → Reads option r k → (f : OptionFault) → r ≡ Err f → place_of f ≤ 257
+place-small option b r k reads f e = checked-place (read_option option) (place_short option b 7) f (sym (ap checked_by e) ∙ reads.checked)
+
+-- No refusal of these rows is number 0.
+pub refused-some : (f : OptionFault) → (checked_answer (Err f)).number ≡ 0 → ⊥
+refused-some NotTheOption e = omega arith
+refused-some (BadSuboption bad) e = go bad.fault e
+  where
+    go : (f : Fault) → fault_number f ≡ 0 → ⊥
+    go Framing e = omega arith
+    go Field e = omega arith
 
 -- THE NUMBER OF THE FIRST ROW
 
@@ -106,7 +118,7 @@ rows-without c e =
 
 -- ROWS 6, 7 AND 16, what follows them, and what is read of an option that passes them.
 
-module _ (c : Call) (selected : bad_selection? c.selection ≡ false) (m : Contents) (k : Columns) (reads : Reads c.option m k) (ans : Answer) (g : ans ≡ checked_answer m.checked) where
+module _ (c : Call) (selected : bad_selection? c.selection ≡ false) (r : Answered Contents OptionFault) (k : Columns) (reads : Reads c.option r k) (ans : Answer) (g : ans ≡ checked_answer (checked_by r)) where
   answer-is : ans ≡ answered (first_of (option_rows c)) c.option
   answer-is = g ∙ ap checked_answer reads.checked ∙ option-rows c selected
 
@@ -131,10 +143,10 @@ module _ (c : Call) (selected : bad_selection? c.selection ≡ false) (m : Conte
             absurd (eqb-false n 0 (first-number (λ (m : ℕ). eqb m 0 ≡ false) (option_rows c) (refl, (refl, (refl, tt))) n f)
             (sym (ap (λ (x : Answer). x.number) (answer-is ∙ ap (λ (o : Option ℕ). answered o c.option) f)) ∙ good))
 
-    pub scanned : ScannedOf m k (suboptions (read_option c.option))
-    scanned =
+    pub scanned : (m : Contents) → r ≡ Ok m → ScannedOf m k (suboptions (read_option c.option))
+    scanned m e =
         let read = option-passed c option-none in
-        subst (λ (o : Outcome). ScannedOf m k (suboptions o)) (sym read) (reads.holds (read_suboptions c.option 3).0 read)
+        subst (λ (o : Outcome). ScannedOf m k (suboptions o)) (sym read) (reads.holds m e (read_suboptions c.option 3).0 read)
 
 -- A CALL WITH AN OPTION, at each of its steps. Its rows are those up to the option, rows 6, 7 and 16, row 8, which is about the option's suboptions, and its own.
 
@@ -144,15 +156,17 @@ pub record ReadCall (sheet short : Bool) (h : Lent) (now : ℕ) (c : Call) : Typ
   pub admits : Admits sheet short h now c.client admission
   pub admitted : admission.number ≡ 0
   pub selected : bad_selection? c.selection ≡ false
-  pub contents : Contents
+  pub found : Answered Contents OptionFault
   pub columns : Columns
-  pub reads : Reads c.option contents columns
+  pub reads : Reads c.option found columns
   pub answer : Answer
-  pub answer-is : answer ≡ checked_answer contents.checked
+  pub answer-is : answer ≡ checked_answer (checked_by found)
+  pub contents : Contents
+  pub good : answer.number ≡ 0 → found ≡ Ok contents
 
 pub scan-of : (sheet short : Bool) (h : Lent) (now : ℕ) (c : Call) (s : ReadCall sheet short h now c) → s.answer.number ≡ 0
     → ScannedOf s.contents s.columns (suboptions (read_option c.option))
-scan-of sheet short h now c s = scanned c s.selected s.contents s.columns s.reads s.answer s.answer-is
+scan-of sheet short h now c s z = scanned c s.selected s.found s.columns s.reads s.answer s.answer-is z s.contents (s.good z)
 
 -- The call gives `after`, whichever of these rows refuses it (`row-refuses`, `list-row-refuses` of crate `call_spec`).
 abbrev pub RefusedBy : List Row → Lent → Call → Result Lent → Type 0
@@ -194,12 +208,12 @@ module _ (sheet short : Bool) (h : Lent) (now : ℕ) (c : Call) (wanted : List S
     -- Rows 6, 7 and 16.
     pub refused-option : (s.answer.number ≡ 0 → ⊥) → outcome s.answer h c.reply ≡ after
     refused-option some-row =
-        let r = option-refuses c s.selected s.contents s.columns s.reads s.answer s.answer-is row-8 some-row in
+        let r = option-refuses c s.selected s.found s.columns s.reads s.answer s.answer-is row-8 some-row in
         ap (λ (y : Answer). outcome y h c.reply) r.1 ∙ by_Row s.answer.number some-row (up-to-option ∙ r.0)
 
     module _ (good : s.answer.number ≡ 0) where
       up-to-8 : first_of rows ≡ first_of row-8
-      up-to-8 = up-to-option ∙ first-after (option_rows c) row-8 (option-none c s.selected s.contents s.columns s.reads s.answer s.answer-is good)
+      up-to-8 = up-to-option ∙ first-after (option_rows c) row-8 (option-none c s.selected s.found s.columns s.reads s.answer s.answer-is good)
 
       -- Row 8.
       pub refused-8 : wanted (suboptions (read_option c.option)) ≡ false → outcome (refusal 8 0) h c.reply ≡ after

@@ -6,7 +6,7 @@ use mathlib.Core.Bool.{Bool, true, false, not, cond, true≢false}
 use mathlib.Core.List.{List}
 use Rattle.option.specs.Reading.{four}
 use Rattle.option.specs.Selection.{Selected, address, refused, selection?, read_selection}
-use Rattle.option.specs.declared.Selection.{Selection}
+use Rattle.std.specs.Prelude.{Option}
 use Rattle.option.specs.Answers.{selected_by}
 use Rattle.call_rows.specs.declared.SelectionRead.{SelectionRead}
 use Rattle.call_rows.specs.Admission.{ReadsSelection}
@@ -33,7 +33,7 @@ address_is : (b : Bool) (a : ℕ) → bad_in (cond b (address a) (refused 6)) �
 address_is true a e = refl
 address_is false a e = absurd (true≢false e)
 
-pub carried-read : (carried : Bool) (s : List ℕ) (x y : Selection) (r : SelectionRead) → not carried ≡ false → selected_by x ≡ read_selection s → x ≡ y
+pub carried-read : (carried : Bool) (s : List ℕ) (x y : Option ℕ) (r : SelectionRead) → not carried ≡ false → selected_by x ≡ read_selection s → x ≡ y
     → r.bad ≡ bad_in (selected_by y) → r.address ≡ address_in (selected_by y) → ReadsSelection carried s r
 unfolding read_selection
 carried-read false s x y r c e f b a = absurd (true≢false c)

@@ -1,7 +1,6 @@
 -- Laws of the end of a call on an open book: its counts are those of the table that is left, counted again or as they were.
 -- Assumes nothing.
 use Prim.Native.Nat.{ℕ, ◌-◌, ◌<◌}
-use native.Mathlib.Omega.{arith}
 use mathlib.Core.Path.{◌≡◌, refl, sym, ap, subst, ◌∙◌}
 use mathlib.Core.Logic.{⊎_elim}
 use mathlib.Core.Bool.{Bool, true, false, cond, ◌&&◌}
@@ -10,16 +9,15 @@ use lib.Dec.{ltb, eqb}
 use lib.ListN.{length, take, drop, replicate}
 use lib.Seq.{take_at}
 use borrow.Author.Tests.{eqb-true, eqb-false, eq-eqb, ne_eqb, ltb-true, lt-ltb}
-use Rattle.lists.specs.Lists.{All, filter}
-use Rattle.lists.proofs.Tests.{bool_cases, cond-true, cond-false}
-use Rattle.lists.proofs.ListLaws.{all_map}
+use Rattle.lists.specs.Lists.{All}
+use Rattle.lists.proofs.Tests.{bool_cases}
 use Rattle.lists.proofs.FilterLaws.{filter-pass, filter-yes}
 use Rattle.table.specs.declared.Pool.{Pool}
 use Rattle.table.specs.declared.Lease.{Lease}
 use Rattle.table.specs.declared.LeaseTable.{LeaseTable}
-use Rattle.table.specs.Table.{lease_slots, prefix_of, pools_of, prefixes_of, present, store, sound}
+use Rattle.table.specs.Table.{lease_slots, prefix_of, present, store}
 use Rattle.table.proofs.TableLaws.{sound-used, present-padded}
-use Rattle.image.specs.Image.{used_pools, used_leases, image_of}
+use Rattle.image.specs.Image.{used_pools, image_of}
 use Rattle.image_check.specs.declared.ImageSummary.{ImageSummary}
 use Rattle.counts.specs.Counts.{counts_of}
 use Rattle.counts.proofs.CountLaws.{counts-stay}

@@ -2,7 +2,7 @@
 // accepted call.
 #![tactic(auto)]
 
-ghost use Rattle.std.specs.Prelude.{◌≡◌, not, cond, ◌&&◌, List, [], ◌∷◌, ℕ, ◌+◌, ◌*◌, ◌≤◌, length, ltb, eqb};
+ghost use Rattle.std.specs.Prelude.{◌≡◌, not, cond, ◌&&◌, List, [], ◌∷◌, ℕ, ◌+◌, ◌*◌, ◌≤◌, length, ltb, eqb, Err};
 ghost use Rattle.table.specs.declared.Lease.{Lease};
 ghost use Rattle.table.specs.Table.{latest, present};
 ghost use Rattle.image.specs.Image.{head_size, lease_size};
@@ -24,7 +24,7 @@ use counts::Counts;
 use image::{HEAD, LAST, LEASE, POOL};
 use image_check::ImageSummary;
 use ledger::Answer;
-use option::{Checked, Selection};
+use option::{BadSuboption, OptionFault};
 
 // Row 1: no reply buffer is below this size.
 pub const SHORTEST_REPLY: usize = option::LONGEST_OPTION;
@@ -62,11 +62,11 @@ pub fn read_selection(carried: bool, selection: &[u8]) -> SelectionRead
         };
     }
     match option::read_selection(selection) {
-        Selection::Address(address) => SelectionRead {
+        Some(address) => SelectionRead {
             bad: false,
             address,
         },
-        Selection::NotTheOption => SelectionRead {
+        None => SelectionRead {
             bad: true,
             address: 0,
         },
@@ -169,15 +169,16 @@ pub fn admit(
     Admission { number, summary }
 }
 
-// Rows 6, 7 and 16, as the reader found them; number 0 where the option is good.
-pub fn option_refusal(c: Checked) -> Answer
-    requires { place_of c ≤ longest_option }
-    ensures { result ≡ checked_answer c }
+// Rows 6, 7 and 16, as the reader found them.
+pub fn option_refusal(fault: OptionFault) -> Answer
+    requires { place_of fault ≤ longest_option }
+    ensures { result ≡ checked_answer (Err fault) }
 {
-    match c {
-        Checked::Good => call_spec::refused(0, 0),
-        Checked::NotTheOption => call_spec::refused(6, 0),
-        Checked::BadSuboption(fault, place) => call_spec::refused(fault.number(), place as u32),
+    match fault {
+        OptionFault::NotTheOption => call_spec::refused(6, 0),
+        OptionFault::BadSuboption(BadSuboption { fault, place }) => {
+            call_spec::refused(fault.number(), place as u32)
+        }
     }
 }
 

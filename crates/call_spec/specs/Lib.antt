@@ -4,3 +4,4 @@ pub mod OnBooks
 pub mod InRange
 pub mod CountsKept
 pub mod SavedForms
+pub mod Written

@@ -1,10 +1,12 @@
 // What comes with a message beside its bytes, and the answers of calls. What a call leaves of what it is lent is a definition, in `specs/`.
 #![tactic(auto)]
 
-ghost use Rattle.std.specs.Prelude.{◌≡◌, cond, ltb};
+ghost use Rattle.std.specs.Prelude.{◌≡◌, ◌<◌, cond, ltb, IfOk};
 ghost use Rattle.ledger.specs.Ledger.{refusal, acceptance};
+ghost use Rattle.call_spec.specs.Written.{answer_of};
 
 use ledger::Answer;
+use option_reply::WriteFault;
 
 // Who sent the message that an ask or a take is for, when it came, and whether it carries an option 118 that the caller says is
 // enabled. Where it does not, the bytes lent for that option are not looked at.
@@ -36,6 +38,18 @@ pub fn accepted(bytes: u32, count: u32) -> Answer
         place: 0,
         bytes,
         count,
+    }
+}
+
+// The answer of an option that is written, or why it is not: row 13 or row 14.
+pub fn written(bytes: Result<usize, WriteFault>) -> Answer
+    requires { IfOk bytes (λ n. n < 4294967296) }
+    ensures { result ≡ answer_of bytes }
+{
+    match bytes {
+        Ok(n) => accepted(n as u32, 0),
+        Err(WriteFault::OutsideRules) => refused(13, 0),
+        Err(WriteFault::TooLong) => refused(14, 0),
     }
 }
 

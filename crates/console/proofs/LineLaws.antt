@@ -4,7 +4,9 @@ use Prim.Native.Nat.{ℕ, ◌+◌, ◌-◌, ◌≤◌}
 use native.Mathlib.Omega.{arith}
 use mathlib.Core.Path.{◌≡◌, refl, sym, ap, subst, ◌∙◌}
 use mathlib.Core.Bool.{Bool, true, false, not, ◌&&◌, false≢true}
-use mathlib.Core.Option.{Option, none, some}
+use mathlib.Core.Option.{none, some}
+use mathlib.Core.Option as math
+use Rattle.std.specs.Prelude.{Option, Some, None, IfSome}
 use mathlib.Core.List.{List, [], ◌++◌, append_assoc}
 use lib.ListN.{length, take, drop, length-append}
 use lib.Seq.{length-take-le, drop_at, take_at}
@@ -18,7 +20,7 @@ use Rattle.console_script.specs.declared.BufferLine.{BufferLine}
 use Rattle.console_script.specs.declared.SelectionLine.{SelectionLine}
 use Rattle.console_script.specs.declared.Command.{Command}
 use Rattle.console_script.specs.declared.Command.TheVariants as command
-use Rattle.console_script.specs.Commands.{CommandValue, «open», Within, longest_reply, most_prefixes, with_prefixes, value_in}
+use Rattle.console_script.specs.Commands.{CommandValue, «open», Within, longest_reply, most_prefixes, with_prefixes, command_in, value_in}
 use Rattle.console_script.specs.Parsing.{parse_line}
 use Rattle.console_session.specs.declared.State.{State}
 use Rattle.console_session.specs.States.{next_line, Unchanged}
@@ -31,19 +33,19 @@ use Rattle.console.specs.InnerRuns.{Echoed, Set}
 
 -- An open is not passed over, nor does it set anything, whatever its words are.
 module _ (term len start : ℕ) where
-  open-passed : (o : Option Columns) → passed_over? (with_prefixes o («open» term len start)) ≡ false
+  open-passed : (o : math.Option Columns) → passed_over? (with_prefixes o («open» term len start)) ≡ false
   open-passed none = refl
   open-passed (some p) = refl
 
-  open-reply : (o : Option Columns) (old : ℕ) → old ≡ reply_after (with_prefixes o («open» term len start)) old
+  open-reply : (o : math.Option Columns) (old : ℕ) → old ≡ reply_after (with_prefixes o («open» term len start)) old
   open-reply none old = refl
   open-reply (some p) old = refl
 
-  open-selected : (o : Option Columns) (old : Bool) → old ≡ selected_after (with_prefixes o («open» term len start)) old
+  open-selected : (o : math.Option Columns) (old : Bool) → old ≡ selected_after (with_prefixes o («open» term len start)) old
   open-selected none old = refl
   open-selected (some p) old = refl
 
-not-passed : (c : Command) (words : List ℕ) → (c ≡ command.Nothing → ⊥) → passed_over? (value_in words c) ≡ false
+pub not-passed : (c : Command) (words : List ℕ) → (c ≡ command.Nothing → ⊥) → passed_over? (command_in words c) ≡ false
 not-passed (command.Call x) words k = refl
 not-passed (command.Mark x) words k = refl
 not-passed (command.Open x) words k = open-passed x.term x.default_length x.start (prefixes_of most_prefixes (drop x.from words))
@@ -60,10 +62,9 @@ not-passed (command.Whole x) words k = refl
 not-passed (command.Buffer x) words k = refl
 not-passed (command.Selection x) words k = refl
 not-passed command.Nothing words k = absurd (k refl)
-not-passed command.Bad words k = refl
 
 -- A line that is neither a `buffer` nor a `selection` sets nothing.
-pub set-nothing : (c : Command) (s : State) → ((x : BufferLine) → c ≡ command.Buffer x → ⊥) → ((x : SelectionLine) → c ≡ command.Selection x → ⊥) → Set c s s
+pub set-nothing : (c : Command) (s : State) → ((x : BufferLine) → c ≡ command.Buffer x → ⊥) → ((x : SelectionLine) → c ≡ command.Selection x → ⊥) → Set (Some c) s s
 set-nothing (command.Call x) s j k words = (refl, refl)
 set-nothing (command.Mark x) s j k words = (refl, refl)
 set-nothing (command.Open x) s j k words = (open-reply x.term x.default_length x.start (prefixes_of most_prefixes (drop x.from words)) s.reply_length, open-selected x.term x.default_length x.start (prefixes_of most_prefixes (drop x.from words)) s.selected)
@@ -80,45 +81,47 @@ set-nothing (command.Whole x) s j k words = (refl, refl)
 set-nothing (command.Buffer x) s j k words = absurd (j x refl)
 set-nothing (command.Selection x) s j k words = absurd (k x refl)
 set-nothing command.Nothing s j k words = (refl, refl)
-set-nothing command.Bad s j k words = (refl, refl)
 
 -- From what a state has, that a line sets it.
-set-as : (c this : Command) (s r : State) → c ≡ this → Set this s r → Set c s r
-set-as c this s r e set words = subst (λ (x : Command). (r.reply_length ≡ reply_after (value_in words x) s.reply_length) × (r.selected ≡ selected_after (value_in words x) s.selected)) (sym e) (set words)
+set-as : (c this : Command) (s r : State) → c ≡ this → Set (Some this) s r → Set (Some c) s r
+set-as c this s r e set words = subst (λ (x : Command). (r.reply_length ≡ reply_after (command_in words x) s.reply_length) × (r.selected ≡ selected_after (command_in words x) s.selected)) (sym e) (set words)
 
-pub set-length : (c : Command) (x : BufferLine) (s r : State) → c ≡ command.Buffer x → r.reply_length ≡ x.length → r.selected ≡ s.selected → Set c s r
+pub set-length : (c : Command) (x : BufferLine) (s r : State) → c ≡ command.Buffer x → r.reply_length ≡ x.length → r.selected ≡ s.selected → Set (Some c) s r
 set-length c x s r e len same = set-as c (command.Buffer x) s r e (λ words. (len, same))
 
-pub set-selected : (c : Command) (x : SelectionLine) (s r : State) → c ≡ command.Selection x → r.reply_length ≡ s.reply_length → r.selected ≡ x.on → Set c s r
+pub set-selected : (c : Command) (x : SelectionLine) (s r : State) → c ≡ command.Selection x → r.reply_length ≡ s.reply_length → r.selected ≡ x.on → Set (Some c) s r
 set-selected c x s r e same on = set-as c (command.Selection x) s r e (λ words. (same, on))
 
 -- Set from a state that has the same.
-pub set-from : (c : Command) (s s₁ r : State) → s₁.reply_length ≡ s.reply_length → s₁.selected ≡ s.selected → Set c s₁ r → Set c s r
+pub set-from : (c : Option Command) (s s₁ r : State) → s₁.reply_length ≡ s.reply_length → s₁.selected ≡ s.selected → Set c s₁ r → Set c s r
 set-from c s s₁ r len same set words = ((set words).0 ∙ ap (reply_after (value_in words c)) len, (set words).1 ∙ ap (selected_after (value_in words c)) same)
 
 -- No line asks for a longer reply buffer than there is.
-short : (c : Command) (words : List ℕ) (n old : ℕ) → Within n c → old ≤ longest_reply → reply_after (value_in words c) old ≤ longest_reply
-short (command.Call x) words n old w le = le
-short (command.Mark x) words n old w le = le
-short (command.Open x) words n old w le = subst (λ (k : ℕ). k ≤ longest_reply) (open-reply x.term x.default_length x.start (prefixes_of most_prefixes (drop x.from words)) old) le
-short (command.Load x) words n old w le = le
-short (command.Save x) words n old w le = le
-short command.Sheet words n old w le = le
-short (command.Read x) words n old w le = le
-short (command.Write x) words n old w le = le
-short command.Figures words n old w le = le
-short (command.SetFigures x) words n old w le = le
-short command.Counts words n old w le = le
-short (command.SetCounts x) words n old w le = le
-short (command.Whole x) words n old w le = le
-short (command.Buffer x) words n old w le = w
-short (command.Selection x) words n old w le = le
-short command.Nothing words n old w le = le
-short command.Bad words n old w le = le
+short-by : (c : Command) (words : List ℕ) (n old : ℕ) → Within n c → old ≤ longest_reply → reply_after (command_in words c) old ≤ longest_reply
+short-by (command.Call x) words n old w le = le
+short-by (command.Mark x) words n old w le = le
+short-by (command.Open x) words n old w le = subst (λ (k : ℕ). k ≤ longest_reply) (open-reply x.term x.default_length x.start (prefixes_of most_prefixes (drop x.from words)) old) le
+short-by (command.Load x) words n old w le = le
+short-by (command.Save x) words n old w le = le
+short-by command.Sheet words n old w le = le
+short-by (command.Read x) words n old w le = le
+short-by (command.Write x) words n old w le = le
+short-by command.Figures words n old w le = le
+short-by (command.SetFigures x) words n old w le = le
+short-by command.Counts words n old w le = le
+short-by (command.SetCounts x) words n old w le = le
+short-by (command.Whole x) words n old w le = le
+short-by (command.Buffer x) words n old w le = w
+short-by (command.Selection x) words n old w le = le
+short-by command.Nothing words n old w le = le
+
+short : (c : Option Command) (words : List ℕ) (n old : ℕ) → IfSome c (Within n) → old ≤ longest_reply → reply_after (value_in words c) old ≤ longest_reply
+short (Some c) words n old w le = short-by c words n old w le
+short None words n old w le = le
 
 -- ECHO
 
-module _ (echo : Bool) (c : Command) (line old : List ℕ) (at : ℕ) where
+module _ (echo : Bool) (c : Option Command) (line old : List ℕ) (at : ℕ) where
   abbrev text_of : Bool → List ℕ
   text_of b = echo_text b line
 
@@ -138,16 +141,16 @@ module _ (echo : Bool) (c : Command) (line old : List ℕ) (at : ℕ) where
       by false h = nothing_written
 
   -- The line is passed over.
-  pub passed_over : c ≡ command.Nothing → Echoed echo c line old at old at
+  pub passed_over : ((words : List ℕ) → passed_over? (value_in words c) ≡ true) → Echoed echo c line old at old at
   passed_over e words =
-      subst (λ (b : Bool). Wrote old at (text_of b) old at) (sym (ap (λ (x : Command). echo && not (passed_over? (value_in words x))) e ∙ never echo)) nothing_written
+      subst (λ (b : Bool). Wrote old at (text_of b) old at) (sym (ap (λ (b : Bool). echo && not b) (e words) ∙ never echo)) nothing_written
 
   -- The line is written.
-  pub echoed : (new : List ℕ) (next : ℕ) → not echo ≡ false → (c ≡ command.Nothing → ⊥) → Wrote old at (ascii "> " ++ (line ++ ascii "\n")) new next → Echoed echo c line old at new next
+  pub echoed : (new : List ℕ) (next : ℕ) → not echo ≡ false → ((words : List ℕ) → passed_over? (value_in words c) ≡ false) → Wrote old at (ascii "> " ++ (line ++ ascii "\n")) new next → Echoed echo c line old at new next
   echoed new next e k w words = by echo e
     where
       by : (b : Bool) → not b ≡ false → Wrote old at (text_of (b && not (passed_over? (value_in words c)))) new next
-      by true h = subst (λ (x : Bool). Wrote old at (text_of (not x)) new next) (sym (not-passed c words k)) w
+      by true h = subst (λ (x : Bool). Wrote old at (text_of (not x)) new next) (sym (k words)) w
       by false h = absurd (false≢true (sym h))
 
 -- The place behind a text, under another name.
@@ -172,7 +175,7 @@ behind old at first second mid new p next a b =
     }
 
 -- The echo and then the command's answer, from what each part leaves: the next line's state, that with the echo, the command's end in the output.
-module _ (s next begun r : State) (line kept words : List ℕ) (c : Command) (end : ℕ) (book book₁ : Book) (old mid new : List ℕ) (same : kept ≡ line) (parsed : value_in words c ≡ parse_line line)
+module _ (s next begun r : State) (line kept words : List ℕ) (c : Option Command) (end : ℕ) (book book₁ : Book) (old mid new : List ℕ) (same : kept ≡ line) (parsed : value_in words c ≡ parse_line line)
     (counts : (next.reply_length ≡ s.reply_length) × (next.selected ≡ s.selected) × (next.lines ≡ next_line s.lines) × (next.at ≡ s.at) × (next.echo ≡ s.echo)) (begins : Unchanged next begun) (inside : begun.at ≤ length old)
     (echo : Echoed next.echo c kept old next.at mid begun.at)
     (ran : Ran (value_in words c) (given book begun.reply_length begun.selected begun.lines (drop begun.at mid)) book₁ mid begun.at new end)
@@ -199,7 +202,7 @@ module _ (s next begun r : State) (line kept words : List ℕ) (c : Command) (en
       (subst (λ (n : ℕ). Ran (value_in words c) (given book n begun.selected begun.lines (drop begun.at mid)) book₁ mid begun.at new r.at) reply-kept
       (subst (λ (n : ℕ). Ran (value_in words c) (given book begun.reply_length begun.selected begun.lines (drop begun.at mid)) book₁ mid begun.at new n) (sym ends.0) ran)))))
 
-  pub ran_line : (n : ℕ) → Within n c → s.reply_length ≤ longest_reply → (r.reply_length ≤ longest_reply) × RanLine s line book old r book₁ new
+  pub ran_line : (n : ℕ) → IfSome c (Within n) → s.reply_length ≤ longest_reply → (r.reply_length ≤ longest_reply) × RanLine s line book old r book₁ new
   ran_line n w le = (
     omega (arith, (ends.3 words).0, short c words n begun.reply_length w (omega (arith, reply-kept))),
     record {

@@ -3,22 +3,34 @@
 use Prim.Native.Nat.{ℕ, ◌-◌, ◌≤◌}
 use mathlib.Core.Path.{◌≡◌, refl, sym, subst}
 use mathlib.Core.Bool.{Bool}
+use mathlib.Core.Option as math
 use mathlib.Core.List.{List, [], append-nil}
 use native.Mathlib.Omega.{arith}
 use lib.ListN.{length, take, drop}
+use Rattle.std.specs.Prelude.{Option, Some, None}
 use Rattle.text.specs.Wrote.{Wrote}
 use Rattle.call_spec.specs.Books.{Book}
 use Rattle.console_words.specs.Prefixes.{prefixes_of}
 use Rattle.console_script.specs.declared.Command.{Command}
-use Rattle.console_script.specs.Commands.{CommandValue, most_prefixes, with_prefixes, value_in, read, write, buffer, selection, nothing, bad}
+use Rattle.console_script.specs.Commands.{CommandValue, most_prefixes, with_prefixes, command_in, value_in, read, write, buffer, selection, nothing, bad}
 use Rattle.console_lines.specs.Lines.{ok_line, error_line}
 use Rattle.console_commands.specs.Commands.{Given, Ran, Read, WroteOption}
 use Rattle.console_commands.proofs.CommandLaws.{appended, rest_of}
 
 -- The command that the line has is this one.
 pub ran-as : (line : List ℕ) (k this : Command) → k ≡ this → {g : Given} {book : Book} {old : List ℕ} {at : ℕ} {new : List ℕ} {next : ℕ}
+    → Ran (command_in line this) g book old at new next → Ran (command_in line k) g book old at new next
+ran-as line k this e {g} {book} {old} {at} {new} {next} ran = subst (λ (x : Command). Ran (command_in line x) g book old at new next) (sym e) ran
+
+-- What the line says is this.
+pub said-as : (line : List ℕ) (k this : Option Command) → k ≡ this → {g : Given} {book : Book} {old : List ℕ} {at : ℕ} {new : List ℕ} {next : ℕ}
     → Ran (value_in line this) g book old at new next → Ran (value_in line k) g book old at new next
-ran-as line k this e {g} {book} {old} {at} {new} {next} ran = subst (λ (x : Command). Ran (value_in line x) g book old at new next) (sym e) ran
+said-as line k this e {g} {book} {old} {at} {new} {next} ran = subst (λ (x : Option Command). Ran (value_in line x) g book old at new next) (sym e) ran
+
+-- A call is told its option 118 as the line has it.
+pub call-as : (f : math.Option (List ℕ) → CommandValue) (a b : math.Option (List ℕ)) → a ≡ b → {g : Given} {book : Book} {old : List ℕ} {at : ℕ} {new : List ℕ} {next : ℕ}
+    → Ran (f a) g book old at new next → Ran (f b) g book old at new next
+call-as f a b e {g} {book} {old} {at} {new} {next} ran = subst (λ (o : math.Option (List ℕ)). Ran (f o) g book old at new next) e ran
 
 -- An open is lent the rest of its line.
 pub open-as : (line : List ℕ) (from : ℕ) (f : List ℕ → List ℕ → CommandValue) {g : Given} {book : Book} {old : List ℕ} {at : ℕ} {new : List ℕ} {next : ℕ}

@@ -7,18 +7,22 @@ ghost use Rattle.image_figures.specs.Sheets.{figures_size};
 ghost use Rattle.call_spec.specs.Books.{book_of};
 ghost use Rattle.console_input.specs.Lines.{line_space};
 ghost use Rattle.console_session.specs.States.{AnswerFits, LineFits, OutputHolds, Unchanged};
-ghost use Rattle.console_script.specs.Commands.{Within, value_in, longest_reply};
+ghost use Rattle.std.specs.Prelude.{List, ℕ, IfSome};
+ghost use Rattle.std.specs.Prelude.{is_some};
+ghost use Rattle.call_spec.specs.ImageCalls.{carried_if};
+ghost use Rattle.console_words.specs.Octets.{octets_in};
+ghost use Rattle.console_script.specs.Commands.{Within, OctetsWithin, octets_at, value_in, longest_reply};
 ghost use Rattle.console_commands.specs.Commands.{given, Ran};
-ghost use Rattle.console.specs.Runs.{RanLine};
+ghost use Rattle.console.specs.Runs.{RanLine, passed_over?};
 ghost use Rattle.console.specs.InnerRuns.{Echoed, Set};
 
 use console_input::{NAME, Reader};
 use console_reason::REASON;
 use console_script::Command;
 use console_session::State;
+use console_words::Octets;
 use counts::Counts;
 use image::FULL_IMAGE;
-use program::Request;
 use std::io::Read;
 
 const HELP: [u8; 904] = *b"usage: console [--echo] [FILE]
@@ -52,6 +56,17 @@ struct Turn {
     r: Reader,
 }
 
+// Where the octets of an option 118 stand in a line: nowhere, if it has none.
+fn selection_place(selection: Option<Octets>) -> Octets
+    ensures within { (n : ℕ) → IfSome selection (OctetsWithin n) → OctetsWithin n result }
+    ensures place { (line : List ℕ) → carried_if (is_some selection) (octets_at line result) ≡ octets_in line selection }
+{
+    match selection {
+        Some(o) => o,
+        None => Octets { start: 0, end: 0 },
+    }
+}
+
 // Runs a command that a line has; the place where the output ends then.
 fn run(
     s: State,
@@ -66,21 +81,19 @@ fn run(
     requires answer_fits { AnswerFits s.at out.old × (s.reply_length ≤ longest_reply) × Within (length line.old) command }
     requires figures_len { length figures.old ≡ figures_size }
     ensures upper_bound { result ≤ length out.old }
-    ensures ran { Ran (value_in line.old command)
+    ensures ran { Ran (value_in line.old (Some command))
         (given (book_of image.old image_bytes.old figures.old counts.old) s.reply_length s.selected s.lines (drop s.at out.old))
         (book_of image.new image_bytes.new figures.new counts.new) out.old s.at out.new result }
 {
     match command {
         Command::Call(c) => {
-            let from = c.message.from;
-            let to = c.message.to;
-            let selection_from = c.message.selection_from;
-            let selection_to = c.message.selection_to;
+            let option = c.message.option;
+            let selection = selection_place(c.message.selection);
             console_commands::call(
                 s,
                 c,
-                &line[from..to],
-                &line[selection_from..selection_to],
+                &line[option.start..option.end],
+                &line[selection.start..selection.end],
                 image,
                 image_bytes,
                 figures,
@@ -89,48 +102,38 @@ fn run(
             )
         }
         Command::Mark(c) => console_commands::mark(s, c, image, image_bytes, figures, counts, out),
-        Command::Open(c) => {
-            let from = c.from;
-            console_commands::open(
-                s,
-                c,
-                &line[from..],
-                image,
-                image_bytes,
-                figures,
-                counts,
-                out,
-            )
-        }
-        Command::Load(c) => {
-            let from = c.from;
-            let to = c.to;
-            console_commands::load(s, &line[from..to], image, image_bytes, figures, counts, out)
-        }
+        Command::Open(c) => console_commands::open(
+            s,
+            c,
+            &line[c.from..],
+            image,
+            image_bytes,
+            figures,
+            counts,
+            out,
+        ),
+        Command::Load(o) => console_commands::load(
+            s,
+            &line[o.start..o.end],
+            image,
+            image_bytes,
+            figures,
+            counts,
+            out,
+        ),
         Command::Save(c) => {
             console_commands::save(s, c.form, c.older, image, *image_bytes, counts, out)
         }
         Command::Sheet => console_commands::sheet(s, image, *image_bytes, counts, out),
-        Command::Read(c) => {
-            let from = c.from;
-            let to = c.to;
-            console_commands::read(s, &line[from..to], out)
-        }
-        Command::Write(c) => {
-            let from = c.from;
-            console_commands::write(s, &mut line[from..], out)
-        }
+        Command::Read(o) => console_commands::read(s, &line[o.start..o.end], out),
+        Command::Write(c) => console_commands::write(s, &mut line[c.from..], out),
         Command::Figures => console_commands::figures(s, figures, out),
-        Command::SetFigures(c) => {
-            let from = c.from;
-            let to = c.to;
-            console_commands::set_figures(s, &line[from..to], figures, out)
+        Command::SetFigures(o) => {
+            console_commands::set_figures(s, &line[o.start..o.end], figures, out)
         }
         Command::Counts => console_commands::counts(s, image, *image_bytes, counts, out),
-        Command::SetCounts(c) => {
-            let from = c.from;
-            let to = c.to;
-            console_commands::set_counts(s, &line[from..to], counts, out)
+        Command::SetCounts(o) => {
+            console_commands::set_counts(s, &line[o.start..o.end], counts, out)
         }
         Command::Whole(c) => {
             console_commands::whole(s, c.length, image, *image_bytes, counts, out)
@@ -138,13 +141,36 @@ fn run(
         Command::Buffer(_) => console_lines::ok(out, s.at),
         Command::Selection(_) => console_lines::ok(out, s.at),
         Command::Nothing => s.at,
-        Command::Bad => console_lines::error(out, s.at, s.lines),
+    }
+}
+
+// Runs what a line says: its command, or it is told that it is none.
+fn run_read(
+    s: State,
+    command: Option<Command>,
+    line: &mut [u8],
+    image: &mut [u8],
+    image_bytes: &mut usize,
+    figures: &mut [u8],
+    counts: &mut Counts,
+    out: &mut [u8],
+) -> usize
+    requires answer_fits { AnswerFits s.at out.old × (s.reply_length ≤ longest_reply) × IfSome command (Within (length line.old)) }
+    requires figures_len { length figures.old ≡ figures_size }
+    ensures upper_bound { result ≤ length out.old }
+    ensures ran { Ran (value_in line.old command)
+        (given (book_of image.old image_bytes.old figures.old counts.old) s.reply_length s.selected s.lines (drop s.at out.old))
+        (book_of image.new image_bytes.new figures.new counts.new) out.old s.at out.new result }
+{
+    match command {
+        Some(c) => run(s, c, line, image, image_bytes, figures, counts, out),
+        None => console_lines::error(out, s.at, s.lines),
     }
 }
 
 // The length of the reply buffer from now on, and whether option 118 is enabled.
-fn set(s: State, command: Command) -> State
-    ensures { (result.at ≡ s.at) × (result.lines ≡ s.lines) × (result.echo ≡ s.echo) × Set command s result }
+fn set_by(s: State, command: Command) -> State
+    ensures { (result.at ≡ s.at) × (result.lines ≡ s.lines) × (result.echo ≡ s.echo) × Set (Some command) s result }
 {
     if let Command::Buffer(c) = command {
         return console_session::with_reply_length(s, c.length);
@@ -155,8 +181,38 @@ fn set(s: State, command: Command) -> State
     s
 }
 
+// The same of what a line says: a bad line sets nothing.
+fn set(s: State, command: Option<Command>) -> State
+    ensures { (result.at ≡ s.at) × (result.lines ≡ s.lines) × (result.echo ≡ s.echo) × Set command s result }
+{
+    match command {
+        Some(c) => set_by(s, c),
+        None => s,
+    }
+}
+
+// Whether a command is none: the line is passed over.
+fn is_nothing(command: Command) -> bool
+    ensures { (words : List ℕ) → passed_over? (value_in words (Some command)) ≡ result }
+{
+    if let Command::Nothing = command {
+        return true;
+    }
+    false
+}
+
+// Whether a line is passed over. A bad one is not.
+fn is_passed_over(command: Option<Command>) -> bool
+    ensures { (words : List ℕ) → passed_over? (value_in words command) ≡ result }
+{
+    match command {
+        Some(c) => is_nothing(c),
+        None => false,
+    }
+}
+
 // Writes the line of a command before its answer, where that is asked for. A line that is passed over is not written.
-fn echo(s: State, command: Command, line: &[u8], out: &mut [u8]) -> State
+fn echo(s: State, command: Option<Command>, line: &[u8], out: &mut [u8]) -> State
     requires { LineFits s.at out.old × (length line.now ≤ line_space) }
     ensures answer_fits { AnswerFits result.at out.old × Unchanged s result }
     ensures echoed { Echoed s.echo command line.now out.old s.at out.new result.at }
@@ -164,7 +220,7 @@ fn echo(s: State, command: Command, line: &[u8], out: &mut [u8]) -> State
     if !s.echo {
         return s;
     }
-    if let Command::Nothing = command {
+    if is_passed_over(command) {
         return s;
     }
     let a = console_text::text(out, s.at, b"> ");
@@ -177,8 +233,7 @@ fn echo(s: State, command: Command, line: &[u8], out: &mut [u8]) -> State
 fn explain(errors: &impl Print, s: State, end: usize, line: &[u8], out: &[u8])
     requires { (s.at ≤ end) × (end ≤ length out.now) }
 {
-    let at = s.at;
-    if console_words::behind(&out[at..end], b"error") == 0 {
+    if !out[s.at..end].starts_with(b"error") {
         return;
     }
     let mut text = [0u8; REASON];
@@ -207,7 +262,7 @@ fn run_line(
 {
     let command = console_script::read_command(line);
     let begun = echo(console_session::next_line(s), command, kept, out);
-    let end = run(
+    let end = run_read(
         begun,
         command,
         line,
@@ -344,7 +399,7 @@ fn run_input<R: Read>(rt: &impl Print, errors: &impl Print, from: &mut R, echo: 
 
 fn main(rt: HostRuntime) {
     let errors = rt.stderr();
-    let Request::Run(o) = program::command_line(&rt, &errors, &NAME, &HELP, true) else {
+    let Some(o) = program::command_line(&rt, &errors, &NAME, &HELP, true) else {
         return;
     };
     if let Some(mut from) = program::open_input(&rt, &errors, &NAME, o.file) {

@@ -22,15 +22,14 @@ use Rattle.call_spec.specs.Books.{Book, book_of, lent_in, open_book, save_book}
 use Rattle.call_spec.specs.OnBooks.{GivenAlike}
 use Rattle.call_sheet.specs.SheetImage.{sheet_image}
 use Rattle.console_words.specs.Prefixes.{Columns, prefixes_in}
-use Rattle.console_words.specs.declared.Prefixes.{Prefixes}
 use Rattle.console_script.specs.declared.OptionCall.{OptionCall}
 use Rattle.console_script.specs.Commands.{CommandValue, call, «open», save, sheet, longest_reply, with_prefixes}
 use Rattle.console_lines.proofs.TextLaws.{first-bytes}
 use Rattle.console_lines.specs.Sizes.{octets_most}
 use Rattle.console_session.specs.States.{AnswerFits}
 use Rattle.console_lines.specs.Lines.{error_line, refused_line, done_line, written_line}
-use Rattle.console_write.specs.declared.Outcome.{Outcome}
-use Rattle.console_write.specs.declared.Outcome.TheVariants as outcome
+use Rattle.std.specs.Prelude.{Some, None}
+use Rattle.std.specs.Prelude as code
 use Rattle.console_write.specs.Writes.{Writes, WroteOne}
 use Rattle.console_commands.specs.Commands.{Given, enabled, call_on, call_line, saved_line, With, Done, Appended, Ran, WroteOption, sheet_text, of_sound}
 use Rattle.console_commands.proofs.QueryLaws.{shown-text}
@@ -99,23 +98,23 @@ module _ (g : Given) (a : Answer) (h : Book) (old : List ℕ) (at : ℕ) (new : 
         wrote = appended old at _ new next inside w;
       }
 
-  pub open-ran : (o : Option Columns) (p : Prefixes) (networks lengths networks₁ lengths₁ : List ℕ) (term len start : ℕ) → prefixes_in p networks lengths ≡ o → p.good ≡ true
-      → networks₁ ≡ take p.count networks → lengths₁ ≡ take p.count lengths
+  pub open-ran : (o : Option Columns) (n : ℕ) (networks lengths networks₁ lengths₁ : List ℕ) (term len start : ℕ) → prefixes_in (Some n) networks lengths ≡ o
+      → networks₁ ≡ take n networks → lengths₁ ≡ take n lengths
       → outcome a h [] ≡ open_book g.book networks₁ lengths₁ term len start → Wrote old at (done_line a) new next → Ran (with_prefixes o («open» term len start)) g h old at new next
-  open-ran o p networks lengths networks₁ lengths₁ term len start is good first second same w =
+  open-ran o n networks lengths networks₁ lengths₁ term len start is first second same w =
       subst (λ (x : Option Columns). Ran (with_prefixes x («open» term len start)) g h old at new next)
-      (sym (ap (λ (b : Bool). cond b (some (take p.count networks, take p.count lengths)) none) good) ∙ is)
+      is
       (record {
         text = done_line a;
-        does = done-does a h (open_book g.book (take p.count networks) (take p.count lengths) term len start) (same ∙ ap₂ (λ (x y : List ℕ). open_book g.book x y term len start) first second);
+        does = done-does a h (open_book g.book (take n networks) (take n lengths) term len start) (same ∙ ap₂ (λ (x y : List ℕ). open_book g.book x y term len start) first second);
         wrote = appended old at _ new next inside w;
       })
 
-pub open-bad : (g : Given) (old : List ℕ) (at : ℕ) (new : List ℕ) (next : ℕ) (o : Option Columns) (p : Prefixes) (networks lengths : List ℕ) (f : List ℕ → List ℕ → CommandValue)
-    → next ≤ length old → prefixes_in p networks lengths ≡ o → p.good ≡ false → Wrote old at (error_line g.line) new next → Ran (with_prefixes o f) g g.book old at new next
-open-bad g old at new next o p networks lengths f inside is bad w =
+pub open-bad : (g : Given) (old : List ℕ) (at : ℕ) (new : List ℕ) (next : ℕ) (o : Option Columns) (networks lengths : List ℕ) (f : List ℕ → List ℕ → CommandValue)
+    → next ≤ length old → prefixes_in None networks lengths ≡ o → Wrote old at (error_line g.line) new next → Ran (with_prefixes o f) g g.book old at new next
+open-bad g old at new next o networks lengths f inside is w =
     subst (λ (x : Option Columns). Ran (with_prefixes x f) g g.book old at new next)
-    (sym (ap (λ (b : Bool). cond b (some (take p.count networks, take p.count lengths)) none) bad) ∙ is)
+    is
     (record { text = error_line g.line; does = (refl, refl); wrote = appended old at _ new next inside w })
 
 -- WRITE
@@ -123,10 +122,10 @@ open-bad g old at new next o p networks lengths f inside is bad w =
 pub write-bad : (line n : ℕ) (old : List ℕ) (at : ℕ) (new : List ℕ) (next : ℕ) → next ≤ length old → Wrote old at (error_line line) new next → WroteOption line n old at new next
 write-bad line n old at new next inside w = record { text = error_line line; says = inl refl; wrote = appended old at _ new next inside w }
 
-pub write-of : (line n : ℕ) (o : Outcome) (a : Answer) (buffer after old : List ℕ) (at : ℕ) (new : List ℕ) (next : ℕ) → next ≤ length old → length buffer ≡ n → o ≡ outcome.Of a → Writes o buffer after
+pub write-of : (line n : ℕ) (o : code.Option Answer) (a : Answer) (buffer after old : List ℕ) (at : ℕ) (new : List ℕ) (next : ℕ) → next ≤ length old → length buffer ≡ n → o ≡ Some a → Writes o buffer after
     → Wrote old at (written_line a after) new next → WroteOption line n old at new next
 write-of line n o a buffer after old at new next inside size e h w =
-    let one : WroteOne a buffer after = subst (λ (x : Outcome). Writes x buffer after) e h in
+    let one : WroteOne a buffer after = subst (λ (x : code.Option Answer). Writes x buffer after) e h in
     record {
       text = written_line a after;
       says = inr (record { option = one.option; buffer = buffer; size = size; says = ap (λ (p : Answer × List ℕ). written_line p.0 p.1) one.same });

@@ -23,6 +23,7 @@ ghost use Rattle.console_script.specs.Commands.{
   with_prefixes,
 };
 ghost use Rattle.console_words.specs.Prefixes.{prefixes_of};
+ghost use Rattle.std.specs.Prelude.{is_some};
 ghost use Rattle.console_session.specs.States.{AnswerFits};
 ghost use Rattle.console_commands.specs.Commands.{given, Ran, Read, WroteOption};
 
@@ -30,9 +31,9 @@ use call_open::Terms;
 use call_spec::Message;
 use console_script::{CallLine, LONGEST_REPLY, MarkLine, OpenLine, OptionCall};
 use console_session::State;
-use console_write::Outcome;
+use console_words::Octets;
 use counts::Counts;
-use image::{FULL_IMAGE, HEAD};
+use image::{FULL_IMAGE, Form, HEAD};
 
 // The most prefixes that an open may have.
 const PREFIXES: usize = 16;
@@ -41,13 +42,10 @@ const PREFIXES: usize = 16;
 const REPLY: usize = LONGEST_REPLY as usize;
 
 // Whether the call of a line carries option 118: it is enabled, and the line has one.
-fn carried(enabled: bool, has: bool) -> bool
-    ensures { result ≡ (enabled && has) }
+fn carried(enabled: bool, selection: Option<Octets>) -> bool
+    ensures { result ≡ (enabled && is_some selection) }
 {
-    if enabled {
-        return has;
-    }
-    false
+    enabled && selection.is_some()
 }
 
 // ask, take, list, return: STATION NOW OPTION [HEX]
@@ -64,7 +62,7 @@ pub fn call(
 ) -> usize
     requires { AnswerFits s.at out.old × (s.reply_length ≤ longest_reply) }
     ensures upper_bound { result ≤ length out.old }
-    ensures ran { Ran (call_value c.call c.client c.time option.now (carried_if c.message.carries selection.now))
+    ensures ran { Ran (call_value c.call c.client c.time option.now (carried_if (is_some c.message.selection) selection.now))
         (given (book_of image.old image_bytes.old figures.old counts.old) s.reply_length s.selected s.lines (drop s.at out.old))
         (book_of image.new image_bytes.new figures.new counts.new) out.old s.at out.new result }
 {
@@ -75,7 +73,7 @@ pub fn call(
     let message = Message {
         client,
         time,
-        selected: carried(s.selected, c.message.carries),
+        selected: carried(s.selected, c.message.selection),
     };
     let call = c.call;
     match call {
@@ -144,7 +142,7 @@ pub fn mark(
 ) -> usize
     requires { AnswerFits s.at out.old }
     ensures upper_bound { result ≤ length out.old }
-    ensures ran { Ran (mark_value c.time c.network c.length c.deprecated)
+    ensures ran { Ran (mark_value c.time c.prefix.network c.prefix.length c.deprecated)
         (given (book_of image.old image_bytes.old figures.old counts.old) s.reply_length s.selected s.lines (drop s.at out.old))
         (book_of image.new image_bytes.new figures.new counts.new) out.old s.at out.new result }
 {
@@ -153,8 +151,8 @@ pub fn mark(
         image_bytes,
         figures,
         counts,
-        c.network,
-        c.length as u32,
+        c.prefix.network,
+        c.prefix.length as u32,
         c.deprecated,
         c.time,
     );
@@ -181,10 +179,9 @@ pub fn open(
     let mut networks = [0u32; PREFIXES];
     let mut lengths = [0u8; PREFIXES];
     let pools = console_words::read_prefixes(words, 0, &mut networks, &mut lengths);
-    if !pools.good {
+    let Some(n) = pools else {
         return console_lines::error(out, s.at, s.lines);
-    }
-    let n = pools.count;
+    };
     let terms = Terms {
         term: c.term,
         default_length: c.default_length,
@@ -243,7 +240,7 @@ pub fn save(
         image,
         image_bytes,
         counts,
-        image::form_numbered(form),
+        Form::from(form),
         older,
         &mut buffer,
     );
@@ -326,8 +323,8 @@ pub fn write(s: State, words: &mut [u8], out: &mut [u8]) -> usize
     let mut buffer = [0u8; REPLY];
     let n = s.reply_length;
     match console_write::write(words, &mut buffer[0..n]) {
-        Outcome::Bad => console_lines::error(out, s.at, s.lines),
-        Outcome::Of(a) => console_lines::written(out, s.at, a, &buffer[0..n]),
+        None => console_lines::error(out, s.at, s.lines),
+        Some(a) => console_lines::written(out, s.at, a, &buffer[0..n]),
     }
 }
 

@@ -5,12 +5,11 @@ ghost use Rattle.std.specs.Prelude.{◌≡◌, ◌≤◌, ◌<◌, length};
 ghost use Rattle.console_input.specs.Lines.{line_space};
 
 use console_script::LONGEST;
-use program::Input;
 use std::io::Read;
 
 // What was read and not yet run: the input from a place to another, behind the `pending` bytes of a line. The line is whole once its newline was read,
 // or the input has ended.
-#[derive(Clone, Copy)]
+#[derive(Clone, Copy, Debug, PartialEq, Eq)]
 pub struct Reader {
     pub from: usize,
     pub to: usize,
@@ -60,7 +59,7 @@ fn at_end(pending: usize) -> Reader
 fn read_more<R: Read>(errors: &impl Print, from: &mut R, pending: usize, input: &mut [u8]) -> Reader
     ensures { (result.from ≡ 0) × (result.to ≤ length input.old) × (result.pending ≤ pending) }
 {
-    let Input::Bytes(to) = program::read_some(errors, &NAME, from, input) else {
+    let Ok(to) = program::read_some(errors, &NAME, from, input) else {
         return at_end(0);
     };
     if to == 0 {
@@ -81,31 +80,15 @@ fn take_piece(r: Reader, pending: usize, input: &[u8], line: &mut [u8]) -> Reade
     requires pending_in_bounds { pending ≤ length line.old }
     ensures { (result.from ≤ result.to) × (result.to ≤ length input.now) × (result.pending ≤ length line.old) }
 {
-    let to = r.to;
-    let mut i = r.from;
-    let mut n = pending;
-    while i < to {
-        let b = input[i];
-        i = i + 1;
-        if b == b'\n' {
-            return Reader {
-                from: i,
-                to,
-                pending: n,
-                whole: true,
-                ended: false,
-            };
-        }
-        if n < line.len() {
-            line[n] = b;
-            n = n + 1;
-        }
-    }
+    let end = octets::find(&input[..r.to], r.from, b'\n');
+    let whole = end < r.to;
+    let n = (end - r.from).min(line.len() - pending);
+    line[pending..pending + n].copy_from_slice(&input[r.from..r.from + n]);
     Reader {
-        from: i,
-        to,
-        pending: n,
-        whole: false,
+        from: if whole { end + 1 } else { end },
+        to: r.to,
+        pending: pending + n,
+        whole,
         ended: false,
     }
 }

@@ -1,17 +1,15 @@
 -- The lines of the counts, from the pieces that are written.
 -- Assumes nothing.
-use Prim.Native.Nat.{ℕ, zero, suc, ◌+◌, ◌-◌, ◌*◌, ◌≤◌, ◌<◌}
+use Prim.Native.Nat.{ℕ, zero, suc, ◌+◌, ◌*◌, ◌≤◌, ◌<◌}
 use native.Mathlib.Omega.{arith}
 use native.Mathlib.Numerals.{add-one}
 use mathlib.Core.Path.{◌≡◌, refl, sym, ap, ap₂, ◌∙◌}
-use mathlib.Core.Bool.{Bool, true, false, cond, ◌&&◌}
+use mathlib.Core.Bool.{Bool, true, false, ◌&&◌}
 use mathlib.Core.List.{List, [], ◌∷◌, ◌++◌, append-nil, append_assoc}
 use lib.ListN.{length, take, drop, get_or, replicate}
 use lib.Seq.{drop-drop, take_all}
 use lib.Dec.{eqb}
 use borrow.Author.Tests.{eq-eqb, ne_eqb}
-use Rattle.lists.specs.Lists.{all?}
-use Rattle.lists.proofs.DropLaws.{all?-at, drop-end}
 use Rattle.lists.proofs.Tests.{cond-true, cond-false}
 use Rattle.lists.proofs.PutLaws.{put-nothing}
 use Rattle.text.specs.Ascii.{ascii}
@@ -22,6 +20,7 @@ use Rattle.image.specs.Image.{pool_size}
 use Rattle.image.specs.Reading.{pool_in}
 use Rattle.console_lines.specs.Lines.{decimal, ok_line}
 use Rattle.console_lines.specs.CountLines.{count_text, row_counts, pool_line, none_in?, pool_text, pool_texts, counts_text, pools_at}
+use lib.Pointwise.{pointwise}
 use Rattle.console_lines.proofs.TextLaws.{filled, then-wrote, wrote_as}
 
 pub nothing-wrote : (old : List ℕ) (at : ℕ) → Wrote old at [] old at
@@ -39,15 +38,9 @@ count-shown len n k =
 
 -- A ROW
 
-module _ (row : List ℕ) (j : ℕ) where
-  pub some-here : j < length row → (get_or row j 0 ≡ 0 → ⊥) → none_in? (drop j row) ≡ none_in? row → false ≡ none_in? row
-  some-here lt k e = sym (ap (λ (b : Bool). b && none_in? (drop (j + 1) row)) (ne_eqb (get_or row j 0) 0 k)) ∙ sym (all?-at row j 0 lt (λ n. eqb n 0)) ∙ e
-
-  pub none_here : j < length row → get_or row j 0 ≡ 0 → none_in? (drop j row) ≡ none_in? row → none_in? (drop (j + 1) row) ≡ none_in? row
-  none_here lt z e = sym (ap (λ (b : Bool). b && none_in? (drop (j + 1) row)) (eq-eqb (get_or row j 0) 0 z)) ∙ sym (all?-at row j 0 lt (λ n. eqb n 0)) ∙ e
-
-  pub none_left : length row ≤ j → none_in? (drop j row) ≡ none_in? row → true ≡ none_in? row
-  none_left le e = sym (ap none_in? (drop-end row j le)) ∙ e
+pub none-zeros : (row : List ℕ) → pointwise eqb row (replicate (length row) 0) ≡ none_in? row
+none-zeros [] = refl
+none-zeros (n ∷ row) = ap (λ (b : Bool). eqb n 0 && b) (none-zeros row)
 
 row_more : (len : ℕ) (row : List ℕ) (j : ℕ) → j < length row → row_counts len (take j row) ++ count_text (j + len) (get_or row j 0) ≡ row_counts len (take (suc j) row)
 unfolding row_counts

@@ -5,16 +5,15 @@ use native.Mathlib.Omega.{arith}
 use mathlib.Core.Path.{◌≡◌, sym, subst}
 use mathlib.Core.List.{List}
 use lib.ListN.{length}
-use Rattle.lists.specs.Walk.{more}
-use Rattle.option.specs.Values.{Entry, SuboptionValue, request, information, name, unknown}
+use Rattle.option.specs.Values.{SuboptionValue, request, information, name, unknown}
 use Rattle.option.specs.Reading.{read_entry, read_suboption}
 use Rattle.option.specs.Answers.{entry_step_of, step_of, suboption_of}
 use Rattle.option_entry.specs.declared.EntryFields.{EntryFields}
 use Rattle.option_entry.specs.declared.EntryCursor.{EntryCursor}
 use Rattle.option.specs.declared.Cursor.{Cursor}
 use Rattle.option.specs.declared.Suboption.{Suboption}
-use Rattle.option_entry.specs.declared.EntryStep.TheVariants as entry-step
-use Rattle.option.specs.declared.Step.TheVariants as step
+use Rattle.std.specs.declared.option.Option.TheVariants.{Some}
+use Rattle.std.specs.declared.result.Result.TheVariants.{Ok}
 use Rattle.option.proofs.EntryLaws.{entry_read, told-entry}
 use Rattle.option.proofs.SuboptionLaws.{suboption-read, suboption-ends, told-piece}
 use Rattle.console_lines.specs.InnerSizes.{most, Within}
@@ -25,7 +24,7 @@ pub record EntryTaken (end at : ℕ) (c : EntryCursor) : Type 0 where
   pub whole : c.at ≤ end
   pub same : c.end ≡ end
 
-pub entry-taken : (s : List ℕ) (end at : ℕ) (f : EntryFields) (c : EntryCursor) → entry-step.Entry f c ≡ entry_step_of end (read_entry s end at) → EntryTaken end at c
+pub entry-taken : (s : List ℕ) (end at : ℕ) (f : EntryFields) (c : EntryCursor) → entry_step_of end (read_entry s end at) ≡ Ok (Some (f, c)) → EntryTaken end at c
 entry-taken s end at f c h =
     let t = told-entry end (read_entry s end at) f c h in
     let r = entry_read s end at t.0 c.at t.1 in
@@ -50,7 +49,7 @@ within_of s (information c d es) at next le inside = tt
 within_of s (name octets) at next le inside = (le, inside)
 within_of s unknown at next le inside = tt
 
-pub taken : (s : List ℕ) (at : ℕ) (x : Suboption) (c : Cursor) → step.Piece x c ≡ step_of at (read_suboption s at) → Taken s at x c
+pub taken : (s : List ℕ) (at : ℕ) (x : Suboption) (c : Cursor) → step_of at (read_suboption s at) ≡ Ok (Some (x, c)) → Taken s at x c
 taken s at x c h =
     let t = told-piece at (read_suboption s at) x c h in
     let ends = suboption-ends s at t.0 c.at t.1 in

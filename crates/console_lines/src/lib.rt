@@ -47,9 +47,6 @@ ghost use Rattle.console_lines.specs.Lines.{
 };
 ghost use Rattle.console_lines.specs.FigureLines.{
   figure_text,
-  high_water_text,
-  in_use_text,
-  unusable_text,
   prefix_text,
   row_text,
   figures_text,
@@ -64,15 +61,15 @@ ghost use Rattle.console_lines.specs.CountLines.{
 };
 
 use counts::{Counts, LENGTHS};
-use figures::{FigureRow, UNTOLD};
+use figures::{Figure, FigureRow, UNTOLD};
 use image::POOL;
 use image_figures::ROW;
 use ledger::Answer;
 use option::{
-    Checked, Cursor, InformationFields, LONGEST_OPTION, NameFields, RequestFields, Selection, Step,
-    Suboption,
+    BadSuboption, Cursor, InformationFields, LONGEST_OPTION, NameFields, OptionFault,
+    RequestFields, Suboption,
 };
-use option_entry::{EntryCursor, EntryFields, EntryStep, HighWater, InUse, Unusable};
+use option_entry::{EntryCursor, EntryFields};
 use table::{LEASES, POOLS, Pool, SHORTEST_POOL};
 
 // The first length that is counted.
@@ -248,20 +245,11 @@ fn entries(out: &mut [u8], at: usize, s: &[u8], first: EntryCursor) -> usize
 {
     let mut cursor = first;
     let mut end = at;
-    loop {
-        match cursor.step(s) {
-            EntryStep::Entry(e, next) => {
-                end = entry(out, end, e);
-                cursor = next;
-            }
-            EntryStep::Cut => {
-                return end;
-            }
-            EntryStep::End => {
-                return end;
-            }
-        }
+    while let Ok(Some((e, next))) = cursor.step(s) {
+        end = entry(out, end, e);
+        cursor = next;
     }
+    end
 }
 
 fn request(out: &mut [u8], at: usize, r: RequestFields) -> usize
@@ -311,20 +299,11 @@ fn suboptions(out: &mut [u8], at: usize, s: &[u8]) -> usize
 {
     let mut cursor = Cursor::first();
     let mut end = at;
-    loop {
-        match cursor.step(s) {
-            Step::Piece(x, next) => {
-                end = suboption(out, end, s, x);
-                cursor = next;
-            }
-            Step::Bad(_, _) => {
-                return end;
-            }
-            Step::End => {
-                return ok(out, end);
-            }
-        }
+    while let Ok(Some((x, next))) = cursor.step(s) {
+        end = suboption(out, end, s, x);
+        cursor = next;
     }
+    ok(out, end)
 }
 
 // What the reader of option 220 finds.
@@ -336,10 +315,10 @@ fn option(out: &mut [u8], at: usize, s: &[u8]) -> usize
         return refusal(out, at, 6, 0);
     }
     match option::check_option(s) {
-        Checked::Good => suboptions(out, at, s),
-        Checked::NotTheOption => refusal(out, at, 6, 0),
+        Ok(()) => suboptions(out, at, s),
+        Err(OptionFault::NotTheOption) => refusal(out, at, 6, 0),
         // No place is past the end.
-        Checked::BadSuboption(fault, place) => {
+        Err(OptionFault::BadSuboption(BadSuboption { fault, place })) => {
             refusal(out, at, fault.number(), least(place, s.len()) as u32)
         }
     }
@@ -359,8 +338,8 @@ fn selection(out: &mut [u8], at: usize, s: &[u8]) -> usize
     ensures { result ≤ at + address_most }
 {
     match option::read_selection(s) {
-        Selection::Address(n) => address(out, at, n),
-        Selection::NotTheOption => refusal(out, at, 6, 0),
+        Some(n) => address(out, at, n),
+        None => refusal(out, at, 6, 0),
     }
 }
 
@@ -380,41 +359,17 @@ pub fn read(out: &mut [u8], at: usize, s: &[u8]) -> usize
 // FIGURES
 
 // A figure behind its name; `-` where nothing was told.
-fn figure(out: &mut [u8], at: usize, name: &[u8], n: u16) -> usize
+fn figure<F: Figure>(out: &mut [u8], at: usize, name: &[u8], f: F) -> usize
     requires { (length name.now ≤ figure_name_most) × (at + figure_most ≤ length out.old) }
     ensures upper_bound { result ≤ at + figure_most }
-    ensures wrote { Wrote out.old at (name.now ++ figure_text n) out.new result }
+    ensures wrote { Wrote out.old at (name.now ++ figure_text (F.number_of f)) out.new result }
 {
     let a = console_text::text(out, at, name);
+    let n = f.number();
     if n == UNTOLD {
         return console_text::text(out, a, b"-");
     }
     console_text::fill(out, a, b"%", &[n as u32])
-}
-
-// Each figure as what it is.
-fn high_water(out: &mut [u8], at: usize, f: HighWater) -> usize
-    requires { at + figure_most ≤ length out.old }
-    ensures upper_bound { result ≤ at + figure_most }
-    ensures wrote { Wrote out.old at (high_water_text f) out.new result }
-{
-    figure(out, at, b" high-water=", f.0)
-}
-
-fn in_use(out: &mut [u8], at: usize, f: InUse) -> usize
-    requires { at + figure_most ≤ length out.old }
-    ensures upper_bound { result ≤ at + figure_most }
-    ensures wrote { Wrote out.old at (in_use_text f) out.new result }
-{
-    figure(out, at, b" in-use=", f.0)
-}
-
-fn unusable(out: &mut [u8], at: usize, f: Unusable) -> usize
-    requires { at + figure_most ≤ length out.old }
-    ensures upper_bound { result ≤ at + figure_most }
-    ensures wrote { Wrote out.old at (unusable_text f) out.new result }
-{
-    figure(out, at, b" unusable=", f.0)
 }
 
 fn prefix(out: &mut [u8], at: usize, network: u32, len: u8) -> usize
@@ -462,9 +417,9 @@ fn row(out: &mut [u8], at: usize, r: FigureRow) -> usize
         return at;
     }
     let a = row_head(out, at, r);
-    let b = high_water(out, a, r.high_water);
-    let c = in_use(out, b, r.in_use);
-    let d = unusable(out, c, r.unusable);
+    let b = figure(out, a, b" high-water=", r.high_water);
+    let c = figure(out, b, b" in-use=", r.in_use);
+    let d = figure(out, c, b" unusable=", r.unusable);
     console_text::text(out, d, b"\n")
 }
 
@@ -475,10 +430,8 @@ pub fn figures_sheet(out: &mut [u8], at: usize, sheet: &[u8]) -> usize
     ensures wrote { Wrote out.old at (figures_text (sheet_rows sheet.now)) out.new result }
 {
     let mut end = at;
-    let mut i: usize = 0;
-    while i < LEASES {
+    for i in 0..LEASES {
         end = row(out, end, image_figures::row_at(sheet, ROW * i));
-        i = i + 1;
     }
     ok(out, end)
 }
@@ -501,14 +454,7 @@ fn count(out: &mut [u8], at: usize, len: u32, n: u16) -> usize
 fn none_in(row: [u16; LENGTHS]) -> bool
     ensures { result ≡ none_in? row }
 {
-    let mut j: usize = 0;
-    while j < LENGTHS {
-        if row[j] != 0 {
-            return false;
-        }
-        j = j + 1;
-    }
-    true
+    row == [0; LENGTHS]
 }
 
 // The counts of a row, by their lengths.
@@ -518,10 +464,8 @@ fn row_counts(out: &mut [u8], at: usize, row: [u16; LENGTHS]) -> usize
     ensures wrote { Wrote out.old at (row_counts shortest_pool row) out.new result }
 {
     let mut end = at;
-    let mut j: usize = 0;
-    while j < LENGTHS {
-        end = count(out, end, (j + FIRST) as u32, row[j]);
-        j = j + 1;
+    for (j, n) in row.iter().enumerate() {
+        end = count(out, end, (j + FIRST) as u32, *n);
     }
     end
 }
@@ -548,11 +492,8 @@ pub fn counts(out: &mut [u8], at: usize, pools: &[u8], counts: Counts) -> usize
     ensures wrote { Wrote out.old at (counts_text (pools_at pool_slots pools.now) counts) out.new result }
 {
     let mut end = at;
-    let mut k: usize = 0;
-    while k < POOLS {
-        let row = counts[k];
-        end = pool(out, end, image::pool_at(pools, POOL * k), row);
-        k = k + 1;
+    for (k, row) in counts.iter().enumerate() {
+        end = pool(out, end, image::pool_at(pools, POOL * k), *row);
     }
     ok(out, end)
 }

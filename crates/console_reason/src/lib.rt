@@ -11,9 +11,8 @@ ghost use Rattle.console_reason.specs.InnerFaults.{
   reason_most,
 };
 
-use console_script::{COUNTS, LONGEST, LONGEST_REPLY, Name, OptionCall, Switch};
-use console_words::{Number, PrefixWord};
-use console_write::{FiguresWord, ItemWord};
+use console_script::{COUNTS, LONGEST, LONGEST_REPLY, Name, OptionCall};
+use console_write::ItemWord;
 use image_figures::FIGURES;
 
 // The most bytes of a word that are shown.
@@ -22,214 +21,228 @@ const SHOWN: usize = 40;
 // Room for every reason.
 pub const REASON: usize = 1024;
 
+// What a word should be.
+#[derive(Clone, Copy)]
+enum Kind {
+    Number,
+    // A number below 256.
+    Octet,
+    // A length of the reply buffer.
+    ReplyLength,
+    // 0 or 1.
+    Flag,
+    // The form of a saved book.
+    Form,
+    Older,
+    Switch,
+    Prefix,
+    Address,
+    Octets,
+    // The octets of a figures sheet, and of counts.
+    Sheet,
+    Counts,
+    // Of `write`: a bit behind its key, a length behind `prefix=`, figures behind `figures=`, a word that begins an item, an entry in its place.
+    Bit(u8),
+    Length,
+    Figures,
+    Item,
+    EntryPlace,
+}
+
 // What is wrong with the words of a command.
 #[derive(Clone, Copy)]
 enum Fault {
-    // Nothing, up to this place.
-    None(usize),
     // The line ends before a word of this kind.
-    Missing(u8),
+    Missing(Kind),
     // The word from a place to before another is not of this kind.
-    Wrong(usize, usize, u8),
+    Wrong(usize, usize, Kind),
     // The word from a place to before another is one too many.
     Surplus(usize, usize),
     // Each word of a `write` is right, and they are more than a list holds.
     TooMany,
 }
 
-// KINDS. What a word should be is told by a letter:
-// n a number, b a number below 256, r a length of the reply buffer, f 0 or 1, v the form of a saved book, y older, o on or off, p a prefix, a an address, x octets, t those of a figures sheet, u those of counts;
-// of `write` h, i, c, s and d a bit behind its key, l `prefix=` and a length, g `figures=` and figures, w a word that begins an item, e an entry in its place.
-
-fn is_number(n: Number) -> bool {
-    match n {
-        Number::Of(_) => true,
-        Number::Bad => false,
-    }
-}
+// KINDS
 
 // A number that is not above a limit.
 fn is_at_most(word: &[u8], most: u32) -> bool {
     match console_words::read_number(word) {
-        Number::Of(n) => n <= most,
-        Number::Bad => false,
-    }
-}
-
-fn is_switch(word: &[u8]) -> bool {
-    match console_script::read_switch(word) {
-        Switch::Of(_) => true,
-        Switch::Bad => false,
-    }
-}
-
-fn is_prefix(word: &[u8]) -> bool {
-    match console_words::read_prefix(word) {
-        PrefixWord::Of(_, _) => true,
-        PrefixWord::Bad => false,
+        Some(n) => n <= most,
+        None => false,
     }
 }
 
 fn is_hexadecimal(word: &[u8]) -> bool {
-    let mut i: usize = 0;
-    while i < word.len() {
-        if 15 < console_words::digit(word[i]) {
-            return false;
-        }
-        i = i + 1;
-    }
-    true
+    word.iter().all(|c| console_words::digit(*c).is_some())
 }
 
 // Two hexadecimal digits for each octet, or `-` for none.
 fn is_octets(word: &[u8]) -> bool {
-    if check::same(word, b"-") {
-        return true;
-    }
-    if word.len() % 2 == 1 {
-        return false;
-    }
-    is_hexadecimal(word)
+    check::same(word, b"-") || (word.len() % 2 == 0 && is_hexadecimal(word))
 }
 
 // As many octets as this.
 fn is_octets_of(word: &[u8], size: usize) -> bool {
-    if word.len() % 2 == 1 {
-        return false;
-    }
-    if word.len() / 2 != size {
-        return false;
-    }
-    is_hexadecimal(word)
+    word.len() % 2 == 0 && word.len() / 2 == size && is_hexadecimal(word)
 }
 
 // A key and 0 or 1 behind it.
 fn is_bit(word: &[u8], key: u8) -> bool {
-    let value = console_words::behind(word, &[key, b'=']);
-    if value == 0 {
-        return false;
+    match word {
+        [k, b'=', value @ ..] => *k == key && console_words::read_flag(value).is_some(),
+        _ => false,
     }
-    is_number(console_words::read_flag(&word[value..]))
 }
 
 // `prefix=` and a length behind it.
 fn is_length(word: &[u8]) -> bool {
-    let value = console_words::behind(word, b"prefix=");
-    if value == 0 {
-        return false;
+    match word.strip_prefix(b"prefix=") {
+        Some(value) => is_at_most(value, 255),
+        None => false,
     }
-    is_at_most(&word[value..], 255)
 }
 
 // `figures=` and figures behind it.
 fn is_figures(word: &[u8]) -> bool {
-    let value = console_words::behind(word, b"figures=");
-    if value == 0 {
-        return false;
-    }
-    match console_write::read_figures(&word[value..]) {
-        FiguresWord::Of(_) => true,
-        FiguresWord::Bad => false,
+    match word.strip_prefix(b"figures=") {
+        Some(value) => console_write::read_figures(value).is_some(),
+        None => false,
     }
 }
 
-fn is_of(kind: u8, word: &[u8]) -> bool {
+fn is_of(kind: Kind, word: &[u8]) -> bool {
     match kind {
-        b'n' => is_number(console_words::read_number(word)),
-        b'b' => is_at_most(word, 255),
-        b'r' => is_at_most(word, LONGEST_REPLY),
-        b'f' => is_number(console_words::read_flag(word)),
-        b'v' => is_number(console_script::read_form(word)),
-        b'y' => check::same(word, b"older"),
-        b'o' => is_switch(word),
-        b'p' => is_prefix(word),
-        b'a' => is_number(console_words::read_network(word)),
-        b'x' => is_octets(word),
-        b't' => is_octets_of(word, FIGURES),
-        b'u' => is_octets_of(word, COUNTS),
-        b'l' => is_length(word),
-        b'g' => is_figures(word),
-        _ => is_bit(word, kind),
+        Kind::Number => console_words::read_number(word).is_some(),
+        Kind::Octet => is_at_most(word, 255),
+        Kind::ReplyLength => is_at_most(word, LONGEST_REPLY),
+        Kind::Flag => console_words::read_flag(word).is_some(),
+        Kind::Form => console_script::read_form(word).is_some(),
+        Kind::Older => check::same(word, b"older"),
+        Kind::Switch => console_script::read_switch(word).is_some(),
+        Kind::Prefix => console_words::read_prefix(word).is_some(),
+        Kind::Address => console_words::read_network(word).is_some(),
+        Kind::Octets => is_octets(word),
+        Kind::Sheet => is_octets_of(word, FIGURES),
+        Kind::Counts => is_octets_of(word, COUNTS),
+        Kind::Bit(key) => is_bit(word, key),
+        Kind::Length => is_length(word),
+        Kind::Figures => is_figures(word),
+        Kind::Item => console_write::read_item(word).is_some(),
+        // A place is no matter of the word alone.
+        Kind::EntryPlace => false,
     }
 }
 
-// FAULTS
+// The words of an item of `write`, and of a command.
+const REQUEST: [Kind; 3] = [Kind::Bit(b'h'), Kind::Bit(b'i'), Kind::Length];
 
-// The first fault of the words from a place on, of which there is one of each kind in this order, the first `needed` of them at least.
-fn words_fault(s: &[u8], from: usize, kinds: &[u8], needed: usize) -> Fault
+const INFORMATION: [Kind; 2] = [Kind::Bit(b'c'), Kind::Bit(b's')];
+
+const ENTRY: [Kind; 4] = [
+    Kind::Prefix,
+    Kind::Bit(b'h'),
+    Kind::Bit(b'd'),
+    Kind::Figures,
+];
+
+const CALL: [Kind; 4] = [Kind::Number, Kind::Number, Kind::Octets, Kind::Octets];
+
+const MARK: [Kind; 3] = [Kind::Number, Kind::Prefix, Kind::Flag];
+
+// Up to 16 prefixes.
+const OPEN: [Kind; 19] = [
+    Kind::Number,
+    Kind::Octet,
+    Kind::Number,
+    Kind::Prefix,
+    Kind::Prefix,
+    Kind::Prefix,
+    Kind::Prefix,
+    Kind::Prefix,
+    Kind::Prefix,
+    Kind::Prefix,
+    Kind::Prefix,
+    Kind::Prefix,
+    Kind::Prefix,
+    Kind::Prefix,
+    Kind::Prefix,
+    Kind::Prefix,
+    Kind::Prefix,
+    Kind::Prefix,
+    Kind::Prefix,
+];
+
+// FAULTS: what follows answers the place behind the words, or the first fault.
+
+// The words from a place on, of which there is one of each kind in this order, the first `needed` of them at least.
+fn words_fault(s: &[u8], from: usize, kinds: &[Kind], needed: usize) -> Result<usize, Fault>
     requires { from ≤ length s.now }
     ensures { Within from (length s.now) result }
 {
     let mut at = from;
-    let mut i: usize = 0;
-    while i < kinds.len() {
+    for (i, kind) in kinds.iter().enumerate() {
         let w = console_words::next_word(s, at);
         let start = w.start;
         let end = w.end;
         if start == end {
             if needed <= i {
-                return Fault::None(end);
+                return Ok(end);
             }
-            return Fault::Missing(kinds[i]);
+            return Err(Fault::Missing(*kind));
         }
-        if !is_of(kinds[i], &s[start..end]) {
-            return Fault::Wrong(start, end, kinds[i]);
+        if !is_of(*kind, &s[start..end]) {
+            return Err(Fault::Wrong(start, end, *kind));
         }
         at = end;
-        i = i + 1;
     }
-    Fault::None(at)
+    Ok(at)
 }
 
 // The same of all words from a place on: no further one follows.
-fn line_fault(s: &[u8], from: usize, kinds: &[u8], needed: usize) -> Fault
+fn line_fault(s: &[u8], from: usize, kinds: &[Kind], needed: usize) -> Result<usize, Fault>
     requires { from ≤ length s.now }
     ensures { Within from (length s.now) result }
 {
-    let found = words_fault(s, from, kinds, needed);
-    let Fault::None(at) = found else {
-        return found;
-    };
+    let at = words_fault(s, from, kinds, needed)?;
     let w = console_words::next_word(s, at);
-    let start = w.start;
-    let end = w.end;
-    if start == end {
-        return Fault::None(end);
+    if w.start != w.end {
+        return Err(Fault::Surplus(w.start, w.end));
     }
-    Fault::Surplus(start, end)
+    Ok(w.end)
 }
 
 // An item of a `write`, which the word from `start` to before `end` begins; an entry may follow the one before it or not.
-fn item_fault(item: ItemWord, follows: bool, s: &[u8], start: usize, end: usize) -> Fault
+fn item_fault(
+    item: ItemWord,
+    follows: bool,
+    s: &[u8],
+    start: usize,
+    end: usize,
+) -> Result<usize, Fault>
     requires { (start ≤ end) × (end ≤ length s.now) }
     ensures { Within end (length s.now) result }
 {
     match item {
-        ItemWord::Request => words_fault(s, end, b"hil", 3),
-        ItemWord::Information => words_fault(s, end, b"cs", 2),
+        ItemWord::Request => words_fault(s, end, &REQUEST, 3),
+        ItemWord::Information => words_fault(s, end, &INFORMATION, 2),
         ItemWord::Entry => {
             if !follows {
-                return Fault::Wrong(start, end, b'e');
+                return Err(Fault::Wrong(start, end, Kind::EntryPlace));
             }
-            words_fault(s, end, b"phdg", 4)
+            words_fault(s, end, &ENTRY, 4)
         }
-        ItemWord::Name => words_fault(s, end, b"x", 1),
-        ItemWord::Unknown => Fault::None(end),
-        ItemWord::Other => Fault::Wrong(start, end, b'w'),
+        ItemWord::Name => words_fault(s, end, &[Kind::Octets], 1),
+        ItemWord::Unknown => Ok(end),
     }
 }
 
 // Whether an entry may follow an item.
 fn leads_entry(item: ItemWord) -> bool {
-    match item {
-        ItemWord::Information => true,
-        ItemWord::Entry => true,
-        _ => false,
-    }
+    matches!(item, ItemWord::Information | ItemWord::Entry)
 }
 
-// The first fault of the items of a `write`. Where each word is right, they are too many.
-fn items_fault(s: &[u8], from: usize) -> Fault
+// The items of a `write`. Where each word is right, they are too many.
+fn items_fault(s: &[u8], from: usize) -> Result<usize, Fault>
     requires { from ≤ length s.now }
     ensures { Within from (length s.now) result }
 {
@@ -240,64 +253,58 @@ fn items_fault(s: &[u8], from: usize) -> Fault
         let start = w.start;
         let end = w.end;
         if start == end {
-            return Fault::TooMany;
+            return Err(Fault::TooMany);
         }
-        let item = console_write::read_item(&s[start..end]);
-        let found = item_fault(item, follows, s, start, end);
-        let Fault::None(next) = found else {
-            return found;
+        let Some(item) = console_write::read_item(&s[start..end]) else {
+            return Err(Fault::Wrong(start, end, Kind::Item));
         };
+        at = item_fault(item, follows, s, start, end)?;
         follows = leads_entry(item);
-        at = next;
     }
 }
 
 // The words of a `write`: an address alone, or items.
-fn write_fault(s: &[u8], from: usize) -> Fault
+fn write_fault(s: &[u8], from: usize) -> Result<usize, Fault>
     requires { from ≤ length s.now }
     ensures { Within from (length s.now) result }
 {
     let w = console_words::next_word(s, from);
-    let start = w.start;
-    let end = w.end;
-    if check::same(&s[start..end], b"address") {
-        return line_fault(s, end, b"a", 1);
+    if check::same(&s[w.start..w.end], b"address") {
+        return line_fault(s, w.end, &[Kind::Address], 1);
     }
     items_fault(s, from)
 }
 
 // The words of a call: behind the option there may be another one.
-fn call_fault(call: OptionCall, s: &[u8], from: usize) -> Fault
+fn call_fault(call: OptionCall, s: &[u8], from: usize) -> Result<usize, Fault>
     requires { from ≤ length s.now }
     ensures { Within from (length s.now) result }
 {
     if console_script::carries(call) {
-        return line_fault(s, from, b"nnxx", 3);
+        return line_fault(s, from, &CALL, 3);
     }
-    line_fault(s, from, b"nnx", 3)
+    line_fault(s, from, &CALL[..3], 3)
 }
 
 // The words of a command, behind its name.
-fn command_fault(name: Name, s: &[u8], from: usize) -> Fault
+fn command_fault(name: Name, s: &[u8], from: usize) -> Result<usize, Fault>
     requires { from ≤ length s.now }
     ensures { Within from (length s.now) result }
 {
     match name {
         Name::Call(c) => call_fault(c, s, from),
-        Name::Mark => line_fault(s, from, b"npf", 3),
-        // Up to 16 prefixes.
-        Name::Open => line_fault(s, from, b"nbnpppppppppppppppp", 3),
-        Name::Load => line_fault(s, from, b"x", 1),
-        Name::Save => line_fault(s, from, b"vy", 0),
-        Name::Sheet => line_fault(s, from, b"", 0),
-        Name::Read => line_fault(s, from, b"x", 1),
+        Name::Mark => line_fault(s, from, &MARK, 3),
+        Name::Open => line_fault(s, from, &OPEN, 3),
+        Name::Load => line_fault(s, from, &[Kind::Octets], 1),
+        Name::Save => line_fault(s, from, &[Kind::Form, Kind::Older], 0),
+        Name::Sheet => line_fault(s, from, &[], 0),
+        Name::Read => line_fault(s, from, &[Kind::Octets], 1),
         Name::Write => write_fault(s, from),
-        Name::Figures => line_fault(s, from, b"t", 0),
-        Name::Counts => line_fault(s, from, b"u", 0),
-        Name::Whole => line_fault(s, from, b"n", 1),
-        Name::Buffer => line_fault(s, from, b"r", 1),
-        Name::Selection => line_fault(s, from, b"o", 1),
-        Name::Other => Fault::None(from),
+        Name::Figures => line_fault(s, from, &[Kind::Sheet], 0),
+        Name::Counts => line_fault(s, from, &[Kind::Counts], 0),
+        Name::Whole => line_fault(s, from, &[Kind::Number], 1),
+        Name::Buffer => line_fault(s, from, &[Kind::ReplyLength], 1),
+        Name::Selection => line_fault(s, from, &[Kind::Switch], 1),
     }
 }
 
@@ -308,10 +315,8 @@ fn put_byte(out: &mut [u8], at: usize, b: u8) -> usize
     requires { at + 4 ≤ length out.old }
     ensures { result ≤ at + 4 }
 {
-    if b'!' <= b {
-        if b <= b'~' {
-            return console_text::text(out, at, &[b]);
-        }
+    if b.is_ascii_graphic() {
+        return console_text::text(out, at, &[b]);
     }
     let a = console_text::text(out, at, b"\\x");
     console_text::octets(out, a, &[b])
@@ -322,10 +327,8 @@ fn put_bytes(out: &mut [u8], at: usize, word: &[u8]) -> usize
     ensures { result ≤ at + 4 * length word.now }
 {
     let mut end = at;
-    let mut i: usize = 0;
-    while i < word.len() {
-        end = put_byte(out, end, word[i]);
-        i = i + 1;
+    for b in word {
+        end = put_byte(out, end, *b);
     }
     end
 }
@@ -364,32 +367,32 @@ fn put_octets_of(out: &mut [u8], at: usize, size: u32) -> usize
     )
 }
 
-fn put_kind(out: &mut [u8], at: usize, kind: u8) -> usize
+fn put_kind(out: &mut [u8], at: usize, kind: Kind) -> usize
     requires { at + kind_most ≤ length out.old }
     ensures { result ≤ at + kind_most }
 {
     match kind {
-        b'n' => console_text::text(out, at, b"a number below 4294967296"),
-        b'b' => console_text::text(out, at, b"a number below 256"),
-        b'r' => console_text::fill(out, at, b"a number up to %", &[LONGEST_REPLY]),
-        b'f' => console_text::text(out, at, b"0 or 1"),
-        b'v' => console_text::text(out, at, b"1 or 2"),
-        b'y' => console_text::text(out, at, b"older"),
-        b'o' => console_text::text(out, at, b"on or off"),
-        b'p' => console_text::text(out, at, b"a prefix A.B.C.D/L"),
-        b'a' => console_text::text(out, at, b"an address A.B.C.D"),
-        b'x' => console_text::text(out, at, b"hexadecimal digits, two for each byte, or -"),
-        b't' => put_octets_of(out, at, FIGURES as u32),
-        b'u' => put_octets_of(out, at, COUNTS as u32),
-        b'l' => console_text::text(out, at, b"prefix= and a number below 256"),
-        b'g' => console_text::text(
+        Kind::Number => console_text::text(out, at, b"a number below 4294967296"),
+        Kind::Octet => console_text::text(out, at, b"a number below 256"),
+        Kind::ReplyLength => console_text::fill(out, at, b"a number up to %", &[LONGEST_REPLY]),
+        Kind::Flag => console_text::text(out, at, b"0 or 1"),
+        Kind::Form => console_text::text(out, at, b"1 or 2"),
+        Kind::Older => console_text::text(out, at, b"older"),
+        Kind::Switch => console_text::text(out, at, b"on or off"),
+        Kind::Prefix => console_text::text(out, at, b"a prefix A.B.C.D/L"),
+        Kind::Address => console_text::text(out, at, b"an address A.B.C.D"),
+        Kind::Octets => console_text::text(out, at, b"hexadecimal digits, two for each byte, or -"),
+        Kind::Sheet => put_octets_of(out, at, FIGURES as u32),
+        Kind::Counts => put_octets_of(out, at, COUNTS as u32),
+        Kind::Length => console_text::text(out, at, b"prefix= and a number below 256"),
+        Kind::Figures => console_text::text(
             out,
             at,
             b"figures= and up to four numbers below 65536 with commas between, or -",
         ),
-        b'w' => console_text::text(out, at, b"request, information, entry, name or unknown"),
-        b'e' => console_text::text(out, at, b"behind an information or another entry"),
-        _ => put_bit(out, at, kind),
+        Kind::Item => console_text::text(out, at, b"request, information, entry, name or unknown"),
+        Kind::EntryPlace => console_text::text(out, at, b"behind an information or another entry"),
+        Kind::Bit(key) => put_bit(out, at, key),
     }
 }
 
@@ -404,22 +407,22 @@ fn put_quoted(out: &mut [u8], at: usize, word: &[u8], told: &[u8]) -> usize
     console_text::text(out, c, told)
 }
 
-fn put_fault(out: &mut [u8], at: usize, s: &[u8], f: Fault) -> usize
+fn put_fault(out: &mut [u8], at: usize, s: &[u8], f: Result<usize, Fault>) -> usize
     requires { (at + fault_most ≤ length out.old) × Within 0 (length s.now) f }
     ensures { result ≤ at + fault_most }
 {
     match f {
-        Fault::None(_) => console_text::text(out, at, b"this is no command"),
-        Fault::Missing(kind) => {
+        Ok(_) => console_text::text(out, at, b"this is no command"),
+        Err(Fault::Missing(kind)) => {
             let a = console_text::text(out, at, b"a word is missing, ");
             put_kind(out, a, kind)
         }
-        Fault::Wrong(start, end, kind) => {
+        Err(Fault::Wrong(start, end, kind)) => {
             let a = put_quoted(out, at, &s[start..end], b" should be ");
             put_kind(out, a, kind)
         }
-        Fault::Surplus(start, end) => put_quoted(out, at, &s[start..end], b" is one too many"),
-        Fault::TooMany => {
+        Err(Fault::Surplus(start, end)) => put_quoted(out, at, &s[start..end], b" is one too many"),
+        Err(Fault::TooMany) => {
             console_text::text(
                 out,
                 at,
@@ -458,7 +461,6 @@ fn put_form(out: &mut [u8], at: usize, name: Name) -> usize
         Name::Whole => console_text::text(out, at, b" LENGTH)\n"),
         Name::Buffer => console_text::text(out, at, b" N)\n"),
         Name::Selection => console_text::text(out, at, b" on|off)\n"),
-        Name::Other => console_text::text(out, at, b")\n"),
     }
 }
 
@@ -488,12 +490,9 @@ fn put_reason(out: &mut [u8], at: usize, s: &[u8]) -> usize
         );
     }
     let w = console_words::next_word(s, 0);
-    let start = w.start;
-    let end = w.end;
-    let name = console_script::read_name(&s[start..end]);
-    match name {
-        Name::Other => put_quoted(out, at, &s[start..end], b" is no command\n"),
-        _ => put_command(out, at, s, name, start, end),
+    match console_script::read_name(&s[w.start..w.end]) {
+        Some(name) => put_command(out, at, s, name, w.start, w.end),
+        None => put_quoted(out, at, &s[w.start..w.end], b" is no command\n"),
     }
 }
 

@@ -1,3 +1,4 @@
 pub mod Commands
 pub mod Parsing
 pub mod CountOctets
+pub mod InnerParsing

@@ -1,19 +1,17 @@
 -- What a line of a script says: the table of commands.
-use Rattle.std.specs.Prelude.{ℕ, ◌-◌, Bool, true, false, cond, ◌&&◌, List, [], ◌∷◌, length, get_or, ltb, eqb}
-use Rattle.std.proofs.Math.Option.{Option, none, some}
-use Rattle.console_words.specs.declared.{Number.Number, PrefixWord.PrefixWord}
-use Rattle.console_words.specs.declared.Number.TheVariants as number
-use Rattle.console_words.specs.declared.PrefixWord.TheVariants as prefix
+use Rattle.std.specs.Prelude.{ℕ, ◌-◌, Bool, true, false, cond, ◌&&◌, Option, Some, None, List, [], ◌∷◌, length, get_or, ltb, eqb}
+use Rattle.std.proofs.Math.Option.{none, some}
+use Rattle.std.proofs.Math.Option as math
+use Rattle.console_words.specs.declared.PrefixWord.{PrefixWord}
 use Rattle.text.specs.Ascii.{ascii}
 use Rattle.image_figures.specs.Sheets.{figures_size}
 use Rattle.console_words.specs.Words.{first_word, after_word, empty?, last?}
 use Rattle.console_words.specs.Numbers.{number_of, flag_of}
 use Rattle.console_words.specs.Prefixes.{prefix_of, prefixes_of}
 use Rattle.console_words.specs.Octets.{octets_of, last_octets}
-use Rattle.console_script.specs.declared.{OptionCall.OptionCall, Name.Name, Switch.Switch}
+use Rattle.console_script.specs.declared.{OptionCall.OptionCall, Name.Name}
 use Rattle.console_script.specs.declared.OptionCall.TheVariants.{Ask, Take, List as ListCall, Return}
 use Rattle.console_script.specs.declared.Name.TheVariants as name
-use Rattle.console_script.specs.declared.Switch.TheVariants as switch
 use Rattle.console_script.specs.Commands.{CommandValue, call, mark, «open», load, save, sheet, read, write, figures, set_figures, counts, set_counts, whole, buffer, selection, nothing, bad, Message, longest_line, longest_reply, counts_size, most_prefixes, with_prefixes}
 
 -- NAMES
@@ -26,39 +24,39 @@ same? (x ∷ xs) [] = false
 same? (x ∷ xs) (y ∷ ys) = eqb x y && same? xs ys
 
 -- The command that a word names: a call, or another.
-unfoldable pub other_name : List ℕ → Name
+unfoldable pub other_name : List ℕ → Option Name
 other_name w =
-    cond (same? w (ascii "read")) name.Read
-    (cond (same? w (ascii "write")) name.Write
-    (cond (same? w (ascii "figures")) name.Figures
-    (cond (same? w (ascii "counts")) name.Counts
-    (cond (same? w (ascii "whole")) name.Whole
-    (cond (same? w (ascii "buffer")) name.Buffer
-    (cond (same? w (ascii "selection")) name.Selection name.Other))))))
+    cond (same? w (ascii "read")) (Some name.Read)
+    (cond (same? w (ascii "write")) (Some name.Write)
+    (cond (same? w (ascii "figures")) (Some name.Figures)
+    (cond (same? w (ascii "counts")) (Some name.Counts)
+    (cond (same? w (ascii "whole")) (Some name.Whole)
+    (cond (same? w (ascii "buffer")) (Some name.Buffer)
+    (cond (same? w (ascii "selection")) (Some name.Selection) None))))))
 
-unfoldable pub name_of : List ℕ → Name
+unfoldable pub name_of : List ℕ → Option Name
 name_of w =
-    cond (same? w (ascii "ask")) (name.Call Ask)
-    (cond (same? w (ascii "take")) (name.Call Take)
-    (cond (same? w (ascii "list")) (name.Call ListCall)
-    (cond (same? w (ascii "return")) (name.Call Return)
-    (cond (same? w (ascii "mark")) name.Mark
-    (cond (same? w (ascii "open")) name.Open
-    (cond (same? w (ascii "load")) name.Load
-    (cond (same? w (ascii "save")) name.Save
-    (cond (same? w (ascii "sheet")) name.Sheet (other_name w)))))))))
+    cond (same? w (ascii "ask")) (Some (name.Call Ask))
+    (cond (same? w (ascii "take")) (Some (name.Call Take))
+    (cond (same? w (ascii "list")) (Some (name.Call ListCall))
+    (cond (same? w (ascii "return")) (Some (name.Call Return))
+    (cond (same? w (ascii "mark")) (Some name.Mark)
+    (cond (same? w (ascii "open")) (Some name.Open)
+    (cond (same? w (ascii "load")) (Some name.Load)
+    (cond (same? w (ascii "save")) (Some name.Save)
+    (cond (same? w (ascii "sheet")) (Some name.Sheet) (other_name w)))))))))
 
 -- ARGUMENTS: each of xs, what is left of a line behind the name.
 
-abbrev pub with_number : Number → (ℕ → CommandValue) → CommandValue
-with_number (number.Of n) f = f n
-with_number number.Bad f = bad
+abbrev pub with_number : Option ℕ → (ℕ → CommandValue) → CommandValue
+with_number (Some n) f = f n
+with_number None f = bad
 
-abbrev pub with_prefix : PrefixWord → (ℕ → ℕ → CommandValue) → CommandValue
-with_prefix (prefix.Of n l) f = f n l
-with_prefix prefix.Bad f = bad
+abbrev pub with_prefix : Option PrefixWord → (ℕ → ℕ → CommandValue) → CommandValue
+with_prefix (Some p) f = f p.network p.length
+with_prefix None f = bad
 
-abbrev pub with_octets : Option (List ℕ) → (List ℕ → CommandValue) → CommandValue
+abbrev pub with_octets : math.Option (List ℕ) → (List ℕ → CommandValue) → CommandValue
 with_octets none f = bad
 with_octets (some octets) f = f octets
 
@@ -66,7 +64,7 @@ with_octets (some octets) f = f octets
 abbrev pub at_end : List ℕ → CommandValue → CommandValue
 at_end xs v = cond (last? xs) v bad
 
-abbrev pub with_message : Option Message → (List ℕ → Option (List ℕ) → CommandValue) → CommandValue
+abbrev pub with_message : math.Option Message → (List ℕ → math.Option (List ℕ) → CommandValue) → CommandValue
 with_message none f = bad
 with_message (some m) f = f m.0 m.1
 
@@ -78,17 +76,17 @@ carries? ListCall = false
 carries? Return = false
 
 -- "Without HEX the message came without option 118; `-` is an option 118 of no bytes".
-abbrev pub alone : Option (List ℕ) → Option Message
+abbrev pub alone : math.Option (List ℕ) → math.Option Message
 alone none = none
 alone (some option) = some (option, none)
 
-abbrev pub both_octets : Option (List ℕ) → Option (List ℕ) → Option Message
+abbrev pub both_octets : math.Option (List ℕ) → math.Option (List ℕ) → math.Option Message
 both_octets (some option) (some carried) = some (option, some carried)
 both_octets (some option) none = none
 both_octets none o = none
 
 -- OPTION [HEX]
-unfoldable pub message_of : OptionCall → List ℕ → Option Message
+unfoldable pub message_of : OptionCall → List ℕ → math.Option Message
 message_of c xs =
     cond (last? (after_word xs)) (alone (octets_of (first_word xs)))
     (cond (carries? c) (both_octets (octets_of (first_word xs)) (last_octets (after_word xs))) none)
@@ -122,8 +120,8 @@ unfoldable pub parse_load : List ℕ → CommandValue
 parse_load xs = with_octets (last_octets xs) load
 
 -- FORM: the word 1 or the word 2.
-unfoldable pub form_of : List ℕ → Number
-form_of w = cond (same? w (ascii "1")) (number.Of 1) (cond (same? w (ascii "2")) (number.Of 2) number.Bad)
+unfoldable pub form_of : List ℕ → Option ℕ
+form_of w = cond (same? w (ascii "1")) (Some 1) (cond (same? w (ascii "2")) (Some 2) None)
 
 -- The word older, and no further one.
 unfoldable pub older_alone? : List ℕ → Bool
@@ -165,12 +163,12 @@ unfoldable pub parse_buffer : List ℕ → CommandValue
 parse_buffer xs = with_number (number_of (first_word xs)) (λ n. cond (ltb longest_reply n) bad (at_end (after_word xs) (buffer n)))
 
 -- The word on or the word off.
-unfoldable pub switch_of : List ℕ → Switch
-switch_of w = cond (same? w (ascii "on")) (switch.Of true) (cond (same? w (ascii "off")) (switch.Of false) switch.Bad)
+unfoldable pub switch_of : List ℕ → Option Bool
+switch_of w = cond (same? w (ascii "on")) (Some true) (cond (same? w (ascii "off")) (Some false) None)
 
-abbrev pub with_switch : Switch → (Bool → CommandValue) → CommandValue
-with_switch (switch.Of on) f = f on
-with_switch switch.Bad f = bad
+abbrev pub with_switch : Option Bool → (Bool → CommandValue) → CommandValue
+with_switch (Some on) f = f on
+with_switch None f = bad
 
 -- "`selection on`, `selection off`"
 unfoldable pub parse_selection : List ℕ → CommandValue
@@ -194,7 +192,10 @@ parse_words name.Counts xs = parse_counts xs
 parse_words name.Whole xs = parse_whole xs
 parse_words name.Buffer xs = parse_buffer xs
 parse_words name.Selection xs = parse_selection xs
-parse_words name.Other xs = bad
+
+abbrev pub with_name : Option Name → (Name → CommandValue) → CommandValue
+with_name (Some n) f = f n
+with_name None f = bad
 
 -- LINES
 
@@ -208,4 +209,4 @@ parse_line s =
     cond (ltb longest_line (length s)) bad
     (cond (empty? (first_word s)) nothing
     (cond (eqb (get_or (first_word s) 0 0) 35) nothing
-    (parse_words (name_of (first_word s)) (after_word s))))
+    (with_name (name_of (first_word s)) (λ n. parse_words n (after_word s)))))

@@ -1,9 +1,10 @@
 // The lines of a script: the command of each, with the numbers that its words spell and the places where its octets and other words stand.
 #![tactic(auto)]
 
-ghost use Rattle.std.specs.Prelude.{◌≡◌, false, ◌+◌, ◌*◌, ◌≤◌, length, drop};
+ghost use Rattle.std.specs.Prelude.{ℕ, List, ◌≡◌, ◌+◌, ◌-◌, ◌*◌, ◌≤◌, length, drop, IfSome};
 ghost use Rattle.counts.specs.Counts.{counted_lengths};
-ghost use Rattle.console_script.specs.Commands.{value_in, message_in, Within, MessageWithin, counts_size};
+ghost use Rattle.console_script.specs.Commands.{CommandValue, value_in, message_in, Within, OctetsWithin, MessageWithin, counts_size};
+ghost use Rattle.console_script.specs.InnerParsing.{last_number, sized_in};
 ghost use Rattle.console_script.specs.CountOctets.{numbers_in, counts_in};
 ghost use Rattle.console_script.specs.Parsing.{
   same?,
@@ -17,10 +18,9 @@ ghost use Rattle.console_script.specs.Parsing.{
   parse_call,
   parse_mark,
   parse_open,
-  parse_load,
-  parse_read,
   parse_figures,
   parse_counts,
+  alone_or,
   parse_whole,
   parse_buffer,
   parse_selection,
@@ -34,7 +34,7 @@ ghost use Rattle.console_script.specs.Parsing.{
 ghost use Rattle.console_words.specs.Words.{between};
 ghost use Rattle.console_words.specs.Octets.{octets_of, last_octets};
 
-use console_words::{Number, PrefixWord};
+use console_words::{Octets, PrefixWord};
 use counts::{Counts, LENGTHS};
 use image_figures::FIGURES;
 use table::POOLS;
@@ -57,15 +57,11 @@ pub enum OptionCall {
     Return,
 }
 
-// OPTION [HEX]: whether the words are that, where the option's octets stand in the line, whether it has an option 118, and where the octets of that stand.
+// OPTION [HEX]: where the octets of the option stand in the line, and those of an option 118 if it has one.
 #[derive(Clone, Copy)]
 pub struct MessageWords {
-    pub good: bool,
-    pub from: usize,
-    pub to: usize,
-    pub carries: bool,
-    pub selection_from: usize,
-    pub selection_to: usize,
+    pub option: Octets,
+    pub selection: Option<Octets>,
 }
 
 // STATION NOW OPTION [HEX]
@@ -81,8 +77,7 @@ pub struct CallLine {
 #[derive(Clone, Copy)]
 pub struct MarkLine {
     pub time: u32,
-    pub network: u32,
-    pub length: u8,
+    pub prefix: PrefixWord,
     pub deprecated: u32,
 }
 
@@ -93,13 +88,6 @@ pub struct OpenLine {
     pub default_length: u32,
     pub start: u32,
     pub from: usize,
-}
-
-// OPTION, IMAGE, SHEET or COUNTS: where its octets stand.
-#[derive(Clone, Copy)]
-pub struct OctetLine {
-    pub from: usize,
-    pub to: usize,
 }
 
 // The place after which all words are those of an option that is to be written.
@@ -133,32 +121,25 @@ pub struct SelectionLine {
     pub on: bool,
 }
 
-#[derive(Clone, Copy)]
-pub enum Switch {
-    Of(bool),
-    Bad,
-}
-
-// A line that has no word, or whose first word begins with `#`, has nothing to do; a bad one is no command.
+// A line that has no word, or whose first word begins with `#`, has nothing to do. OPTION, IMAGE, SHEET and COUNTS stand as octets in the line.
 #[derive(Clone, Copy)]
 pub enum Command {
     Call(CallLine),
     Mark(MarkLine),
     Open(OpenLine),
-    Load(OctetLine),
+    Load(Octets),
     Save(SaveLine),
     Sheet,
-    Read(OctetLine),
+    Read(Octets),
     Write(WriteLine),
     Figures,
-    SetFigures(OctetLine),
+    SetFigures(Octets),
     Counts,
-    SetCounts(OctetLine),
+    SetCounts(Octets),
     Whole(WholeLine),
     Buffer(BufferLine),
     Selection(SelectionLine),
     Nothing,
-    Bad,
 }
 
 // What the first word names.
@@ -177,7 +158,6 @@ pub enum Name {
     Whole,
     Buffer,
     Selection,
-    Other,
 }
 
 // NAMES
@@ -190,62 +170,63 @@ fn is(word: &[u8], name: &[u8]) -> bool
 }
 
 // The command that a word names where it is none of a call.
-fn other_name(word: &[u8]) -> Name
+// Stays: the names one by one. Tried as a `match` on byte strings: its last arm asks some eighty goals, none of which closes alone.
+fn other_name(word: &[u8]) -> Option<Name>
     ensures { result ≡ other_name word.now }
 {
     if is(word, b"read") {
-        return Name::Read;
+        return Some(Name::Read);
     }
     if is(word, b"write") {
-        return Name::Write;
+        return Some(Name::Write);
     }
     if is(word, b"figures") {
-        return Name::Figures;
+        return Some(Name::Figures);
     }
     if is(word, b"counts") {
-        return Name::Counts;
+        return Some(Name::Counts);
     }
     if is(word, b"whole") {
-        return Name::Whole;
+        return Some(Name::Whole);
     }
     if is(word, b"buffer") {
-        return Name::Buffer;
+        return Some(Name::Buffer);
     }
     if is(word, b"selection") {
-        return Name::Selection;
+        return Some(Name::Selection);
     }
-    Name::Other
+    None
 }
 
-pub fn read_name(word: &[u8]) -> Name
+pub fn read_name(word: &[u8]) -> Option<Name>
     ensures { result ≡ name_of word.now }
 {
     if is(word, b"ask") {
-        return Name::Call(OptionCall::Ask);
+        return Some(Name::Call(OptionCall::Ask));
     }
     if is(word, b"take") {
-        return Name::Call(OptionCall::Take);
+        return Some(Name::Call(OptionCall::Take));
     }
     if is(word, b"list") {
-        return Name::Call(OptionCall::List);
+        return Some(Name::Call(OptionCall::List));
     }
     if is(word, b"return") {
-        return Name::Call(OptionCall::Return);
+        return Some(Name::Call(OptionCall::Return));
     }
     if is(word, b"mark") {
-        return Name::Mark;
+        return Some(Name::Mark);
     }
     if is(word, b"open") {
-        return Name::Open;
+        return Some(Name::Open);
     }
     if is(word, b"load") {
-        return Name::Load;
+        return Some(Name::Load);
     }
     if is(word, b"save") {
-        return Name::Save;
+        return Some(Name::Save);
     }
     if is(word, b"sheet") {
-        return Name::Sheet;
+        return Some(Name::Sheet);
     }
     other_name(word)
 }
@@ -264,185 +245,118 @@ pub fn carries(call: OptionCall) -> bool
     }
 }
 
-fn no_message() -> MessageWords
-    ensures { (result.good ≡ false) × (result.from ≡ 0) × (result.to ≡ 0) × (result.selection_from ≡ 0) × (result.selection_to ≡ 0) }
-{
-    MessageWords {
-        good: false,
-        from: 0,
-        to: 0,
-        carries: false,
-        selection_from: 0,
-        selection_to: 0,
-    }
-}
-
 // OPTION HEX, the first of which stands from a place to before another. The octets of each are written within its own part of the line.
-fn both_octets(s: &mut [u8], begin: usize, end: usize) -> MessageWords
+fn both_octets(s: &mut [u8], begin: usize, end: usize) -> Option<MessageWords>
     requires { (begin ≤ end) × (end ≤ length s.old) }
-    ensures message_within { MessageWithin (length s.old) result }
+    ensures message_within { IfSome result (λ m. MessageWithin (length s.old) m) }
     ensures result_after { message_in s.new result ≡ both_octets (octets_of (between begin end s.old)) (last_octets (drop end s.old)) }
 {
-    let second = console_words::last_octets(&mut s[end..], 0);
-    if !second.good {
-        return no_message();
-    }
-    let first = console_words::read_octets(&mut s[0..end], begin, end);
-    MessageWords {
-        good: first.good,
-        from: first.start,
-        to: first.end,
-        carries: true,
-        selection_from: end + second.start,
-        selection_to: end + second.end,
-    }
+    let second = console_words::last_octets(&mut s[end..], 0)?;
+    let option = console_words::read_octets(&mut s[..end], begin, end)?;
+    Some(MessageWords {
+        option,
+        selection: Some(Octets {
+            start: end + second.start,
+            end: end + second.end,
+        }),
+    })
 }
 
 // OPTION [HEX]
-fn message_words(call: OptionCall, s: &mut [u8], from: usize) -> MessageWords
+fn message_words(call: OptionCall, s: &mut [u8], from: usize) -> Option<MessageWords>
     requires { from ≤ length s.old }
-    ensures message_within { MessageWithin (length s.old) result }
+    ensures message_within { IfSome result (λ m. MessageWithin (length s.old) m) }
     ensures result_after { message_in s.new result ≡ message_of call (drop from s.old) }
 {
     let w = console_words::next_word(s, from);
-    let begin = w.start;
-    let end = w.end;
-    if console_words::ends(s, end) {
-        let octets = console_words::read_octets(s, begin, end);
-        return MessageWords {
-            good: octets.good,
-            from: octets.start,
-            to: octets.end,
-            carries: false,
-            selection_from: 0,
-            selection_to: 0,
-        };
+    if console_words::ends(s, w.end) {
+        let option = console_words::read_octets(s, w.start, w.end)?;
+        return Some(MessageWords {
+            option,
+            selection: None,
+        });
     }
     if !carries(call) {
-        return no_message();
+        return None;
     }
-    both_octets(s, begin, end)
+    both_octets(s, w.start, w.end)
 }
 
 // STATION NOW OPTION [HEX]
-fn call_line(call: OptionCall, s: &mut [u8], from: usize) -> Command
+fn call_line(call: OptionCall, s: &mut [u8], from: usize) -> Option<Command>
     requires { from ≤ length s.old }
-    ensures within { Within (length s.old) result }
+    ensures within { IfSome result (λ c. Within (length s.old) c) }
     ensures result_after { value_in s.new result ≡ parse_call call (drop from s.old) }
 {
     let a = console_words::next_number(s, from);
-    let station = a.number;
-    let Number::Of(client) = station else {
-        return Command::Bad;
-    };
+    let client = a.value?;
     let b = console_words::next_number(s, a.end);
-    let now = b.number;
-    let Number::Of(time) = now else {
-        return Command::Bad;
-    };
-    let message = message_words(call, s, b.end);
-    if !message.good {
-        return Command::Bad;
-    }
-    Command::Call(CallLine {
+    let time = b.value?;
+    let message = message_words(call, s, b.end)?;
+    Some(Command::Call(CallLine {
         call,
         client,
         time,
         message,
-    })
+    }))
 }
 
 // NOW PREFIX D
-fn mark_line(s: &[u8], from: usize) -> Command
+fn mark_line(s: &[u8], from: usize) -> Option<Command>
     requires { from ≤ length s.now }
-    ensures within { Within (length s.now) result }
+    ensures within { IfSome result (λ c. Within (length s.now) c) }
     ensures result_value { value_in s.now result ≡ parse_mark (drop from s.now) }
 {
     let a = console_words::next_number(s, from);
-    let now = a.number;
-    let Number::Of(time) = now else {
-        return Command::Bad;
-    };
+    let time = a.value?;
     let b = console_words::next_prefix(s, a.end);
-    let prefix = b.prefix;
-    let PrefixWord::Of(network, length) = prefix else {
-        return Command::Bad;
-    };
+    let prefix = b.value?;
     let d = console_words::next_flag(s, b.end);
-    let flag = d.number;
-    let Number::Of(deprecated) = flag else {
-        return Command::Bad;
-    };
+    let deprecated = d.value?;
     if !console_words::ends(s, d.end) {
-        return Command::Bad;
+        return None;
     }
-    Command::Mark(MarkLine {
+    Some(Command::Mark(MarkLine {
         time,
-        network,
-        length,
+        prefix,
         deprecated,
-    })
+    }))
 }
 
 // TERM DEFAULT START PREFIX..
-fn open_line(s: &[u8], from: usize) -> Command
+fn open_line(s: &[u8], from: usize) -> Option<Command>
     requires { from ≤ length s.now }
-    ensures within { Within (length s.now) result }
+    ensures within { IfSome result (λ c. Within (length s.now) c) }
     ensures result_value { value_in s.now result ≡ parse_open (drop from s.now) }
 {
     let a = console_words::next_number(s, from);
-    let first = a.number;
-    let Number::Of(term) = first else {
-        return Command::Bad;
-    };
+    let term = a.value?;
     let b = console_words::next_number(s, a.end);
-    let second = b.number;
-    let Number::Of(default_length) = second else {
-        return Command::Bad;
-    };
+    let default_length = b.value?;
     if 255 < default_length {
-        return Command::Bad;
+        return None;
     }
     let c = console_words::next_number(s, b.end);
-    let third = c.number;
-    let Number::Of(start) = third else {
-        return Command::Bad;
-    };
-    Command::Open(OpenLine {
+    let start = c.value?;
+    Some(Command::Open(OpenLine {
         term,
         default_length,
         start,
         from: c.end,
-    })
-}
-
-// IMAGE
-fn load_line(s: &mut [u8], from: usize) -> Command
-    requires { from ≤ length s.old }
-    ensures within { Within (length s.old) result }
-    ensures result_after { value_in s.new result ≡ parse_load (drop from s.old) }
-{
-    let octets = console_words::last_octets(s, from);
-    if !octets.good {
-        return Command::Bad;
-    }
-    Command::Load(OctetLine {
-        from: octets.start,
-        to: octets.end,
-    })
+    }))
 }
 
 // The word 1 or the word 2.
-pub fn read_form(word: &[u8]) -> Number
+pub fn read_form(word: &[u8]) -> Option<u32>
     ensures { result ≡ form_of word.now }
 {
     if is(word, b"1") {
-        return Number::Of(1);
+        return Some(1);
     }
     if is(word, b"2") {
-        return Number::Of(2);
+        return Some(2);
     }
-    Number::Bad
+    None
 }
 
 // The word older, and no further one.
@@ -451,204 +365,169 @@ fn older_alone(s: &[u8], from: usize) -> bool
     ensures { result ≡ older_alone? (drop from s.now) }
 {
     let w = console_words::next_word(s, from);
-    let start = w.start;
-    let end = w.end;
-    if !is(&s[start..end], b"older") {
+    if !is(&s[w.start..w.end], b"older") {
         return false;
     }
-    console_words::ends(s, end)
+    console_words::ends(s, w.end)
 }
 
 // Nothing more, which is the second form, FORM, or FORM older.
-fn save_line(s: &[u8], from: usize) -> Command
+fn save_line(s: &[u8], from: usize) -> Option<Command>
     requires { from ≤ length s.now }
-    ensures within { Within (length s.now) result }
+    ensures within { IfSome result (λ c. Within (length s.now) c) }
     ensures result_value { value_in s.now result ≡ parse_save (drop from s.now) }
 {
     if console_words::ends(s, from) {
-        return Command::Save(SaveLine {
+        return Some(Command::Save(SaveLine {
             form: 2,
             older: false,
-        });
+        }));
     }
     let w = console_words::next_word(s, from);
-    let start = w.start;
-    let end = w.end;
-    let number = read_form(&s[start..end]);
-    let Number::Of(form) = number else {
-        return Command::Bad;
-    };
-    if console_words::ends(s, end) {
-        return Command::Save(SaveLine { form, older: false });
+    let form = read_form(&s[w.start..w.end])?;
+    if console_words::ends(s, w.end) {
+        return Some(Command::Save(SaveLine { form, older: false }));
     }
-    if !older_alone(s, end) {
-        return Command::Bad;
+    if !older_alone(s, w.end) {
+        return None;
     }
-    Command::Save(SaveLine { form, older: true })
+    Some(Command::Save(SaveLine { form, older: true }))
 }
 
-// OPTION
-fn read_line(s: &mut [u8], from: usize) -> Command
+// Nothing more, or octets as the last word: exactly so many.
+fn alone_or(s: &mut [u8], from: usize, size: usize) -> Option<Option<Octets>>
     requires { from ≤ length s.old }
-    ensures within { Within (length s.old) result }
-    ensures result_after { value_in s.new result ≡ parse_read (drop from s.old) }
+    ensures within { IfSome result (λ o. IfSome o (λ octets. OctetsWithin (length s.old) octets × (octets.end - octets.start ≡ size))) }
+    ensures result_after { (alone : CommandValue) (f : List ℕ → CommandValue) → sized_in s.new result alone f ≡ alone_or alone size f (drop from s.old) }
 {
-    let octets = console_words::last_octets(s, from);
-    if !octets.good {
-        return Command::Bad;
+    if console_words::ends(s, from) {
+        return Some(None);
     }
-    Command::Read(OctetLine {
-        from: octets.start,
-        to: octets.end,
-    })
+    let octets = console_words::last_octets(s, from)?;
+    if octets.end - octets.start != size {
+        return None;
+    }
+    Some(Some(octets))
 }
 
 // Nothing more, or SHEET: exactly as many bytes as a figures sheet has.
-fn figures_line(s: &mut [u8], from: usize) -> Command
+fn figures_line(s: &mut [u8], from: usize) -> Option<Command>
     requires { from ≤ length s.old }
-    ensures within { Within (length s.old) result }
+    ensures within { IfSome result (λ c. Within (length s.old) c) }
     ensures result_after { value_in s.new result ≡ parse_figures (drop from s.old) }
 {
-    if console_words::ends(s, from) {
-        return Command::Figures;
+    match alone_or(s, from, FIGURES)? {
+        None => Some(Command::Figures),
+        Some(octets) => Some(Command::SetFigures(octets)),
     }
-    let octets = console_words::last_octets(s, from);
-    if !octets.good {
-        return Command::Bad;
-    }
-    if octets.end - octets.start != FIGURES {
-        return Command::Bad;
-    }
-    Command::SetFigures(OctetLine {
-        from: octets.start,
-        to: octets.end,
-    })
 }
 
 // Nothing more, or COUNTS: exactly as many bytes as all counts have.
-fn counts_line(s: &mut [u8], from: usize) -> Command
+fn counts_line(s: &mut [u8], from: usize) -> Option<Command>
     requires { from ≤ length s.old }
-    ensures within { Within (length s.old) result }
+    ensures within { IfSome result (λ c. Within (length s.old) c) }
     ensures result_after { value_in s.new result ≡ parse_counts (drop from s.old) }
 {
-    if console_words::ends(s, from) {
-        return Command::Counts;
+    match alone_or(s, from, COUNTS)? {
+        None => Some(Command::Counts),
+        Some(octets) => Some(Command::SetCounts(octets)),
     }
-    let octets = console_words::last_octets(s, from);
-    if !octets.good {
-        return Command::Bad;
+}
+
+// The next word as a number, if it is the last one.
+fn last_number(s: &[u8], from: usize) -> Option<u32>
+    requires { from ≤ length s.now }
+    ensures { result ≡ last_number (drop from s.now) }
+{
+    let a = console_words::next_number(s, from);
+    if !console_words::ends(s, a.end) {
+        return None;
     }
-    if octets.end - octets.start != COUNTS {
-        return Command::Bad;
-    }
-    Command::SetCounts(OctetLine {
-        from: octets.start,
-        to: octets.end,
-    })
+    a.value
 }
 
 // LENGTH, any number.
-fn whole_line(s: &[u8], from: usize) -> Command
+fn whole_line(s: &[u8], from: usize) -> Option<Command>
     requires { from ≤ length s.now }
-    ensures within { Within (length s.now) result }
+    ensures within { IfSome result (λ c. Within (length s.now) c) }
     ensures result_value { value_in s.now result ≡ parse_whole (drop from s.now) }
 {
-    let a = console_words::next_number(s, from);
-    let number = a.number;
-    let Number::Of(length) = number else {
-        return Command::Bad;
-    };
-    if !console_words::ends(s, a.end) {
-        return Command::Bad;
-    }
-    Command::Whole(WholeLine { length })
+    let length = last_number(s, from)?;
+    Some(Command::Whole(WholeLine { length }))
 }
 
 // N, at most the longest reply buffer.
-fn buffer_line(s: &[u8], from: usize) -> Command
+fn buffer_line(s: &[u8], from: usize) -> Option<Command>
     requires { from ≤ length s.now }
-    ensures within { Within (length s.now) result }
+    ensures within { IfSome result (λ c. Within (length s.now) c) }
     ensures result_value { value_in s.now result ≡ parse_buffer (drop from s.now) }
 {
-    let a = console_words::next_number(s, from);
-    let number = a.number;
-    let Number::Of(length) = number else {
-        return Command::Bad;
-    };
+    let length = last_number(s, from)?;
     if LONGEST_REPLY < length {
-        return Command::Bad;
+        return None;
     }
-    if !console_words::ends(s, a.end) {
-        return Command::Bad;
-    }
-    Command::Buffer(BufferLine { length })
+    Some(Command::Buffer(BufferLine { length }))
 }
 
 // The word on or the word off.
-pub fn read_switch(word: &[u8]) -> Switch
+pub fn read_switch(word: &[u8]) -> Option<bool>
     ensures { result ≡ switch_of word.now }
 {
     if is(word, b"on") {
-        return Switch::Of(true);
+        return Some(true);
     }
     if is(word, b"off") {
-        return Switch::Of(false);
+        return Some(false);
     }
-    Switch::Bad
+    None
 }
 
 // on or off
-fn selection_line(s: &[u8], from: usize) -> Command
+fn selection_line(s: &[u8], from: usize) -> Option<Command>
     requires { from ≤ length s.now }
-    ensures within { Within (length s.now) result }
+    ensures within { IfSome result (λ c. Within (length s.now) c) }
     ensures result_value { value_in s.now result ≡ parse_selection (drop from s.now) }
 {
     let w = console_words::next_word(s, from);
-    let begin = w.start;
-    let end = w.end;
-    let switch = read_switch(&s[begin..end]);
-    let Switch::Of(on) = switch else {
-        return Command::Bad;
-    };
-    if !console_words::ends(s, end) {
-        return Command::Bad;
+    let on = read_switch(&s[w.start..w.end])?;
+    if !console_words::ends(s, w.end) {
+        return None;
     }
-    Command::Selection(SelectionLine { on })
+    Some(Command::Selection(SelectionLine { on }))
 }
 
 // No further word.
-fn sheet_line(s: &[u8], from: usize) -> Command
+fn sheet_line(s: &[u8], from: usize) -> Option<Command>
     requires { from ≤ length s.now }
-    ensures within { Within (length s.now) result }
+    ensures within { IfSome result (λ c. Within (length s.now) c) }
     ensures result_value { value_in s.now result ≡ parse_sheet (drop from s.now) }
 {
     if !console_words::ends(s, from) {
-        return Command::Bad;
+        return None;
     }
-    Command::Sheet
+    Some(Command::Sheet)
 }
 
 // What the words after a name spell.
-fn read_words(name: Name, s: &mut [u8], from: usize) -> Command
+fn read_words(name: Name, s: &mut [u8], from: usize) -> Option<Command>
     requires { from ≤ length s.old }
-    ensures within { Within (length s.old) result }
+    ensures within { IfSome result (λ c. Within (length s.old) c) }
     ensures result_after { value_in s.new result ≡ parse_words name (drop from s.old) }
 {
     match name {
         Name::Call(c) => call_line(c, s, from),
         Name::Mark => mark_line(s, from),
         Name::Open => open_line(s, from),
-        Name::Load => load_line(s, from),
+        Name::Load => Some(Command::Load(console_words::last_octets(s, from)?)),
         Name::Save => save_line(s, from),
         Name::Sheet => sheet_line(s, from),
-        Name::Read => read_line(s, from),
-        Name::Write => Command::Write(WriteLine { from }),
+        Name::Read => Some(Command::Read(console_words::last_octets(s, from)?)),
+        Name::Write => Some(Command::Write(WriteLine { from })),
         Name::Figures => figures_line(s, from),
         Name::Counts => counts_line(s, from),
         Name::Whole => whole_line(s, from),
         Name::Buffer => buffer_line(s, from),
         Name::Selection => selection_line(s, from),
-        Name::Other => Command::Bad,
     }
 }
 
@@ -666,33 +545,25 @@ pub fn without_return(line: &[u8]) -> usize
 }
 
 // Reads a line without its newline and a carriage return before that. Octets are written over the words that spell them.
-pub fn read_command(s: &mut [u8]) -> Command
-    ensures within { Within (length s.old) result }
+pub fn read_command(s: &mut [u8]) -> Option<Command>
+    ensures within { IfSome result (λ c. Within (length s.old) c) }
     ensures result_after { value_in s.new result ≡ parse_line s.old }
 {
     if LONGEST < s.len() {
-        return Command::Bad;
+        return None;
     }
     let w = console_words::next_word(s, 0);
-    let start = w.start;
-    let end = w.end;
-    if start == end {
-        return Command::Nothing;
+    if w.start == w.end {
+        return Some(Command::Nothing);
     }
-    if s[start] == b'#' {
-        return Command::Nothing;
+    if s[w.start] == b'#' {
+        return Some(Command::Nothing);
     }
-    let name = read_name(&s[start..end]);
-    read_words(name, s, end)
+    let name = read_name(&s[w.start..w.end])?;
+    read_words(name, s, w.end)
 }
 
 // COUNTS
-
-fn wide(x: u8) -> u16
-    ensures { (result ≡ x) × (result ≤ 255) }
-{
-    x as u16
-}
 
 // The row that the octets from a place on spell, low bytes first.
 fn row_in(octets: &[u8], at: usize) -> [u16; LENGTHS]
@@ -700,12 +571,8 @@ fn row_in(octets: &[u8], at: usize) -> [u16; LENGTHS]
     ensures { result ≡ numbers_in counted_lengths (drop at octets.now) }
 {
     let mut row = [0u16; LENGTHS];
-    let mut j: usize = 0;
-    while j < LENGTHS {
-        let low = wide(octets[at + 2 * j]);
-        let high = wide(octets[at + 2 * j + 1]);
-        row[j] = low + 256 * high;
-        j = j + 1;
+    for j in 0..LENGTHS {
+        row[j] = u16::from_le_bytes([octets[at + 2 * j], octets[at + 2 * j + 1]]);
     }
     row
 }
@@ -715,13 +582,9 @@ pub fn counts_in(octets: &[u8]) -> Counts
     requires { length octets.now ≡ counts_size }
     ensures { result ≡ counts_in octets.now }
 {
-    let none = [0u16; LENGTHS];
-    let mut rows = [none; POOLS];
-    let mut k: usize = 0;
-    while k < POOLS {
-        let row = row_in(octets, 2 * LENGTHS * k);
-        rows[k] = row;
-        k = k + 1;
+    let mut rows = [[0u16; LENGTHS]; POOLS];
+    for k in 0..POOLS {
+        rows[k] = row_in(octets, 2 * LENGTHS * k);
     }
     rows
 }

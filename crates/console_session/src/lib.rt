@@ -32,7 +32,7 @@ const OUTPUT: usize = WAITING + ECHO + ANSWER;
 // The reply buffer's length at first.
 const REPLY_AT_FIRST: usize = 257;
 
-#[derive(Clone, Copy)]
+#[derive(Clone, Copy, Debug, PartialEq, Eq)]
 pub struct State {
     // The reply buffer's length.
     pub reply_length: usize,
@@ -65,39 +65,34 @@ pub fn first_state(echo: bool) -> State
 pub fn next_line(s: State) -> State
     ensures { (result.reply_length ≡ s.reply_length) × (result.selected ≡ s.selected) × (result.lines ≡ next_line s.lines) × (result.at ≡ s.at) × (result.echo ≡ s.echo) }
 {
-    let mut next = s;
-    if s.lines < u64::MAX {
-        next.lines = s.lines + 1;
-        return next;
+    State {
+        lines: s.lines.saturating_add(1),
+        ..s
     }
-    next
 }
 
 // The state with more output.
 pub fn with_output(s: State, at: usize) -> State
     ensures { (result.at ≡ at) × Unchanged s result }
 {
-    let mut next = s;
-    next.at = at;
-    next
+    State { at, ..s }
 }
 
 // The state with another length of the reply buffer.
 pub fn with_reply_length(s: State, length: u32) -> State
     ensures { (result.reply_length ≡ length) × (result.selected ≡ s.selected) × (result.lines ≡ s.lines) × (result.at ≡ s.at) × (result.echo ≡ s.echo) }
 {
-    let mut next = s;
-    next.reply_length = length as usize;
-    next
+    State {
+        reply_length: length as usize,
+        ..s
+    }
 }
 
 // The state with option 118 enabled or not.
 pub fn with_selected(s: State, selected: bool) -> State
     ensures { (result.reply_length ≡ s.reply_length) × (result.selected ≡ selected) × (result.lines ≡ s.lines) × (result.at ≡ s.at) × (result.echo ≡ s.echo) }
 {
-    let mut next = s;
-    next.selected = selected;
-    next
+    State { selected, ..s }
 }
 
 // The figures sheet at first: each row is that of an empty slot.
@@ -131,10 +126,12 @@ pub fn flush(rt: &impl Print, errors: &impl Print, s: State, out: &[u8]) -> Stat
     requires { s.at ≤ length out.now }
     ensures { (result.at ≡ 0) × Unchanged s result }
 {
-    let n = s.at;
-    let mut next = with_output(s, 0);
-    next.failed = !program::write_output(rt, errors, &NAME, &out[0..n]);
-    next
+    let written = program::write_output(rt, errors, &NAME, &out[..s.at]);
+    State {
+        at: 0,
+        failed: !written,
+        ..s
+    }
 }
 
 // Writes the output out before more is read, so that whoever types sees each answer at once, and before it has less room than any answer takes.
@@ -142,10 +139,7 @@ pub fn make_room(rt: &impl Print, errors: &impl Print, s: State, reads: bool, ou
     requires { (s.at ≤ length out.now) × OutputHolds out.now }
     ensures { LineFits result.at out.now × Unchanged s result }
 {
-    if reads {
-        return flush(rt, errors, s, out);
-    }
-    if WAITING < s.at {
+    if reads || WAITING < s.at {
         return flush(rt, errors, s, out);
     }
     s

@@ -1,6 +1,6 @@
 -- Words at their places in a line.
 -- Assumes nothing.
-use Prim.Native.Nat.{ℕ, ◌+◌, ◌-◌, ◌≤◌, ◌<◌}
+use Prim.Native.Nat.{ℕ, suc, ◌+◌, ◌-◌, ◌≤◌, ◌<◌}
 use native.Mathlib.Omega.{arith}
 use mathlib.Core.Path.{◌≡◌, refl, sym, ap, ◌∙◌}
 use mathlib.Core.Bool.{Bool, true, false, cond}
@@ -10,21 +10,20 @@ use lib.Seq.{drop-drop, length-take-le, get_or-take, get_or-drop}
 use native.Mathlib.Nat.{add-zero}
 use lib.Dec.{eqb, ltb}
 use borrow.Author.Tests.{eq-eqb, ne_eqb, ltb-true, ltb-false}
+use Rattle.std.specs.Prelude.{◌==◌}
+use Rattle.std.specs.List.{prefix_len}
 use Rattle.octets.specs.Seeking.{index_of}
-use Rattle.lists.proofs.DropLaws.{drop_at, drop-end}
 use Rattle.console_words.specs.Words.{up_to, from_on, skip_spaces, empty?, between, NextWord}
 
-pub skip-space : (s : List ℕ) (i : ℕ) → i < length s → get_or s i 0 ≡ 32 → skip_spaces (drop i s) ≡ skip_spaces (drop (i + 1) s)
-unfolding skip_spaces
-skip-space s i lt e = ap skip_spaces (drop_at s i 0 lt) ∙ ap (λ (b : Bool). cond b (skip_spaces (drop (i + 1) s)) (get_or s i 0 ∷ drop (i + 1) s)) (eq-eqb (get_or s i 0) 32 e)
+-- Without the spaces in front.
+by_space : (b : Bool) (n x : ℕ) (xs : List ℕ) → drop (cond b (1 + n) 0) (x ∷ xs) ≡ cond b (drop n xs) (x ∷ xs)
+by_space true n x xs = let e : 1 + n ≡ suc n = omega arith in ap (λ (k : ℕ). drop k (x ∷ xs)) e
+by_space false n x xs = refl
 
-pub skip-none : (s : List ℕ) (i : ℕ) → i < length s → (get_or s i 0 ≡ 32 → ⊥) → drop i s ≡ skip_spaces (drop i s)
+pub spaces-skipped : (xs : List ℕ) → drop (prefix_len (λ (x : ℕ). x == 32) xs) xs ≡ skip_spaces xs
 unfolding skip_spaces
-skip-none s i lt k = drop_at s i 0 lt ∙ sym (ap skip_spaces (drop_at s i 0 lt) ∙ ap (λ (b : Bool). cond b (skip_spaces (drop (i + 1) s)) (get_or s i 0 ∷ drop (i + 1) s)) (ne_eqb (get_or s i 0) 32 k))
-
-pub skip-end : (s : List ℕ) (i : ℕ) → length s ≤ i → drop i s ≡ skip_spaces (drop i s)
-unfolding skip_spaces
-skip-end s i past = drop-end s i past ∙ sym (ap skip_spaces (drop-end s i past))
+spaces-skipped [] = refl
+spaces-skipped (x ∷ xs) = by_space (x == 32) (prefix_len (λ (x : ℕ). x == 32) xs) x xs ∙ ap (λ (l : List ℕ). cond (x == 32) l (x ∷ xs)) (spaces-skipped xs)
 
 -- Where the first b stands, from a place on.
 module _ (s : List ℕ) (from b r : ℕ) (place : r ≡ from + index_of b (drop from s)) where
@@ -35,6 +34,9 @@ module _ (s : List ℕ) (from b r : ℕ) (place : r ≡ from + index_of b (drop 
   pub found-rest : drop r s ≡ from_on b (drop from s)
   unfolding from_on
   found-rest = ap (λ (k : ℕ). drop k s) place ∙ sym (drop-drop (index_of b (drop from s)) from s)
+
+pub found-first : (s : List ℕ) (b r : ℕ) → r ≡ 0 + index_of b (drop 0 s) → take r s ≡ up_to b s
+found-first s b r place = let e : r ≡ r - 0 = omega arith in ap (λ (k : ℕ). take k s) e ∙ found_before s 0 b r place
 
 pub word_at : (s : List ℕ) (from start end : ℕ) → from ≤ start → drop start s ≡ skip_spaces (drop from s) → end ≡ start + index_of 32 (drop start s) → end ≤ length s → NextWord s from (record { start = start; end = end })
 word_at s from start end later skipped found inside =

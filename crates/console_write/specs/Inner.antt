@@ -1,28 +1,19 @@
 -- Bounds that the reader of `write` keeps.
 use Rattle.std.specs.Prelude.{ℕ, ◌≤◌, ◌<◌}
-use Rattle.console_words.specs.declared.Number.{Number}
-use Rattle.console_words.specs.declared.Number.TheVariants as number
-use Rattle.console_write.specs.declared.{Piece.Piece, Listing.Listing}
+use Rattle.console_write.specs.declared.{Piece.Piece, PieceAt.PieceAt, Listing.Listing}
 use Rattle.console_write.specs.declared.Piece.TheVariants as piece
 
--- A number of 16 bits.
-abbrev pub Small : Number → Type 0
-Small (number.Of n) = n ≤ 65535
-Small number.Bad = Unit {0}
+-- The octets of a name are within a line of n bytes.
+abbrev pub PieceWithin : ℕ → Piece → Type 0
+PieceWithin n (piece.Request r) = Unit {0}
+PieceWithin n (piece.Information c s) = Unit {0}
+PieceWithin n (piece.Entry e) = Unit {0}
+PieceWithin n (piece.Name o) = (o.start ≤ o.end) × (o.end ≤ n)
+PieceWithin n piece.Unknown = Unit {0}
 
--- The places of a piece are within a line of n bytes.
-abbrev pub Within : ℕ → Piece → Type 0
-Within n (piece.Request r next) = next ≤ n
-Within n (piece.Information c s next) = next ≤ n
-Within n (piece.Entry e next) = next ≤ n
-Within n (piece.Name start end next) = (start ≤ end) × (end ≤ n) × (next ≤ n)
-Within n (piece.Unknown next) = next ≤ n
-Within n piece.End = Unit {0}
-Within n piece.Bad = Unit {0}
-
--- The place behind a piece, as close as its own.
-abbrev pub Behind : Piece → ℕ → Type 0
-Behind p r = (n : ℕ) → Within n p → r ≤ n
+-- So are the words of a piece.
+abbrev pub Within : ℕ → PieceAt → Type 0
+Within n p = (p.end ≤ n) × PieceWithin n p.piece
 
 -- A list within its limits.
 pub record Fits (b : Listing) : Type 0 where

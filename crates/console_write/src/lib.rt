@@ -1,19 +1,18 @@
 // The words of `write`, which are those that `read` prints: a list of suboptions or an address, and the option that they make.
 #![tactic(auto)]
 
-ghost use Rattle.std.specs.Prelude.{◌≡◌, ◌+◌, ◌≤◌, ◌<◌, length};
+ghost use Rattle.std.specs.Prelude.{◌≡◌, ◌≤◌, length, IfSome};
 ghost use Rattle.option.specs.Selection.{write_selection};
 ghost use Rattle.option.specs.Writer.{write_option};
 ghost use Rattle.option_measure.specs.Lists.{suboptions_of};
 ghost use Rattle.console_script.specs.Commands.{longest_reply};
 ghost use Rattle.console_write.specs.Writes.{written_as, Writes};
-ghost use Rattle.console_write.specs.Inner.{Small, Within, Behind, Fits};
+ghost use Rattle.console_write.specs.Inner.{Within, PieceWithin, Fits};
 
-use console_words::{Number, PrefixWord};
+use console_words::Octets;
 use ledger::Answer;
 use option_entry::{EntryFields, Figures, HighWater, InUse, Unusable};
-use option_measure::{InformationItem, Item, NameItem, RequestItem, Slot, SuboptionList};
-use option_reply::Written;
+use option_measure::{InformationItem, Item, NameItem, RequestItem, SuboptionList};
 
 // What can be listed: "Up to 96 suboptions, 64 entries and 256 octets of names".
 const ITEMS: usize = 96;
@@ -22,30 +21,27 @@ const ENTRIES: usize = 64;
 
 const OCTETS: usize = 256;
 
-// A suboption or an entry, and the place behind its words; the octets of a name stand in the line.
+// A suboption or an entry; the octets of a name stand in the line.
 #[derive(Clone, Copy)]
 enum Piece {
-    Request(RequestItem, usize),
-    Information(bool, bool, usize),
-    Entry(EntryFields, usize),
-    Name(usize, usize, usize),
-    Unknown(usize),
-    End,
-    Bad,
+    Request(RequestItem),
+    Information(bool, bool),
+    Entry(EntryFields),
+    Name(Octets),
+    Unknown,
 }
 
-// The figures that a word spells.
+// A piece, and the place behind its words.
 #[derive(Clone, Copy)]
-pub enum FiguresWord {
-    Of(Figures),
-    Bad,
+struct PieceAt {
+    piece: Piece,
+    end: usize,
 }
 
 // The list so far: how many suboptions, entries and octets there are; whether an entry may follow, and then the information that it is of: its place among
 // the suboptions, its flags and its first entry.
 #[derive(Drop)]
 struct Listing {
-    good: bool,
     count: usize,
     entry_count: usize,
     octet_count: usize,
@@ -54,60 +50,32 @@ struct Listing {
     c: bool,
     s: bool,
     first: usize,
-    items: [Slot; ITEMS],
+    items: [Item; ITEMS],
     entries: [EntryFields; ENTRIES],
     octets: [u8; OCTETS],
-}
-
-// What a line comes to: words that are not these, or an answer.
-#[derive(Clone, Copy)]
-pub enum Outcome {
-    Bad,
-    Of(Answer),
 }
 
 // FIGURES
 
 // A number below 65,536.
-fn read_figure(s: &[u8]) -> Number
-    ensures { Small result }
-{
-    let Number::Of(n) = console_words::read_number(s) else {
-        return Number::Bad;
-    };
-    if 65535 < n {
-        return Number::Bad;
-    }
-    Number::Of(n)
-}
-
-fn no_figures() -> Figures {
-    Figures {
-        count: 0,
-        high_water: HighWater(0),
-        in_use: InUse(0),
-        unusable: Unusable(0),
-    }
+fn read_figure(s: &[u8]) -> Option<u16> {
+    let n = console_words::read_number(s)?;
+    u16::try_from(n).ok()
 }
 
 // Numbers with commas between them, up to four; `-` where there are none. Of a fourth one only that it is there is kept: such an entry is never written.
-pub fn read_figures(s: &[u8]) -> FiguresWord {
+pub fn read_figures(s: &[u8]) -> Option<Figures> {
     if check::same(s, b"-") {
-        return FiguresWord::Of(no_figures());
+        return Some(Figures::NONE);
     }
     let mut numbers = [0u16; 4];
-    let mut n: usize = 0;
     let mut at: usize = 0;
-    while n < 4 {
+    for n in 0..4usize {
         let end = octets::find(s, at, b',');
-        let Number::Of(x) = read_figure(&s[at..end]) else {
-            return FiguresWord::Bad;
-        };
-        numbers[n] = x as u16;
-        n = n + 1;
+        numbers[n] = read_figure(&s[at..end])?;
         if end == s.len() {
-            return FiguresWord::Of(Figures {
-                count: n,
+            return Some(Figures {
+                count: n + 1,
                 high_water: HighWater(numbers[0]),
                 in_use: InUse(numbers[1]),
                 unusable: Unusable(numbers[2]),
@@ -115,7 +83,7 @@ pub fn read_figures(s: &[u8]) -> FiguresWord {
         }
         at = end + 1;
     }
-    FiguresWord::Bad
+    None
 }
 
 // PIECES
@@ -128,376 +96,258 @@ pub enum ItemWord {
     Entry,
     Name,
     Unknown,
-    Other,
 }
 
-pub fn read_item(word: &[u8]) -> ItemWord {
-    if check::same(word, b"request") {
-        return ItemWord::Request;
+pub fn read_item(word: &[u8]) -> Option<ItemWord> {
+    match word {
+        b"request" => Some(ItemWord::Request),
+        b"information" => Some(ItemWord::Information),
+        b"entry" => Some(ItemWord::Entry),
+        b"name" => Some(ItemWord::Name),
+        b"unknown" => Some(ItemWord::Unknown),
+        _ => None,
     }
-    if check::same(word, b"information") {
-        return ItemWord::Information;
-    }
-    if check::same(word, b"entry") {
-        return ItemWord::Entry;
-    }
-    if check::same(word, b"name") {
-        return ItemWord::Name;
-    }
-    if check::same(word, b"unknown") {
-        return ItemWord::Unknown;
-    }
-    ItemWord::Other
 }
 
 // h=0 i=1 prefix=24
-fn request(s: &[u8], from: usize) -> Piece
+fn request(s: &[u8], from: usize) -> Option<PieceAt>
     requires { from ≤ length s.now }
-    ensures { Within (length s.now) result }
+    ensures { IfSome result (Within (length s.now)) }
 {
     let a = console_words::next_bit(s, from, b"h=");
-    let first = a.number;
-    let Number::Of(h) = first else {
-        return Piece::Bad;
-    };
+    let h = a.value? == 1;
     let b = console_words::next_bit(s, a.end, b"i=");
-    let second = b.number;
-    let Number::Of(i) = second else {
-        return Piece::Bad;
-    };
+    let i = b.value? == 1;
     let c = console_words::next_field(s, b.end, b"prefix=");
-    let third = c.number;
-    let Number::Of(length) = third else {
-        return Piece::Bad;
-    };
-    if 255 < length {
-        return Piece::Bad;
-    }
-    Piece::Request(
-        RequestItem {
-            h: h == 1,
-            i: i == 1,
-            length: length as u8,
-        },
-        c.end,
-    )
+    let number = c.value?;
+    let length = u8::try_from(number).ok()?;
+    Some(PieceAt {
+        piece: Piece::Request(RequestItem { h, i, length }),
+        end: c.end,
+    })
 }
 
 // c=0 s=0
-fn information(s: &[u8], from: usize) -> Piece
+fn information(s: &[u8], from: usize) -> Option<PieceAt>
     requires { from ≤ length s.now }
-    ensures { Within (length s.now) result }
+    ensures { IfSome result (Within (length s.now)) }
 {
     let a = console_words::next_bit(s, from, b"c=");
-    let first = a.number;
-    let Number::Of(c) = first else {
-        return Piece::Bad;
-    };
+    let c = a.value? == 1;
     let b = console_words::next_bit(s, a.end, b"s=");
-    let second = b.number;
-    let Number::Of(d) = second else {
-        return Piece::Bad;
-    };
-    Piece::Information(c == 1, d == 1, b.end)
-}
-
-// The figures that the next word spells behind `figures=`.
-fn next_figures(s: &[u8], start: usize, end: usize) -> FiguresWord
-    requires { (start ≤ end) × (end ≤ length s.now) }
-{
-    let value = console_words::behind(&s[start..end], b"figures=");
-    let first = start + value;
-    if value == 0 {
-        return FiguresWord::Bad;
-    }
-    read_figures(&s[first..end])
+    let d = b.value? == 1;
+    Some(PieceAt {
+        piece: Piece::Information(c, d),
+        end: b.end,
+    })
 }
 
 // PREFIX h=0 d=1 figures=10,7,2
-fn entry(s: &[u8], from: usize) -> Piece
+fn entry(s: &[u8], from: usize) -> Option<PieceAt>
     requires { from ≤ length s.now }
-    ensures { Within (length s.now) result }
+    ensures { IfSome result (Within (length s.now)) }
 {
     let p = console_words::next_prefix(s, from);
-    let prefix = p.prefix;
-    let PrefixWord::Of(network, length) = prefix else {
-        return Piece::Bad;
-    };
+    let prefix = p.value?;
     let a = console_words::next_bit(s, p.end, b"h=");
-    let first = a.number;
-    let Number::Of(h) = first else {
-        return Piece::Bad;
-    };
+    let h = a.value? == 1;
     let b = console_words::next_bit(s, a.end, b"d=");
-    let second = b.number;
-    let Number::Of(d) = second else {
-        return Piece::Bad;
-    };
+    let d = b.value? == 1;
     let w = console_words::next_word(s, b.end);
-    let FiguresWord::Of(figures) = next_figures(s, w.start, w.end) else {
-        return Piece::Bad;
-    };
-    Piece::Entry(
-        EntryFields {
-            network,
-            length,
-            h: h == 1,
-            d: d == 1,
+    let told = s[w.start..w.end].strip_prefix(b"figures=")?;
+    let figures = read_figures(told)?;
+    Some(PieceAt {
+        piece: Piece::Entry(EntryFields {
+            network: prefix.network,
+            length: prefix.length,
+            h,
+            d,
             figures,
-        },
-        w.end,
-    )
+        }),
+        end: w.end,
+    })
 }
 
 // The octets of a name, over the word that spells them.
-fn name(s: &mut [u8], from: usize) -> Piece
+fn name(s: &mut [u8], from: usize) -> Option<PieceAt>
     requires { from ≤ length s.old }
-    ensures { Within (length s.old) result }
+    ensures { IfSome result (Within (length s.old)) }
 {
     let w = console_words::next_word(s, from);
-    let octets = console_words::read_octets(s, w.start, w.end);
-    if !octets.good {
-        return Piece::Bad;
-    }
-    Piece::Name(octets.start, octets.end, w.end)
+    let octets = console_words::read_octets(s, w.start, w.end)?;
+    Some(PieceAt {
+        piece: Piece::Name(octets),
+        end: w.end,
+    })
 }
 
 // The next suboption or entry.
-fn next_piece(s: &mut [u8], from: usize) -> Piece
+fn next_piece(s: &mut [u8], from: usize) -> Option<PieceAt>
     requires { from ≤ length s.old }
-    ensures { Within (length s.old) result }
+    ensures { IfSome result (Within (length s.old)) }
 {
     let w = console_words::next_word(s, from);
-    let start = w.start;
-    let end = w.end;
-    if start == end {
-        return Piece::End;
-    }
-    match read_item(&s[start..end]) {
-        ItemWord::Request => request(s, end),
-        ItemWord::Information => information(s, end),
-        ItemWord::Entry => entry(s, end),
-        ItemWord::Name => name(s, end),
-        ItemWord::Unknown => Piece::Unknown(end),
-        ItemWord::Other => Piece::Bad,
+    match read_item(&s[w.start..w.end])? {
+        ItemWord::Request => request(s, w.end),
+        ItemWord::Information => information(s, w.end),
+        ItemWord::Entry => entry(s, w.end),
+        ItemWord::Name => name(s, w.end),
+        ItemWord::Unknown => Some(PieceAt {
+            piece: Piece::Unknown,
+            end: w.end,
+        }),
     }
 }
 
 // THE LIST
 
-fn empty_list() -> Listing
-    ensures { Fits result }
-{
-    Listing {
-        good: true,
-        count: 0,
-        entry_count: 0,
-        octet_count: 0,
-        open: false,
-        slot: 0,
-        c: false,
-        s: false,
-        first: 0,
-        items: [Slot {
-            item: Item::Unknown,
-        }; ITEMS],
-        entries: [EntryFields {
-            network: 0,
-            length: 0,
-            h: false,
-            d: false,
-            figures: Figures {
-                count: 0,
-                high_water: HighWater(0),
-                in_use: InUse(0),
-                unusable: Unusable(0),
-            },
-        }; ENTRIES],
-        octets: [0; OCTETS],
+impl Listing {
+    fn empty() -> Listing
+        ensures { Fits result }
+    {
+        Listing {
+            count: 0,
+            entry_count: 0,
+            octet_count: 0,
+            open: false,
+            slot: 0,
+            c: false,
+            s: false,
+            first: 0,
+            items: [Item::Unknown; ITEMS],
+            entries: [EntryFields {
+                network: 0,
+                length: 0,
+                h: false,
+                d: false,
+                figures: Figures::NONE,
+            }; ENTRIES],
+            octets: [0; OCTETS],
+        }
     }
-}
 
-fn no_list(b: Listing) -> Listing
-    requires { Fits b }
-    ensures { Fits result }
-{
-    let mut next = b;
-    next.good = false;
-    next
-}
-
-// One suboption more, which no entry may follow.
-fn with_item(b: Listing, item: Item) -> Listing
-    requires { Fits b }
-    ensures { Fits result }
-{
-    let n = b.count;
-    if ITEMS <= n {
-        return no_list(b);
+    // One suboption more, which no entry may follow.
+    fn with_item(self, item: Item) -> Option<Listing>
+        requires { Fits self }
+        ensures { IfSome result Fits }
+    {
+        let n = self.count;
+        if ITEMS <= n {
+            return None;
+        }
+        let mut next = self;
+        next.items[n] = item;
+        next.count = n + 1;
+        next.open = false;
+        Some(next)
     }
-    let mut next = b;
-    next.items[n] = Slot { item };
-    next.count = n + 1;
-    next.open = false;
-    next
-}
 
-// An information more, with no entry yet.
-fn with_information(b: Listing, c: bool, s: bool) -> Listing
-    requires { Fits b }
-    ensures { Fits result }
-{
-    let n = b.count;
-    if ITEMS <= n {
-        return no_list(b);
-    }
-    let first = b.entry_count;
-    let mut next = b;
-    next.items[n] = Slot {
-        item: Item::Information(InformationItem {
+    // An information more, with no entry yet.
+    fn with_information(self, c: bool, s: bool) -> Option<Listing>
+        requires { Fits self }
+        ensures { IfSome result Fits }
+    {
+        let n = self.count;
+        if ITEMS <= n {
+            return None;
+        }
+        let first = self.entry_count;
+        let mut next = self;
+        next.items[n] = Item::Information(InformationItem {
             c,
             s,
             first,
             count: 0,
-        }),
-    };
-    next.count = n + 1;
-    next.open = true;
-    next.slot = n;
-    next.c = c;
-    next.s = s;
-    next.first = first;
-    next
-}
-
-// An entry more of the information before it.
-fn with_entry(b: Listing, e: EntryFields) -> Listing
-    requires { Fits b }
-    ensures { Fits result }
-{
-    if !b.open {
-        return no_list(b);
+        });
+        next.count = n + 1;
+        next.open = true;
+        next.slot = n;
+        next.c = c;
+        next.s = s;
+        next.first = first;
+        Some(next)
     }
-    let n = b.entry_count;
-    if ENTRIES <= n {
-        return no_list(b);
-    }
-    let slot = b.slot;
-    let first = b.first;
-    let item = Item::Information(InformationItem {
-        c: b.c,
-        s: b.s,
-        first,
-        count: n + 1 - first,
-    });
-    let mut next = b;
-    next.entries[n] = e;
-    next.entry_count = n + 1;
-    next.items[slot] = Slot { item };
-    next
-}
 
-// Octets behind the first n.
-fn copied(octets: [u8; OCTETS], n: usize, s: &[u8]) -> [u8; OCTETS]
-    requires { n + length s.now ≤ 256 }
-{
-    let mut next = octets;
-    let mut i: usize = 0;
-    while i < s.len() {
-        next[n + i] = s[i];
-        i = i + 1;
+    // An entry more of the information before it.
+    fn with_entry(self, e: EntryFields) -> Option<Listing>
+        requires { Fits self }
+        ensures { IfSome result Fits }
+    {
+        let n = self.entry_count;
+        if !self.open || ENTRIES <= n {
+            return None;
+        }
+        let slot = self.slot;
+        let first = self.first;
+        let item = Item::Information(InformationItem {
+            c: self.c,
+            s: self.s,
+            first,
+            count: n + 1 - first,
+        });
+        let mut next = self;
+        next.entries[n] = e;
+        next.entry_count = n + 1;
+        next.items[slot] = item;
+        Some(next)
     }
-    next
-}
 
-// A name more.
-fn with_name(b: Listing, s: &[u8]) -> Listing
-    requires { Fits b }
-    ensures { Fits result }
-{
-    let first = b.octet_count;
-    let count = s.len();
-    if OCTETS - first < count {
-        return no_list(b);
+    // A name more.
+    fn with_name(self, s: &[u8]) -> Option<Listing>
+        requires { Fits self }
+        ensures { IfSome result Fits }
+    {
+        let first = self.octet_count;
+        let count = s.len();
+        if OCTETS - first < count {
+            return None;
+        }
+        let mut next = self.with_item(Item::Name(NameItem { first, count }))?;
+        next.octets[first..first + count].copy_from_slice(s);
+        next.octet_count = first + count;
+        Some(next)
     }
-    let old = b.octets;
-    let octets = copied(old, first, s);
-    let mut next = with_item(b, Item::Name(NameItem { first, count }));
-    next.octets = octets;
-    next.octet_count = first + count;
-    next
-}
 
-// A piece more.
-fn with_piece(b: Listing, p: Piece, s: &[u8]) -> Listing
-    requires { Fits b × Within (length s.now) p }
-    ensures { Fits result }
-{
-    match p {
-        Piece::Request(r, _) => with_item(b, Item::Request(r)),
-        Piece::Information(c, d, _) => with_information(b, c, d),
-        Piece::Entry(e, _) => with_entry(b, e),
-        Piece::Name(start, end, _) => with_name(b, &s[start..end]),
-        Piece::Unknown(_) => with_item(b, Item::Unknown),
-        Piece::End => b,
-        Piece::Bad => no_list(b),
-    }
-}
-
-// The place behind a piece's words.
-fn behind(p: Piece) -> usize
-    ensures { Behind p result }
-{
-    match p {
-        Piece::Request(_, next) => next,
-        Piece::Information(_, _, next) => next,
-        Piece::Entry(_, next) => next,
-        Piece::Name(_, _, next) => next,
-        Piece::Unknown(next) => next,
-        Piece::End => 0,
-        Piece::Bad => 0,
-    }
-}
-
-fn is_last(p: Piece) -> bool {
-    match p {
-        Piece::End => true,
-        Piece::Bad => true,
-        _ => false,
+    // A piece more.
+    fn with_piece(self, p: Piece, s: &[u8]) -> Option<Listing>
+        requires { Fits self × PieceWithin (length s.now) p }
+        ensures { IfSome result Fits }
+    {
+        match p {
+            Piece::Request(r) => self.with_item(Item::Request(r)),
+            Piece::Information(c, d) => self.with_information(c, d),
+            Piece::Entry(e) => self.with_entry(e),
+            Piece::Name(o) => self.with_name(&s[o.start..o.end]),
+            Piece::Unknown => self.with_item(Item::Unknown),
+        }
     }
 }
 
 // All pieces. No list has more than its suboptions and entries, and then its end.
-fn read_list(s: &mut [u8]) -> Listing
-    ensures { Fits result }
+fn read_list(s: &mut [u8]) -> Option<Listing>
+    ensures { IfSome result Fits }
 {
-    let mut b = empty_list();
+    let mut b = Listing::empty();
     let mut at: usize = 0;
-    let mut turns: usize = 0;
-    while turns <= ITEMS + ENTRIES {
-        let p = next_piece(s, at);
-        b = with_piece(b, p, s);
-        if is_last(p) {
-            return b;
+    for _ in 0..=ITEMS + ENTRIES {
+        if console_words::ends(s, at) {
+            return Some(b);
         }
-        at = behind(p);
-        turns = turns + 1;
+        let p = next_piece(s, at)?;
+        b = b.with_piece(p.piece, s)?;
+        at = p.end;
     }
-    no_list(b)
+    None
 }
 
 // ANSWERS
 
 // The option of a list.
-fn write_list(list: SuboptionList, buffer: &mut [u8]) -> Answer
+fn write_list(list: &SuboptionList, buffer: &mut [u8]) -> Answer
     requires { length buffer.old ≤ longest_reply }
-    ensures { (result, buffer.new) ≡ written_as (write_option (length buffer.old) (suboptions_of list)) buffer.old }
+    ensures { (result, buffer.new) ≡ written_as (write_option (length buffer.old) (suboptions_of list.now)) buffer.old }
 {
-    match option_write::write_option(list, buffer) {
-        Written::Bytes(n) => call_spec::accepted(n as u32, 0),
-        Written::OutsideRules => call_spec::refused(13, 0),
-        Written::TooLong => call_spec::refused(14, 0),
-    }
+    call_spec::written(option_write::write_option(list, buffer))
 }
 
 // Option 118.
@@ -505,34 +355,25 @@ fn write_address(address: u32, buffer: &mut [u8]) -> Answer
     requires { length buffer.old ≤ longest_reply }
     ensures { (result, buffer.new) ≡ written_as (write_selection (length buffer.old) address) buffer.old }
 {
-    match option_reply::write_selection(address, buffer) {
-        Written::Bytes(n) => call_spec::accepted(n as u32, 0),
-        Written::OutsideRules => call_spec::refused(13, 0),
-        Written::TooLong => call_spec::refused(14, 0),
-    }
+    call_spec::written(option_reply::write_selection(address, buffer))
 }
 
 // The address that the next word spells, if it is the last one.
-fn read_address(s: &[u8], from: usize) -> Number
+fn read_address(s: &[u8], from: usize) -> Option<u32>
     requires { from ≤ length s.now }
 {
     let w = console_words::next_word(s, from);
-    let start = w.start;
-    let end = w.end;
-    if !console_words::ends(s, end) {
-        return Number::Bad;
+    if !console_words::ends(s, w.end) {
+        return None;
     }
-    console_words::read_network(&s[start..end])
+    console_words::read_network(&s[w.start..w.end])
 }
 
-fn write_words(s: &mut [u8], buffer: &mut [u8]) -> Outcome
+fn write_words(s: &mut [u8], buffer: &mut [u8]) -> Option<Answer>
     requires { length buffer.old ≤ longest_reply }
     ensures { Writes result buffer.old buffer.new }
 {
-    let b = read_list(s);
-    if !b.good {
-        return Outcome::Bad;
-    }
+    let b = read_list(s)?;
     let items = b.items;
     let entries = b.entries;
     let octets = b.octets;
@@ -542,22 +383,18 @@ fn write_words(s: &mut [u8], buffer: &mut [u8]) -> Outcome
         entries,
         octets,
     };
-    Outcome::Of(write_list(list, buffer))
+    Some(write_list(&list, buffer))
 }
 
-// The option that words make, into a buffer.
-pub fn write(s: &mut [u8], buffer: &mut [u8]) -> Outcome
+// The option that words make, into a buffer; none of words that are not these.
+pub fn write(s: &mut [u8], buffer: &mut [u8]) -> Option<Answer>
     requires { length buffer.old ≤ longest_reply }
     ensures { Writes result buffer.old buffer.new }
 {
     let w = console_words::next_word(s, 0);
-    let start = w.start;
-    let end = w.end;
-    if check::same(&s[start..end], b"address") {
-        let Number::Of(address) = read_address(s, end) else {
-            return Outcome::Bad;
-        };
-        return Outcome::Of(write_address(address, buffer));
+    if check::same(&s[w.start..w.end], b"address") {
+        let address = read_address(s, w.end)?;
+        return Some(write_address(address, buffer));
     }
     write_words(s, buffer)
 }

@@ -1,16 +1,15 @@
 -- All counts of a sound table are as many as its whole free blocks.
 -- Assumes nothing.
 use Prim.Native.Nat.{ℕ, zero, suc, ◌+◌, ◌-◌, ◌≤◌, ◌<◌}
-use mathlib.Core.Path.{◌≡◌, refl, ap}
+use mathlib.Core.Path.{◌≡◌, refl}
 use mathlib.Core.Bool.{true}
 use mathlib.Core.List.{List, [], ◌∷◌, ◌++◌, map}
 use mathlib.Core.Logic.{by_cases}
 use native.Mathlib.Decide.{dec_le}
 use native.Mathlib.Omega.{arith}
-use lib.ListN.{length, drop, get_or, replicate, length-append}
+use lib.ListN.{length, replicate, length-append}
 use lib.Dec.{eqb}
 use Rattle.lists.specs.Lists.{All}
-use Rattle.lists.proofs.DropLaws.{drop_at, drop-end}
 use Rattle.lists.proofs.ListLaws.{all_map, all_left, all_right}
 use Rattle.prefix.specs.declared.Prefix.{Prefix}
 use Rattle.prefix.specs.Prefixes.{longest}
@@ -22,22 +21,6 @@ use Rattle.table.specs.Table.{pool_slots, shortest_pool, prefix_of, pools_of, pr
 use Rattle.counts.specs.Counts.{counted_lengths, lengths_from, count_row, counts_of, row_total, total}
 use Rattle.counts.proofs.OneLaws.{one-eq, one-lt, one-gt}
 use Rattle.counts.proofs.SumLaws.{pools-good, whole-counted}
-
--- FROM ONE PLACE ON
-
-pub row-total-more : (row : List ℕ) (j n v : ℕ) → j < length row → v ≡ get_or row j 0 → n + row_total (drop j row) ≡ row_total row → n + v + row_total (drop (j + 1) row) ≡ row_total row
-row-total-more row j n v h ev e = omega (arith, e, ev, ap row_total (drop_at row j 0 h))
-
-pub row-total-all : (row : List ℕ) (j n : ℕ) → length row ≤ j → n + row_total (drop j row) ≡ row_total row → n ≡ row_total row
-row-total-all row j n h e = omega (arith, e, ap row_total (drop-end row j h))
-
-pub total-more : (c : List (List ℕ)) (k n v : ℕ) → k < length c → v ≡ row_total (get_or c k []) → n + total (drop k c) ≡ total c → n + v + total (drop (k + 1) c) ≡ total c
-total-more c k n v h ev e = omega (arith, e, ev, ap total (drop_at c k [] h))
-
-pub total-all : (c : List (List ℕ)) (k n : ℕ) → length c ≤ k → n + total (drop k c) ≡ total c → n ≡ total c
-total-all c k n h e = omega (arith, e, ap total (drop-end c k h))
-
--- OF A TABLE
 
 -- One length among k from l on.
 one-among : (a l k : ℕ) → l ≤ a → a < l + k → row_total (map (λ m. one? (eqb a m)) (lengths_from l k)) ≡ 1

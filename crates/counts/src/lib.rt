@@ -2,7 +2,7 @@
 #![tactic(auto)]
 
 ghost use Rattle.std.specs.Prelude.{◌≡◌, ◌*◌, ◌≤◌};
-ghost use Rattle.counts.specs.Counts.{counted_lengths, same_row?, same_counts?, sum_at, row_total, total};
+ghost use Rattle.counts.specs.Counts.{counted_lengths, same_counts?, sum_at, row_total, total};
 ghost use Rattle.counts.specs.InnerLevels.{common_bits};
 
 use prefix::Prefix;
@@ -17,86 +17,35 @@ pub const LENGTHS: usize = (LONGEST + 1 - SHORTEST) as usize;
 
 pub type Counts = [[u16; LENGTHS]; POOLS];
 
-// Whether two rows are the same.
-fn same_row(a: [u16; LENGTHS], b: [u16; LENGTHS]) -> bool
-    ensures { result ≡ same_row? a b }
-{
-    let mut j: usize = 0;
-    while j < LENGTHS {
-        if a[j] != b[j] {
-            return false;
-        }
-        j += 1;
-    }
-    true
-}
-
 // Whether two counts are the same, rows of unused pools included.
 pub fn same(a: Counts, b: Counts) -> bool
     ensures { result ≡ same_counts? a b }
 {
-    let mut k: usize = 0;
-    while k < POOLS {
-        let x = a[k];
-        let y = b[k];
-        if !same_row(x, y) {
-            return false;
-        }
-        k += 1;
-    }
-    true
-}
-
-fn wide(x: u16) -> u32
-    ensures { (result ≡ x) × (result ≤ 65535) }
-{
-    x as u32
+    a == b
 }
 
 // How many whole free blocks of a length there are in all pools; none outside 8 to 30.
 pub fn sum(c: Counts, length: u32) -> u32
     ensures { result ≡ sum_at c length }
 {
-    if length < SHORTEST {
-        return 0;
-    }
-    if LONGEST < length {
+    if !(SHORTEST..=LONGEST).contains(&length) {
         return 0;
     }
     let j = (length - SHORTEST) as usize;
-    let mut n: u32 = 0;
-    let mut i: usize = 0;
-    while i < POOLS {
-        n += wide(c[i][j]);
-        i += 1;
-    }
-    n
+    c.iter().map(|row| u32::from(row[j])).sum()
 }
 
-fn row_total(row: [u16; LENGTHS]) -> u32
-    ensures { (result ≡ row_total row) × (result ≤ 65535 * counted_lengths) }
+fn row_total(row: &[u16; LENGTHS]) -> u32
+    ensures { (result ≡ row_total row.now) × (result ≤ 65535 * counted_lengths) }
 {
-    let mut n: u32 = 0;
-    let mut i: usize = 0;
-    while i < LENGTHS {
-        n += wide(row[i]);
-        i += 1;
-    }
-    n
+    row.iter().map(|&n| u32::from(n)).sum()
 }
 
 // How many whole free blocks there are of any length.
 pub fn total(c: Counts) -> u32
     ensures { result ≡ total c }
 {
-    let mut n: u32 = 0;
-    let mut r: usize = 0;
-    while r < POOLS {
-        let row = c[r];
-        n += row_total(row);
-        r += 1;
-    }
-    n
+    c.iter().map(row_total).sum()
 }
 
 // Two networks lie in as many prefixes as this, and one more.

@@ -1,23 +1,22 @@
 // Usage figures: a row of the figures sheet, and what is told in it.
 #![tactic(auto)]
 
-ghost use Rattle.std.specs.Prelude.{◌≡◌};
+ghost use Rattle.std.specs.Prelude.{◌≡◌, cond, eqb, ltb};
 ghost use Rattle.table.specs.declared.Lease.{Lease};
 ghost use Rattle.figures.specs.Figures.{
+  untold,
   untold_row,
   empty_row,
-  high_water_of,
-  in_use_of,
-  unusable_of,
-  newer_high_water,
-  newer_in_use,
-  newer_unusable,
+  given,
   filed,
 };
 
+mod figure;
+
+pub use figure::Figure;
 use option_entry::{Figures, HighWater, InUse, Unusable};
 
-// The row of a lease. A figure of which nothing was told is UNTOLD.
+// The row of a lease. A figure of which nothing was told is UNTOLD, the sheet's own number for it.
 #[derive(Clone, Copy)]
 pub struct FigureRow {
     pub network: u32,
@@ -53,50 +52,18 @@ pub fn empty_row() -> FigureRow
 
 // FILING
 
-// The figures of an entry, each as what it is; one that is missing is untold.
-fn high_water_of(f: Figures) -> HighWater
-    ensures { result ≡ high_water_of f }
+// A figure of an entry at its place, if the entry has so many; one that is missing is untold.
+fn told<F: Figure>(count: usize, place: usize, f: F) -> F
+    ensures { result ≡ given (ltb place count) (F.of_number untold) f }
 {
-    if 0 < f.count {
-        f.high_water
-    } else {
-        HighWater(UNTOLD)
-    }
-}
-
-fn in_use_of(f: Figures) -> InUse
-    ensures { result ≡ in_use_of f }
-{
-    if 1 < f.count { f.in_use } else { InUse(UNTOLD) }
-}
-
-fn unusable_of(f: Figures) -> Unusable
-    ensures { result ≡ unusable_of f }
-{
-    if 2 < f.count {
-        f.unusable
-    } else {
-        Unusable(UNTOLD)
-    }
+    if place < count { f } else { F::of(UNTOLD) }
 }
 
 // What is told, or what was told before.
-fn newer_high_water(old: HighWater, new: HighWater) -> HighWater
-    ensures { result ≡ newer_high_water old new }
+fn newer<F: Figure>(old: F, new: F) -> F
+    ensures { result ≡ cond (eqb (F.number_of new) untold) old new }
 {
-    if new.0 == UNTOLD { old } else { new }
-}
-
-fn newer_in_use(old: InUse, new: InUse) -> InUse
-    ensures { result ≡ newer_in_use old new }
-{
-    if new.0 == UNTOLD { old } else { new }
-}
-
-fn newer_unusable(old: Unusable, new: Unusable) -> Unusable
-    ensures { result ≡ newer_unusable old new }
-{
-    if new.0 == UNTOLD { old } else { new }
+    if new.number() == UNTOLD { old } else { new }
 }
 
 // The figures of an entry into a row.
@@ -104,10 +71,9 @@ pub fn filed_row(f: Figures, r: FigureRow) -> FigureRow
     ensures { result ≡ filed f r }
 {
     FigureRow {
-        network: r.network,
-        length: r.length,
-        high_water: newer_high_water(r.high_water, high_water_of(f)),
-        in_use: newer_in_use(r.in_use, in_use_of(f)),
-        unusable: newer_unusable(r.unusable, unusable_of(f)),
+        high_water: newer(r.high_water, told(f.count, 0, f.high_water)),
+        in_use: newer(r.in_use, told(f.count, 1, f.in_use)),
+        unusable: newer(r.unusable, told(f.count, 2, f.unusable)),
+        ..r
     }
 }

@@ -29,6 +29,7 @@ use call_option::SelectionAnswer;
 use call_query::{HeadAnswer, LeaseAnswer, PoolAnswer};
 use call_spec::Message;
 use counts::Counts;
+use image::Form;
 use ledger::Answer;
 
 // THE CALLS
@@ -95,7 +96,7 @@ pub extern "C" fn flockdrift_save(
         image,
         image_bytes,
         counts,
-        image::form_numbered(form),
+        Form::from(form),
         older != 0,
         buffer,
     )

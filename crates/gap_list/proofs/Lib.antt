@@ -2,7 +2,6 @@ pub mod FitLaws
 pub mod SplitLaws
 pub mod ColumnLaws
 pub mod SolidLaws
-pub mod MoveLaws
 pub mod EndLaws
 pub mod BitLaws
 pub mod SearchLaws

@@ -1,21 +1,15 @@
--- The search through gaps in columns, one gap after the other.
+-- The search through gaps in a buffer, one gap after the other.
 -- Assumes nothing.
 use Prim.Native.Nat.{ℕ, ◌+◌, ◌-◌, ◌≤◌, ◌<◌}
-use mathlib.Core.Path.{◌≡◌, refl, sym, ap, ap₂, ◌∙◌}
-use mathlib.Core.Logic.{◌⊎◌, inl, inr, ⊎_elim}
-use mathlib.Core.Bool.{true, not, cond, true≢false}
+use mathlib.Core.Path.{◌≡◌, refl, sym, ap, ◌∙◌}
 use mathlib.Core.List.{List, [], ◌∷◌}
 use mathlib.Core.Option.{Option, none, some}
 use native.Mathlib.Omega.{arith}
 use lib.Bits.{bit_and}
-use lib.Dec.{eqb}
-use lib.ListN.{length, take, drop, get_or}
-use lib.Pow.{pow-lt}
-use lib.Seq.{length-take-le, get_or-take}
-use borrow.Author.Tests.{eq-eqb, ne_eqb}
-use Rattle.lists.specs.Properties.{OfSome}
+use lib.ListN.{length, drop, get_or}
+use Rattle.std.specs.Prelude.{Some, None, ⊤}
+use Rattle.std.specs.Prelude.{Option as Optional}
 use Rattle.lists.proofs.DropLaws.{drop_at, drop-end}
-use Rattle.lists.proofs.TakeLaws.{take_short}
 use Rattle.prefix.specs.declared.Prefix.{Prefix}
 use Rattle.prefix.specs.Prefixes.{size, prefix}
 use Rattle.prefix.proofs.PrefixLaws.{size-positive}
@@ -23,196 +17,149 @@ use Rattle.prefix.proofs.Nesting.{pow-le}
 use Rattle.free_space.specs.Grant.{lowest_part}
 use Rattle.free_space.specs.Scan.{length_of, in_gap, round_up, round_down}
 use Rattle.free_space.proofs.GapLaws.{up-ge, down_le}
-use Rattle.gap_list.specs.declared.Best.{Best}
-use Rattle.gap_list.specs.Gaps.{fit_from, fit_in, LiesIn}
-use Rattle.gap_list.specs.Columns.{held, held_in, Fitted}
-use Rattle.gap_list.specs.InnerSearch.{held_from, Passed, NextLarge, bits_of, BestFound, AtEnd}
+use Rattle.gap_list.specs.declared.{Best.Best, Choice.Choice, Ends.Ends}
+use Rattle.gap_list.specs.Gaps.{Gap, fit_from, fit_in, LiesIn}
+use Rattle.gap_list.specs.Columns.{gap_of, held, Fitted}
+use Rattle.gap_list.specs.InnerSearch.{Passed, PassedTo, NextLarge, cut_up, cut_down, bits_of, BestFound, AtEnd}
 use Rattle.gap_list.proofs.FitLaws.{fit-exact}
-use Rattle.gap_list.proofs.ColumnLaws.{at_lies}
+use Rattle.gap_list.proofs.ColumnLaws.{no_ends, at_lies}
 use Rattle.gap_list.proofs.EndLaws.{mask_up, mask-down, gap-worse, gap-open, gap-found, gap-better}
 
-module _ (starts lasts : List ℕ) (n : ℕ) where
-  held_next : (i : ℕ) → n ≤ length starts → n ≤ length lasts → i < n
-      → held_from starts lasts n i ≡ record { from = get_or starts i 0; to = get_or lasts i 0 + 1 } ∷ held_from starts lasts n (i + 1)
-  held_next i h k lt =
-      ap₂ held (drop_at (take n starts) i 0 (omega (arith, length-take-le n starts h))) (drop_at (take n lasts) i 0 (omega (arith, length-take-le n lasts k)))
-      ∙ ap₂ (λ (a b : ℕ). record { from = a; to = b + 1 } ∷ held_from starts lasts n (i + 1)) (get_or-take n starts i 0 lt) (get_or-take n lasts i 0 lt)
-
-  held-end : (i : ℕ) → n ≤ i → held_from starts lasts n i ≡ []
-  held-end i h = ap (λ (ss : List ℕ). held ss (drop i (take n lasts))) (drop-end (take n starts) i (omega (arith, take_short n starts)))
+module _ (es : List Ends) where
+  held_next : (i : ℕ) → i < length es → held (drop i es) ≡ gap_of (get_or es i no_ends) ∷ held (drop (i + 1) es)
+  held_next i h = ap held (drop_at es i no_ends h)
 
   -- Gaps that have nothing of a size are passed over.
 
-  pub large-none : (mask from : ℕ) → from ≤ n → NextLarge starts lasts n mask from from
-  large-none mask from h = record { later = omega arith; within = h; rest = λ l best e. refl }
+  pub passed-none : (mask from : ℕ) → PassedTo es mask from from
+  passed-none mask from = record { later = omega arith; rest = λ l best e. refl }
 
-  pub large-next : (mask from i j : ℕ) → n ≤ length starts → n ≤ length lasts → i < n → j ≡ i + 1 → Passed (get_or starts i 0) (get_or lasts i 0) mask → NextLarge starts lasts n mask from i → NextLarge starts lasts n mask from j
-  large-next mask from i j h k lt is passed next = record {
+  pub passed-next : (mask from i j : ℕ) → i < length es → j ≡ i + 1 → Passed (get_or es i no_ends).first (get_or es i no_ends).last mask → PassedTo es mask from i → PassedTo es mask from j
+  passed-next mask from i j h is passed next = record {
     later = omega (arith, next.later);
-    within = omega arith;
     rest = λ l best e.
-        next.rest l best e ∙ ap (fit_from l best) (held_next i h k lt)
-        ∙ ap (λ (o : Option Prefix). fit_from l o (held_from starts lasts n (i + 1))) (passed l best e)
-        ∙ ap (λ (x : ℕ). fit_from l best (held_from starts lasts n x)) (sym is);
+        next.rest l best e ∙ ap (fit_from l best) (held_next i h)
+        ∙ ap (λ (o : Option Prefix). fit_from l o (held (drop (i + 1) es))) (passed l best e)
+        ∙ ap (λ (x : ℕ). fit_from l best (held (drop x es))) (sym is);
   }
 
--- The best prefix so far, as the code has it: of size 2^32 it is none.
-pub record Stands (best : Best) (l : ℕ) (so_far : Option Prefix) : Type 0 where
-  pub sized : best.size ≡ size (length_of so_far)
-  pub short : length_of so_far ≤ l
-  pub network : OfSome (λ v. (v.network ≡ best.network) × (0 < v.length)) so_far
+-- The best so far, as the code has it, beside a prefix.
+abbrev pub Chosen : List Gap → ℕ → Optional Choice → Option Prefix → Type 0
+Chosen gs l None none = ⊤
+Chosen gs l None (some v) = ⊥
+Chosen gs l (Some c) none = ⊥
+Chosen gs l (Some c) (some v) = (v.network ≡ c.network) × LiesIn (prefix c.network l) c.index gs
 
--- What the search has come to before gap i: the best fit in the rest is the best fit in all, and the best so far lies in the gap at `index`.
-pub record Searching (starts lasts : List ℕ) (n l : ℕ) (best : Best) (index i : ℕ) : Type 0 where
-  pub within : i ≤ n
+-- What the search has come to before gap i: the best fit in the rest is the best fit in all. With none so far its size is that of all addresses.
+pub record Searching (es : List Ends) (l : ℕ) (best : Optional Choice) (most i : ℕ) : Type 0 where
+  pub within : i ≤ length es
   pub so_far : Option Prefix
-  pub stands : Stands best l so_far
-  pub rest : fit_in l (held_in starts lasts n) ≡ fit_from l so_far (held_from starts lasts n i)
-  pub place : (so_far ≡ none) ⊎ LiesIn (prefix best.network l) index (held_in starts lasts n)
-  pub small : best.network < 4294967296
+  pub sized : most ≡ size (length_of so_far)
+  pub short : length_of so_far ≤ l
+  pub rest : fit_in l (held es) ≡ fit_from l so_far (held (drop i es))
+  pub chosen : Chosen (held es) l best so_far
 
-pub search-start : (starts lasts : List ℕ) (n l s i : ℕ) → s ≡ size l → NextLarge starts lasts n (s - 1) 0 i → Searching starts lasts n l (record { network = 0; size = 4294967296 }) 0 i
-search-start starts lasts n l s i e first = record {
-  within = first.within;
-  so_far = none;
-  stands = record { sized = refl; short = omega arith; network = tt };
-  rest = first.rest l none (omega (arith, e, size-positive l));
-  place = inl refl;
-  small = omega arith;
-}
-
--- An answer, of a best that is there and of one that is not.
-
-size_less : (k : ℕ) → 0 < k → size k ≡ 4294967296 → ⊥
-size_less k h e = omega (arith, e, pow-lt {i = 32 - k} {j = 32} (omega arith))
-
-found-is : (best : Best) (l : ℕ) (o : Option Prefix) → Stands best l o → cond (not (eqb best.size 4294967296)) (some (prefix best.network l)) none ≡ lowest_part l o
-found-is best l none s = rw (eq-eqb best.size 4294967296 s.sized)
-found-is best l (some v) s =
-    let more : best.size ≡ 4294967296 → ⊥ = λ e. size_less v.length s.network.1 (sym s.sized ∙ e) in
-    rw (ne_eqb best.size 4294967296 more) (ap (λ (n : ℕ). some (prefix n l)) (sym s.network.0))
-
-found-not : (best : Best) (l : ℕ) (o : Option Prefix) → Stands best l o → not (eqb best.size 4294967296) ≡ true → o ≡ none → ⊥
-found-not best l o s e z =
-    let full : best.size ≡ 4294967296 = s.sized ∙ ap (λ (p : Option Prefix). size (length_of p)) z in
-    true≢false (sym e ∙ ap not (eq-eqb best.size 4294967296 full))
+pub search-start : (es : List Ends) (l : ℕ) → Searching es l None 4294967296 0
+search-start es l = record { within = omega arith; so_far = none; sized = refl; short = omega arith; rest = refl; chosen = tt }
 
 -- Lengths up to 32 of one size are one.
 same_length : (a b : ℕ) → a ≤ b → b ≤ 32 → size a ≡ size b → a ≡ b
 same_length a b h k e = omega (arith, pow-le (32 - a) (32 - b) (omega (arith, e)))
 
--- An address cut to a multiple of a size, upwards and downwards.
-abbrev cut_up : ℕ → ℕ → ℕ
-cut_up s x = x + (s - 1) - bit_and (x + (s - 1)) (s - 1)
+-- An answer.
+answered : (gs : List Gap) (l : ℕ) (best : Optional Choice) (o : Option Prefix) → Chosen gs l best o → lowest_part l (fit_in l gs) ≡ lowest_part l o → Fitted gs l best
+answered gs l None none k e = record { best = λ short. sym e; place = tt }
+answered gs l None (some v) k e = absurd k
+answered gs l (Some c) none k e = absurd k
+answered gs l (Some c) (some v) k e = record { best = λ short. ap (λ (n : ℕ). some (prefix n l)) (sym k.0) ∙ sym e; place = k.1 }
 
-abbrev cut_down : ℕ → ℕ → ℕ
-cut_down s x = x - bit_and x (s - 1)
+module _ (es : List Ends) (l s : ℕ) (best : Optional Choice) (most from : ℕ) (searching : Searching es l best most from) (sized : s ≡ size l) where
+  pub most-pos : 0 < most
+  most-pos = omega (arith, searching.sized, size-positive (length_of searching.so_far))
 
-module _ (starts lasts : List ℕ) (n l s : ℕ) (best : Best) (index i : ℕ) (searching : Searching starts lasts n l best index i) where
-  pub search-end : n ≤ i → Fitted (held_in starts lasts n) l (record { found = not (eqb best.size 4294967296); index = index; network = best.network })
-  search-end h = record {
-    best = λ short.
-        found-is best l searching.so_far searching.stands
-        ∙ ap (lowest_part l) (sym (searching.rest ∙ ap (fit_from l searching.so_far) (held-end starts lasts n i h)));
-    place = λ e. ⊎_elim (λ z. absurd (found-not best l searching.so_far searching.stands e z)) (λ k. k) searching.place;
-  }
+  passed-all : (i : ℕ) → PassedTo es (s - 1) from i → fit_in l (held es) ≡ fit_from l searching.so_far (held (drop i es))
+  passed-all i next = searching.rest ∙ next.rest l searching.so_far (omega (arith, sized, size-positive l))
 
-  -- What follows is passed over.
-  pub search-skip : (r : ℕ) → s ≡ size l → NextLarge starts lasts n (s - 1) i r → Searching starts lasts n l best index r
-  search-skip r e next = record {
-    within = next.within;
-    so_far = searching.so_far;
-    stands = searching.stands;
-    rest = searching.rest ∙ next.rest l searching.so_far (omega (arith, e, size-positive l));
-    place = searching.place;
-    small = searching.small;
-  }
-
-  pub size-pos : 0 < best.size
-  size-pos = omega (arith, searching.stands.sized, size-positive (length_of searching.so_far))
+  -- Nothing is left that could be better.
+  pub search-end : NextLarge es (s - 1) from None → Fitted (held es) l best
+  search-end next =
+      answered (held es) l best searching.so_far searching.chosen
+      (ap (lowest_part l) (passed-all (length es) next ∙ ap (λ (xs : List Ends). fit_from l searching.so_far (held xs)) (drop-end es (length es) (omega arith))))
 
   -- The gap at i, its ends cut to multiples of the size as the code does it, and their bits.
-  module _ (h : n ≤ length starts) (k : n ≤ length lasts) (lt : i < n) (sized : s ≡ size l) (bits : ℕ) (bits_are : bits ≡ bits_of (cut_up s (get_or starts i 0)) (cut_down s (get_or lasts i 0 + 1))) where
-    abbrev low : ℕ
-    low = cut_up s (get_or starts i 0)
+  module _ (i : ℕ) (large : NextLarge es (s - 1) from (Some i)) (low high bits : ℕ) (low_is : low ≡ cut_up (s - 1) (get_or es i no_ends).first) (high_is : high ≡ cut_down (s - 1) ((get_or es i no_ends).last + 1)) (bits_are : bits ≡ bits_of low high) where
+    abbrev first : ℕ
+    first = (get_or es i no_ends).first
 
-    abbrev high : ℕ
-    high = cut_down s (get_or lasts i 0 + 1)
+    abbrev last : ℕ
+    last = (get_or es i no_ends).last
 
-    at_low : low ≡ round_up l (get_or starts i 0)
-    at_low = mask_up l s sized (get_or starts i 0)
+    at_low : low ≡ round_up l first
+    at_low = low_is ∙ mask_up l s sized first
 
-    at_high : high ≡ round_down l (get_or lasts i 0 + 1)
-    at_high = mask-down l s sized (get_or lasts i 0 + 1)
+    at_high : high ≡ round_down l (last + 1)
+    at_high = high_is ∙ mask-down l s sized (last + 1)
 
-    told : bit_and bits (best.size - 1) ≡ bit_and (bits_of low high) (best.size - 1)
-    told = ap (λ (x : ℕ). bit_and x (best.size - 1)) bits_are
+    told : bit_and bits (most - 1) ≡ bit_and (bits_of low high) (most - 1)
+    told = ap (λ (x : ℕ). bit_and x (most - 1)) bits_are
 
-    next : fit_in l (held_in starts lasts n) ≡ fit_from l (in_gap l searching.so_far (get_or starts i 0) (get_or lasts i 0 + 1)) (held_from starts lasts n (i + 1))
-    next = searching.rest ∙ ap (fit_from l searching.so_far) (held_next starts lasts n i h k lt)
+    next : fit_in l (held es) ≡ fit_from l (in_gap l searching.so_far first (last + 1)) (held (drop (i + 1) es))
+    next = passed-all i large.1 ∙ ap (fit_from l searching.so_far) (held_next es i large.0)
 
     -- The gap has nothing better.
-    pub search-keep : bit_and bits (best.size - 1) ≡ 0 → Searching starts lasts n l best index (i + 1)
+    pub search-keep : bit_and bits (most - 1) ≡ 0 → Searching es l best most (i + 1)
     search-keep z = record {
-      within = omega arith;
+      within = omega (arith, large.0);
       so_far = searching.so_far;
-      stands = searching.stands;
+      sized = searching.sized;
+      short = searching.short;
       rest =
           next
-          ∙ ap (λ (o : Option Prefix). fit_from l o (held_from starts lasts n (i + 1)))
-          (gap-worse l s (get_or starts i 0) (get_or lasts i 0) low high searching.so_far sized at_low at_high best.size searching.stands.sized (sym told ∙ z));
-      place = searching.place;
-      small = searching.small;
+          ∙ ap (λ (o : Option Prefix). fit_from l o (held (drop (i + 1) es)))
+          (gap-worse l s first last low high searching.so_far sized at_low at_high most searching.sized (sym told ∙ z));
+      chosen = searching.chosen;
     }
 
-    module _ (some_bits : bit_and bits (best.size - 1) ≡ 0 → ⊥) where
-      some-bit : bit_and (bits_of low high) (best.size - 1) ≡ 0 → ⊥
+    module _ (some_bits : bit_and bits (most - 1) ≡ 0 → ⊥) where
+      some-bit : bit_and (bits_of low high) (most - 1) ≡ 0 → ⊥
       some-bit z = some_bits (told ∙ z)
 
       pub search-open : low < high
-      search-open = gap-open l s (get_or starts i 0) (get_or lasts i 0) low high searching.so_far sized at_low at_high best.size searching.stands.sized some-bit
+      search-open = gap-open l s first last low high searching.so_far sized at_low at_high most searching.sized some-bit
 
-      module _ (long : l ≤ 32) (bound : get_or lasts i 0 < 4294967296) (r : Best) (at : AtEnd low high r) where
+      module _ (long : l ≤ 32) (bound : high ≤ 4294967296) (r : Best) (at : AtEnd low high r) where
         found : BestFound low high (length_of searching.so_far) l searching.so_far r
-        found = gap-found l s (get_or starts i 0) (get_or lasts i 0) low high searching.so_far sized at_low at_high best.size searching.stands.sized some-bit long r at
+        found = gap-found l s first last low high searching.so_far sized at_low at_high most searching.sized some-bit long r at
 
-        better : in_gap l searching.so_far (get_or starts i 0) (get_or lasts i 0 + 1) ≡ some (prefix r.network found.length)
-        better = gap-better l s (get_or starts i 0) (get_or lasts i 0) low high searching.so_far sized at_low at_high best.size searching.stands.sized some-bit r found
+        better : in_gap l searching.so_far first (last + 1) ≡ some (prefix r.network found.length)
+        better = gap-better l s first last low high searching.so_far sized at_low at_high most searching.sized some-bit r found
 
-        inside : (get_or starts i 0 ≤ r.network) × (r.network + size l ≤ get_or lasts i 0 + 1)
-        inside = (
-          omega (arith, found.inside.0, at_low, up-ge l (get_or starts i 0)),
-          omega (arith, found.inside.1, at_high, down_le l (get_or lasts i 0 + 1)),
-        )
+        inside : (first ≤ r.network) × (r.network + size l ≤ last + 1)
+        inside = (omega (arith, found.inside.0, at_low, up-ge l first), omega (arith, found.inside.1, at_high, down_le l (last + 1)))
 
         pub search-small : r.network < 4294967296
-        search-small = omega (arith, inside.1, size-positive l)
+        search-small = omega (arith, found.inside.1, size-positive l)
 
-        lies : LiesIn (prefix r.network l) i (held_in starts lasts n)
-        lies =
-            at_lies (prefix r.network l) i (take n starts) (take n lasts)
-            (omega (arith, length-take-le n starts h)) (omega (arith, length-take-le n lasts k))
-            (rw (get_or-take n starts i 0 lt) inside.0) (rw (get_or-take n lasts i 0 lt) inside.1)
+        lies : LiesIn (prefix r.network l) i (held es)
+        lies = at_lies (prefix r.network l) i es large.0 inside.0 inside.1
 
-        rest-better : fit_in l (held_in starts lasts n) ≡ fit_from l (some (prefix r.network found.length)) (held_from starts lasts n (i + 1))
-        rest-better = next ∙ ap (λ (o : Option Prefix). fit_from l o (held_from starts lasts n (i + 1))) better
+        rest-better : fit_in l (held es) ≡ fit_from l (some (prefix r.network found.length)) (held (drop (i + 1) es))
+        rest-better = next ∙ ap (λ (o : Option Prefix). fit_from l o (held (drop (i + 1) es))) better
 
         -- It has something better.
-        pub search-better : Searching starts lasts n l r i (i + 1)
+        pub search-better : Searching es l (Some (record { index = i; network = r.network })) r.size (i + 1)
         search-better = record {
-          within = omega arith;
+          within = omega (arith, large.0);
           so_far = some (prefix r.network found.length);
-          stands = record { sized = found.sized; short = found.short; network = (refl, omega (arith, found.better)) };
+          sized = found.sized;
+          short = found.short;
           rest = rest-better;
-          place = inr lies;
-          small = search-small;
+          chosen = (refl, lies);
         }
 
         -- An exact fit.
-        pub search-exact : r.size ≡ s → Fitted (held_in starts lasts n) l (record { found = true; index = i; network = r.network })
+        pub search-exact : r.size ≡ s → Fitted (held es) l (Some (record { index = i; network = r.network }))
         search-exact e =
             let exact : found.length ≡ l = same_length found.length l found.short long (sym found.sized ∙ e ∙ sized) in
-            record {
-              best = λ short. ap (lowest_part l) (sym (rest-better ∙ fit-exact l (some (prefix r.network found.length)) (held_from starts lasts n (i + 1)) exact));
-              place = λ t. lies;
-            }
+            answered (held es) l (Some (record { index = i; network = r.network })) (some (prefix r.network found.length)) (refl, lies)
+            (ap (lowest_part l) (rest-better ∙ fit-exact l (some (prefix r.network found.length)) (held (drop (i + 1) es)) exact))

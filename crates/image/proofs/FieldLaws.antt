@@ -7,9 +7,11 @@ use mathlib.Core.List.{List, [], ◌∷◌, ◌++◌, append_assoc}
 use mathlib.Core.Option.{Option, none, some}
 use native.Mathlib.Omega.{arith}
 use lib.ListN.{length, take, drop, get_or, take-append-drop}
-use lib.Seq.{get_or-drop}
+use lib.Seq.{get_or-drop, get_or-take}
 use lib.Dec.{eqb}
 use borrow.Author.Tests.{eqb-true, eq-eqb}
+use mir.Syntax.{w32}
+use Rattle.std.specs.Int.{from_le_bytes, to_le_bytes}
 use Rattle.lists.specs.Lists.{All, and, concat_map}
 use Rattle.lists.proofs.Tests.{bool-ext, and-list-to, and-list-of}
 use Rattle.lists.proofs.DropLaws.{drop_at}
@@ -66,6 +68,18 @@ module _ (s : List ℕ) (bytes : Bytes s) (at : ℕ) where
   pub le32-number : le32 (number32 s at) ≡ get_or s at 0 ∷ get_or s (at + 1) 0 ∷ get_or s (at + 2) 0 ∷ get_or s (at + 3) 0 ∷ []
   unfolding number32
   le32-number = four (get_or s at 0) (get_or s (at + 1) 0) (get_or s (at + 2) 0) (get_or s (at + 3) 0) (bytes at) (bytes (at + 1)) (bytes (at + 2))
+
+-- The library's conversions say the same.
+pub le-number32 : (bs s : List ℕ) (at : ℕ) → bs ≡ take 4 (drop at s) → from_le_bytes w32 bs ≡ number32 s at
+unfolding number32
+le-number32 bs s at e =
+    let byte : (i : ℕ) → i < 4 → get_or bs i 0 ≡ get_or s (at + i) 0 = λ i h. ap (λ (l : List ℕ). get_or l i 0) e ∙ get_or-take 4 (drop at s) i 0 h ∙ get_or-drop at s i 0 in
+    let first : get_or s (at + 0) 0 ≡ get_or s at 0 = ap (λ (i : ℕ). get_or s i 0) (omega arith) in
+    omega (arith, byte 0 (omega arith), first, byte 1 (omega arith), byte 2 (omega arith), byte 3 (omega arith))
+
+pub le-le32 : (n : ℕ) → n < 4294967296 → to_le_bytes w32 n ≡ le32 n
+unfolding le32
+le-le32 n h = let last : n / 16777216 % 256 ≡ n / 16777216 = omega arith in rw last refl
 
 -- A byte and a number at a place, and from there on.
 module _ (s : List ℕ) (at : ℕ) where

@@ -6,7 +6,7 @@ use mathlib.Core.Bool.{Bool, true, false, not, true≢false}
 use mathlib.Core.List.{List, [], ◌∷◌, ◌++◌, append_assoc}
 use mathlib.Core.Option.{Option, none, some}
 use native.Mathlib.Omega.{arith}
-use lib.ListN.{length, take, drop, replicate, length-drop, take-append-drop}
+use lib.ListN.{length, take, drop, length-drop, take-append-drop}
 use lib.Seq.{length-take-le}
 use lib.Dec.{eqb}
 use borrow.Author.Tests.{ne_eqb}
@@ -26,7 +26,7 @@ use Rattle.image.specs.declared.Form.{Form}
 use Rattle.image.specs.declared.Form.TheVariants.{First, Second}
 use Rattle.image.specs.Image.{pool_size, lease_size_in, head_record_in, pool_record, lease_record_in, used_pools, used_leases, head_of, image_as, fits_form}
 use Rattle.image.specs.Fields.{Run, before, records}
-use Rattle.image.specs.Reading.{form_of, pool_at, pools_at, lease_at_in, leases_within, table_for, whole_for, after_head_for, load_for, load_saved_for}
+use Rattle.image.specs.Reading.{pool_at, pools_at, lease_at_in, leases_within, table_for, whole_for, after_head_for, load_for, load_saved_for}
 use Rattle.image.proofs.FieldLaws.{records-some, records-concat_map}
 use Rattle.image.proofs.ImageLaws.{name_fits, head-reads, head-skips, pool-reads, pool-skips, lease-reads-in, lease-skips, no-pool, fits-used, used-leases, used_all, load-image-for, length-concat_map, length-lease-in}
 use Rattle.image.proofs.FormLaws.{form-of-image}

@@ -1,6 +1,6 @@
 -- The image of a lease table (document 01: the saved book) in its two forms: what save writes and what load reads. The calls work on the second form
 -- (document 02, M-105); the first has no names, and is loaded and saved only.
-use Rattle.std.specs.Prelude.{ℕ, ◌+◌, ◌-◌, ◌*◌, ◌/◌, ◌%◌, Bool, true, not, cond, List, [], ◌∷◌, ◌++◌, length, eqb}
+use Rattle.std.specs.Prelude.{ℕ, ◌+◌, ◌-◌, ◌*◌, ◌/◌, ◌%◌, Bool, true, not, cond, List, [], ◌∷◌, ◌++◌, eqb}
 use Rattle.std.proofs.Math.Option.{Option, none, some}
 use Rattle.lists.specs.Lists.{all?, filter, concat_map}
 use Rattle.names.specs.declared.Name.{Name}

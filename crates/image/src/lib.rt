@@ -65,6 +65,15 @@ pub enum Form {
     Second,
 }
 
+// The form with a number: 1 is the first, and every other number the second.
+impl From<u32> for Form {
+    ghost from_gives = { λ n form. form ≡ form_numbered n };
+
+    fn from(n: u32) -> Form {
+        if n == 1 { Form::First } else { Form::Second }
+    }
+}
+
 // The fields of a table's head.
 #[derive(Clone, Copy)]
 pub struct Head {
@@ -75,18 +84,12 @@ pub struct Head {
 
 // NUMBERS
 
-fn wide(x: u8) -> u32
-    ensures { (result ≡ x) × (result < 256) }
-{
-    x as u32
-}
-
-// The number that four bytes spell, low byte first.
+// The number that four bytes spell, low byte first: one load when compiled.
 pub fn read32(s: &[u8], at: usize) -> u32
     requires { at + 4 ≤ length s.now }
     ensures { result ≡ number32 s.now at }
 {
-    wide(s[at]) + 256 * wide(s[at + 1]) + 65536 * wide(s[at + 2]) + 16777216 * wide(s[at + 3])
+    u32::from_le_bytes(octets::chunk_at(s, at))
 }
 
 // WHAT THE FORMS DIFFER IN
@@ -124,17 +127,7 @@ pub fn lease_start(form: Form) -> u32
 pub fn head_begins(form: Form, s: &[u8]) -> bool
     ensures { result ≡ and (head_tests_in form s.now) }
 {
-    if s.len() < HEAD {
-        return false;
-    }
-    read32(s, 0) == head_start(form)
-}
-
-// The form with a number: 1 is the first, and every other number the second.
-pub fn form_numbered(n: u32) -> Form
-    ensures { result ≡ form_numbered n }
-{
-    if n == 1 { Form::First } else { Form::Second }
+    s.len() >= HEAD && read32(s, 0) == head_start(form)
 }
 
 // The form of saved bytes.
@@ -142,9 +135,10 @@ pub fn form_of(s: &[u8]) -> Form
     ensures { result ≡ form_of s.now }
 {
     if head_begins(Form::First, s) {
-        return Form::First;
+        Form::First
+    } else {
+        Form::Second
     }
-    Form::Second
 }
 
 pub fn head_in(s: &[u8]) -> Head

@@ -25,8 +25,9 @@ use Rattle.image.specs.Image.{lease_size_in, lease_kind}
 use Rattle.image.specs.Reading.{lease_fields_in, lease_tests_in, lease_at_in, name_test, client_in, expires_in, flags_byte_in, length_in, network_in, state_byte_in}
 use Rattle.image.proofs.FieldLaws.{Bytes, start-of}
 use Rattle.image.proofs.ImageLaws.{some_same}
+use Rattle.std.specs.Prelude.{Some, None}
 use Rattle.image_check.specs.declared.Fit.{Fit}
-use Rattle.image_check.specs.Inner.{lease_start, prefix_in, state_and_flags?, fit_tests, fit_at}
+use Rattle.image_check.specs.Inner.{lease_start, prefix_in, state_and_flags?, fit_tests, fit_of, fit_at}
 
 -- The bits of one more than the state, which is the second byte of a word, and of the flags, its third.
 half-next : (word : ℕ) → (word + 256) / 512 % 128 ≡ (word / 256 + 1) % 256 / 2
@@ -107,14 +108,11 @@ pub record Fits (form : Form) (last : ℕ) (s : List ℕ) : Type 0 where
   pub named : name_test form s ≡ true
 
 -- The fields that were read of a record that fits.
-pub record Met (form : Form) (last : ℕ) (s : List ℕ) (network to expires : ℕ) : Type 0 where
+pub record Met (form : Form) (last : ℕ) (s : List ℕ) (found : Fit) : Type 0 where
   pub fits : Fits form last s
-  pub starts : network ≡ network_in s
-  pub ends : to ≡ end (prefix_in s)
-  pub until : expires ≡ expires_in s
-
-abbrev lease : List ℕ → Fit
-lease s = Fit.Lease (network_in s) (end (prefix_in s)) (expires_in s)
+  pub starts : found.network ≡ network_in s
+  pub ends : found.end ≡ end (prefix_in s)
+  pub until : found.expires ≡ expires_in s
 
 module _ (form : Form) (last : ℕ) (s : List ℕ) where
   pub fits-to : and (fit_tests form last s) ≡ true → Fits form last s
@@ -148,13 +146,13 @@ module _ (form : Form) (last : ℕ) (s : List ℕ) where
         f.named,
       )
 
-  pub fit-other : (Fits form last s → ⊥) → Fit.Other ≡ fit_at form last s
+  pub fit-other : (Fits form last s → ⊥) → None ≡ fit_at form last s
   unfolding fit_at
-  fit-other h = sym (cond-false (and (fit_tests form last s)) (lease s) Fit.Other (not-true⇒false (and (fit_tests form last s)) (λ e. h (fits-to e))))
+  fit-other h = sym (cond-false (and (fit_tests form last s)) (Some (fit_of s)) None (not-true⇒false (and (fit_tests form last s)) (λ e. h (fits-to e))))
 
-  pub fit-lease : Fits form last s → lease s ≡ fit_at form last s
+  pub fit-lease : Fits form last s → Some (fit_of s) ≡ fit_at form last s
   unfolding fit_at
-  fit-lease f = sym (cond-true (and (fit_tests form last s)) (lease s) Fit.Other (fits-of f))
+  fit-lease f = sym (cond-true (and (fit_tests form last s)) (Some (fit_of s)) None (fits-of f))
 
   -- State and flags of one that fits.
   pub fits-bytes : Fits form last s → (word : ℕ) → word / 256 % 256 ≡ state_byte_in s → word / 65536 % 256 ≡ flags_byte_in s → state_and_flags? word ≡ true
@@ -165,11 +163,11 @@ module _ (form : Form) (last : ℕ) (s : List ℕ) where
       )
 
   -- What an answer tells.
-  pub other-unfit : fit_at form last s ≡ Fit.Other → Fits form last s → ⊥
-  other-unfit e f = let b = fit-lease f in let z : ◌≡◌ {A = ℕ} 0 1 = cc in omega arith
+  pub other-unfit : fit_at form last s ≡ None → Fits form last s → ⊥
+  other-unfit e f = let b = fit-lease f in cc
 
-  pub lease-met : (network to expires : ℕ) → fit_at form last s ≡ Fit.Lease network to expires → Met form last s network to expires
-  lease-met network to expires e =
+  pub lease-met : (found : Fit) → fit_at form last s ≡ Some found → Met form last s found
+  lease-met found e =
       ⊎_elim
       (λ (b : and (fit_tests form last s) ≡ true).
       let f = fits-to b in
@@ -177,8 +175,7 @@ module _ (form : Form) (last : ℕ) (s : List ℕ) where
       record { fits = f; starts = cc; ends = cc; until = cc })
       (λ (b : and (fit_tests form last s) ≡ false).
       let g = fit-other (λ f. true≢false (sym (fits-of f) ∙ b)) in
-      let z : ◌≡◌ {A = ℕ} 0 1 = cc in
-      absurd (omega arith))
+      absurd (cc))
       (bool_cases (and (fit_tests form last s)))
 
   -- A record that fits is read.

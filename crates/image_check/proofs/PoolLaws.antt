@@ -3,7 +3,7 @@
 use Prim.Native.Nat.{ℕ, suc, ◌+◌, ◌-◌, ◌*◌, ◌≤◌, ◌<◌}
 use mathlib.Core.Path.{◌≡◌, refl, sym, ap, subst, ◌∙◌}
 use mathlib.Core.Logic.{⊎_elim}
-use mathlib.Core.Bool.{Bool, true, false, ◌&&◌, cond, true≢false}
+use mathlib.Core.Bool.{Bool, true, false, ◌&&◌, true≢false}
 use mathlib.Core.List.{List, [], ◌∷◌}
 use mathlib.Core.Option.{none, some}
 use native.Mathlib.Omega.{arith}
@@ -11,10 +11,11 @@ use lib.ListN.{length, drop, length-drop}
 use lib.Seq.{drop-drop}
 use lib.Dec.{leb, eqb}
 use borrow.Author.Tests.{le-leb, leb-true, eqb-true, eq-eqb, not-true}
+use Rattle.std.specs.Prelude.{Some, None}
+use Rattle.std.specs.Bool.{then_some}
 use Rattle.lists.specs.Lists.{and}
-use Rattle.lists.proofs.Tests.{bool_cases, and-to, cond-true, cond-false, not-of, not-true⇒false, and-list-to, and-list-of}
+use Rattle.lists.proofs.Tests.{bool_cases, and-to, and-of, cond-true, cond-false, not-of, not-true⇒false, and-list-to, and-list-of}
 use Rattle.prefix.specs.Prefixes.{end}
-use Rattle.prefix.proofs.PrefixLaws.{size-positive}
 use Rattle.table.specs.declared.Pool.{Pool}
 use Rattle.table.specs.Table.{pool_slots, pool_prefix, unused?, pool_ok, ascends?, pools_ascend?}
 use Rattle.table.proofs.TableLaws.{pool_ok-to, long-not-unused}
@@ -26,21 +27,23 @@ use Rattle.image_check.specs.Inner.{pool_end, pool_count, pool_start, pool_begin
 use Rattle.image_check.proofs.RunLaws.{pool-known}
 
 -- What the end of a pool tells.
-module _ (p : Pool) where
-  pub end_none : pool_ok p ≡ false → 0 ≡ pool_end p
-  end_none e = sym (cond-false (pool_ok p) (end (pool_prefix p)) 0 e)
+module _ (p : Pool) (from : ℕ) where
+  pub end-none : pool_end p from ≡ None → from ≤ p.network → pool_ok p ≡ true → ⊥
+  end-none e l o =
+      let there = cond-true (leb from p.network && pool_ok p) (Some (end (pool_prefix p))) None (and-of (leb from p.network) (pool_ok p) (le-leb from p.network l) o) in
+      cc
 
-  pub end-some : pool_ok p ≡ true → end (pool_prefix p) ≡ pool_end p
-  end-some e = sym (cond-true (pool_ok p) (end (pool_prefix p)) 0 e)
-
-  pub end-bad : 0 ≡ pool_end p → pool_ok p ≡ true → ⊥
-  end-bad z e = omega (arith, z, end-some e, size-positive p.length)
-
-  end-good : (to : ℕ) → to ≡ pool_end p → (to ≡ 0 → ⊥) → (pool_ok p ≡ true) × (to ≡ end (pool_prefix p))
-  end-good to e h =
-      ⊎_elim (λ (b : pool_ok p ≡ true). (b, e ∙ cond-true (pool_ok p) (end (pool_prefix p)) 0 b))
-      (λ (b : pool_ok p ≡ false). absurd (h (e ∙ cond-false (pool_ok p) (end (pool_prefix p)) 0 b)))
-      (bool_cases (pool_ok p))
+  end-some : (to : ℕ) → pool_end p from ≡ Some to → (from ≤ p.network) × (pool_ok p ≡ true) × (to ≡ end (pool_prefix p))
+  end-some to e =
+      ⊎_elim
+      (λ (b : leb from p.network && pool_ok p ≡ true).
+      let t = and-to (leb from p.network) (pool_ok p) b in
+      let there = cond-true (leb from p.network && pool_ok p) (Some (end (pool_prefix p))) None b in
+      (leb-true from p.network t.0, t.1, cc))
+      (λ (b : leb from p.network && pool_ok p ≡ false).
+      let there = cond-false (leb from p.network && pool_ok p) (Some (end (pool_prefix p))) None b in
+      absurd (cc))
+      (bool_cases (leb from p.network && pool_ok p))
 
 pub begins-long : (s : List ℕ) → pool_begins? s ≡ true → pool_size ≤ length s
 begins-long s e = leb-true pool_size (length s) (and-list-to (leb pool_size (length s) ∷ eqb (number32 s 0) pool_start ∷ []) e).0
@@ -73,10 +76,11 @@ module _ (s : List ℕ) (bytes : Bytes s) where
       (and-list-of (pool_tests s) (t.0, (eq-eqb (number16 s 0) (pool_size - 2) start.0, (eq-eqb (number16 s 2) 2 start.1, (not-of (unused? (pool_in s)) u, tt)))))
 
 -- Pools that are counted are as a sound table has them.
-pub counted-pools : (ps : List Pool) (n : ℕ) → n ≡ pool_count ps → (n ≡ 0 → ⊥) → (pools_ascend? ps ≡ true) × (n ≡ length ps)
-counted-pools ps n e h =
-    ⊎_elim (λ (b : pools_ascend? ps ≡ true). (b, e ∙ cond-true (pools_ascend? ps) (length ps) 0 b))
-    (λ (b : pools_ascend? ps ≡ false). absurd (h (e ∙ cond-false (pools_ascend? ps) (length ps) 0 b)))
+pub counted-pools : (ps : List Pool) (n : ℕ) → pool_count ps ≡ Some n → (pools_ascend? ps ≡ true) × (n ≡ length ps)
+counted-pools ps n e =
+    ⊎_elim
+    (λ (b : pools_ascend? ps ≡ true). let there = cond-true (pools_ascend? ps) (Some (length ps)) None b in (b, cc))
+    (λ (b : pools_ascend? ps ≡ false). let there = cond-false (pools_ascend? ps) (Some (length ps)) None b in absurd (cc))
     (bool_cases (pools_ascend? ps))
 
 abbrev pools_from : ℕ → List ℕ → Run Pool
@@ -101,16 +105,17 @@ module _ (s : List ℕ) where
     here = drop (pool_size * n) s
 
     -- Nothing is left.
-    over : (pools_from (pool_slots - n) here).items ≡ [] → n ≡ pool_count (pools_at s).items
+    over : (pools_from (pool_slots - n) here).items ≡ [] → Some n ≡ pool_count (pools_at s).items
     unfolding ascends?
     over e =
         let ps : List Pool = (pools_at s).items in
-        sym (cond-true (pools_ascend? ps) (length ps) 0 (r.ascends ∙ ap (ascend? from) e) ∙ r.counted ∙ omega (arith, ap length e))
+        let many : length ps ≡ n = omega (arith, r.counted, ap length e) in
+        sym (cond-true (pools_ascend? ps) (Some (length ps)) None (r.ascends ∙ ap (ascend? from) e) ∙ ap Some many)
 
-    pub pools-stop : pool_at here ≡ none → n ≡ pool_count (pools_at s).items
+    pub pools-stop : pool_at here ≡ none → Some n ≡ pool_count (pools_at s).items
     pools-stop e = over (ap (λ (v : Run Pool). v.items) (records-none pool_at pool_size (pool_slots - n) here e))
 
-    pub pools-full : pool_slots ≤ n → n ≡ pool_count (pools_at s).items
+    pub pools-full : pool_slots ≤ n → Some n ≡ pool_count (pools_at s).items
     unfolding records
     pools-full h = let z : pool_slots - n ≡ 0 = omega arith in over (ap (λ (k : ℕ). (pools_from k here).items) z)
 
@@ -132,10 +137,10 @@ module _ (s : List ℕ) where
       unfolding ascends?
       first = r.ascends ∙ ap (ascend? from) items ∙ cond-false (unused? p) _ _ (pool-known here p e).2
 
-      pub pools-bad : (from ≤ p.network → pool_ok p ≡ true → ⊥) → 0 ≡ pool_count (pools_at s).items
+      pub pools-bad : (from ≤ p.network → pool_ok p ≡ true → ⊥) → None ≡ pool_count (pools_at s).items
       pools-bad bad =
           let ps : List Pool = (pools_at s).items in
-          sym (cond-false (pools_ascend? ps) (length ps) 0 (not-true⇒false (pools_ascend? ps) (λ t.
+          sym (cond-false (pools_ascend? ps) (Some (length ps)) None (not-true⇒false (pools_ascend? ps) (λ t.
           let a = and-to (leb from p.network) (pool_ok p && ascend? (end (pool_prefix p)) later) (sym first ∙ t) in
           bad (leb-true from p.network a.0) (and-to (pool_ok p) (ascend? (end (pool_prefix p)) later) a.1).0)))
 
@@ -158,15 +163,15 @@ module _ (s : List ℕ) (bytes : Bytes s) (from n : ℕ) (r : PoolsRead s from n
   used-pool u = begins-pool (drop (pool_size * n) s) (bytes_drop (pool_size * n) s bytes) begins (ap unused? (sym same) ∙ u) ∙ ap some (sym same)
 
   -- It is not as a sound table has it.
-  pub pools-stopped : (from ≤ p.network → pool_ok p ≡ true → ⊥) → cond (unused? p) n 0 ≡ pool_count (pools_at s).items
+  pub pools-stopped : pool_end p from ≡ None → then_some (unused? p) n ≡ pool_count (pools_at s).items
   pools-stopped bad =
       ⊎_elim
-      (λ (u : unused? p ≡ true). cond-true (unused? p) n 0 u ∙ pools-stop s from n r (begins-unused (drop (pool_size * n) s) (bytes_drop (pool_size * n) s bytes) (ap unused? (sym same) ∙ u)))
-      (λ (u : unused? p ≡ false). cond-false (unused? p) n 0 u ∙ pools-bad s from n r p (used-pool u) lt bad)
+      (λ (u : unused? p ≡ true). rw u (pools-stop s from n r (begins-unused (drop (pool_size * n) s) (bytes_drop (pool_size * n) s bytes) (ap unused? (sym same) ∙ u))))
+      (λ (u : unused? p ≡ false). rw u (pools-bad s from n r p (used-pool u) lt (end-none p from bad)))
       (bool_cases (unused? p))
 
   -- It is.
-  pub pools-good : (to : ℕ) → to ≡ pool_end p → (to ≡ 0 → ⊥) → from ≤ p.network → PoolsRead s to (n + 1)
-  pools-good to e h l =
-      let good = end-good p to e h in
-      subst (λ (f : ℕ). PoolsRead s f (n + 1)) (sym good.1) (pools-more s from n r p (used-pool (long-not-unused p (omega (arith, (pool_ok-to p good.0).short)))) lt l good.0)
+  pub pools-good : (to : ℕ) → pool_end p from ≡ Some to → PoolsRead s to (n + 1)
+  pools-good to e =
+      let good = end-some p from to e in
+      subst (λ (f : ℕ). PoolsRead s f (n + 1)) (sym good.2) (pools-more s from n r p (used-pool (long-not-unused p (omega (arith, (pool_ok-to p good.1).short)))) lt good.0 good.1)

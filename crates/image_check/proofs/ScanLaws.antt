@@ -33,7 +33,7 @@ use Rattle.image.specs.Image.{lease_size_in, pool_size}
 use Rattle.image.specs.Reading.{lease_fields_in, lease_at_in, pools_at, after_head_in, network_in}
 use Rattle.image.proofs.FieldLaws.{Bytes, bytes_drop, records-none}
 use Rattle.image_check.specs.ImageSummary.{unsound, summary_of}
-use Rattle.image_check.specs.declared.Pass.{Pass}
+use Rattle.image_check.specs.declared.{Pass.Pass, Fit.Fit}
 use Rattle.image_check.specs.Inner.{prefix_in, nth_pool, fit_tests, due, Begun}
 use Rattle.image_check.specs.InnerPass.{summary_with, ending, leases_from, pools_in, Answered, Reached}
 use Rattle.image_check.proofs.FitLaws.{size-least, Fits, Met, fits-to, fits-of, fits_read, fits-ok}
@@ -188,16 +188,16 @@ module _ (form : Form) (x : Head) (s : List ℕ) (n time : ℕ) (begun : Begun x
           h f.0 f.1 f.2)
 
       -- It lies in a pool, after the one before it.
-      one-lease : Bytes s → (network top expires : ℕ) → Met form x.last here network top expires → low ≤ network → any? (inside? (prefix_in here)) (pools_in s) ≡ true
-          → Answered form x s n time top (i + 1) (expired + due expires time) (at + lease_size_in form)
-      one-lease bytes network top expires met above a =
+      one-lease : Bytes s → (found : Fit) → Met form x.last here found → low ≤ found.network → any? (inside? (prefix_in here)) (pools_in s) ≡ true
+          → Answered form x s n time found.end (i + 1) (expired + due found.expires time) (at + lease_size_in form)
+      one-lease bytes found met above a =
           let higher : low ≤ network_in here = omega (arith, met.starts) in
           same
           ∙ ap (λ (k : ℕ). ending x time n (pools_in s) i expired low (leases_from form k here)) less
           ∙ ending-next x time n (pools_in s) form low (lease_slots - (i + 1)) here (lease_fields_in form here) (fits_read form x.last here (bytes_drop at s bytes) long met.fits) i expired higher
           (fits-ok form x.last here (pools_in s) met.fits a)
           ∙ ap₂ (λ (e t : ℕ). ending x time n (pools_in s) (i + 1) (expired + due e time) t (leases_from form (lease_slots - (i + 1)) (drop (lease_size_in form) here))) (sym met.until) (sym met.ends)
-          ∙ ap (λ (u : List ℕ). ending x time n (pools_in s) (i + 1) (expired + due expires time) top (leases_from form (lease_slots - (i + 1)) u))
+          ∙ ap (λ (u : List ℕ). ending x time n (pools_in s) (i + 1) (expired + due found.expires time) found.end (leases_from form (lease_slots - (i + 1)) u))
           (drop-drop (lease_size_in form) at s)
 
   -- ALL POOLS
@@ -251,24 +251,24 @@ module _ (form : Form) (x : Head) (s : List ℕ) (n time : ℕ) (begun : Begun x
       front = drop p.at s
 
       -- The lease here lies in the pool.
-      pub along-lease : Bytes s → p.at + lease_size_in form ≤ length s → (network top expires : ℕ) → Met form x.last front network top expires → low ≤ network → top ≤ end pool
-          → Along form x s n time k top (record { at = p.at + lease_size_in form; expired = p.expired + due expires time })
-      along-lease bytes room network top expires met h e =
+      pub along-lease : Bytes s → p.at + lease_size_in form ≤ length s → (found : Fit) → Met form x.last front found → low ≤ found.network → found.end ≤ end pool
+          → Along form x s n time k found.end (record { at = p.at + lease_size_in form; expired = p.expired + due found.expires time })
+      along-lease bytes room found met h e =
           let lease : Prefix = prefix_in front in
-          let rises : low ≤ top = omega (arith, met.starts, met.ends) in
+          let rises : low ≤ found.end = omega (arith, met.starts, met.ends) in
           let inside : inside? lease pool ≡ true = inside_of lease pool (omega (arith, a.begins, met.starts), omega (arith, met.ends)) in
           record {
             leases = a.leases + 1;
-            least = top;
+            least = found.end;
             size = a.size;
             place = one_further (length s) n p.at a.leases form a.place;
             above = omega arith;
             under = e;
             begins = omega (arith, a.begins, rises);
-            between = λ q l (b : q.network < top). absurd (omega arith);
-            passed = λ j (b : j < k) c f (l : top ≤ network_in (drop (p.at + lease_size_in form) s)).
+            between = λ q l (b : q.network < found.end). absurd (omega arith);
+            passed = λ j (b : j < k) c f (l : found.end ≤ network_in (drop (p.at + lease_size_in form) s)).
                 inside-not (prefix_in (drop (p.at + lease_size_in form) s)) (nth_pool s j) (λ w. omega (arith, w.1, pools-apart j k b lt, a.begins, rises, size-positive (prefix_in (drop (p.at + lease_size_in form) s)).length));
-            same = one-lease a.least p.expired p.at a.leases a.place a.same (few-before (length s) n p.at a.leases form a.size a.place room) room bytes network top expires met (omega (arith, a.above)) (in-pool lease k lt inside);
+            same = one-lease a.least p.expired p.at a.leases a.place a.same (few-before (length s) n p.at a.leases form a.size a.place room) room bytes found met (omega (arith, a.above)) (in-pool lease k lt inside);
           }
 
       -- What is here, if anything, does not lie in the pool.
@@ -294,9 +294,9 @@ module _ (form : Form) (x : Head) (s : List ℕ) (n time : ℕ) (begun : Begun x
       pub stop-unfit : (Fits form x.last front → ⊥) → Reached form x s n time (k + 1) p
       stop-unfit h = along-stop (λ c f l. absurd (h (fits-to form x.last front f)))
 
-      module _ (network top expires : ℕ) (met : Met form x.last front network top expires) where
-        pub stop-low : network < low → Reached form x s n time (k + 1) p
+      module _ (found : Fit) (met : Met form x.last front found) where
+        pub stop-low : found.network < low → Reached form x s n time (k + 1) p
         stop-low h = along-stop (λ c f l. a.between (prefix_in front) l (omega (arith, met.starts)))
 
-        pub stop-high : end pool < top → Reached form x s n time (k + 1) p
+        pub stop-high : end pool < found.end → Reached form x s n time (k + 1) p
         stop-high h = along-stop (λ c f l. inside-not (prefix_in front) pool (λ w. omega (arith, w.1, met.ends)))

@@ -11,6 +11,7 @@ use native.Mathlib.Omega.{arith}
 use lib.ListN.{length, drop, replicate, length-map, length-append, length-replicate}
 use lib.Dec.{leb, ltb, eqb}
 use borrow.Author.Tests.{leb-true, le-leb, ltb-true, lt-ltb, eqb-true}
+use Rattle.std.specs.Prelude.{Some, None}
 use Rattle.lists.specs.Lists.{All, and, any?, filter}
 use Rattle.lists.proofs.Tests.{bool_cases, and-to, cond-true, cond-false, not-true⇒false, and-list-to}
 use Rattle.lists.proofs.FilterLaws.{filter-yes, filter-no}
@@ -98,18 +99,18 @@ module _ (form : Form) (x : Head) (s : List ℕ) where
       (table-sound x ps xs.items p.few q.few p.each q.each)
 
   -- A head or pools that no sound table has.
-  pub read-unsound : (time : ℕ) → (head_ok x.term x.default_length x.last ≡ false) ⊎ (pool_count ps ≡ 0) → summary_of time (after_head_in form (some x) s) ≡ unsound
+  pub read-unsound : (time : ℕ) → (head_ok x.term x.default_length x.last ≡ false) ⊎ ((n : ℕ) → pool_count ps ≡ Some n → n ≡ 0) → summary_of time (after_head_in form (some x) s) ≡ unsound
   read-unsound time bad =
       let rules : List Bool = eqb (length xs.rest) 0 ∷ (head_ok x.term x.default_length x.last && (ltb 0 (length ps) && (pools_ascend? ps && leases_ascend? (map pool_prefix ps) x.last 0 xs.items))) ∷ [] in
       read-summary time ∙ cond-false (and rules) _ _ (not-true⇒false (and rules) (λ e. none-sound (head_ok x.term x.default_length x.last) (pools_ascend? ps) (leases_ascend? (map pool_prefix ps) x.last 0 xs.items) (length ps) (and-list-to rules e).1.0 bad))
     where
-      none-sound : (h p l : Bool) (n : ℕ) → (h && (ltb 0 n && (p && l))) ≡ true → (h ≡ false) ⊎ (cond p n 0 ≡ 0) → ⊥
+      none-sound : (h p l : Bool) (n : ℕ) → (h && (ltb 0 n && (p && l))) ≡ true → (h ≡ false) ⊎ ((m : ℕ) → cond p (Some n) None ≡ Some m → m ≡ 0) → ⊥
       none-sound h p l n e bad =
           let t = and-to h (ltb 0 n && (p && l)) e in
           let u = and-to (ltb 0 n) (p && l) t.1 in
           let v = and-to p l u.1 in
           ⊎_elim (λ (f : h ≡ false). true≢false (sym t.0 ∙ f))
-          (λ (z : cond p n 0 ≡ 0). omega (arith, ltb-true 0 n u.0, cond-true p n 0 v.0))
+          (λ (z : (m : ℕ) → cond p (Some n) None ≡ Some m → m ≡ 0). omega (arith, ltb-true 0 n u.0, z n (cond-true p (Some n) None v.0)))
           bad
 
   module _ (n : ℕ) (begun : Begun x s n) where

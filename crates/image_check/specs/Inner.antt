@@ -1,5 +1,5 @@
 -- What each step of the pass over an image answers.
-use Rattle.std.specs.Prelude.{ℕ, ◌*◌, ◌/◌, ◌%◌, ◌≡◌, Bool, true, not, cond, List, [], ◌∷◌, length, drop, leb, ltb, eqb}
+use Rattle.std.specs.Prelude.{ℕ, ◌*◌, ◌/◌, ◌%◌, ◌≡◌, Bool, true, not, cond, ◌&&◌, List, [], ◌∷◌, length, drop, leb, ltb, eqb, Option, Some, None}
 use Rattle.lists.specs.Lists.{and}
 use Rattle.prefix.specs.declared.Prefix.{Prefix}
 use Rattle.prefix.specs.Prefixes.{shortest, longest, prefix, end, aligned?}
@@ -12,13 +12,13 @@ use Rattle.image.specs.Image.{pool_size, lease_size_in, lease_kind}
 use Rattle.image.specs.Reading.{start_of, pools_at, client_in, expires_in, flags_byte_in, length_in, network_in, state_byte_in, name_test}
 use Rattle.image_check.specs.declared.Fit.{Fit}
 
--- The end of a pool, and 0 of one that is not as a sound table has it.
-abbrev pub pool_end : Pool → ℕ
-pool_end p = cond (pool_ok p) (end (pool_prefix p)) 0
+-- The end of a pool that begins at an address or after it and is as a sound table has it.
+abbrev pub pool_end : Pool → ℕ → Option ℕ
+pool_end p from = cond (leb from p.network && pool_ok p) (Some (end (pool_prefix p))) None
 
--- How many pools there are, and none where they are not as a sound table has them.
-abbrev pub pool_count : List Pool → ℕ
-pool_count ps = cond (pools_ascend? ps) (length ps) 0
+-- How many pools there are, if they are as a sound table has them.
+abbrev pub pool_count : List Pool → Option ℕ
+pool_count ps = cond (pools_ascend? ps) (Some (length ps)) None
 
 -- How the records of pools and of leases begin.
 abbrev pub pool_start : ℕ
@@ -57,8 +57,11 @@ fit_tests form last s =
     ∷ name_test form s
     ∷ []
 
-unfoldable pub fit_at : Form → ℕ → List ℕ → Fit
-fit_at form last s = cond (and (fit_tests form last s)) (Fit.Lease (network_in s) (end (prefix_in s)) (expires_in s)) Fit.Other
+abbrev pub fit_of : List ℕ → Fit
+fit_of s = record { network = network_in s; end = end (prefix_in s); expires = expires_in s }
+
+unfoldable pub fit_at : Form → ℕ → List ℕ → Option Fit
+fit_at form last s = cond (and (fit_tests form last s)) (Some (fit_of s)) None
 
 -- 1 for a lease that has expired.
 abbrev pub due : ℕ → ℕ → ℕ

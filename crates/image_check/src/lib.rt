@@ -1,10 +1,10 @@
 // Whether bytes are the image of a sound table, in one pass over the bytes: no table is made.
 #![tactic(auto)]
 
-ghost use Rattle.std.specs.Prelude.{◌≡◌, cond, ℕ, ◌+◌, ◌*◌, ◌/◌, ◌≤◌, ◌<◌, length, drop};
+ghost use Rattle.std.specs.Prelude.{◌≡◌, ℕ, ◌+◌, ◌*◌, ◌/◌, ◌≤◌, ◌<◌, length, drop};
 ghost use Rattle.std.proofs.Math.Option.{some};
 ghost use Rattle.image.specs.declared.Head.{Head};
-ghost use Rattle.table.specs.Table.{pool_slots, unused?};
+ghost use Rattle.table.specs.Table.{pool_slots};
 ghost use Rattle.image.specs.Image.{pool_size, lease_size_in};
 ghost use Rattle.image.specs.Reading.{pools_at, name_test, after_head_in, load_in, load_image};
 ghost use Rattle.image_check.specs.ImageSummary.{unsound, summary_of};
@@ -12,7 +12,7 @@ ghost use Rattle.image_check.specs.Inner.{pool_end, pool_count, pool_begins?, nt
 ghost use Rattle.image_check.specs.InnerPass.{Left, Reached};
 
 use image::{FIRST_LEASE, Form, HEAD, Head, LEASE, POOL};
-use prefix::{Checked, Prefix};
+use prefix::Prefix;
 use table::{LEASES, POOLS, Pool};
 
 // The head of the table that bytes are the image of, and how many pools, leases and expired leases it has; all of it 0
@@ -44,14 +44,14 @@ fn unsound() -> ImageSummary
 
 // POOLS
 
-// The end of a pool, or 0 where it is not as a sound table has it.
-fn pool_end(p: Pool) -> u64
-    ensures { result ≡ pool_end p }
+// The end of a pool that begins at an address or after it and is as a sound table has it.
+fn pool_end(p: Pool, from: u64) -> Option<u64>
+    ensures { result ≡ pool_end p from }
 {
-    if !table::pool_ok(p) {
-        return 0;
+    if u64::from(p.network) < from || !table::pool_ok(p) {
+        return None;
     }
-    table::pool_prefix(p).end()
+    Some(Prefix::from(p).end())
 }
 
 // Whether a pool record begins at a place, be it of an unused slot.
@@ -59,45 +59,27 @@ fn pool_begins(s: &[u8], at: usize) -> bool
     requires { at ≤ pool_size * pool_slots }
     ensures { result ≡ pool_begins? (drop at s.now) }
 {
-    if s.len() < at + POOL {
-        return false;
-    }
-    image::read32(s, at) == image::POOL_START
+    at + POOL <= s.len() && image::read32(s, at) == image::POOL_START
 }
 
-// What n pools count for before a pool that is not as a sound table has it. One that is unused is no pool: it ends them, and its test comes
-// last, since a sound image has none.
-fn counted_before(p: Pool, n: usize) -> usize
-    ensures { result ≡ cond (unused? p) n 0 }
-{
-    if table::pool_unused(p) {
-        return n;
-    }
-    0
-}
-
-// How many pools stand at the front of the bytes, or 0 where they are not as a sound table has them.
-fn pools_in(s: &[u8]) -> usize
+// How many pools stand at the front of the bytes, if they are as a sound table has them. One that is unused is no pool: it ends them, and
+// its test comes last, since a sound image has none.
+fn pools_in(s: &[u8]) -> Option<usize>
     ensures { result ≡ pool_count (pools_at s.now).items }
 {
     let mut from: u64 = 0;
-    let mut n: usize = 0;
-    while n < POOLS {
+    for n in 0..POOLS {
         let at = POOL * n;
         if !pool_begins(s, at) {
-            return n;
+            return Some(n);
         }
         let p = image::pool_at(s, at);
-        if (p.network as u64) < from {
-            return counted_before(p, n);
-        }
-        from = pool_end(p);
-        if from == 0 {
-            return counted_before(p, n);
-        }
-        n = n + 1;
+        let Some(end) = pool_end(p, from) else {
+            return table::pool_unused(p).then_some(n);
+        };
+        from = end;
     }
-    n
+    Some(POOLS)
 }
 
 // The prefix of the k-th pool.
@@ -105,20 +87,17 @@ pub fn pool(s: &[u8], k: usize) -> Prefix
     requires { pool_size * k + pool_size ≤ length s.now }
     ensures { result ≡ nth_pool s.now k }
 {
-    table::pool_prefix(image::pool_at(s, POOL * k))
+    Prefix::from(image::pool_at(s, POOL * k))
 }
 
 // LEASES
 
-// A lease record that is as a sound table has it, wherever the lease lies.
+// Of a lease record that is as a sound table has it, what the pass looks at.
 #[derive(Clone, Copy)]
-enum Fit {
-    Lease {
-        network: u32,
-        end: u64,
-        expires: u32,
-    },
-    Other,
+struct Fit {
+    network: u32,
+    end: u64,
+    expires: u32,
 }
 
 // Whether state and flags, the second and third byte of a word, are as a lease has them: 1 or 2, and at most 3. One more than the
@@ -127,11 +106,8 @@ enum Fit {
 fn state_and_flags(word: u32) -> bool
     ensures { result ≡ state_and_flags? word }
 {
-    let next = (word as u64) + 256;
-    if next / 512 % 128 != 1 {
-        return false;
-    }
-    next / 262144 % 64 == 0
+    let next = u64::from(word) + 256;
+    next / 512 % 128 == 1 && next / 262144 % 64 == 0
 }
 
 // Whether the name in a record is as long as its length says.
@@ -145,43 +121,35 @@ fn name_fits(form: Form, s: &[u8]) -> bool
     }
 }
 
-// The lease record at the front of the bytes.
-fn fit_at(form: Form, s: &[u8], last: u32) -> Fit
+// The lease record at the front of the bytes, if it is as a sound table has it, wherever the lease lies.
+fn fit_at(form: Form, s: &[u8], last: u32) -> Option<Fit>
     requires { lease_size_in form ≤ length s.now }
     ensures { result ≡ fit_at form last s.now }
 {
     if image::read32(s, 0) != image::lease_start(form) {
-        return Fit::Other;
+        return None;
     }
     let word = image::read32(s, image::LENGTH);
-    let Checked::Good(p) = Prefix::new(image::read32(s, image::NETWORK), (word % 256) as u8) else {
-        return Fit::Other;
-    };
-    if !state_and_flags(word) {
-        return Fit::Other;
-    }
-    if image::read32(s, image::CLIENT) == 0 {
-        return Fit::Other;
+    let p = Prefix::new(image::read32(s, image::NETWORK), (word % 256) as u8).ok()?;
+    if !state_and_flags(word) || image::read32(s, image::CLIENT) == 0 {
+        return None;
     }
     let expires = image::read32(s, image::EXPIRES);
-    if expires <= last {
-        return Fit::Other;
+    if expires <= last || !name_fits(form, s) {
+        return None;
     }
-    if !name_fits(form, s) {
-        return Fit::Other;
-    }
-    Fit::Lease {
+    Some(Fit {
         network: p.network,
         end: p.end(),
         expires,
-    }
+    })
 }
 
 // 1 for a lease that has expired.
 fn due(expires: u32, time: u32) -> usize
     ensures { result ≡ due expires time }
 {
-    if expires <= time { 1 } else { 0 }
+    usize::from(expires <= time)
 }
 
 // How far a pass over the leases has come, and how many of those behind it have expired.
@@ -200,29 +168,20 @@ fn in_pool(form: Form, s: &[u8], p: Prefix, from: Pass, last: u32, time: u32) ->
 {
     let size = image::lease_size(form);
     let stop = p.end();
-    let mut low = p.network as u64;
-    let mut expired = from.expired;
-    let mut at = from.at;
-    while at < s.len() {
-        let Fit::Lease {
-            network,
-            end,
-            expires,
-        } = fit_at(form, &s[at..], last)
-        else {
-            return Pass { at, expired };
+    let mut low = u64::from(p.network);
+    let mut pass = from;
+    while pass.at < s.len() {
+        let Some(lease) = fit_at(form, &s[pass.at..], last) else {
+            return pass;
         };
-        if (network as u64) < low {
-            return Pass { at, expired };
+        if u64::from(lease.network) < low || stop < lease.end {
+            return pass;
         }
-        if stop < end {
-            return Pass { at, expired };
-        }
-        low = end;
-        expired = expired + due(expires, time);
-        at = at + size;
+        low = lease.end;
+        pass.expired += due(lease.expires, time);
+        pass.at += size;
     }
-    Pass { at, expired }
+    pass
 }
 
 // How many leases so many bytes have, each division by a constant.
@@ -252,13 +211,11 @@ fn leases_in(form: Form, head: Head, s: &[u8], n: usize, time: u32) -> ImageSumm
         at: from,
         expired: 0,
     };
-    let mut k: usize = 0;
-    while pass.at < s.len() {
-        if n <= k {
-            return unsound();
-        }
+    for k in 0..n {
         pass = in_pool(form, s, pool(s, k), pass, head.last, time);
-        k = k + 1;
+    }
+    if pass.at != s.len() {
+        return unsound();
     }
     ImageSummary {
         sound: true,
@@ -284,7 +241,9 @@ pub fn check_in(form: Form, image: &[u8], time: u32) -> ImageSummary
     if !table::head_ok(head.term, head.default_length, head.last) {
         return unsound();
     }
-    let n = pools_in(&image[HEAD..]);
+    let Some(n) = pools_in(&image[HEAD..]) else {
+        return unsound();
+    };
     if n == 0 {
         return unsound();
     }

@@ -2,10 +2,8 @@
 -- Assumes nothing.
 use Prim.Native.Nat.{ℕ, suc, ◌+◌, ◌-◌, ◌*◌, ◌≤◌, ◌<◌}
 use mathlib.Core.Path.{◌≡◌, refl, sym, ap, ap₂, subst, ◌∙◌}
-use mathlib.Core.Logic.{by_cases}
 use mathlib.Core.List.{List, [], ◌∷◌, ◌++◌, append-nil, append_assoc}
 use native.Mathlib.Numerals.{add-one}
-use native.Mathlib.Decide.{dec_le}
 use native.Mathlib.Omega.{arith}
 use lib.ListN.{length, take, drop, get_or, set, replicate, length-set, length-map, take-append-drop}
 use lib.Seq.{take-suc-set, drop-set-lt, drop-drop}
@@ -22,8 +20,8 @@ use Rattle.counts.proofs.BelowLaws.{closed-above, opened-above}
 use Rattle.counts.proofs.LevelRows.{laid-lies, laid-ascend, laid-past, counts-by-levels}
 use Rattle.image_counts.specs.declared.Tally.{Tally}
 use Rattle.image_counts.specs.Standing.{Stands}
-use Rattle.image_counts.specs.InnerTally.{no_row, lease_at, ahead, pools_at, Short, both_of, Tallied, total, frees_on, Ready, Counted}
-use Rattle.image_counts.proofs.PlaceLaws.{ahead-first, pools-first, pools-none, leases-of, pools-of}
+use Rattle.image_counts.specs.InnerTally.{no_row, ahead, pools_at, Short, both_of, Tallied, total, frees_on, Ready, Counted}
+use Rattle.image_counts.proofs.PlaceLaws.{pools-first, pools-none, leases-of, pools-of}
 use Rattle.image_counts.proofs.TallyLaws.{total-up, frees-same, none_end}
 
 -- A POOL
@@ -91,17 +89,6 @@ module _ (image : List ℕ) (pools leases : ℕ) where
 
   pub passed_none : Laid 0 (left-pools 0) (ahead image start leases 0) → Passed 0 0 (replicate pool_slots no_row)
   passed_none laid = record { size = refl; within = omega arith; some = omega arith; filled = refl; empty = refl; address = 0; laid = laid }
-
-  -- While leases are left there is a pool for them.
-  pub passed-some : (k next : ℕ) (rows : List (List ℕ)) → Passed k next rows → next < leases → k < pools
-  passed-some k next rows c lt =
-      by_cases (dec_le pools k)
-      (λ past.
-      let none : Laid c.address [] (lease_at image start next ∷ ahead image start leases (next + 1)) =
-      subst (λ (xs : List Prefix). Laid c.address [] xs) (ahead-first image start leases next lt)
-      (subst (λ (ps : List Prefix). Laid c.address ps (ahead image start leases next)) (pools-none image pools k past) c.laid) in
-      absurd none.rooted.0.pooled)
-      (λ less. omega arith)
 
   module _ (k next : ℕ) (rows : List (List ℕ)) (c : Passed k next rows) (lt : k < pools) (p : Prefix) (read : p ≡ nth_pool (drop head_size image) k) where
     here : left-pools k ≡ p ∷ left-pools (k + 1)

@@ -50,8 +50,7 @@ fn in_pool(image: &[u8], from: usize, n: usize, p: Prefix, at: usize) -> Tally
     opened[top] = 1;
     let bottom = image::length_at(image, first) as usize;
     sides[bottom] = 1;
-    let mut i = at + 1;
-    while i < n {
+    for i in at + 1..n {
         let record = from + LEASE * i;
         let network = image::network_at(image, record);
         if stop <= (network as u64) {
@@ -67,19 +66,12 @@ fn in_pool(image: &[u8], from: usize, n: usize, p: Prefix, at: usize) -> Tally
         let side = LEVELS * (i % 2);
         sides[side + l] += 1;
         before = network;
-        i += 1;
     }
     Tally {
-        next: i,
+        next: n,
         opened,
         sides,
     }
-}
-
-fn less(a: u16, b: u16) -> u16
-    ensures { result ≡ a - b }
-{
-    if b <= a { a - b } else { 0 }
 }
 
 // The row of a pool that has leases, into a row of zeros. It has nothing at lengths below the pool's, and at that length the pool itself counts: its
@@ -92,14 +84,12 @@ fn fill(pool: u8, opened: [u16; LEVELS], sides: [u16; SIDES], row: &mut [u16; LE
     let mut up = opened[top];
     let mut down = sides[top] + sides[LEVELS + top];
     let at = top - FIRST;
-    row[at] = less(1, up);
-    let mut j = at + 1;
-    while j < LENGTHS {
+    row[at] = 1u16.saturating_sub(up);
+    for j in at + 1..LENGTHS {
         let l = j + FIRST;
-        row[j] = less(up, opened[l] + down);
+        row[j] = up.saturating_sub(opened[l] + down);
         up += opened[l];
         down += sides[l] + sides[LEVELS + l];
-        j += 1;
     }
 }
 
@@ -138,7 +128,7 @@ fn pool_row(
 }
 
 // The counts of a table, from its image, as the counts that are kept: "Every call that changes lines keeps it equal to what a fresh walk would find".
-// While leases are left there is a pool for them; the pools after the last lease have no lease, and need no look at one.
+// The pools after the last lease have no lease, and need no look at one.
 pub fn recount(image: &[u8], pools: usize, leases: usize, counts: &mut Counts)
     requires { SomeTable image.now pools leases }
     ensures { (t : LeaseTable) → Stands t image.now pools leases → counts.new ≡ counts_of t }
@@ -147,16 +137,13 @@ pub fn recount(image: &[u8], pools: usize, leases: usize, counts: &mut Counts)
     let none = [0u16; LENGTHS];
     *counts = [none; POOLS];
     let mut next: usize = 0;
-    let mut k: usize = 0;
-    while next < leases {
+    for k in 0..pools {
         let p = image_check::pool(&image[HEAD..], k);
-        next = pool_row(image, from, leases, p, next, &mut counts[k]);
-        k += 1;
-    }
-    while k < pools {
-        let p = image_check::pool(&image[HEAD..], k);
-        bare(p.length, &mut counts[k]);
-        k += 1;
+        if next < leases {
+            next = pool_row(image, from, leases, p, next, &mut counts[k]);
+        } else {
+            bare(p.length, &mut counts[k]);
+        }
     }
 }
 

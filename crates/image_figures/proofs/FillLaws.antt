@@ -5,7 +5,7 @@ use native.Mathlib.Omega.{arith}
 use mathlib.Core.Path.{◌≡◌, refl, sym, ap, ap₂, ◌∙◌}
 use mathlib.Core.List.{List, ◌∷◌, ◌++◌, map, append-nil}
 use lib.ListN.{length, get_or, take, drop, replicate, length-append, length-map, length-replicate, get_or-map}
-use lib.Seq.{take_all, take_at}
+use lib.Seq.{take_all}
 use Rattle.lists.specs.Put.{put}
 use Rattle.lists.proofs.DropLaws.{drop-end}
 use Rattle.lists.proofs.ConcatMapLaws.{concat_map-append}
@@ -17,7 +17,7 @@ use Rattle.image.specs.Image.{lease_size}
 use Rattle.image.specs.Reading.{lease_in}
 use Rattle.image.proofs.WriteLaws.{more-put}
 use Rattle.image_records.specs.Records.{Records}
-use Rattle.image_records.proofs.PutForms.{put-over-last, drop-put-at}
+use Rattle.image_records.proofs.PutForms.{put-over-last}
 use Rattle.image_records.proofs.RecordLaws.{lease-in-place}
 use Rattle.figures.specs.declared.FigureRow.{FigureRow}
 use Rattle.figures.specs.Figures.{untold_row, empty_row}
@@ -28,11 +28,6 @@ use Rattle.image_figures.proofs.EmptyBytes.{empty_bytes, length-empty, empty-app
 -- EMPTY ROWS
 
 module _ (l : List ℕ) (first : ℕ) where
-  pub cleared-none : l ≡ put l (row_size * first) (empty_bytes (first - first))
-  cleared-none =
-      let z : first - first ≡ 0 = omega arith in
-      sym (ap (λ (k : ℕ). put l (row_size * first) (empty_bytes k)) z ∙ put-nothing l (row_size * first))
-
   -- The rows up to i are cleared; m more from j on, which may stand among them.
   pub cleared_more : (l₁ l₂ : List ℕ) (i j m k : ℕ) → first ≤ j → j ≤ i → i ≤ k → k ≡ j + m → l₁ ≡ put l (row_size * first) (empty_bytes (i - first))
       → l₂ ≡ put l₁ (row_size * j) (empty_bytes m) → l₂ ≡ put l (row_size * first) (empty_bytes (k - first))
@@ -46,18 +41,6 @@ module _ (l : List ℕ) (first : ℕ) where
       ∙ ap₂ (λ (s : List ℕ) (n : ℕ). put s n (empty_bytes m)) (e₁ ∙ ap (put l (row_size * first)) (ap empty_bytes before ∙ empty-append (j - first) (i - j))) place
       ∙ put-over-last p q (empty_bytes m) l (row_size * first) (omega (arith, length-empty (i - j), length-empty m))
       ∙ ap (put l (row_size * first)) (sym (empty-append (j - first) m) ∙ ap empty_bytes after)
-
--- So many rows are cleared, and the last ones up to the end are a copy of them.
-pub cleared-twice : (slots : ℕ) (l l₁ l₂ : List ℕ) (n half : ℕ) → n + half ≤ slots → slots ≤ n + half + half → length l ≡ row_size * slots → l₁ ≡ put l (row_size * n) (empty_bytes (n + half - n))
-    → l₂ ≡ put l₁ (row_size * (slots - half)) (take (row_size * half) (drop (row_size * n) l₁)) → l₂ ≡ put l (row_size * n) (empty_bytes (slots - n))
-cleared-twice slots l l₁ l₂ n half h k size e₁ e₂ =
-    let many : n + half - n ≡ half = omega arith in
-    let empty : List ℕ = empty_bytes half in
-    let same : take (row_size * half) (drop (row_size * n) l₁) ≡ empty =
-    ap (λ (s : List ℕ). take (row_size * half) (drop (row_size * n) s)) (e₁ ∙ ap (λ (m : ℕ). put l (row_size * n) (empty_bytes m)) many)
-    ∙ ap (take (row_size * half)) (drop-put-at empty l (row_size * n) (omega (arith, length-empty half)))
-    ∙ take_at empty (drop (row_size * n + length empty) l) (row_size * half) (length-empty half) in
-    cleared_more l n l₁ l₂ (n + half) (slots - half) half slots (omega arith) (omega arith) h (omega arith) e₁ (e₂ ∙ ap (put l₁ (row_size * (slots - half))) same)
 
 -- UNTOLD ROWS
 

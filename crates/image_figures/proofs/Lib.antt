@@ -3,10 +3,8 @@ pub mod SheetLaws
 pub mod AcceptedLaws
 -- Laws of the functions.
 mod RowLaws
-mod EmptyLaws
 mod EmptyBytes
 mod MatchLaws
-mod BlockLaws
 mod StrikeLaws
 mod PlacedLaws
 mod SpreadLaws

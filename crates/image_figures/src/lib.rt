@@ -26,9 +26,6 @@ pub const ROW: usize = 11;
 
 pub const FIGURES: usize = ROW * LEASES;
 
-// Sixteen rows, which fill so many of the processor's registers exactly.
-const SIXTEEN: usize = 16 * ROW;
-
 // Where the fields of a row stand; the network is first.
 const LENGTH: usize = 4;
 
@@ -40,26 +37,19 @@ const UNUSABLE: usize = 9;
 
 // ROWS
 
-fn wide(x: u8) -> u16
-    ensures { (result ≡ x) × (result < 256) }
-{
-    x as u16
-}
-
 // The number that two bytes spell, low byte first.
 fn read16(s: &[u8], at: usize) -> u16
     requires { at + 2 ≤ length s.now }
     ensures { result ≡ number16 s.now at }
 {
-    wide(s[at]) + 256 * wide(s[at + 1])
+    u16::from_le_bytes([s[at], s[at + 1]])
 }
 
 fn put16(out: &mut [u8], at: usize, n: u16)
     requires { at + 2 ≤ length out.old }
     ensures { out.new ≡ put out.old at (le16 n) }
 {
-    out[at] = (n % 256) as u8;
-    out[at + 1] = (n / 256) as u8;
+    octets::put_chunk(out, at, n.to_le_bytes());
 }
 
 // The row at the front of the bytes.
@@ -114,99 +104,33 @@ fn leases_match(sheet: &[u8], image: &[u8], from: usize, n: usize) -> bool
     ensures { (xs : List Lease) → Records image.now from xs → n ≡ length xs
         → result ≡ leases_match? xs (rows_in lease_slots sheet.now) }
 {
-    let mut i: usize = 0;
-    while i < n {
+    for i in 0..n {
         if !of_lease_at(sheet, ROW * i, image, from + LEASE * i) {
             return false;
         }
-        i = i + 1;
     }
     true
 }
 
-// The bytes of an empty slot's row from its length on, as two numbers: the last byte of the first is the first of the second.
-const EMPTY_FROM_LENGTH: u32 = 4294967040;
+// The row of an empty slot, and a sheet of them, which rows are compared with and copied from.
+const EMPTY_ROW: [u8; ROW] = *b"\0\0\0\0\0\xff\xff\xff\xff\xff\xff";
 
-const EMPTY_END: u32 = 4294967295;
+static EMPTY_SHEET: [[u8; ROW]; LEASES] = [EMPTY_ROW; LEASES];
 
-// Whether the row that begins here is that of an empty slot, by words.
-fn empty_at(sheet: &[u8], at: usize) -> bool
-    requires { at + row_size ≤ length sheet.now }
-    ensures { result ≡ empty_row? (row_in (drop at sheet.now)) }
+// The rows of n empty slots.
+fn empty_rows(n: usize) -> &'static [u8]
+    requires { n ≤ lease_slots }
+    ensures { result.now ≡ sheet_of (replicate n empty_row) }
 {
-    if image::read32(sheet, at) != 0 {
-        return false;
-    }
-    if image::read32(sheet, at + LENGTH) != EMPTY_FROM_LENGTH {
-        return false;
-    }
-    image::read32(sheet, at + IN_USE) == EMPTY_END
+    EMPTY_SHEET[..n].as_flattened()
 }
 
-// Sixteen rows of empty slots, each bit turned: bytes that are computed of a constant are compared and stored by the register,
-// but a constant that is copied as it is would be made byte by byte.
-const TURNED: [u8; SIXTEEN] =
-    *b"\xff\xff\xff\xff\xff\0\0\0\0\0\0\xff\xff\xff\xff\xff\0\0\0\0\0\0\xff\xff\xff\xff\xff\0\0\0\0\0\0\xff\xff\xff\xff\xff\0\0\0\0\0\0\
-    \xff\xff\xff\xff\xff\0\0\0\0\0\0\xff\xff\xff\xff\xff\0\0\0\0\0\0\xff\xff\xff\xff\xff\0\0\0\0\0\0\xff\xff\xff\xff\xff\0\0\0\0\0\0\
-    \xff\xff\xff\xff\xff\0\0\0\0\0\0\xff\xff\xff\xff\xff\0\0\0\0\0\0\xff\xff\xff\xff\xff\0\0\0\0\0\0\xff\xff\xff\xff\xff\0\0\0\0\0\0\
-    \xff\xff\xff\xff\xff\0\0\0\0\0\0\xff\xff\xff\xff\xff\0\0\0\0\0\0\xff\xff\xff\xff\xff\0\0\0\0\0\0\xff\xff\xff\xff\xff\0\0\0\0\0\0";
-
-// 0 as long as no two bytes differ.
-fn differ(before: u8, a: u8, b: u8) -> u8
-    ensures { (result ≡ 0 → (before ≡ 0) × (a ≡ b)) × (before ≡ 0 → a ≡ b → result ≡ 0) }
-{
-    before | (a ^ b)
-}
-
-// Whether the thirty-two rows that begin here are those of empty slots. All bytes are looked at, so that they are compared many
-// at a time, and those of both halves with the same sixteen rows.
-fn thirty_two_empty(sheet: &[u8], at: usize) -> bool
-    requires { at + 32 * row_size ≤ length sheet.now }
-    ensures { result ≡ all? empty_row? (rows_in 32 (drop at sheet.now)) }
-{
-    let turned = TURNED;
-    let mut other: u8 = 0;
-    let mut k: usize = 0;
-    while k < SIXTEEN {
-        let empty = !turned[k];
-        other = differ(other, sheet[at + k], empty);
-        other = differ(other, sheet[at + SIXTEEN + k], empty);
-        k = k + 1;
-    }
-    other == 0
-}
-
-// Whether the rows from place n on are those of empty slots, one by one.
-fn each_empty(sheet: &[u8], n: usize) -> bool
-    requires { (n ≤ lease_slots) × (length sheet.now ≡ figures_size) }
-    ensures { result ≡ all? empty_row? (drop n (rows_in lease_slots sheet.now)) }
-{
-    let mut i: usize = n;
-    while i < LEASES {
-        if !empty_at(sheet, ROW * i) {
-            return false;
-        }
-        i = i + 1;
-    }
-    true
-}
-
-// The same, by thirty-two; the last of them may begin among rows that were looked at.
+// Whether the rows from place n on are those of empty slots.
 fn rest_empty(sheet: &[u8], n: usize) -> bool
     requires { (n ≤ lease_slots) × (length sheet.now ≡ figures_size) }
     ensures { result ≡ all? empty_row? (drop n (rows_in lease_slots sheet.now)) }
 {
-    if LEASES < n + 32 {
-        return each_empty(sheet, n);
-    }
-    let mut i: usize = n;
-    while i + 32 < LEASES {
-        if !thirty_two_empty(sheet, ROW * i) {
-            return false;
-        }
-        i = i + 32;
-    }
-    thirty_two_empty(sheet, ROW * (LEASES - 32))
+    &sheet[ROW * n..] == empty_rows(LEASES - n)
 }
 
 // Row 15: whether the sheet has a row for each slot of the table, in its place. An image has records of leases only.
@@ -224,137 +148,21 @@ pub fn matches(sheet: &[u8], image: &[u8], from: usize, n: usize) -> bool
     rest_empty(sheet, n)
 }
 
-// MOVING ROWS
-
-// The bytes of a row. Copied out and in again, they move as words, whether or not the two places overlap.
-fn bytes_at(sheet: &[u8], at: usize) -> [u8; ROW]
-    requires { at + row_size ≤ length sheet.now }
-    ensures { result ≡ take row_size (drop at sheet.now) }
-{
-    let mut bytes = [0u8; ROW];
-    let mut k: usize = 0;
-    while k < ROW {
-        bytes[k] = sheet[at + k];
-        k = k + 1;
-    }
-    bytes
-}
-
-fn put_bytes(sheet: &mut [u8], at: usize, bytes: [u8; ROW])
-    requires { at + row_size ≤ length sheet.old }
-    ensures { sheet.new ≡ put sheet.old at bytes }
-{
-    let mut k: usize = 0;
-    while k < ROW {
-        sheet[at + k] = bytes[k];
-        k = k + 1;
-    }
-}
-
-// Sixteen rows at once.
-fn sixteen_at(sheet: &[u8], at: usize) -> [u8; SIXTEEN]
-    requires { at + (16 * row_size) ≤ length sheet.now }
-    ensures { result ≡ take (16 * row_size) (drop at sheet.now) }
-{
-    let mut bytes = [0u8; SIXTEEN];
-    let mut k: usize = 0;
-    while k < SIXTEEN {
-        bytes[k] = sheet[at + k];
-        k = k + 1;
-    }
-    bytes
-}
-
-fn put_sixteen(sheet: &mut [u8], at: usize, bytes: [u8; SIXTEEN])
-    requires { at + (16 * row_size) ≤ length sheet.old }
-    ensures { sheet.new ≡ put sheet.old at bytes }
-{
-    let mut k: usize = 0;
-    while k < SIXTEEN {
-        sheet[at + k] = bytes[k];
-        k = k + 1;
-    }
-}
-
-// n rows from `at` on also from `to` on, which is no later, from the first up.
-fn lower_each(sheet: &mut [u8], to: usize, at: usize, n: usize)
-    requires { (to ≤ at) × (at + row_size * n ≤ length sheet.old) }
-    ensures { sheet.new ≡ put sheet.old to (take (row_size * n) (drop at sheet.old)) }
-{
-    let mut k: usize = 0;
-    while k < n {
-        let bytes = bytes_at(sheet, at + ROW * k);
-        put_bytes(sheet, to + ROW * k, bytes);
-        k = k + 1;
-    }
-}
-
-// The same, sixteen rows at a time.
-fn lower(sheet: &mut [u8], to: usize, at: usize, n: usize)
-    requires { (to ≤ at) × (at + row_size * n ≤ length sheet.old) }
-    ensures { sheet.new ≡ put sheet.old to (take (row_size * n) (drop at sheet.old)) }
-{
-    let mut k: usize = 0;
-    while k + 16 <= n {
-        let bytes = sixteen_at(sheet, at + ROW * k);
-        put_sixteen(sheet, to + ROW * k, bytes);
-        k = k + 16;
-    }
-    lower_each(sheet, to + ROW * k, at + ROW * k, n - k);
-}
-
 // EMPTY ROWS
 
-// Rows of empty slots from the place `first` up to `last`, one by one.
-fn clear_each(sheet: &mut [u8], first: usize, last: usize)
-    requires { (first ≤ last) × (row_size * last ≤ length sheet.old) }
-    ensures { sheet.new ≡ put sheet.old (row_size * first) (sheet_of (replicate (last - first) empty_row)) }
-{
-    let mut i: usize = first;
-    while i < last {
-        put_row(sheet, ROW * i, figures::empty_row());
-        i = i + 1;
-    }
-}
-
-// Sixteen of them.
-fn put_empty(sheet: &mut [u8], at: usize)
-    requires { at + (16 * row_size) ≤ length sheet.old }
-    ensures { sheet.new ≡ put sheet.old at (sheet_of (replicate 16 empty_row)) }
-{
-    let turned = TURNED;
-    let mut k: usize = 0;
-    while k < SIXTEEN {
-        sheet[at + k] = !turned[k];
-        k = k + 1;
-    }
-}
-
-// Rows of empty slots from the place `first` up to `last`, by sixteen; the last of them may begin among rows that were cleared.
+// Rows of empty slots from the place `first` up to `last`: as many at a time as a sheet has.
 fn clear_rows(sheet: &mut [u8], first: usize, last: usize)
     requires { (first ≤ last) × (row_size * last ≤ length sheet.old) }
     ensures { sheet.new ≡ put sheet.old (row_size * first) (sheet_of (replicate (last - first) empty_row)) }
 {
-    if last - first < 16 {
-        clear_each(sheet, first, last);
-        return;
+    for k in 0..(last - first) / LEASES + 1 {
+        let at = first + LEASES * k;
+        let rows = (last - at).min(LEASES);
+        sheet[ROW * at..ROW * (at + rows)].copy_from_slice(empty_rows(rows));
     }
-    let mut i: usize = first;
-    while i + 16 < last {
-        put_empty(sheet, ROW * i);
-        i = i + 16;
-    }
-    put_empty(sheet, ROW * (last - 16));
 }
 
 // STRIKING
-
-// 1 for a lease that is present.
-fn stays(expires: u32, time: u32) -> usize
-    ensures { (result ≤ 1) × (time < expires → result ≡ 1) × (expires ≤ time → result ≡ 0) }
-{
-    if time < expires { 1 } else { 0 }
-}
 
 // Of the rows from `first` up to `last` those of leases that are present, each moved down to the one before; the place after
 // them. Each row is moved, and the next one over it if its lease has expired: so there is no branch to foresee.
@@ -372,12 +180,10 @@ fn close_rows(
     ensures closing { Closing sheet.old image.now from first last n time sheet.new result last }
 {
     let mut kept: usize = first;
-    let mut i: usize = first;
-    while i < last {
-        let bytes = bytes_at(sheet, ROW * i);
-        put_bytes(sheet, ROW * kept, bytes);
-        kept = kept + stays(image::expires_at(image, from + LEASE * i), time);
-        i = i + 1;
+    for i in first..last {
+        let row = octets::chunk_at::<ROW>(sheet, ROW * i);
+        octets::put_chunk(sheet, ROW * kept, row);
+        kept += usize::from(time < image::expires_at(image, from + LEASE * i));
     }
     kept
 }
@@ -399,7 +205,7 @@ pub fn strike(
         → (result ≡ length (present time xs)) × (sheet.new ≡ sheet_of (kept_rows time xs rows ++ (replicate (n - result) empty_row ++ drop n rows))) }
 {
     let kept = close_rows(sheet, image, from, n, first, last, time);
-    lower(sheet, ROW * kept, ROW * last, n - last);
+    octets::shift::<FIGURES>(sheet, ROW * last, ROW * (n - last), ROW * kept);
     let left = kept + (n - last);
     clear_rows(sheet, left, n);
     left
@@ -428,8 +234,8 @@ fn place_row(sheet: &mut [u8], left: usize, k: usize, image: &[u8], place: usize
         → (result ≡ (placed rows left k x).0) × (sheet.new ≡ sheet_of (placed rows left k x).1) }
 {
     if is_own(sheet, left, image, place) {
-        let bytes = bytes_at(sheet, ROW * (left - 1));
-        put_bytes(sheet, ROW * k, bytes);
+        let row = octets::chunk_at::<ROW>(sheet, ROW * (left - 1));
+        octets::put_chunk(sheet, ROW * k, row);
         return left - 1;
     }
     let new = figures::untold_row(
@@ -451,6 +257,7 @@ pub fn spread(sheet: &mut [u8], n: usize, image: &[u8], from: usize, leases: usi
 {
     let mut left: usize = n;
     let mut k: usize = leases;
+    // Stays: a `for` is no plainer: it needs a test besides, since the walk ends where the places agree.
     while left < k {
         k = k - 1;
         left = place_row(sheet, left, k, image, from + LEASE * k);
@@ -459,14 +266,20 @@ pub fn spread(sheet: &mut [u8], n: usize, image: &[u8], from: usize, leases: usi
 
 // FILLING
 
-// The row of a lease of which nothing is told, in three words, as `empty_at` reads them.
+// The bytes of an untold row from its length on, the length left 0, as two numbers: the last byte of the first is the first of the second.
+const UNTOLD_FROM_LENGTH: u32 = 4294967040;
+
+const UNTOLD_END: u32 = 4294967295;
+
+// The row of a lease of which nothing is told, in three words.
+// Stays: by `put_row`, tried, SLOWER: a fill of 1,024 rows took 2.1 to 2.3 microseconds, and takes 1.8 so.
 fn put_untold(sheet: &mut [u8], at: usize, network: u32, len: u8)
     requires { at + row_size ≤ length sheet.old }
     ensures { (x : Lease) → x.network ≡ network → x.length ≡ len → sheet.new ≡ put sheet.old at (row_bytes (untold_row x)) }
 {
     image_records::put32(sheet, at, network);
-    image_records::put32(sheet, at + LENGTH, EMPTY_FROM_LENGTH + (len as u32));
-    image_records::put32(sheet, at + IN_USE, EMPTY_END);
+    image_records::put32(sheet, at + LENGTH, UNTOLD_FROM_LENGTH + u32::from(len));
+    image_records::put32(sheet, at + IN_USE, UNTOLD_END);
 }
 
 // The rows of n leases, of which nothing is told.
@@ -475,46 +288,12 @@ fn fill_leases(sheet: &mut [u8], image: &[u8], from: usize, n: usize)
     ensures { (xs : List Lease) → Records image.now from xs → n ≡ length xs
         → sheet.new ≡ put sheet.old 0 (sheet_of (map untold_row xs)) }
 {
-    let mut i: usize = 0;
-    while i < n {
+    for i in 0..n {
         let place = from + LEASE * i;
         let network = image::network_at(image, place);
         let len = image::length_at(image, place);
         put_untold(sheet, ROW * i, network, len);
-        i = i + 1;
     }
-}
-
-// n bytes from `at` on also from `to` on, by way of an array, which tells the compiler that this is one move: the array itself is never laid out.
-fn copy_bytes(sheet: &mut [u8], at: usize, to: usize, n: usize)
-    requires { (at + n ≤ length sheet.old) × (to + n ≤ length sheet.old) × (n ≤ figures_size) }
-    ensures { sheet.new ≡ put sheet.old to (take n (drop at sheet.old)) }
-{
-    let mut bytes = [0u8; FIGURES];
-    let mut k: usize = 0;
-    while k < n {
-        bytes[k] = sheet[at + k];
-        k = k + 1;
-    }
-    let mut j: usize = 0;
-    while j < n {
-        sheet[to + j] = bytes[j];
-        j = j + 1;
-    }
-}
-
-// Rows of empty slots from the place n on. Of many the second half is a copy of the first, which costs less than to make it.
-fn clear_rest(sheet: &mut [u8], n: usize)
-    requires { (n ≤ lease_slots) × (length sheet.old ≡ figures_size) }
-    ensures { sheet.new ≡ put sheet.old (row_size * n) (sheet_of (replicate (lease_slots - n) empty_row)) }
-{
-    if LEASES < n + 128 {
-        clear_rows(sheet, n, LEASES);
-        return;
-    }
-    let half = (LEASES + 1 - n) / 2;
-    clear_rows(sheet, n, n + half);
-    copy_bytes(sheet, ROW * n, ROW * (LEASES - half), ROW * half);
 }
 
 // The rows of a fresh or a loaded image, whatever stood in the sheet.
@@ -523,7 +302,7 @@ pub fn fill(sheet: &mut [u8], image: &[u8], from: usize, n: usize)
     ensures { (xs : List Lease) → Records image.now from xs → n ≡ length xs → sheet.new ≡ sheet_of (map untold_row (padded xs)) }
 {
     fill_leases(sheet, image, from, n);
-    clear_rest(sheet, n);
+    clear_rows(sheet, n, LEASES);
 }
 
 // FILING

@@ -1,16 +1,16 @@
 // The two saved forms: an image of the first widened to the second, and one narrowed to the first, in lent buffers.
 #![tactic(auto)]
 
-ghost use Rattle.std.specs.Prelude.{◌≡◌, true, not, List, ◌++◌, ℕ, ◌+◌, ◌*◌, ◌≤◌, length, take, drop};
+ghost use Rattle.std.specs.Prelude.{◌≡◌, true, not, List, ◌++◌, ℕ, ◌+◌, ◌*◌, ◌≤◌, length, drop, take};
 ghost use Rattle.lists.specs.Lists.{any?};
 ghost use Rattle.lists.specs.Put.{put};
 ghost use Rattle.names.specs.Names.{unnamed?};
 ghost use Rattle.table.specs.declared.Lease.{Lease};
 ghost use Rattle.table.specs.declared.LeaseTable.{LeaseTable};
 ghost use Rattle.image.specs.declared.Form.TheVariants.{First, Second};
-ghost use Rattle.image.specs.Image.{head_size, pool_size, lease_size, first_lease_size, used_pools, used_leases, image_as, image_of, fits_form};
+ghost use Rattle.image.specs.Image.{head_size, pool_size, lease_size, lease_size_in, first_lease_size, used_pools, used_leases, image_as, image_of, fits_form};
 ghost use Rattle.image_records.specs.Records.{Records};
-ghost use Rattle.image_forms.specs.Forms.{moved_size, lease_as, front_as, Moved};
+ghost use Rattle.image_forms.specs.Forms.{lease_as, front_as, Moved};
 
 use image::{FIRST_LEASE, Form, HEAD, LEASE, POOL};
 
@@ -25,86 +25,40 @@ pub fn any_named(image: &[u8], from: usize, n: usize) -> bool
     requires { from + lease_size * n ≤ length image.now }
     ensures { (xs : List Lease) → Records image.now from xs → n ≡ length xs → result ≡ any? (λ x. not (unnamed? x.name)) xs }
 {
-    let mut i: usize = 0;
-    while i < n {
-        if image::name_length_at(image, from + LEASE * i) != 0 {
-            return true;
+    let (records, _) = image[from..from + LEASE * n].as_chunks::<LEASE>();
+    records
+        .iter()
+        .any(|record| image::name_length_at(record, 0) != 0)
+}
+
+// LEASES
+
+// The lease whose record begins at `at`, as a record of this form, with no name. Its body moves by the register.
+fn put_lease_as(form: Form, s: &[u8], at: usize, out: &mut [u8], place: usize)
+    requires { (at + first_lease_size ≤ length s.now) × (place + lease_size_in form ≤ length out.old) }
+    ensures { out.new ≡ put out.old place (lease_as form (drop at s.now)) }
+{
+    let body = octets::chunk_at::<BODY>(s, at + BODY_AT);
+    octets::put_chunk(out, place + BODY_AT, body);
+    image_records::put32(out, place, image::lease_start(form));
+    match form {
+        Form::First => {}
+        Form::Second => {
+            out[place + image::NAME_LENGTH] = 0;
+            names::put_name(out, place + image::NAME, names::no_name());
         }
-        i = i + 1;
-    }
-    false
-}
-
-// ONE RECORD
-
-// The bytes of a body. Copied out and in again, they move by the register.
-fn body_at(s: &[u8], at: usize) -> [u8; BODY]
-    requires { at + moved_size ≤ length s.now }
-    ensures { result ≡ take moved_size (drop at s.now) }
-{
-    let mut bytes = [0u8; BODY];
-    let mut k: usize = 0;
-    while k < BODY {
-        bytes[k] = s[at + k];
-        k = k + 1;
-    }
-    bytes
-}
-
-fn put_body(out: &mut [u8], at: usize, bytes: [u8; BODY])
-    requires { at + moved_size ≤ length out.old }
-    ensures { out.new ≡ put out.old at bytes }
-{
-    let mut k: usize = 0;
-    while k < BODY {
-        out[at + k] = bytes[k];
-        k = k + 1;
     }
 }
 
-// The lease whose record of the first form begins at `at`, as a record of the second, with no name.
-fn widen_lease(saved: &[u8], at: usize, image: &mut [u8], to: usize)
-    requires { (at + first_lease_size ≤ length saved.now) × (to + lease_size ≤ length image.old) }
-    ensures { image.new ≡ put image.old to (lease_as Second (drop at saved.now)) }
+// The n leases whose records of one form begin at `at`, as records of another.
+fn put_leases_as(from: Form, to: Form, s: &[u8], at: usize, n: usize, out: &mut [u8], place: usize)
+    requires { (at + lease_size_in from * n ≤ length s.now) × (place + lease_size_in to * n ≤ length out.old) }
+    ensures { Moved from to s.now at n out.old place out.new }
 {
-    let bytes = body_at(saved, at + BODY_AT);
-    put_body(image, to + BODY_AT, bytes);
-    image_records::put32(image, to, image::LEASE_START);
-    image[to + image::NAME_LENGTH] = 0;
-    names::put_name(image, to + image::NAME, names::no_name());
-}
-
-// And the reverse: the name is left out.
-fn narrow_lease(image: &[u8], at: usize, buffer: &mut [u8], to: usize)
-    requires { (at + lease_size ≤ length image.now) × (to + first_lease_size ≤ length buffer.old) }
-    ensures { buffer.new ≡ put buffer.old to (lease_as First (drop at image.now)) }
-{
-    let bytes = body_at(image, at + BODY_AT);
-    put_body(buffer, to + BODY_AT, bytes);
-    image_records::put32(buffer, to, image::FIRST_LEASE_START);
-}
-
-// ALL OF THEM
-
-fn widen_leases(saved: &[u8], at: usize, n: usize, image: &mut [u8], to: usize)
-    requires { (at + first_lease_size * n ≤ length saved.now) × (to + lease_size * n ≤ length image.old) }
-    ensures { Moved First Second saved.now at n image.old to image.new }
-{
-    let mut i: usize = 0;
-    while i < n {
-        widen_lease(saved, at + FIRST_LEASE * i, image, to + LEASE * i);
-        i = i + 1;
-    }
-}
-
-fn narrow_leases(image: &[u8], at: usize, n: usize, buffer: &mut [u8], to: usize)
-    requires { (at + lease_size * n ≤ length image.now) × (to + first_lease_size * n ≤ length buffer.old) }
-    ensures { Moved Second First image.now at n buffer.old to buffer.new }
-{
-    let mut i: usize = 0;
-    while i < n {
-        narrow_lease(image, at + LEASE * i, buffer, to + FIRST_LEASE * i);
-        i = i + 1;
+    let size = image::lease_size(from);
+    let new_size = image::lease_size(to);
+    for i in 0..n {
+        put_lease_as(to, s, at + size * i, out, place + new_size * i);
     }
 }
 
@@ -128,7 +82,7 @@ pub fn widen(saved: &[u8], pools: usize, leases: usize, image: &mut [u8]) -> usi
 {
     let from = HEAD + POOL * pools;
     put_front(Form::Second, saved, from, image);
-    widen_leases(saved, from, leases, image, from);
+    put_leases_as(Form::First, Form::Second, saved, from, leases, image, from);
     from + LEASE * leases
 }
 
@@ -141,6 +95,6 @@ pub fn narrow(image: &[u8], pools: usize, leases: usize, buffer: &mut [u8]) -> u
 {
     let from = HEAD + POOL * pools;
     put_front(Form::First, image, from, buffer);
-    narrow_leases(image, from, leases, buffer, from);
+    put_leases_as(Form::Second, Form::First, image, from, leases, buffer, from);
     from + FIRST_LEASE * leases
 }

@@ -1,25 +1,29 @@
--- Laws of ascending leases: the place after which a network belongs, how a search halves down to it, and the lease that has the network.
+-- Laws of ascending leases: the place after which a network belongs, which the search finds among the records.
 -- Assumes nothing.
-use Prim.Native.Nat.{ℕ, zero, suc, ◌+◌, ◌*◌, ◌≤◌, ◌<◌}
+use Prim.Native.Nat.{ℕ, zero, suc, ◌+◌, ◌*◌, ◌/◌, ◌≤◌, ◌<◌}
 use native.Mathlib.Omega.{arith}
-use mathlib.Core.Path.{◌≡◌, refl, sym, ap, ◌∙◌}
+use mathlib.Core.Path.{◌≡◌, refl, sym, ap, ap₂, ◌∙◌}
 use mathlib.Core.Logic.{⊎_elim}
 use mathlib.Core.Bool.{Bool, true, false}
-use mathlib.Core.List.{List, [], ◌∷◌}
+use mathlib.Core.List.{List, [], ◌∷◌, ◌++◌, map, append_assoc, append-nil}
 use lib.ListN.{length, get_or, take, drop}
-use lib.Seq.{length-take-le}
+use lib.Seq.{length-take-le, take_at, drop_at}
+use Rattle.std.proofs.lemmas.List.{length-map}
 use lib.Dec.{leb}
-use borrow.Author.Tests.{le-leb, lt-leb, leb-true, leb-false}
-use Rattle.lists.specs.Lists.{filter}
+use borrow.Author.Tests.{le-leb, leb-true, leb-false}
+use Rattle.std.specs.Simd.{first_chunks}
+use Rattle.std.specs.List.Sorted.{IsPartitionedBy, IsPartitionPoint}
+use Rattle.lists.specs.Lists.{filter, concat_map}
 use Rattle.lists.proofs.Tests.{bool_cases}
 use Rattle.lists.proofs.FilterLaws.{filter-yes, filter-no}
 use Rattle.lists.proofs.IndexLaws.{all-at}
 use Rattle.table.specs.declared.Lease.{Lease}
 use Rattle.table.specs.Table.{no_lease}
-use Rattle.image.specs.Image.{lease_size}
+use Rattle.image.specs.Image.{lease_size, lease_record}
 use Rattle.image.specs.Reading.{lease_in}
 use Rattle.image_records.specs.Records.{Records, Ascending}
-use Rattle.image_records.proofs.RecordLaws.{lease-in-place}
+use Rattle.image.proofs.ImageLaws.{length-lease}
+use Rattle.image_records.proofs.RecordLaws.{length-leases, lease-read}
 
 -- A later one is larger.
 pub ascending-at : (xs : List Lease) → Ascending xs → (i j : ℕ) → i < j → j < length xs → (get_or xs i no_lease).network < (get_or xs j no_lease).network
@@ -42,63 +46,57 @@ filter-first {A} f d (x ∷ xs) (suc m) h pass rest =
 
 -- THE SEARCH
 
--- The leases before `low` have a network up to this one, and those from `high` on a larger one.
-pub Between : List ℕ → ℕ → ℕ → ℕ → ℕ → ℕ → Type 0
-Between l from n network low high =
-    (xs : List Lease) → Records l from xs → n ≡ length xs → Ascending xs
-    → ((k : ℕ) → k < low → (get_or xs k no_lease).network ≤ network) × ((k : ℕ) → high ≤ k → k < n → network < (get_or xs k no_lease).network)
+-- The records as arrays.
+records-chunks : (xs : List Lease) (q : List ℕ) → first_chunks lease_size (length xs) (concat_map lease_record xs ++ q) ≡ map lease_record xs
+records-chunks [] q = refl
+records-chunks (x ∷ xs) q =
+    let rest : List ℕ = concat_map lease_record xs ++ q in
+    let whole : concat_map lease_record (x ∷ xs) ++ q ≡ lease_record x ++ rest = append_assoc (lease_record x) (concat_map lease_record xs) q in
+    ap (first_chunks lease_size (suc (length xs))) whole
+    ∙ ap₂ (λ (r : List ℕ) (l : List ℕ). r ∷ first_chunks lease_size (length xs) l) (take_at (lease_record x) rest lease_size (length-lease x)) (drop_at (lease_record x) rest lease_size (length-lease x))
+    ∙ ap (λ (rs : List (List ℕ)). lease_record x ∷ rs) (records-chunks xs q)
 
-module _ (l : List ℕ) (from n network : ℕ) where
-  pub between-all : Between l from n network 0 n
-  unfolding Between
-  between-all xs r e a = ((λ k h. absurd (omega arith)), (λ k h j. absurd (omega arith)))
+pub chunks-are : (l : List ℕ) (from n m : ℕ) (xs : List Lease) → Records l from xs → n ≡ length xs → m ≡ lease_size * n
+    → first_chunks lease_size (length (take m (drop from l)) / lease_size) (take m (drop from l)) ≡ map lease_record xs
+unfolding Records
+chunks-are l from n m xs r e f =
+    let all : List ℕ = concat_map lease_record xs in
+    let size : length all ≡ m = omega (arith, length-leases xs) in
+    let part : take m (drop from l) ≡ all = ap (take m) r ∙ take_at all (drop (from + lease_size * length xs) l) m size in
+    let count : length all / lease_size ≡ length xs = omega (arith, length-leases xs) in
+    ap (λ (b : List ℕ). first_chunks lease_size (length b / lease_size) b) part
+    ∙ ap₂ (λ (k : ℕ) (b : List ℕ). first_chunks lease_size k b) count (sym (append-nil all))
+    ∙ records-chunks xs []
 
-  -- Fewer before, fewer after.
-  pub between-wider : (low high low₁ high₁ : ℕ) → Between l from n network low high → low₁ ≤ low → high ≤ high₁ → Between l from n network low₁ high₁
-  unfolding Between
-  between-wider low high low₁ high₁ b h j xs r e a = let p = b xs r e a in ((λ k i. p.0 k (omega arith)), (λ k i w. p.1 k (omega arith) w))
+-- Whether the lease of a record has a network up to this one.
+abbrev pub record_up_to : ℕ → List ℕ → Bool
+record_up_to network s = leb (lease_in s).network network
 
-  module _ (low high middle : ℕ) (b : Between l from n network low high) (within : middle < n) (here : ℕ) (read : here ≡ (lease_in (drop (from + lease_size * middle) l)).network) where
-    network-is : (xs : List Lease) → Records l from xs → n ≡ length xs → here ≡ (get_or xs middle no_lease).network
-    network-is xs r e = read ∙ ap (λ (y : Lease). y.network) (lease-in-place l from xs r middle (omega arith))
+module _ (network : ℕ) where
+  told : (xs : List Lease) (k : ℕ) (d : List ℕ) → k < length xs → record_up_to network (get_or (map lease_record xs) k d) ≡ leb (get_or xs k no_lease).network network
+  told [] k d h = absurd (omega arith)
+  told (x ∷ xs) zero d h = ap (λ (y : Lease). leb y.network network) (ap lease_in (sym (append-nil (lease_record x))) ∙ lease-read x [])
+  told (x ∷ xs) (suc k) d h = told xs k d (omega arith)
 
-    -- Up to the wanted one: so are those before it.
-    pub between-low : here ≤ network → Between l from n network (middle + 1) high
-    unfolding Between
-    between-low h xs r e a =
-        ((λ k j. upto k (omega arith)), (b xs r e a).1)
-      where
-        upto : (k : ℕ) → k ≤ middle → (get_or xs k no_lease).network ≤ network
-        upto k j =
-            ⊎_elim
-            (λ (t : leb middle k ≡ true).
-            let same : k ≡ middle = omega (arith, leb-true middle k t) in
-            omega (arith, network-is xs r e, ap (λ (m : ℕ). (get_or xs m no_lease).network) same))
-            (λ (t : leb middle k ≡ false). omega (arith, network-is xs r e, ascending-at xs a k middle (omega (arith, leb-false middle k t)) (omega arith)))
-            (bool_cases (leb middle k))
+  pub records-parted : (xs : List Lease) → Ascending xs → IsPartitionedBy (record_up_to network) (map lease_record xs)
+  records-parted xs a i j d le lt up =
+      let within : j < length xs = omega (arith, length-map xs lease_record) in
+      let last : (get_or xs j no_lease).network ≤ network = leb-true (get_or xs j no_lease).network network (sym (told xs j d within) ∙ up) in
+      told xs i d (omega arith)
+      ∙ le-leb (get_or xs i no_lease).network network
+      (⊎_elim
+      (λ (b : leb j i ≡ true).
+      let same : i ≡ j = omega (arith, leb-true j i b) in
+      omega (arith, ap (λ (m : ℕ). (get_or xs m no_lease).network) same))
+      (λ (b : leb j i ≡ false). omega (arith, ascending-at xs a i j (leb-false j i b) within))
+      (bool_cases (leb j i)))
 
-    -- Above it: so are those after it.
-    pub between-high : network < here → Between l from n network low middle
-    unfolding Between
-    between-high h xs r e a =
-        ((b xs r e a).0, above)
-      where
-        above : (k : ℕ) → middle ≤ k → k < n → network < (get_or xs k no_lease).network
-        above k j i =
-            ⊎_elim
-            (λ (t : leb k middle ≡ true).
-            let same : k ≡ middle = omega (arith, leb-true k middle t) in
-            omega (arith, network-is xs r e, ap (λ (m : ℕ). (get_or xs m no_lease).network) same))
-            (λ (t : leb k middle ≡ false). omega (arith, network-is xs r e, ascending-at xs a middle k (omega (arith, leb-false k middle t)) (omega arith)))
-            (bool_cases (leb k middle))
-
-  pub between_none : (low high : ℕ) → Between l from n network low high → high ≤ low → low ≤ n → (xs : List Lease) → Records l from xs → n ≡ length xs → Ascending xs
-      → low ≡ length (filter (λ x. leb x.network network) xs)
-  unfolding Between
-  between_none low high b met within xs r e a =
-      let p = b xs r e a in
+  pub point-counts : (xs : List Lease) (m : ℕ) → m ≤ length xs
+      → IsPartitionPoint (λ r. record_up_to network r ≡ true) (λ r. record_up_to network r ≡ false) (map lease_record xs) m
+      → m ≡ length (filter (λ x. leb x.network network) xs)
+  point-counts xs m h point =
       let f : Lease → Bool = λ x. leb x.network network in
-      sym (ap length (filter-first f no_lease xs low (omega arith)
-      (λ k j. le-leb (get_or xs k no_lease).network network (p.0 k j))
-      (λ k j i. lt-leb (get_or xs k no_lease).network network (p.1 k (omega arith) (omega arith))))
-      ∙ length-take-le low xs (omega arith))
+      sym (ap length (filter-first f no_lease xs m h
+      (λ k j. sym (told xs k [] (omega arith)) ∙ point.0 k [] (omega arith) j)
+      (λ k j i. sym (told xs k [] i) ∙ point.1 k [] j (omega (arith, length-map xs lease_record))))
+      ∙ length-take-le m xs h)

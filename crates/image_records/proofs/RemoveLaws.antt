@@ -10,6 +10,7 @@ use mathlib.Core.List.{List, [], ◌∷◌, ◌++◌, append_assoc, append-nil}
 use lib.ListN.{length, set, get_or, take, drop, replicate, length-append, length-set, length-drop, length-replicate, take-append-drop}
 use lib.Dec.{leb, ltb, eqb}
 use lib.Seq.{take-suc, take_at, drop-drop, get_or-take, get_or-drop, get_or-set_other, length-take-le}
+use mir.Val.{bool_byte}
 use borrow.Author.Tests.{leb-true, leb-false, ltb-true, ltb-false, eqb-true, eqb-false}
 use Rattle.lists.specs.Lists.{All, concat_map}
 use Rattle.lists.specs.Put.{put}
@@ -95,6 +96,18 @@ module _ (time : ℕ) (xs : List Lease) (i : ℕ) (h : i < length xs) where
       present-one time xs i h
       ∙ ap (λ (ys : List Lease). present time (take i xs) ++ ys) (present-no time (get_or xs i no_lease) [] e)
       ∙ append-nil (present time (take i xs))
+
+-- A lease that is present counts as one.
+pub one-if : (time end s : ℕ) → s ≡ bool_byte (ltb time end) → (s ≤ 1) × (time < end → s ≡ 1) × (end ≤ time → s ≡ 0)
+one-if time end s e =
+    ⊎_elim
+    (λ (b : ltb time end ≡ true).
+    let here = ltb-true time end b in
+    let one : s ≡ 1 = e ∙ ap bool_byte b in (omega arith, (λ h. one), (λ h. absurd (omega arith))))
+    (λ (b : ltb time end ≡ false).
+    let gone = ltb-false time end b in
+    let none : s ≡ 0 = e ∙ ap bool_byte b in (omega arith, (λ h. absurd (omega arith)), (λ h. none)))
+    (bool_cases (ltb time end))
 
 module _ (l : List ℕ) (from first time : ℕ) where
   pub closed-first : Closed l from first time l first first

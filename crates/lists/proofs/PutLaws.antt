@@ -4,9 +4,10 @@ use Prim.Native.Nat.{ℕ, suc, ◌+◌, ◌≤◌, ◌<◌}
 use native.Mathlib.Omega.{arith}
 use native.Mathlib.Numerals.{add-one}
 use mathlib.Core.Path.{◌≡◌, refl, sym, ap, ap₂, ◌∙◌}
-use mathlib.Core.List.{List, [], ◌∷◌, ◌++◌}
+use mathlib.Core.List.{List, [], ◌∷◌, ◌++◌, append_assoc}
 use lib.ListN.{length, set, take, drop, length-set}
-use lib.Seq.{sets, sets-eq, set_out, set_comm}
+use lib.Seq.{drop-drop, sets, sets-eq, set_out, set_comm}
+use borrow.Rule.Slice.PartMut.{put_mid}
 use Rattle.lists.specs.Put.{put}
 
 module _ {A : Type 0} where
@@ -47,6 +48,12 @@ module _ {A : Type 0} where
   -- Where there is room: what stood before, what is put, what stood after.
   pub put-fits : (xs : List A) (l : List A) (at : ℕ) → at + length xs ≤ length l → put l at xs ≡ take at l ++ xs ++ drop (at + length xs) l
   put-fits xs l at h = put-sets xs l at ∙ sets-eq xs l at h
+
+  -- What a write to a part of a slice, `s[at..at + k]`, leaves of it.
+  pub put_mid-put : (xs l : List A) (at k : ℕ) → k ≡ length xs → at + k ≤ length l → put_mid at k l xs ≡ put l at xs
+  put_mid-put xs l at k e h =
+      ap (λ (r : List A). take at l ++ (xs ++ r)) (drop-drop k at l ∙ ap (λ (n : ℕ). drop (at + n) l) e)
+      ∙ sym (put-fits xs l at (omega arith) ∙ append_assoc (take at l) xs (drop (at + length xs) l))
 
   -- Put at the front, and what stays behind it.
   pub put_front : (xs l : List A) → length xs ≤ length l → put l 0 xs ≡ xs ++ drop (length xs) l

@@ -1,18 +1,20 @@
 -- Laws of words: the eight bytes that a word is read from, words put one after another, and how many octets a word and a name have.
 -- Assumes nothing.
 use Prim.Native.Nat.{ℕ, zero, suc, ◌+◌, ◌-◌, ◌*◌, ◌/◌, ◌%◌, ◌^◌, ◌≤◌, ◌<◌}
-use mathlib.Core.Path.{◌≡◌, refl, sym, ap, ap₂, subst, ◌∙◌}
+use mathlib.Core.Path.{◌≡◌, refl, sym, ap, subst, ◌∙◌}
 use mathlib.Core.Logic.{⊎_elim}
 use mathlib.Core.Bool.{Bool, true, false, cond}
 use mathlib.Core.List.{List, [], ◌∷◌, ◌++◌, append_assoc, append-nil}
 use native.Mathlib.Omega.{arith}
-use native.Mathlib.Nat.{add-suc, add-zero, pow-suc}
-use lib.ListN.{length, take, drop, get_or, replicate, length-append, drop_of_length-le}
-use lib.Seq.{drop-cons, take-length}
+use native.Mathlib.Nat.{add-suc, add-zero, pow-suc, div-div-eq-div-mul}
+use lib.ListN.{length, take, drop, get_or, replicate, length-append, length-drop, drop_of_length-le}
+use lib.Seq.{drop-cons, length-take-le, take_all}
 use lib.Dec.{eqb, leb, ltb}
 use lib.Pow.{pow_mono, pow-add}
 use lib.Count.{count_leading_zeros, leading_length}
 use borrow.Author.Tests.{eqb-true, eqb-false, leb-true, leb-false, ltb-true, ltb-false}
+use Rattle.std.specs.Int.{from_le_bytes, to_le_bytes}
+use mir.Syntax.{w64}
 use Rattle.lists.specs.Put.{put}
 use Rattle.lists.proofs.Tests.{bool_cases}
 use Rattle.lists.proofs.PutLaws.{put-more, put_front}
@@ -47,6 +49,21 @@ module _ (s : List ℕ) (at : ℕ) where
         byte-first 6 1 (omega arith),
         byte-first 7 0 (omega arith),
       )
+
+-- The library's conversions say the same.
+pub le-spells : (bs : List ℕ) → 8 ≤ length bs → from_le_bytes w64 bs ≡ spells (take 8 bs)
+le-spells bs h = omega (arith, word_bytes bs 0 (omega arith))
+
+pub le-word : (bs s : List ℕ) (at : ℕ) → at + 8 ≤ length s → bs ≡ take 8 (drop at s) → from_le_bytes w64 bs ≡ spells (take 8 (drop at s))
+le-word bs s at h e =
+    let size : length bs ≡ 8 = ap length e ∙ length-take-le 8 (drop at s) (omega (arith, length-drop at s)) in
+    le-spells bs (omega arith) ∙ ap spells (take_all 8 bs (omega arith) ∙ e)
+
+pub le-octets : (n : ℕ) → n < 18446744073709551616 → to_le_bytes w64 n ≡ octets 8 n
+unfolding octets
+le-octets n h =
+    let last : n / 72057594037927936 % 256 ≡ n / 72057594037927936 = omega arith in
+    simp (div-div-eq-div-mul, last)
 
 -- Three words put one after another.
 pub three-put : (l l₁ l₂ l₃ : List ℕ) (at a b c : ℕ) → l₁ ≡ put l at (octets 8 a) → l₂ ≡ put l₁ (at + 8) (octets 8 b) → l₃ ≡ put l₂ (at + 16) (octets 8 c)

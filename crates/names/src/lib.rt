@@ -10,7 +10,7 @@ ghost use Rattle.names.specs.Inner.{word_length};
 pub const LONGEST: usize = 24;
 
 // The octets eight to a word, low octet first, and zero after the name: so a name is read, compared, moved and measured as three words.
-#[derive(Clone, Copy)]
+#[derive(Clone, Copy, Default)]
 pub struct Name {
     pub first: u64,
     pub second: u64,
@@ -20,35 +20,17 @@ pub struct Name {
 pub fn no_name() -> Name
     ensures { result ≡ no_name }
 {
-    Name {
-        first: 0,
-        second: 0,
-        third: 0,
-    }
+    Name::default()
 }
 
 // WORDS
-
-// A byte as a word: saying so once spares a proof for each byte read.
-fn wide(x: u8) -> u64
-    ensures { (result ≡ x) × (result < 256) }
-{
-    x as u64
-}
 
 // The word that the eight bytes from a position on spell: one load when compiled.
 pub fn read64(s: &[u8], at: usize) -> u64
     requires { at + 8 ≤ length s.now }
     ensures { result ≡ spells (take 8 (drop at s.now)) }
 {
-    wide(s[at])
-        + 256 * wide(s[at + 1])
-        + 65536 * wide(s[at + 2])
-        + 16777216 * wide(s[at + 3])
-        + 4294967296 * wide(s[at + 4])
-        + 1099511627776 * wide(s[at + 5])
-        + 281474976710656 * wide(s[at + 6])
-        + 72057594037927936 * wide(s[at + 7])
+    u64::from_le_bytes(octets::chunk_at(s, at))
 }
 
 // One store when compiled.
@@ -56,21 +38,14 @@ pub fn put64(out: &mut [u8], at: usize, n: u64)
     requires { at + 8 ≤ length out.old }
     ensures { out.new ≡ put out.old at (octets 8 n) }
 {
-    out[at] = (n % 256) as u8;
-    out[at + 1] = (n / 256 % 256) as u8;
-    out[at + 2] = (n / 65536 % 256) as u8;
-    out[at + 3] = (n / 16777216 % 256) as u8;
-    out[at + 4] = (n / 4294967296 % 256) as u8;
-    out[at + 5] = (n / 1099511627776 % 256) as u8;
-    out[at + 6] = (n / 281474976710656 % 256) as u8;
-    out[at + 7] = (n / 72057594037927936) as u8;
+    octets::put_chunk(out, at, n.to_le_bytes());
 }
 
 // How many octets a word has up to its last that is not zero.
 fn word_length(w: u64) -> u8
     ensures { result ≡ word_length w }
 {
-    8 - (u64::leading_zeros(w) / 8) as u8
+    8 - (w.leading_zeros() / 8) as u8
 }
 
 // NAMES

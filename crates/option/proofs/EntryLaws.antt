@@ -15,10 +15,12 @@ use Rattle.option.specs.Values.{Entry}
 use Rattle.prefix.specs.Prefixes.{checked}
 use Rattle.option.specs.Rules.{block?, entry_fields?}
 use Rattle.option.specs.Reading.{entry_framed?, entry_at, entry_end, read_entry, read_entries}
-use Rattle.option.specs.Answers.{fields_of, entry_step_of}
+use Rattle.option.specs.Answers.{fields_of, entries_from, entry_step_of}
 use Rattle.option_entry.specs.declared.EntryFields.{EntryFields}
 use Rattle.option_entry.specs.declared.EntryCursor.{EntryCursor}
-use Rattle.option_entry.specs.declared.EntryStep.TheVariants as entry-step
+use Rattle.option_entry.specs.declared.CutEntry.{CutEntry}
+use Rattle.std.specs.declared.option.Option.TheVariants.{None, Some}
+use Rattle.std.specs.declared.result.Result.TheVariants.{Ok, Err}
 
 -- What the framing test of an entry decides.
 pub record EntryFramed (s : List ℕ) (end at : ℕ) : Type 0 where
@@ -73,23 +75,23 @@ module _ (s : List ℕ) (end at : ℕ) (le : at ≤ end) where
   entries-stop b h = unroll-stop (read_entry s end) false end (entry-moves s end) at b le h
 
 -- What an answer of the entry cursor tells.
-pub told-entry : (end : ℕ) (t : Turn Entry Bool) (f : EntryFields) (c : EntryCursor) → entry-step.Entry f c ≡ entry_step_of end t
+pub told-entry : (end : ℕ) (t : Turn Entry Bool) (f : EntryFields) (c : EntryCursor) → entry_step_of end t ≡ Ok (Some (f, c))
     → (e : Entry) × (t ≡ more e c.at) × (f ≡ fields_of e) × (c.end ≡ end)
 told-entry end (more e n) f c h =
-    let cursor : c ≡ record { at = n; end = end } = cc in
-    (e, ap (more e) (sym (ap (λ (c : EntryCursor). c.at) cursor)), cc, ap (λ (c : EntryCursor). c.end) cursor)
-told-entry end (stop true) f c h = let z : ◌≡◌ {A = ℕ} 0 1 = cc in absurd (omega arith)
-told-entry end (stop false) f c h = let z : ◌≡◌ {A = ℕ} 0 1 = cc in absurd (omega arith)
+    let both : ◌≡◌ {A = EntryFields × EntryCursor} (fields_of e, entries_from n end) (f, c) = cc in
+    (e, ap (λ p. more e p.1.at) both, sym (ap (λ p. p.0) both), sym (ap (λ p. p.1.end) both))
+told-entry end (stop true) f c h = absurd cc
+told-entry end (stop false) f c h = absurd cc
 
-pub told-cut : (end : ℕ) (t : Turn Entry Bool) → entry-step.Cut ≡ entry_step_of end t → t ≡ stop false
-told-cut end (more e n) h = let z : ◌≡◌ {A = ℕ} 0 1 = cc in absurd (omega arith)
-told-cut end (stop true) h = let z : ◌≡◌ {A = ℕ} 0 1 = cc in absurd (omega arith)
-told-cut end (stop false) h = refl
+pub told-cut : (end : ℕ) (t : Turn Entry Bool) (x : CutEntry) → entry_step_of end t ≡ Err x → t ≡ stop false
+told-cut end (more e n) x h = absurd cc
+told-cut end (stop true) x h = absurd cc
+told-cut end (stop false) x h = refl
 
-pub told-entries-end : (end : ℕ) (t : Turn Entry Bool) → entry-step.End ≡ entry_step_of end t → t ≡ stop true
-told-entries-end end (more e n) h = let z : ◌≡◌ {A = ℕ} 0 1 = cc in absurd (omega arith)
+pub told-entries-end : (end : ℕ) (t : Turn Entry Bool) → entry_step_of end t ≡ Ok None → t ≡ stop true
+told-entries-end end (more e n) h = absurd cc
 told-entries-end end (stop true) h = refl
-told-entries-end end (stop false) h = let z : ◌≡◌ {A = ℕ} 0 1 = cc in absurd (omega arith)
+told-entries-end end (stop false) h = absurd cc
 
 -- The field test of an entry, from its fields as the code holds them.
 pub entry-fields : (e : Entry) (f : EntryFields) → f ≡ fields_of e → block? (checked f.network f.length) ≡ entry_fields? e

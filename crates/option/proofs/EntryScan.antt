@@ -3,21 +3,23 @@
 use Prim.Native.Nat.{ℕ, ◌+◌, ◌-◌, ◌≤◌}
 use native.Mathlib.Omega.{arith}
 use mathlib.Core.Path.{◌≡◌, refl, sym, ap, ◌∙◌}
-use mathlib.Core.Bool.{Bool, true, ◌&&◌, and-true, and_assoc}
+use mathlib.Core.Bool.{Bool, true, false, cond, ◌&&◌, and-true, and_assoc}
 use mathlib.Core.List.{List, [], ◌∷◌, ◌++◌, map, append_assoc, append-nil, map-append}
 use mathlib.Core.Option.{Option, none, some, get_or}
 use lib.ListN.{length, set, length-append, length-map}
 use Rattle.lists.specs.Lists.{all?}
 use Rattle.lists.specs.Put.{put}
-use Rattle.lists.specs.Walk.{more, stop}
+use Rattle.lists.specs.Walk.{Turn, more, stop}
 use Rattle.lists.proofs.PutLaws.{put-nothing, length-put, set_more}
-use Rattle.option.specs.Values.{Entry}
+use Rattle.option.specs.Values.{Entry, SuboptionValue}
 use Rattle.option.specs.Rules.{entry_fields?}
-use Rattle.option.specs.Reading.{read_entry, read_entries}
+use Rattle.option.specs.Reading.{End, bad_at, read_entry, read_entries}
 use Rattle.option.specs.Contents.{last_network}
 use Rattle.option.specs.Answers.{last_of, InColumns}
 use Rattle.option.specs.Inner.{scan_of}
-use Rattle.option.specs.declared.Scan.{Scan}
+use Rattle.option.specs.declared.{Entries.Entries, Fault.Fault}
+use Rattle.option.specs.declared.Fault.TheVariants.{Framing, Field}
+use Rattle.std.specs.declared.result.Result.TheVariants.{Ok, Err}
 use Rattle.option.proofs.EntryLaws.{entry-moves, entries-more, entries-stop}
 
 -- The entries before at' are read and stored, n in the columns with those that were there, and what is left is to be read from at' on.
@@ -101,13 +103,34 @@ module _ (s : List ℕ) (at end from : ℕ) (ns ls : List ℕ) where
           ∙ ap (λ (q : List Entry × Bool). (h.done ++ q.0, q.1)) (entries-stop s end at' h.within b (sym turn-same ∙ t))
           ∙ ap (λ (es : List Entry). (es, b)) (append-nil h.done)
 
-      pub scanning-stop : ◌≡◌ {A = Scan} (record { framed = b; fields = fields; count = n - from; last = last }) (scan_of (read_entries s end at))
-      scanning-stop =
+      pub scanning-stop : (f : Bool) → fields ≡ f → cond b (cond f (Ok (record { count = n - from; last = last })) (Err Field)) (Err Framing) ≡ scan_of (read_entries s end at)
+      scanning-stop f e =
           let count : n - from ≡ length h.done = omega (arith, h.counted) in
-          rw (h.good, h.final, count, all_read) refl
+          rw (← e, h.good, h.final, count, all_read) refl
 
       pub scanning-stored : InColumns (read_entries s end at).0 from ns ls ns' ls'
       scanning-stored = (
         h.networks ∙ ap (λ (q : List Entry × Bool). put ns from (map (λ e. e.network) q.0)) (sym all_read),
         h.lengths ∙ ap (λ (q : List Entry × Bool). put ls from (map (λ e. e.length) q.0)) (sym all_read),
       )
+
+-- What the pass's answer tells of the entries.
+scanned : (b f : Bool) (n last : ℕ) (found : Entries) → cond b (cond f (Ok (record { count = n; last = last })) (Err Field)) (Err Framing) ≡ Ok found
+    → (b ≡ true) × (f ≡ true) × (record { count = n; last = last } ≡ found)
+scanned true true n last found h = (refl, refl, cc)
+scanned true false n last found h = absurd cc
+scanned false f n last found h = absurd cc
+
+pub scan-good : (r : List Entry × Bool) (found : Entries) → scan_of r ≡ Ok found
+    → (r.1 ≡ true) × (all? entry_fields? r.0 ≡ true) × (record { count = length r.0; last = last_of r.0 } ≡ found)
+scan-good r found h = scanned r.1 (all? entry_fields? r.0) (length r.0) (last_of r.0) found h
+
+pub scan-bad : (r : List Entry × Bool) (at : ℕ) (t : Turn SuboptionValue End) (fault : Fault) → scan_of r ≡ Err fault
+    → cond r.1 (cond (all? entry_fields? r.0) t (stop (bad_at Field at))) (stop (bad_at Framing at)) ≡ stop (bad_at fault at)
+scan-bad r at t fault h = go r.1 (all? entry_fields? r.0) (record { count = length r.0; last = last_of r.0 }) h
+  where
+    go : (b f : Bool) (found : Entries) → cond b (cond f (Ok found) (Err Field)) (Err Framing) ≡ Err fault
+        → cond b (cond f t (stop (bad_at Field at))) (stop (bad_at Framing at)) ≡ stop (bad_at fault at)
+    go true true found k = absurd cc
+    go true false found k = let e : Field ≡ fault = cc in ap (λ (g : Fault). stop (bad_at g at)) e
+    go false f found k = let e : Framing ≡ fault = cc in ap (λ (g : Fault). stop (bad_at g at)) e

@@ -10,8 +10,9 @@ use lib.Dec.{eqb, leb}
 use borrow.Author.Tests.{leb-true, eqb-true, eqb-false, not-true, le-leb, eq-eqb, ne_eqb}
 use Rattle.lists.specs.Lists.{All, all?}
 use Rattle.lists.proofs.Tests.{and-to, and-of, all?-to, all?-of}
+use Rattle.std.specs.Prelude.{Ok, Err}
 use Rattle.prefix.specs.declared.Prefix.{Prefix}
-use Rattle.prefix.specs.declared.Checked.TheVariants.{Good, BadLength, Misaligned}
+use Rattle.prefix.specs.declared.PrefixFault.TheVariants.{BadLength, Misaligned}
 use Rattle.prefix.specs.Prefixes.{prefix, Aligned, aligned?, shortest, longest}
 use Rattle.prefix.proofs.PrefixLaws.{aligned-to, aligned-of}
 use Rattle.option.specs.Values.{Entry, SuboptionValue, request, information, name, unknown}
@@ -26,10 +27,10 @@ pub record Block (network length' : ℕ) : Type 0 where
   pub long : length' ≤ longest
   pub aligned : Aligned (prefix network length')
 
-block_to : (b c : Bool) (p : Prefix) → block? (cond (not b) BadLength (cond c (Good p) Misaligned)) ≡ true → (b ≡ true) × (c ≡ true)
+block_to : (b c : Bool) (p : Prefix) → block? (cond (not b) (Err BadLength) (cond c (Ok p) (Err Misaligned))) ≡ true → (b ≡ true) × (c ≡ true)
 block_to true true p h = (refl, refl)
-block_to true false p h = let z : ◌≡◌ {A = Bool} false true = h in let y : ◌≡◌ {A = ℕ} 0 1 = cc in absurd (omega arith)
-block_to false c p h = let z : ◌≡◌ {A = Bool} false true = h in let y : ◌≡◌ {A = ℕ} 0 1 = cc in absurd (omega arith)
+block_to true false p h = cc
+block_to false c p h = cc
 
 pub entry-fields-to : (e : Entry) → entry_fields? e ≡ true → Block e.network e.length
 unfolding entry_fields?

@@ -13,11 +13,11 @@ use Rattle.option.specs.Reading.{End, whole, bad_at, when_good, read_request, re
 use Rattle.option.specs.Answers.{suboption_of, cursor_at, step_of, entries_of, InColumns, Stores}
 use Rattle.option.specs.Inner.{body_of}
 use Rattle.option.specs.declared.Fault.{Fault}
-use Rattle.option.specs.declared.Fault.TheVariants.{Framing, Field}
+use Rattle.option.specs.declared.Fault.TheVariants.{Framing}
 use Rattle.option.specs.declared.Suboption.{Suboption}
-use Rattle.option.specs.declared.Step.TheVariants as step
-use Rattle.option.specs.declared.Body.{Body}
-use Rattle.option.specs.declared.Body.TheVariants as body
+use Rattle.std.specs.declared.result.Result.{Result}
+use Rattle.std.specs.declared.option.Option.TheVariants.{Some}
+use Rattle.std.specs.declared.result.Result.TheVariants.{Ok, Err}
 use Rattle.option.proofs.SuboptionLaws.{good-read, good-not-whole, EndsAt, StopsAt}
 
 module _ {t : Turn SuboptionValue End} {from : ℕ} {ns ls ns' ls' : List ℕ} where
@@ -34,7 +34,7 @@ module _ {t : Turn SuboptionValue End} {from : ℕ} {ns ls ns' ls' : List ℕ} w
   pub body-bad : (fault : Fault) (at : ℕ) → t ≡ stop (bad_at fault at) → (body_of at (stop (bad_at fault at)) ≡ body_of at t) × Stores t from ns ls ns' ls'
   body-bad fault at h = (ap (body_of at) (sym h), stores-bad fault at h)
 
-  pub body-good : (at : ℕ) (r : Body) (x : SuboptionValue) (next : ℕ) → t ≡ more x next → r ≡ body.Good (suboption_of x at next) → InColumns (entries_of x) from ns ls ns' ls'
+  pub body-good : (at : ℕ) (r : Result Suboption Fault) (x : SuboptionValue) (next : ℕ) → t ≡ more x next → r ≡ Ok (suboption_of x at next) → InColumns (entries_of x) from ns ls ns' ls'
       → (r ≡ body_of at t) × Stores t from ns ls ns' ls'
   body-good at r x next h e k = (
     e ∙ ap (body_of at) (sym h),
@@ -47,45 +47,35 @@ module _ {t : Turn SuboptionValue End} {from : ℕ} {ns ls ns' ls' : List ℕ} w
     },
   )
 
-  pub body-as : {u : Turn SuboptionValue End} (at : ℕ) (r : Body) → t ≡ u → r ≡ body_of at u → Stores u from ns ls ns' ls' → (r ≡ body_of at t) × Stores t from ns ls ns' ls'
+  pub body-as : {u : Turn SuboptionValue End} (at : ℕ) (r : Result Suboption Fault) → t ≡ u → r ≡ body_of at u → Stores u from ns ls ns' ls' → (r ≡ body_of at t) × Stores t from ns ls ns' ls'
   body-as at r e h k = (h ∙ ap (body_of at) (sym e), stores_as e k)
 
   -- A step that finds no whole suboption, and one that goes by the body.
-  pub step-bad : (at : ℕ) → t ≡ stop (bad_at Framing at) → (step.Bad Framing at ≡ step_of at t) × Stores t from ns ls ns' ls'
+  pub step-bad : (at : ℕ) → t ≡ stop (bad_at Framing at) → (Err (record { fault = Framing; place = at }) ≡ step_of at t) × Stores t from ns ls ns' ls'
   step-bad at h = (ap (step_of at) (sym h), stores-bad Framing at h)
 
-  pub step-good : {u : Turn SuboptionValue End} (at end : ℕ) (f : Suboption) → t ≡ u → EndsAt end u → body.Good f ≡ body_of at u → Stores u from ns ls ns' ls'
-      → (step.Piece f (cursor_at end) ≡ step_of at t) × Stores t from ns ls ns' ls'
+  pub step-good : {u : Turn SuboptionValue End} (at end : ℕ) (f : Suboption) → t ≡ u → EndsAt end u → body_of at u ≡ Ok f → Stores u from ns ls ns' ls'
+      → (Ok (Some (f, cursor_at end)) ≡ step_of at t) × Stores t from ns ls ns' ls'
   step-good {u} at end f e ends h k = (go u ends h ∙ ap (step_of at) (sym e), stores_as e k)
     where
-      go : (u : Turn SuboptionValue End) → EndsAt end u → body.Good f ≡ body_of at u → step.Piece f (cursor_at end) ≡ step_of at u
+      go : (u : Turn SuboptionValue End) → EndsAt end u → body_of at u ≡ Ok f → Ok (Some (f, cursor_at end)) ≡ step_of at u
       go (more x next) ends h =
           let same : end ≡ next = ends x next refl in
-          let fields : f ≡ suboption_of x at next = cc in
-          ap₂ (λ (f : Suboption) (n : ℕ). step.Piece f (cursor_at n)) fields same
-      go (stop whole) ends h = let z : ◌≡◌ {A = ℕ} 0 1 = cc in absurd (omega arith)
-      go (stop (bad_at Framing p)) ends h = let z : ◌≡◌ {A = ℕ} 0 1 = cc in absurd (omega arith)
-      go (stop (bad_at Field p)) ends h = let z : ◌≡◌ {A = ℕ} 0 1 = cc in absurd (omega arith)
+          let fields : suboption_of x at next ≡ f = cc in
+          ap₂ (λ (f : Suboption) (n : ℕ). Ok (Some (f, cursor_at n))) (sym fields) same
+      go (stop whole) ends h = absurd cc
+      go (stop (bad_at fault p)) ends h = absurd cc
 
-  pub step-none : {u : Turn SuboptionValue End} (fault : Fault) (at : ℕ) → t ≡ u → StopsAt at u → body_of at (stop (bad_at fault at)) ≡ body_of at u → Stores u from ns ls ns' ls'
-      → (step.Bad fault at ≡ step_of at t) × Stores t from ns ls ns' ls'
+  pub step-none : {u : Turn SuboptionValue End} (fault : Fault) (at : ℕ) → t ≡ u → StopsAt at u → body_of at u ≡ Err fault → Stores u from ns ls ns' ls'
+      → (Err (record { fault = fault; place = at }) ≡ step_of at t) × Stores t from ns ls ns' ls'
   step-none {u} fault at e stops h k = (go u stops h ∙ ap (step_of at) (sym e), stores_as e k)
     where
-      same : (f g : Fault) → body_of at (stop (bad_at f at)) ≡ body_of at (stop (bad_at g at)) → step.Bad f at ≡ step.Bad g at
-      same Framing Framing h = refl
-      same Framing Field h = let z : ◌≡◌ {A = ℕ} 0 1 = cc in absurd (omega arith)
-      same Field Framing h = let z : ◌≡◌ {A = ℕ} 0 1 = cc in absurd (omega arith)
-      same Field Field h = refl
-
-      good : (f : Fault) (x : Suboption) → body_of at (stop (bad_at f at)) ≡ body.Good x → ⊥
-      good Framing x h = let z : ◌≡◌ {A = ℕ} 0 1 = cc in omega arith
-      good Field x h = let z : ◌≡◌ {A = ℕ} 0 1 = cc in omega arith
-
-      go : (u : Turn SuboptionValue End) → StopsAt at u → body_of at (stop (bad_at fault at)) ≡ body_of at u → step.Bad fault at ≡ step_of at u
-      go (more x next) stops h = absurd (good fault (suboption_of x at next) h)
+      go : (u : Turn SuboptionValue End) → StopsAt at u → body_of at u ≡ Err fault → Err (record { fault = fault; place = at }) ≡ step_of at u
+      go (more x next) stops h = absurd cc
       go (stop b) stops h =
           let s = stops b refl in
-          same fault s.0 (h ∙ ap (λ (b : End). body_of at (stop b)) s.1) ∙ ap (λ (b : End). step_of at (stop b)) (sym s.1)
+          let same : s.0 ≡ fault = let k = sym (ap (λ (b : End). body_of at (stop b)) s.1) ∙ h in cc in
+          ap (λ (f : Fault). Err (record { fault = f; place = at })) (sym same) ∙ ap (λ (b : End). step_of at (stop b)) (sym s.1)
 
 -- The end.
 pub step_end : {t : Turn SuboptionValue End} {from : ℕ} {ns ls : List ℕ} (at : ℕ) → t ≡ stop whole → (step_of at (stop whole) ≡ step_of at t) × Stores t from ns ls ns ls

@@ -16,14 +16,15 @@ use Rattle.option.specs.Values.{Entry, SuboptionValue, request, information, nam
 use Rattle.option.specs.Rules.{final, fields?}
 use Rattle.option.specs.Reading.{End, whole, bad_at, sub_end, sub_inside?, when_good, read_entries, read_request, read_information, read_name, read_body, read_suboption, read_suboptions, ended, option?}
 use Rattle.option.proofs.RuleLaws.{option-to}
-use Rattle.option.specs.Answers.{suboption_of, step_of, checked_of}
+use Rattle.option.specs.Answers.{suboption_of, cursor_at, step_of, checked_of, checked_end}
 use Rattle.option.specs.declared.Fault.{Fault}
 use Rattle.option.specs.declared.Fault.TheVariants.{Framing, Field}
 use Rattle.option.specs.declared.Suboption.{Suboption}
 use Rattle.option.specs.declared.Cursor.{Cursor}
-use Rattle.option.specs.declared.Step.TheVariants as step
-use Rattle.option.specs.declared.Checked.{Checked}
-use Rattle.option.specs.declared.Checked.TheVariants.{Good, BadSuboption}
+use Rattle.option.specs.declared.BadSuboption.{BadSuboption}
+use Rattle.option.specs.declared.OptionFault.TheVariants as refusal
+use Rattle.std.specs.declared.option.Option.TheVariants.{None, Some}
+use Rattle.std.specs.declared.result.Result.TheVariants.{Ok, Err}
 
 -- The octet that a name ends with is the last byte of its body.
 pub final-byte : (s : List ℕ) (at end : ℕ) → at < end → end ≤ length s → final (take (end - at) (drop at s)) ≡ get_or s (end - 1) 0
@@ -100,35 +101,36 @@ module _ (s : List ℕ) (at : ℕ) (le : at ≤ length s) where
   suboptions-stop e h = unroll-stop (read_suboption s) whole (length s) (suboption-moves s) at e le h
 
 -- What an answer of the cursor tells: the suboption's value, and where the reading goes on.
-pub told-piece : (at : ℕ) (t : Turn SuboptionValue End) (f : Suboption) (c : Cursor) → step.Piece f c ≡ step_of at t
+pub told-piece : (at : ℕ) (t : Turn SuboptionValue End) (f : Suboption) (c : Cursor) → step_of at t ≡ Ok (Some (f, c))
     → (x : SuboptionValue) × (t ≡ more x c.at) × (f ≡ suboption_of x at c.at)
 told-piece at (more x n) f c h =
-    let cursor : c ≡ record { at = n } = cc in
-    let place : c.at ≡ n = ap (λ (c : Cursor). c.at) cursor in
-    let fields : f ≡ suboption_of x at n = cc in
-    (x, ap (more x) (sym place), fields ∙ ap (suboption_of x at) (sym place))
-told-piece at (stop whole) f c h = let z : ◌≡◌ {A = ℕ} 0 1 = cc in absurd (omega arith)
-told-piece at (stop (bad_at e p)) f c h = let z : ◌≡◌ {A = ℕ} 0 1 = cc in absurd (omega arith)
+    let both : ◌≡◌ {A = Suboption × Cursor} (suboption_of x at n, cursor_at n) (f, c) = cc in
+    let place : n ≡ c.at = ap (λ p. p.1.at) both in
+    (x, ap (more x) place, sym (ap (λ p. p.0) both) ∙ ap (suboption_of x at) place)
+told-piece at (stop whole) f c h = absurd cc
+told-piece at (stop (bad_at e p)) f c h = absurd cc
 
-pub told-bad : (at : ℕ) (t : Turn SuboptionValue End) (fault : Fault) (place : ℕ) → step.Bad fault place ≡ step_of at t → t ≡ stop (bad_at fault place)
-told-bad at (more x n) fault place h = let z : ◌≡◌ {A = ℕ} 0 1 = cc in absurd (omega arith)
-told-bad at (stop whole) fault place h = let z : ◌≡◌ {A = ℕ} 0 1 = cc in absurd (omega arith)
-told-bad at (stop (bad_at e p)) fault place h = cc
+pub told-bad : (at : ℕ) (t : Turn SuboptionValue End) (bad : BadSuboption) → step_of at t ≡ Err bad → t ≡ stop (bad_at bad.fault bad.place)
+told-bad at (more x n) bad h = absurd cc
+told-bad at (stop whole) bad h = absurd cc
+told-bad at (stop (bad_at fault place)) bad h =
+    let same : record { fault = fault; place = place } ≡ bad = cc in
+    ap (λ (b : BadSuboption). stop (bad_at b.fault b.place)) same
 
-pub told-end : (at : ℕ) (t : Turn SuboptionValue End) → step.End ≡ step_of at t → t ≡ stop whole
-told-end at (more x n) h = let z : ◌≡◌ {A = ℕ} 0 1 = cc in absurd (omega arith)
+pub told-end : (at : ℕ) (t : Turn SuboptionValue End) → step_of at t ≡ Ok None → t ≡ stop whole
+told-end at (more x n) h = absurd cc
 told-end at (stop whole) h = refl
-told-end at (stop (bad_at e p)) h = let z : ◌≡◌ {A = ℕ} 0 1 = cc in absurd (omega arith)
+told-end at (stop (bad_at e p)) h = absurd cc
 
 -- The check's answer goes by how the reading ends alone.
-abbrev pub checked_end : End → Checked
-checked_end whole = Good
-checked_end (bad_at fault place) = BadSuboption fault place
+pub checked-whole : (subs : List SuboptionValue) (e : End) (u : Unit {0}) → checked_end e ≡ Ok u → checked_of (ended subs e) ≡ Ok tt
+checked-whole subs whole u h = refl
+checked-whole subs (bad_at fault place) u h = absurd cc
 
-pub checked-ended : (subs : List SuboptionValue) (e : End) → checked_of (ended subs e) ≡ checked_end e
-checked-ended subs whole = refl
-checked-ended subs (bad_at Framing place) = refl
-checked-ended subs (bad_at Field place) = refl
+pub checked-bad : (subs : List SuboptionValue) (e : End) (bad : BadSuboption) → checked_end e ≡ Err bad → checked_of (ended subs e) ≡ Err (refusal.BadSuboption bad)
+checked-bad subs whole bad h = absurd cc
+checked-bad subs (bad_at Framing place) bad h = let same : record { fault = Framing; place = place } ≡ bad = cc in ap (λ (b : BadSuboption). Err (refusal.BadSuboption b)) same
+checked-bad subs (bad_at Field place) bad h = let same : record { fault = Field; place = place } ≡ bad = cc in ap (λ (b : BadSuboption). Err (refusal.BadSuboption b)) same
 
 -- An information among the suboptions: its entries are those from its fourth byte to its end, all framed, and all blocks.
 body-entries : (one two three : Bool) (f₁ f₂ f₃ : Bool) (h i : Bool) (p : ℕ) (c t : Bool) (es : List Entry) (o : List ℕ) (at end : ℕ) (c' t' : Bool) (es' : List Entry) (next : ℕ)

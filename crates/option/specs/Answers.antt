@@ -1,5 +1,5 @@
 -- The code's answers, from what the definitions of Reading say, and document 01's number and place for each.
-use Rattle.std.specs.Prelude.{ℕ, ◌+◌, ◌≡◌, cond, List, [], map, length, eqb}
+use Rattle.std.specs.Prelude.{ℕ, ◌+◌, ◌≡◌, cond, List, [], map, length, eqb, Option, Some, None, Result, Ok, Err}
 use Rattle.std.proofs.Math.Option.{none, get_or}
 use Rattle.lists.specs.Put.{put}
 use Rattle.lists.specs.Walk.{Turn, more, stop}
@@ -9,11 +9,9 @@ use Rattle.option.specs.Reading.{End, whole, bad_at}
 use Rattle.option.specs.declared.Fault.TheVariants.{Framing, Field}
 use Rattle.option.specs.Contents.{last_network}
 use Rattle.option.specs.Selection as selection
-use Rattle.option.specs.declared.{Selection.Selection, Suboption.Suboption, Cursor.Cursor, Step.Step, Checked.Checked}
-use Rattle.option.specs.declared.Selection.TheVariants as selected
+use Rattle.option.specs.declared.{Suboption.Suboption, Cursor.Cursor, BadSuboption.BadSuboption, OptionFault.OptionFault}
 use Rattle.option.specs.declared.Suboption.TheVariants.{Request, Information, Name, Unknown}
-use Rattle.option.specs.declared.Step.TheVariants as step
-use Rattle.option.specs.declared.Checked.TheVariants.{Good, NotTheOption, BadSuboption}
+use Rattle.option.specs.declared.OptionFault.TheVariants as refusal
 
 -- The network of the last entry; 0 if there is none.
 abbrev pub last_of : List Entry → ℕ
@@ -30,10 +28,10 @@ suboption_of unknown at end = Unknown (record { at = at; end = end })
 abbrev pub cursor_at : ℕ → Cursor
 cursor_at at = record { at = at }
 
-abbrev pub step_of : ℕ → Turn SuboptionValue End → Step
-step_of at (more x next) = step.Piece (suboption_of x at next) (cursor_at next)
-step_of at (stop whole) = step.End
-step_of at (stop (bad_at fault place)) = step.Bad fault place
+abbrev pub step_of : ℕ → Turn SuboptionValue End → Result (Option (Suboption × Cursor)) BadSuboption
+step_of at (more x next) = Ok (Some (suboption_of x at next, cursor_at next))
+step_of at (stop whole) = Ok None
+step_of at (stop (bad_at fault place)) = Err (record { fault = fault; place = place })
 
 -- Networks and lengths of entries, stored in two columns from a place on.
 abbrev pub InColumns : List Entry → ℕ → List ℕ → List ℕ → List ℕ → List ℕ → Type 0
@@ -50,16 +48,23 @@ pub record Stores (t : Turn SuboptionValue End) (from : ℕ) (ns ls ns' ls' : Li
   pub stored : (x : SuboptionValue) (next : ℕ) → t ≡ more x next → InColumns (entries_of x) from ns ls ns' ls'
   pub kept : t ≡ stop whole → (ns' ≡ ns) × (ls' ≡ ls)
 
-abbrev pub checked_of : Outcome → Checked
-checked_of (accepted subs) = Good
-checked_of (refused number place) = cond (eqb number 6) NotTheOption (BadSuboption (cond (eqb number 7) Framing Field) place)
+-- The check's answer goes by how the reading ends alone.
+abbrev pub checked_end : End → Result (Unit {0}) BadSuboption
+checked_end whole = Ok tt
+checked_end (bad_at fault place) = Err (record { fault = fault; place = place })
 
-abbrev pub place_of : Checked → ℕ
-place_of Good = 0
-place_of NotTheOption = 0
-place_of (BadSuboption fault place) = place
+abbrev pub fault_of : ℕ → ℕ → OptionFault
+fault_of number place = cond (eqb number 6) refusal.NotTheOption (refusal.BadSuboption (record { fault = cond (eqb number 7) Framing Field; place = place }))
+
+abbrev pub checked_of : Outcome → Result (Unit {0}) OptionFault
+checked_of (accepted subs) = Ok tt
+checked_of (refused number place) = Err (fault_of number place)
+
+abbrev pub place_of : OptionFault → ℕ
+place_of refusal.NotTheOption = 0
+place_of (refusal.BadSuboption bad) = bad.place
 
 -- The same of option 118: what the paper says for each answer.
-abbrev pub selected_by : Selection → selection.Selected
-selected_by (selected.Address a) = selection.address a
-selected_by selected.NotTheOption = selection.refused 6
+abbrev pub selected_by : Option ℕ → selection.Selected
+selected_by (Some a) = selection.address a
+selected_by None = selection.refused 6

@@ -1,7 +1,7 @@
 // Options 220 (RFC 6656) and 118 (RFC 3011), read from bytes.
 #![tactic(auto)]
 
-ghost use Rattle.std.specs.Prelude.{◌≡◌, true, ◌&&◌, ◌+◌, ◌≤◌, ◌<◌, length, set};
+ghost use Rattle.std.specs.Prelude.{◌≡◌, true, ◌+◌, ◌≤◌, ◌<◌, length, set};
 ghost use Rattle.option.specs.Values.{longest_option};
 ghost use Rattle.option.specs.Reading.{
   option?,
@@ -20,15 +20,18 @@ ghost use Rattle.option.specs.Answers.{
   cursor_at,
   step_of,
   checked_of,
+  checked_end,
   selected_by,
   InColumns,
   Stores,
 };
 ghost use Rattle.option.specs.Inner.{scan_of, body_of};
+ghost use Rattle.option.specs.declared.Fault.TheVariants as fault;
+ghost use Rattle.option.specs.declared.OptionFault.TheVariants as option-fault;
 ghost use Rattle.option.specs.Selection.{read_selection};
 
-use option_entry::wide;
-pub use option_entry::{EntryCursor, EntryFields, EntryStep, Figures};
+use option_entry::CutEntry;
+pub use option_entry::{EntryCursor, EntryFields, Figures};
 
 // Len is a byte, and leaves out Code and Len: no option is longer.
 pub const LONGEST_OPTION: usize = 257;
@@ -88,78 +91,61 @@ pub struct Cursor {
 }
 
 // What is wrong with a suboption: its framing (refusal 7), or a field of one that is framed (refusal 16).
-#[derive(Clone, Copy)]
+#[derive(Clone, Copy, Debug, PartialEq, Eq)]
 pub enum Fault {
     Framing,
     Field,
 }
 
-// What stands at a cursor.
-#[derive(Clone, Copy)]
-pub enum Step {
-    Piece(Suboption, Cursor),
-    // A bad suboption, with the place of its number byte.
-    Bad(Fault, usize),
-    End,
+// A suboption that is bad, by the place of its number byte.
+#[derive(Clone, Copy, Debug, PartialEq, Eq)]
+pub struct BadSuboption {
+    pub fault: Fault,
+    pub place: usize,
 }
 
-// The check of a whole option: good, refusal 6, or refusal 7 or 16 with its place.
-#[derive(Clone, Copy)]
-pub enum Checked {
-    Good,
+// Why an option is refused: refusal 6, or 7 or 16 with its place.
+#[derive(Clone, Copy, Debug, PartialEq, Eq)]
+pub enum OptionFault {
     NotTheOption,
-    BadSuboption(Fault, usize),
+    BadSuboption(BadSuboption),
 }
 
-// What option 118 reads as: its address, or refusal 6.
-#[derive(Clone, Copy)]
-pub enum Selection {
-    Address(u32),
-    NotTheOption,
+// A cut entry is a matter of the framing.
+impl From<CutEntry> for Fault {
+    ghost from_gives = { λ _ f. f ≡ fault.Framing };
+
+    fn from(_cut: CutEntry) -> Fault {
+        Self::Framing
+    }
 }
 
-// The body of a suboption. A bad one has no place here: one that each reader wrote would keep the answer out of registers.
-#[derive(Clone, Copy)]
-enum Body {
-    Good(Suboption),
-    BadFraming,
-    BadField,
+impl From<BadSuboption> for OptionFault {
+    ghost from_gives = { λ bad f. f ≡ option-fault.BadSuboption bad };
+
+    fn from(bad: BadSuboption) -> OptionFault {
+        Self::BadSuboption(bad)
+    }
 }
 
-// What one pass over the entries of an information finds: whether all are framed, and whether the fields of all keep the rules;
-// how many there are, and the network of the last one.
+// Of the entries of an information: how many they are, and the network of the last one.
 #[derive(Clone, Copy)]
-struct Scan {
-    framed: bool,
-    fields: bool,
+struct Entries {
     count: usize,
     last: u32,
 }
 
-fn both(a: bool, b: bool) -> bool
-    ensures { result ≡ (a && b) }
-{
-    if a { b } else { false }
-}
-
-// One byte, where the buffer has that place; one number, likewise.
-pub fn store(buf: &mut [u8], at: usize, x: u8)
-    ensures { buf.new ≡ set buf.old at x }
-{
-    if at < buf.len() {
-        buf[at] = x;
-    }
-}
-
-fn store_network(column: &mut [u32], at: usize, network: u32)
-    ensures { column.new ≡ set column.old at network }
+// One value, where the column has that place.
+pub fn store<T: Copy>(column: &mut [T], at: usize, x: T)
+    ensures { column.new ≡ set column.old at x }
 {
     if at < column.len() {
-        column[at] = network;
+        column[at] = x;
     }
 }
 
-// One pass over the entries of an information: they are tested, and stored in the columns after the `from` that these have.
+// One pass over the entries of an information: they are tested, and stored in the columns after the `from` that these have. Framing
+// comes first: an entry with a bad field does not end the pass.
 fn scan_entries(
     s: &[u8],
     at: usize,
@@ -167,59 +153,46 @@ fn scan_entries(
     from: usize,
     networks: &mut [u32],
     lengths: &mut [u8],
-) -> Scan
+) -> Result<Entries, Fault>
     requires { (at ≤ end) × (from ≤ at) }
     ensures value { result ≡ scan_of (read_entries s.now end at) }
     ensures in_columns { InColumns (read_entries s.now end at).0 from networks.old lengths.old networks.new lengths.new }
 {
     let mut cursor = EntryCursor { at, end };
     let mut n = from;
-    let mut fields = true;
+    let mut good = true;
     let mut last: u32 = 0;
-    loop {
-        match cursor.step(s) {
-            EntryStep::Entry(e, next) => {
-                fields = both(fields, prefix::is_block(e.network, e.length));
-                last = e.network;
-                store_network(networks, n, last);
-                store(lengths, n, e.length);
-                n = n + 1;
-                cursor = next;
-            }
-            EntryStep::Cut => {
-                return Scan {
-                    framed: false,
-                    fields,
-                    count: n - from,
-                    last,
-                };
-            }
-            EntryStep::End => {
-                return Scan {
-                    framed: true,
-                    fields,
-                    count: n - from,
-                    last,
-                };
-            }
-        }
+    while let Some((e, next)) = cursor.step(s)? {
+        good &= prefix::is_block(e.network, e.length);
+        last = e.network;
+        store(networks, n, last);
+        store(lengths, n, e.length);
+        n += 1;
+        cursor = next;
     }
+    if !good {
+        return Err(Fault::Field);
+    }
+    Ok(Entries {
+        count: n - from,
+        last,
+    })
 }
 
 // A request whose number byte is at a place and that ends before `end`: framing, then fields.
-fn request_at(s: &[u8], at: usize, end: usize) -> Body
+fn request_at(s: &[u8], at: usize, end: usize) -> Result<Suboption, Fault>
     requires { (at + 2 ≤ end) × (end ≤ length s.now) }
     ensures { result ≡ body_of at (read_request s.now at end) }
 {
     if end != at + 4 {
-        return Body::BadFraming;
+        return Err(Fault::Framing);
     }
     let length = s[at + 3];
     if prefix::Prefix::LONGEST < length {
-        return Body::BadField;
+        return Err(Fault::Field);
     }
     let flags = s[at + 2];
-    Body::Good(Suboption::Request(RequestFields {
+    Ok(Suboption::Request(RequestFields {
         h: flags % 2 == 1,
         i: flags / 2 % 2 == 1,
         length,
@@ -235,44 +208,38 @@ fn information_at(
     from: usize,
     networks: &mut [u32],
     lengths: &mut [u8],
-) -> Body
+) -> Result<Suboption, Fault>
     requires { (at + 2 ≤ end) × (end ≤ length s.now) × (from ≤ at) }
     ensures value { result ≡ body_of at (read_information s.now at end) }
     ensures stores { Stores (read_information s.now at end) from networks.old lengths.old networks.new lengths.new }
 {
     if end <= at + 3 {
-        return Body::BadFraming;
+        return Err(Fault::Framing);
     }
-    let scan = scan_entries(s, at + 3, end, from, networks, lengths);
-    if !scan.framed {
-        return Body::BadFraming;
-    }
-    if !scan.fields {
-        return Body::BadField;
-    }
+    let Entries { count, last } = scan_entries(s, at + 3, end, from, networks, lengths)?;
     let flags = s[at + 2];
-    Body::Good(Suboption::Information(InformationFields {
+    Ok(Suboption::Information(InformationFields {
         c: flags / 2 % 2 == 1,
         s: flags % 2 == 1,
         at,
         entries: EntryCursor { at: at + 3, end },
-        count: scan.count,
-        last: scan.last,
+        count,
+        last,
     }))
 }
 
 // A name, likewise.
-fn name_at(s: &[u8], at: usize, end: usize) -> Body
+fn name_at(s: &[u8], at: usize, end: usize) -> Result<Suboption, Fault>
     requires { (at + 2 ≤ end) × (end ≤ length s.now) }
     ensures { result ≡ body_of at (read_name s.now at end) }
 {
     if end <= at + 2 {
-        return Body::BadFraming;
+        return Err(Fault::Framing);
     }
     if s[end - 1] == 0 {
-        return Body::BadField;
+        return Err(Fault::Field);
     }
-    Body::Good(Suboption::Name(NameFields {
+    Ok(Suboption::Name(NameFields {
         at,
         start: at + 2,
         end,
@@ -288,7 +255,7 @@ fn body_at(
     from: usize,
     networks: &mut [u32],
     lengths: &mut [u8],
-) -> Body
+) -> Result<Suboption, Fault>
     requires { (at + 2 ≤ end) × (end ≤ length s.now) × (from ≤ at) }
     ensures value { result ≡ body_of at (read_body number s.now at end) }
     ensures stores { Stores (read_body number s.now at end) from networks.old lengths.old networks.new lengths.new }
@@ -297,7 +264,7 @@ fn body_at(
         1 => request_at(s, at, end),
         2 => information_at(s, at, end, from, networks, lengths),
         3 => name_at(s, at, end),
-        _ => Body::Good(Suboption::Unknown(UnknownFields { at, end })),
+        _ => Ok(Suboption::Unknown(UnknownFields { at, end })),
     }
 }
 
@@ -321,60 +288,61 @@ impl Cursor {
         Cursor { at: 3 }
     }
 
-    // What stands at the cursor: at the end of the bytes or past it, the end. Networks and lengths of an information's entries go into
-    // the columns, after the `from` that these have, as the entries are tested; a bad suboption may leave some there.
-    pub fn step_into(self, s: &[u8], from: usize, networks: &mut [u32], lengths: &mut [u8]) -> Step
+    // What stands at the cursor: a suboption with the cursor after it, or nothing more at the end of the bytes or past it. Networks and
+    // lengths of an information's entries go into the columns, after the `from` that these have, as the entries are tested; a bad
+    // suboption may leave some there.
+    pub fn step_into(
+        self,
+        s: &[u8],
+        from: usize,
+        networks: &mut [u32],
+        lengths: &mut [u8],
+    ) -> Result<Option<(Suboption, Cursor)>, BadSuboption>
         requires { from ≤ self.at }
         ensures value { result ≡ step_of self.at (read_suboption s.now self.at) }
         ensures stores { Stores (read_suboption s.now self.at) from networks.old lengths.old networks.new lengths.new }
     {
         let at = self.at;
         if s.len() <= at {
-            return Step::End;
+            return Ok(None);
         }
         if s.len() < at + 2 {
-            return Step::Bad(Fault::Framing, at);
+            return Err(BadSuboption {
+                fault: Fault::Framing,
+                place: at,
+            });
         }
-        let end = at + 2 + wide(s[at + 1]);
+        let end = at + 2 + usize::from(s[at + 1]);
         if s.len() < end {
-            return Step::Bad(Fault::Framing, at);
+            return Err(BadSuboption {
+                fault: Fault::Framing,
+                place: at,
+            });
         }
         match body_at(s[at], s, at, end, from, networks, lengths) {
-            Body::Good(x) => Step::Piece(x, Cursor { at: end }),
-            Body::BadFraming => Step::Bad(Fault::Framing, at),
-            Body::BadField => Step::Bad(Fault::Field, at),
+            Ok(x) => Ok(Some((x, Cursor { at: end }))),
+            Err(fault) => Err(BadSuboption { fault, place: at }),
         }
     }
 
     // The same with no columns.
-    pub fn step(self, s: &[u8]) -> Step
+    pub fn step(self, s: &[u8]) -> Result<Option<(Suboption, Cursor)>, BadSuboption>
         ensures { result ≡ step_of self.at (read_suboption s.now self.at) }
     {
-        let mut networks = [0u32; 1];
-        let mut lengths = [0u8; 1];
-        self.step_into(s, 0, &mut networks, &mut lengths)
+        self.step_into(s, 0, &mut [], &mut [])
     }
 }
 
 // The check of the suboptions.
-fn check_suboptions(s: &[u8]) -> Checked
+fn check_suboptions(s: &[u8]) -> Result<(), BadSuboption>
     requires { 3 ≤ length s.now }
-    ensures { result ≡ checked_of (ended (read_suboptions s.now 3).0 (read_suboptions s.now 3).1) }
+    ensures { result ≡ checked_end (read_suboptions s.now 3).1 }
 {
     let mut cursor = Cursor::first();
-    loop {
-        match cursor.step(s) {
-            Step::Piece(_, next) => {
-                cursor = next;
-            }
-            Step::Bad(fault, place) => {
-                return Checked::BadSuboption(fault, place);
-            }
-            Step::End => {
-                return Checked::Good;
-            }
-        }
+    while let Some((_, next)) = cursor.step(s)? {
+        cursor = next;
     }
+    Ok(())
 }
 
 // Row 6: whether these bytes are an option 220.
@@ -387,7 +355,7 @@ pub fn is_option(s: &[u8]) -> bool
     if s[0] != 220 {
         return false;
     }
-    let len = wide(s[1]);
+    let len = usize::from(s[1]);
     if len + 2 != s.len() {
         return false;
     }
@@ -398,31 +366,32 @@ pub fn is_option(s: &[u8]) -> bool
 }
 
 // The check of a whole option, in one pass: the first refusal in row order.
-pub fn check_option(s: &[u8]) -> Checked
+pub fn check_option(s: &[u8]) -> Result<(), OptionFault>
     ensures { result ≡ checked_of (read_option s.now) }
 {
     if !is_option(s) {
-        return Checked::NotTheOption;
+        return Err(OptionFault::NotTheOption);
     }
-    check_suboptions(s)
+    check_suboptions(s)?;
+    Ok(())
 }
 
-// Option 118: the address of the subnet that is asked for. The address is answered as it stands.
-pub fn read_selection(s: &[u8]) -> Selection
+// Option 118: the address of the subnet that is asked for, as it stands; nothing of what is no option 118 (refusal 6).
+pub fn read_selection(s: &[u8]) -> Option<u32>
     ensures { selected_by result ≡ read_selection s.now }
 {
     if s.len() < 2 {
-        return Selection::NotTheOption;
+        return None;
     }
     if s[0] != 118 {
-        return Selection::NotTheOption;
+        return None;
     }
-    let counted = wide(s[1]);
+    let counted = usize::from(s[1]);
     if counted + 2 != s.len() {
-        return Selection::NotTheOption;
+        return None;
     }
     if counted != 4 {
-        return Selection::NotTheOption;
+        return None;
     }
-    Selection::Address(option_entry::four_at(s, 2))
+    Some(option_entry::four_at(s, 2))
 }

@@ -1,8 +1,7 @@
 -- An entry as the code holds it, and the reader's steps over the entries of an information.
-use Rattle.std.specs.Prelude.{ℕ, Bool, true, false}
+use Rattle.std.specs.Prelude.{ℕ, Bool, true, false, Option, Some, None, Result, Ok, Err}
 use Rattle.lists.specs.Walk.{Turn, more, stop}
-use Rattle.option_entry.specs.declared.{EntryFields.EntryFields, EntryCursor.EntryCursor, EntryStep.EntryStep}
-use Rattle.option_entry.specs.declared.EntryStep.TheVariants as entry-step
+use Rattle.option_entry.specs.declared.{EntryFields.EntryFields, EntryCursor.EntryCursor, CutEntry.CutEntry}
 use Rattle.option_entry.specs.Entries.{Entry}
 pub use Rattle.option_entry.specs.Entries.{figures_of}
 
@@ -13,7 +12,7 @@ fields_of e = record { network = e.network; length = e.length; h = e.h; d = e.d;
 abbrev pub entries_from : ℕ → ℕ → EntryCursor
 entries_from at end = record { at = at; end = end }
 
-abbrev pub entry_step_of : ℕ → Turn Entry Bool → EntryStep
-entry_step_of end (more e next) = entry-step.Entry (fields_of e) (entries_from next end)
-entry_step_of end (stop true) = entry-step.End
-entry_step_of end (stop false) = entry-step.Cut
+abbrev pub entry_step_of : ℕ → Turn Entry Bool → Result (Option (EntryFields × EntryCursor)) CutEntry
+entry_step_of end (more e next) = Ok (Some (fields_of e, entries_from next end))
+entry_step_of end (stop true) = Ok None
+entry_step_of end (stop false) = Err (record {})

@@ -24,6 +24,16 @@ pub struct Figures {
     pub unusable: Unusable,
 }
 
+impl Figures {
+    // None are given.
+    pub const NONE: Figures = Figures {
+        count: 0,
+        high_water: HighWater(0),
+        in_use: InUse(0),
+        unusable: Unusable(0),
+    };
+}
+
 #[derive(Clone, Copy)]
 pub struct EntryFields {
     pub network: u32,
@@ -40,40 +50,16 @@ pub struct EntryCursor {
     pub end: usize,
 }
 
-// What stands at an entry cursor.
-#[derive(Clone, Copy)]
-pub enum EntryStep {
-    Entry(EntryFields, EntryCursor),
-    // An entry that runs past the information, or has an odd stat-len.
-    Cut,
-    End,
-}
-
-// A byte as a number of more bits.
-pub fn wide(x: u8) -> usize
-    ensures { (result ≡ x) × (result < 256) }
-{
-    x as usize
-}
-
-fn wide16(x: u8) -> u16
-    ensures { (result ≡ x) × (result < 256) }
-{
-    x as u16
-}
-
-fn wide32(x: u8) -> u32
-    ensures { (result ≡ x) × (result < 256) }
-{
-    x as u32
-}
+// An entry that runs past the information, or has an odd stat-len.
+#[derive(Clone, Copy, Debug, PartialEq, Eq)]
+pub struct CutEntry;
 
 // The number of two bytes at a position, the high byte first.
 fn two_at(s: &[u8], at: usize) -> u16
     requires { at + 2 ≤ length s.now }
     ensures { result ≡ two s.now at }
 {
-    wide16(s[at]) * 256 + wide16(s[at + 1])
+    u16::from_be_bytes([s[at], s[at + 1]])
 }
 
 // The number of four bytes at a position, the high byte first.
@@ -81,7 +67,7 @@ pub fn four_at(s: &[u8], at: usize) -> u32
     requires { at + 4 ≤ length s.now }
     ensures { result ≡ four s.now at }
 {
-    ((wide32(s[at]) * 256 + wide32(s[at + 1])) * 256 + wide32(s[at + 2])) * 256 + wide32(s[at + 3])
+    u32::from_be_bytes([s[at], s[at + 1], s[at + 2], s[at + 3]])
 }
 
 // The figures in n bytes from a position on, of which the first three count.
@@ -89,75 +75,60 @@ fn figures_at(s: &[u8], at: usize, n: usize) -> Figures
     requires { at + n ≤ length s.now }
     ensures { result ≡ figures_of (figures_at s.now at n) }
 {
-    if n < 2 {
-        return Figures {
-            count: 0,
-            high_water: HighWater(0),
-            in_use: InUse(0),
-            unusable: Unusable(0),
-        };
-    }
-    if n < 4 {
-        return Figures {
+    match n / 2 {
+        0 => Figures::NONE,
+        1 => Figures {
             count: 1,
             high_water: HighWater(two_at(s, at)),
-            in_use: InUse(0),
-            unusable: Unusable(0),
-        };
-    }
-    if n < 6 {
-        return Figures {
+            ..Figures::NONE
+        },
+        2 => Figures {
             count: 2,
             high_water: HighWater(two_at(s, at)),
             in_use: InUse(two_at(s, at + 2)),
-            unusable: Unusable(0),
-        };
-    }
-    Figures {
-        count: 3,
-        high_water: HighWater(two_at(s, at)),
-        in_use: InUse(two_at(s, at + 2)),
-        unusable: Unusable(two_at(s, at + 4)),
+            ..Figures::NONE
+        },
+        _ => Figures {
+            count: 3,
+            high_water: HighWater(two_at(s, at)),
+            in_use: InUse(two_at(s, at + 2)),
+            unusable: Unusable(two_at(s, at + 4)),
+        },
     }
 }
 
 impl EntryCursor {
-    // What stands at the cursor. The walk goes by the framing alone: the fields are as they stand.
-    pub fn step(self, s: &[u8]) -> EntryStep
+    // What stands at the cursor: an entry with the cursor after it, or nothing more. The walk goes by the framing alone: the fields are as
+    // they stand.
+    pub fn step(self, s: &[u8]) -> Result<Option<(EntryFields, EntryCursor)>, CutEntry>
         ensures { result ≡ entry_step_of self.end (read_entry s.now self.end self.at) }
     {
-        let at = self.at;
-        let end = self.end;
+        let EntryCursor { at, end } = self;
         if end <= at {
-            return EntryStep::End;
+            return Ok(None);
         }
         if s.len() < end {
-            return EntryStep::Cut;
+            return Err(CutEntry);
         }
         if end < at + 7 {
-            return EntryStep::Cut;
+            return Err(CutEntry);
         }
         let stat = s[at + 6];
         if stat % 2 != 0 {
-            return EntryStep::Cut;
+            return Err(CutEntry);
         }
-        let next = at + 7 + wide(stat);
+        let next = at + 7 + usize::from(stat);
         if end < next {
-            return EntryStep::Cut;
+            return Err(CutEntry);
         }
-        let network = four_at(s, at);
-        let length = s[at + 4];
         let flags = s[at + 5];
-        let figures = figures_at(s, at + 7, wide(stat));
-        EntryStep::Entry(
-            EntryFields {
-                network,
-                length,
-                h: flags / 2 % 2 == 1,
-                d: flags % 2 == 1,
-                figures,
-            },
-            EntryCursor { at: next, end },
-        )
+        let fields = EntryFields {
+            network: four_at(s, at),
+            length: s[at + 4],
+            h: flags / 2 % 2 == 1,
+            d: flags % 2 == 1,
+            figures: figures_at(s, at + 7, usize::from(stat)),
+        };
+        Ok(Some((fields, EntryCursor { at: next, end })))
     }
 }

@@ -13,6 +13,9 @@ module _ {A : Type 0} (l : List A) (first : ℕ) where
   pub length_part : (count : ℕ) → first + count ≤ length l → length (part first count l) ≡ count
   length_part count h = simp (length-take, length-drop) (omega arith)
 
+  pub length_is_part : (s : List A) (count : ℕ) → s ≡ part first count l → first + count ≤ length l → length s ≡ count
+  length_is_part s count e h = ap length e ∙ length_part count h
+
   pub part-more : (i : ℕ) (d : A) → first + i < length l → part first (i + 1) l ≡ part first i l ++ (get_or l (first + i) d ∷ [])
   part-more i d h =
       let inside : i < length (drop first l) = simp length-drop (omega arith) in

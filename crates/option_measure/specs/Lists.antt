@@ -2,7 +2,7 @@
 use Rattle.std.specs.Prelude.{ℕ, ◌+◌, ◌-◌, cond, List, [], ◌∷◌, map, take, drop, replicate, leb}
 use Rattle.option.specs.Values.{Entry, SuboptionValue, request, information, name, unknown}
 use Rattle.option_entry.specs.declared.{EntryFields.EntryFields, Figures.Figures}
-use Rattle.option_measure.specs.declared.{Item.Item, InformationItem.InformationItem, NameItem.NameItem, Slot.Slot, SuboptionList.SuboptionList}
+use Rattle.option_measure.specs.declared.{Item.Item, InformationItem.InformationItem, NameItem.NameItem, SuboptionList.SuboptionList}
 use Rattle.option_measure.specs.declared.Item.TheVariants.{Request, Information, Name, Unknown}
 
 -- How many suboptions, entries and octets the argument has room for. No option that can be written has more.
@@ -40,12 +40,9 @@ value_of entries octets (Information f) = information_in entries f
 value_of entries octets (Name n) = name_in octets n
 value_of entries octets Unknown = unknown
 
-abbrev pub value_at : List EntryFields → List ℕ → Slot → SuboptionValue
-value_at entries octets slot = value_of entries octets slot.item
-
 -- The first `count` items; a count above what the array has is no list: it stands for none at all.
-unfoldable pub listed : List Slot → ℕ → List EntryFields → List ℕ → List SuboptionValue
-listed items count entries octets = cond (leb count item_slots) (map (value_at entries octets) (take count items)) []
+unfoldable pub listed : List Item → ℕ → List EntryFields → List ℕ → List SuboptionValue
+listed items count entries octets = cond (leb count item_slots) (map (value_of entries octets) (take count items)) []
 
 abbrev pub suboptions_of : SuboptionList → List SuboptionValue
 suboptions_of l = listed l.items l.count l.entries l.octets

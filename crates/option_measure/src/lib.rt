@@ -1,7 +1,7 @@
 // A list of suboptions as the writer is given it, and how long it is when written, if it can be.
 #![tactic(auto)]
 
-ghost use Rattle.std.specs.Prelude.{◌≡◌, map, ◌+◌, ◌≤◌};
+ghost use Rattle.std.specs.Prelude.{◌≡◌, map, ◌+◌, ◌≤◌, ◌<◌, length, IfSome, MatchOption};
 ghost use Rattle.option.specs.Values.{request};
 ghost use Rattle.option.specs.Writing.{entry_bytes};
 ghost use Rattle.option.specs.Writer.{entry_writable?};
@@ -12,9 +12,9 @@ ghost use Rattle.option_measure.specs.Lists.{
   information_in,
   name_in,
   value_of,
-  listed,
+  suboptions_of,
 };
-ghost use Rattle.option_measure.specs.Measuring.{measure_of, measure_one, measure_list, Short};
+ghost use Rattle.option_measure.specs.Measuring.{measure_each, measure_of, measure_one, measure_list};
 
 use option::EntryFields;
 
@@ -29,17 +29,12 @@ pub const OCTET_SLOTS: usize = 256;
 #[derive(Drop)]
 pub struct SuboptionList {
     pub count: usize,
-    pub items: [Slot; ITEM_SLOTS],
+    pub items: [Item; ITEM_SLOTS],
     pub entries: [EntryFields; ENTRY_SLOTS],
     pub octets: [u8; OCTET_SLOTS],
 }
 
-#[derive(Clone, Copy)]
-pub struct Slot {
-    pub item: Item,
-}
-
-#[derive(Clone, Copy)]
+#[derive(Clone, Copy, Debug, PartialEq, Eq)]
 pub enum Item {
     Request(RequestItem),
     Information(InformationItem),
@@ -47,7 +42,7 @@ pub enum Item {
     Unknown,
 }
 
-#[derive(Clone, Copy)]
+#[derive(Clone, Copy, Debug, PartialEq, Eq)]
 pub struct RequestItem {
     pub h: bool,
     pub i: bool,
@@ -55,7 +50,7 @@ pub struct RequestItem {
 }
 
 // `count` entries, from index `first` of the list's entries on.
-#[derive(Clone, Copy)]
+#[derive(Clone, Copy, Debug, PartialEq, Eq)]
 pub struct InformationItem {
     pub c: bool,
     pub s: bool,
@@ -64,136 +59,107 @@ pub struct InformationItem {
 }
 
 // `count` octets, from index `first` of the list's octets on.
-#[derive(Clone, Copy)]
+#[derive(Clone, Copy, Debug, PartialEq, Eq)]
 pub struct NameItem {
     pub first: usize,
     pub count: usize,
 }
 
-// The length of what is to be written, or that it cannot be.
-#[derive(Clone, Copy)]
-pub enum Measured {
-    Bytes(usize),
-    Outside,
-}
-
-// The length of entries of the list, if all of them can be written.
-fn measure_entries(entries: [EntryFields; ENTRY_SLOTS], first: usize, count: usize) -> Measured
-    requires { first + count ≤ entry_slots }
-    ensures { (result ≡ measure_of entry_writable? entry_bytes (map entry_of (part first count entries))) × Short 832 result }
+// `count` elements from index `first` on, if there are so many.
+fn part<T>(all: &[T], first: usize, count: usize) -> Option<&[T]>
+    ensures { MatchOption result (length all.now < first + count) (λ s. (first + count ≤ length all.now) × (s.now ≡ part first count all.now)) }
 {
-    let mut n: usize = 0;
-    let mut i: usize = 0;
-    while i < count {
-        let e = entries[first + i];
-        let f = e.figures;
-        let figures = f.count;
-        if 3 < figures {
-            return Measured::Outside;
-        }
-        if !prefix::is_block(e.network, e.length) {
-            return Measured::Outside;
-        }
-        n += 7 + 2 * figures;
-        i += 1;
-    }
-    Measured::Bytes(n)
+    all.get(first..)?.get(..count)
 }
 
-fn measure_request(r: RequestItem) -> Measured
-    ensures { (result ≡ measure_one (request r.h r.i r.length)) × Short 900 result }
+// How long an entry is when written, if it can be.
+fn measure_entry(e: EntryFields) -> Option<usize>
+    ensures value { result ≡ measure_each entry_writable? entry_bytes (entry_of e) }
+    ensures short { IfSome result (λ n. n ≤ 13) }
+{
+    let figures = e.figures.count;
+    if 3 < figures {
+        return None;
+    }
+    if !prefix::is_block(e.network, e.length) {
+        return None;
+    }
+    Some(7 + 2 * figures)
+}
+
+// How long entries are when written, if all of them can be.
+fn measure_entries(entries: &[EntryFields]) -> Option<usize>
+    requires { length entries.now ≤ entry_slots }
+    ensures value { result ≡ measure_of entry_writable? entry_bytes (map entry_of entries.now) }
+    ensures short { IfSome result (λ n. n ≤ 832) }
+{
+    let mut n = 0;
+    for e in entries {
+        n += measure_entry(*e)?;
+    }
+    Some(n)
+}
+
+fn measure_request(r: RequestItem) -> Option<usize>
+    ensures value { result ≡ measure_one (request r.h r.i r.length) }
+    ensures short { IfSome result (λ n. n ≤ 900) }
 {
     if prefix::Prefix::LONGEST < r.length {
-        return Measured::Outside;
+        return None;
     }
-    Measured::Bytes(4)
+    Some(4)
 }
 
-fn measure_information(f: InformationItem, entries: [EntryFields; ENTRY_SLOTS]) -> Measured
-    ensures { (result ≡ measure_one (information_in entries f)) × Short 900 result }
-{
-    let first = f.first;
-    let count = f.count;
-    if ENTRY_SLOTS < first {
-        return Measured::Outside;
-    }
-    if ENTRY_SLOTS - first < count {
-        return Measured::Outside;
-    }
-    if count == 0 {
-        return Measured::Outside;
-    }
-    match measure_entries(entries, first, count) {
-        Measured::Bytes(n) => Measured::Bytes(3 + n),
-        Measured::Outside => Measured::Outside,
-    }
-}
-
-fn measure_name(n: NameItem, octets: [u8; OCTET_SLOTS]) -> Measured
-    ensures { (result ≡ measure_one (name_in octets n)) × Short 900 result }
-{
-    let first = n.first;
-    let count = n.count;
-    if OCTET_SLOTS < first {
-        return Measured::Outside;
-    }
-    if OCTET_SLOTS - first < count {
-        return Measured::Outside;
-    }
-    if count == 0 {
-        return Measured::Outside;
-    }
-    if octets[first + count - 1] == 0 {
-        return Measured::Outside;
-    }
-    Measured::Bytes(2 + count)
-}
-
-// The length of what is written of an item, if it can be written.
-fn measure_item(
-    item: Item,
-    entries: [EntryFields; ENTRY_SLOTS],
-    octets: [u8; OCTET_SLOTS],
-) -> Measured
-    ensures { (result ≡ measure_one (value_of entries octets item)) × Short 900 result }
-{
-    match item {
-        Item::Request(r) => measure_request(r),
-        Item::Information(f) => measure_information(f, entries),
-        Item::Name(n) => measure_name(n, octets),
-        Item::Unknown => Measured::Outside,
-    }
-}
-
-// The length of what is written of all items, if there are any and all can be written.
-pub fn measure_items(
-    items: [Slot; ITEM_SLOTS],
-    count: usize,
-    entries: [EntryFields; ENTRY_SLOTS],
-    octets: [u8; OCTET_SLOTS],
-) -> Measured
-    ensures { (result ≡ measure_list (listed items count entries octets)) × Short 86400 result }
-{
-    if ITEM_SLOTS < count {
-        return Measured::Outside;
-    }
-    if count == 0 {
-        return Measured::Outside;
-    }
-    let mut n: usize = 0;
-    let mut i: usize = 0;
-    while i < count {
-        let slot = items[i];
-        let item = slot.item;
-        match measure_item(item, entries, octets) {
-            Measured::Bytes(k) => {
-                n += k;
-            }
-            Measured::Outside => {
-                return Measured::Outside;
-            }
+impl SuboptionList {
+    fn measure_information(&self, f: InformationItem) -> Option<usize>
+        ensures value { result ≡ measure_one (information_in self.now.entries f) }
+        ensures short { IfSome result (λ n. n ≤ 900) }
+    {
+        let entries = part(&self.entries, f.first, f.count)?;
+        if entries.is_empty() {
+            return None;
         }
-        i += 1;
+        let n = measure_entries(entries)?;
+        Some(3 + n)
     }
-    Measured::Bytes(n)
+
+    fn measure_name(&self, n: NameItem) -> Option<usize>
+        ensures value { result ≡ measure_one (name_in self.now.octets n) }
+        ensures short { IfSome result (λ n. n ≤ 900) }
+    {
+        let octets = part(&self.octets, n.first, n.count)?;
+        if *octets.last()? == 0 {
+            return None;
+        }
+        Some(2 + n.count)
+    }
+
+    // The length of what is written of an item, if it can be written.
+    fn measure_item(&self, item: Item) -> Option<usize>
+        ensures value { result ≡ measure_one (value_of self.now.entries self.now.octets item) }
+        ensures short { IfSome result (λ n. n ≤ 900) }
+    {
+        match item {
+            Item::Request(r) => measure_request(r),
+            Item::Information(f) => self.measure_information(f),
+            Item::Name(n) => self.measure_name(n),
+            Item::Unknown => None,
+        }
+    }
+
+    // The length of what is written of all items, if there are any and all can be written.
+    pub fn measure_items(&self) -> Option<usize>
+        ensures value { result ≡ measure_list (suboptions_of self.now) }
+        ensures short { IfSome result (λ n. n ≤ 86400) }
+    {
+        let items = part(&self.items, 0, self.count)?;
+        if items.is_empty() {
+            return None;
+        }
+        let mut n = 0;
+        for item in items {
+            n += self.measure_item(*item)?;
+        }
+        Some(n)
+    }
 }

@@ -1,4 +1,4 @@
--- Laws of bytes stored one by one, and of the bytes of a reply.
-pub mod StoreLaws
+-- Laws of bytes put, and of the bytes of a reply.
+pub mod BytePuts
 pub mod SelectionPuts
 pub mod ReplyLaws

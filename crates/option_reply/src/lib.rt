@@ -4,7 +4,6 @@
 ghost use Rattle.std.specs.Prelude.{◌≡◌, ◌+◌, ◌*◌, ◌≤◌, ◌<◌, length};
 ghost use Rattle.lists.specs.Put.{put};
 ghost use Rattle.option.specs.Writing.{
-  four_bytes,
   flags,
   entry_head,
   information_head,
@@ -14,13 +13,12 @@ ghost use Rattle.option.specs.Selection.{write_selection};
 ghost use Rattle.option_reply.specs.Answers.{into};
 ghost use Rattle.option.specs.Values.{most_entries};
 
-pub use option::{MOST_ENTRIES, store};
+pub use option::MOST_ENTRIES;
 use table::Lease;
 
-// The number of bytes written, refusal 13, or refusal 14.
-#[derive(Clone, Copy)]
-pub enum Written {
-    Bytes(usize),
+// Why nothing is written: refusal 13, or refusal 14.
+#[derive(Clone, Copy, Debug, PartialEq, Eq)]
+pub enum WriteFault {
     OutsideRules,
     TooLong,
 }
@@ -29,22 +27,18 @@ pub enum Written {
 pub fn flags_byte(b: bool, a: bool) -> u8
     ensures { result ≡ flags b a }
 {
-    if b {
-        if a { 3 } else { 2 }
-    } else {
-        if a { 1 } else { 0 }
-    }
+    2 * u8::from(b) + u8::from(a)
 }
 
-// A number of 32 bits, high byte first. Here and below the bound on `at` keeps sums within range.
-fn put_four(buf: &mut [u8], at: usize, n: u32)
-    requires { at < 9223372036854775808 }
-    ensures { buf.new ≡ put buf.old at (four_bytes n) }
+// Bytes from a place on. Those past the end of the buffer are dropped.
+pub fn put_bytes(buf: &mut [u8], at: usize, bytes: &[u8])
+    ensures { buf.new ≡ put buf.old at bytes.now }
 {
-    store(buf, at, (n / 16777216) as u8);
-    store(buf, at + 1, (n / 65536 % 256) as u8);
-    store(buf, at + 2, (n / 256 % 256) as u8);
-    store(buf, at + 3, (n % 256) as u8);
+    if buf.len() <= at {
+        return;
+    }
+    let n = bytes.len().min(buf.len() - at);
+    buf[at..at + n].copy_from_slice(&bytes[..n]);
 }
 
 // The pieces of a reply. Each is put at a place of the buffer; bytes past the end of the buffer are dropped.
@@ -53,34 +47,28 @@ fn put_four(buf: &mut [u8], at: usize, n: u32)
 pub fn put_option_head(buf: &mut [u8], len: u8)
     ensures { buf.new ≡ put buf.old 0 (option_head len) }
 {
-    store(buf, 0, 220);
-    store(buf, 1, len);
-    store(buf, 2, 0);
+    put_bytes(buf, 0, &[220, len, 0]);
 }
 
 // Number, Len and flags of an information.
 pub fn put_information_head(buf: &mut [u8], at: usize, len: u8, c: bool, s: bool)
     ensures { buf.new ≡ put buf.old at (information_head len c s) }
 {
-    if buf.len() <= at {
-        return;
-    }
-    store(buf, at, 2);
-    store(buf, at + 1, len);
-    store(buf, at + 2, flags_byte(c, s));
+    put_bytes(buf, at, &[2, len, flags_byte(c, s)]);
 }
 
-// An entry up to its figures, of which stat-len counts the bytes; 0 is an entry without figures.
+// The bytes of an entry up to its figures, of which stat-len counts the bytes; 0 is an entry without figures.
+fn entry_head(network: u32, length: u8, h: bool, d: bool, stat: u8) -> [u8; 7]
+    ensures { result ≡ entry_head network length h d stat }
+{
+    let n = network.to_be_bytes();
+    [n[0], n[1], n[2], n[3], length, flags_byte(h, d), stat]
+}
+
 pub fn put_entry(buf: &mut [u8], at: usize, network: u32, length: u8, h: bool, d: bool, stat: u8)
     ensures { buf.new ≡ put buf.old at (entry_head network length h d stat) }
 {
-    if buf.len() <= at {
-        return;
-    }
-    put_four(buf, at, network);
-    store(buf, at + 4, length);
-    store(buf, at + 5, flags_byte(h, d));
-    store(buf, at + 6, stat);
+    put_bytes(buf, at, &entry_head(network, length, h, d, stat));
 }
 
 // THE REPLY OF TAKE AND LIST: an option with one information.
@@ -90,14 +78,7 @@ pub fn put_lease(reply: &mut [u8], at: usize, x: Lease)
     requires { at + 7 ≤ length reply.old }
     ensures { reply.new ≡ put reply.old at (entry_head x.network x.length x.h x.d 0) }
 {
-    let network = x.network;
-    reply[at] = (network / 16777216) as u8;
-    reply[at + 1] = (network / 65536 % 256) as u8;
-    reply[at + 2] = (network / 256 % 256) as u8;
-    reply[at + 3] = (network % 256) as u8;
-    reply[at + 4] = x.length;
-    reply[at + 5] = flags_byte(x.h, x.d);
-    reply[at + 6] = 0;
+    reply[at..at + 7].copy_from_slice(&entry_head(x.network, x.length, x.h, x.d, 0));
 }
 
 // Code and Len of the option and the head of its information, before the entries of n leases; the bytes of the whole reply.
@@ -114,14 +95,13 @@ pub fn put_heads(reply: &mut [u8], n: usize, c: bool, s: bool) -> usize
 // OPTION 118
 
 // An address, at the start of the buffer.
-pub fn write_selection(address: u32, buf: &mut [u8]) -> Written
+pub fn write_selection(address: u32, buf: &mut [u8]) -> Result<usize, WriteFault>
     ensures { (result, buf.new) ≡ into (write_selection (length buf.old) address) buf.old }
 {
     if buf.len() < 6 {
-        return Written::TooLong;
+        return Err(WriteFault::TooLong);
     }
-    store(buf, 0, 118);
-    store(buf, 1, 4);
-    put_four(buf, 2, address);
-    Written::Bytes(6)
+    put_bytes(buf, 0, &[118, 4]);
+    put_bytes(buf, 2, &address.to_be_bytes());
+    Ok(6)
 }

@@ -16,7 +16,9 @@ use Rattle.option.specs.Contents.{Request, requests, entries, last_network, posi
 use Rattle.option.specs.Answers.{suboption_of, last_of}
 use Rattle.option.specs.declared.RequestFields.{RequestFields}
 use Rattle.option.specs.declared.Suboption.{Suboption}
-use Rattle.option_scan.specs.declared.Tally.{Tally}
+use Rattle.option_scan.specs.declared.Contents.{Contents}
+use Rattle.std.specs.Prelude.{Option as Maybe, Some, None}
+use Rattle.std.specs.Int.{from_bool}
 use Rattle.option_scan.specs.Scanned.{flag_of}
 use Rattle.option_scan.specs.Inner.{with_suboption, request_column, Added}
 
@@ -43,26 +45,25 @@ position-append p (name o ∷ xs) ys = position-append p xs ys
 position-append p (unknown ∷ xs) ys = position-append p xs ys
 
 -- What is counted of suboptions.
-abbrev pub some? : Option ℕ → Bool
-some? none = false
-some? (some x) = true
+abbrev pub told_position : Option ℕ → Maybe ℕ
+told_position none = None
+told_position (some x) = Some x
 
-abbrev pub tally : List Request → List Entry → Option ℕ → ℕ → ℕ → Tally
+abbrev pub tally : List Request → List Entry → Option ℕ → ℕ → ℕ → Contents
 tally qs es p a n = record {
   requests = length qs;
   listing = length (filter (λ q. q.i) qs);
   entries = length es;
-  resumes = flag_of (some? p);
-  position = get_or p 0;
+  position = told_position p;
   name = a;
   name_bytes = n;
 }
 
 -- Where the name stands is told apart from this: it is no matter of the suboptions' values.
-abbrev pub tally_of : List SuboptionValue → ℕ → ℕ → Tally
+abbrev pub tally_of : List SuboptionValue → ℕ → ℕ → Contents
 tally_of subs a n = tally (requests subs) (entries subs) (position none subs) a n
 
-abbrev pub Counted : List SuboptionValue → Tally → Type 0
+abbrev pub Counted : List SuboptionValue → Contents → Type 0
 Counted subs m = m ≡ tally_of subs m.name m.name_bytes
 
 tally-append : (subs : List SuboptionValue) (x : SuboptionValue) (a n : ℕ)
@@ -81,18 +82,13 @@ listing-more qs q =
     ∙ ap (λ (n : ℕ). length (filter (λ q. q.i) qs) + n) (count-one q.i q)
 
 -- One information more: its last entry is the position, if it has c and s.
-last_some : (x : ℕ) (es : List Entry) → some? (last_network (some x) es) ≡ true
+last_some : (x : ℕ) (es : List Entry) → told_position (last_network (some x) es) ≡ Some (get_or (last_network (some x) es) 0)
 last_some x [] = refl
 last_some x (e ∷ es) = last_some e.network es
 
-resumes-more : (b : Bool) (p : Option ℕ) (es : List Entry) → 0 < length es → cond b 1 (flag_of (some? p)) ≡ flag_of (some? (cond b (last_network p es) p))
-resumes-more true p [] h = absurd (omega arith)
-resumes-more true p (e ∷ es) h = sym (ap flag_of (last_some e.network es))
-resumes-more false p es h = refl
-
-position-more : (b : Bool) (p : Option ℕ) (es : List Entry) → 0 < length es → cond b (last_of es) (get_or p 0) ≡ get_or (cond b (last_network p es) p) 0
+position-more : (b : Bool) (p : Option ℕ) (es : List Entry) → 0 < length es → cond b (Some (last_of es)) (told_position p) ≡ told_position (cond b (last_network p es) p)
 position-more true p [] h = absurd (omega arith)
-position-more true p (e ∷ es) h = refl
+position-more true p (e ∷ es) h = sym (last_some e.network es)
 position-more false p es h = refl
 
 -- An information has an entry, and a name an octet.
@@ -111,7 +107,7 @@ tally-more subs a n (request h i l) at next k =
 tally-more subs a n (information c s es) at next k =
     let p : Option ℕ = position none subs in
     sym (tally-append subs (information c s es) a n
-    ∙ rw (append-nil (requests subs), append-nil es, length-append (entries subs) es, ← resumes-more (c && s) p es k, ← position-more (c && s) p es k))
+    ∙ rw (append-nil (requests subs), append-nil es, length-append (entries subs) es, ← position-more (c && s) p es k))
 tally-more subs a n (name o) at next k = sym (tally-append subs (name o) _ _ ∙ rw (append-nil (requests subs), append-nil (entries subs)))
 tally-more subs a n unknown at next k = sym (tally-append subs unknown a n ∙ rw (append-nil (requests subs), append-nil (entries subs)))
 
@@ -128,6 +124,11 @@ flags-column (information c s es) at next = refl
 flags-column (name o) at next = refl
 flags-column unknown at next = refl
 
+-- A flag as the code makes it a number.
+pub flag-is : (b : Bool) → from_bool b ≡ flag_of b
+flag-is true = refl
+flag-is false = refl
+
 -- A value that is stored, by another name.
 pub stored_one : (l l' : List ℕ) (n v w : ℕ) → l' ≡ set l n v → v ≡ w → l' ≡ put l n (w ∷ [])
 stored_one l l' n v w e ev = e ∙ ap (set l n) ev ∙ sym (put_one l n w)
@@ -136,13 +137,13 @@ stored_one l l' n v w e ev = e ∙ ap (set l n) ev ∙ sym (put_one l n w)
 abbrev NoRequest : Suboption → Type 0
 NoRequest x = (g : RequestFields → ℕ) → request_column g x ≡ []
 
-module _ {m r : Tally} {ls hs ls' hs' : List ℕ} where
+module _ {m r : Contents} {ls hs ls' hs' : List ℕ} where
   pub added-as : {x y : Suboption} → x ≡ y → Added m y ls hs r ls' hs' → Added m x ls hs r ls' hs'
   added-as e h = subst (λ (x : Suboption). Added m x ls hs r ls' hs') (sym e) h
 
-pub added_none : {m r : Tally} {ls hs : List ℕ} (x : Suboption) → NoRequest x → r ≡ with_suboption m x → Added m x ls hs r ls hs
+pub added_none : {m r : Contents} {ls hs : List ℕ} (x : Suboption) → NoRequest x → r ≡ with_suboption m x → Added m x ls hs r ls hs
 added_none {m} {r} {ls} {hs} x none_of e = record {
-  tally = e;
+  contents = e;
   lengths = sym (ap (put ls m.requests) (none_of (λ f. f.length)) ∙ put-nothing ls m.requests);
   flags = sym (ap (put hs m.requests) (none_of (λ f. flag_of f.h)) ∙ put-nothing hs m.requests);
 }

@@ -1,6 +1,6 @@
 -- Where the first name stands, as one suboption after another is taken in.
 -- Assumes nothing.
-use Prim.Native.Nat.{ℕ, ◌+◌, ◌-◌, ◌≤◌, ◌<◌}
+use Prim.Native.Nat.{ℕ, ◌+◌, ◌-◌, ◌<◌}
 use native.Mathlib.Omega.{arith}
 use mathlib.Core.Path.{◌≡◌, refl, sym, ap, subst, ◌∙◌}
 use mathlib.Core.Bool.{Bool, true, false, cond}
@@ -16,7 +16,7 @@ use Rattle.option.specs.Contents.{suboptions, first_name, first_name_in}
 use Rattle.option.specs.Answers.{suboption_of}
 use Rattle.option.proofs.SuboptionLaws.{suboption-moves, name-octets}
 use Rattle.option_scan.specs.declared.Contents.{Contents}
-use Rattle.option_scan.specs.declared.Tally.{Tally}
+use Rattle.std.specs.Prelude.{Ok}
 use Rattle.option_scan.specs.Scanned.{Columns, Stands, Reads}
 use Rattle.option_scan.specs.Inner.{with_suboption}
 use Rattle.option_scan.proofs.Adding.{Filled}
@@ -65,7 +65,7 @@ module _ (s : List ℕ) (at n : ℕ) (xs : List ℕ) (start k : ℕ) (ys : List 
       subst (Stands s at n) (sym (first_some xs ys (omega (arith, stands-length h, some)))) h
 
 -- One suboption more.
-module _ (s : List ℕ) (m : Tally) (subs : List SuboptionValue) (h : Stands s m.name m.name_bytes (first_name subs)) (filled : All Filled subs) (at : ℕ) where
+module _ (s : List ℕ) (m : Contents) (subs : List SuboptionValue) (h : Stands s m.name m.name_bytes (first_name subs)) (filled : All Filled subs) (at : ℕ) where
   same : (x : SuboptionValue) → first_name (x ∷ []) ≡ [] → Stands s m.name m.name_bytes (first_name (subs ++ x ∷ []))
   same x e =
       subst (Stands s m.name m.name_bytes)
@@ -81,12 +81,12 @@ module _ (s : List ℕ) (m : Tally) (subs : List SuboptionValue) (h : Stands s m
   named_more unknown next t = same unknown refl
 
 -- What a caller tests: the octets of the first name of an option that is accepted are this many.
-module _ {option : List ℕ} {r : Contents} {c : Columns} (reads : Reads option r c) {subs : List SuboptionValue} (e : read_option option ≡ accepted subs) where
-  pub name-length : r.name_bytes ≡ length (first_name subs)
-  name-length = stands-length (reads.named subs e)
+module _ {option : List ℕ} {m : Contents} {c : Columns} (reads : Reads option (Ok m) c) {subs : List SuboptionValue} (e : read_option option ≡ accepted subs) where
+  pub name-length : m.name_bytes ≡ length (first_name subs)
+  name-length = stands-length (reads.named m refl subs e)
 
-  pub name_in : Stands option r.name r.name_bytes (first_name_in option)
-  name_in = subst (Stands option _ _) (sym (ap (λ o. first_name (suboptions o)) e)) (reads.named subs e)
+  pub name_in : Stands option m.name m.name_bytes (first_name_in option)
+  name_in = subst (Stands option _ _) (sym (ap (λ o. first_name (suboptions o)) e)) (reads.named m refl subs e)
 
-  pub name-length-in : r.name_bytes ≡ length (first_name_in option)
+  pub name-length-in : m.name_bytes ≡ length (first_name_in option)
   name-length-in = stands-length name_in

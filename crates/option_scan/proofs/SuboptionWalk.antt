@@ -3,12 +3,11 @@
 use Prim.Native.Nat.{ℕ, ◌+◌, ◌*◌, ◌-◌, ◌≤◌, ◌<◌}
 use native.Mathlib.Omega.{arith}
 use mathlib.Core.Path.{◌≡◌, refl, sym, ap, ap₂, subst, ◌∙◌}
-use mathlib.Core.Bool.{Bool, true, false, cond}
+use mathlib.Core.Bool.{Bool, true, false}
 use mathlib.Core.List.{List, [], ◌∷◌, ◌++◌, map, append_assoc, append-nil, map-append}
-use mathlib.Core.Option.{Option, none, some, get_or}
+use mathlib.Core.Option.{Option, none, some}
 use lib.ListN.{length, take, length-append, length-map}
 use lib.Seq.{take_at}
-use lib.Dec.{eqb}
 use Rattle.lists.specs.Put.{put}
 use Rattle.lists.specs.Lists.{All}
 use Rattle.lists.specs.Walk.{more, stop}
@@ -16,23 +15,23 @@ use Rattle.lists.proofs.ListLaws.{all_append}
 use Rattle.lists.proofs.FilterLaws.{filter-fewer}
 use Rattle.lists.proofs.PutLaws.{put-nothing, put-more, put_front}
 use Rattle.option.specs.Values.{longest_option, Entry, SuboptionValue, request, information, name, unknown, refused, accepted}
-use Rattle.option.specs.Reading.{End, whole, bad_at, fault_number, option?, read_option, read_suboption, read_suboptions, ended}
+use Rattle.option.specs.Reading.{End, whole, bad_at, option?, read_option, read_suboption, read_suboptions, ended}
 use Rattle.option.specs.Contents.{requests, entries, position, first_name}
 use Rattle.option.specs.Answers.{suboption_of, entries_of, InColumns, checked_of}
-use Rattle.option.specs.declared.Fault.{Fault}
-use Rattle.option.specs.declared.Checked.TheVariants.{Good, NotTheOption, BadSuboption}
+use Rattle.option.specs.declared.BadSuboption.{BadSuboption as BadOne}
+use Rattle.option.specs.declared.OptionFault.TheVariants.{NotTheOption, BadSuboption}
 use Rattle.option.specs.declared.Suboption.{Suboption}
 use Rattle.option.proofs.EntryLaws.{entries-weight, entries-some}
-use Rattle.option.proofs.SuboptionLaws.{suboption-moves, suboptions-more, suboptions-stop, information-entries, name-octets, checked-ended}
+use Rattle.option.proofs.SuboptionLaws.{suboption-moves, suboptions-more, suboptions-stop, information-entries, name-octets, checked-bad}
 use Rattle.option_scan.specs.declared.Contents.{Contents}
-use Rattle.option_scan.specs.declared.Tally.{Tally}
-use Rattle.option_scan.specs.Scanned.{Columns, columns, flag_of, position_of, ScannedOf, Stands, NamedIn, Long, Reads}
-use Rattle.option_scan.specs.Inner.{no_tally, with_suboption, request_column, Small, Forward, Added, contents_of}
-use Rattle.option_scan.proofs.Adding.{requests-append, entries-append, some?, Counted, Filled, tally-more, lengths-column, flags-column}
+use Rattle.std.specs.Prelude.{Ok, Err}
+use Rattle.option_scan.specs.Scanned.{Columns, columns, flag_of, asked_position, position_of, ScannedOf, Stands, NamedIn, Long, Reads}
+use Rattle.option_scan.specs.Inner.{no_contents, with_suboption, request_column, Small, Forward, Added}
+use Rattle.option_scan.proofs.Adding.{requests-append, entries-append, told_position, Counted, Filled, tally-more, lengths-column, flags-column}
 use Rattle.option_scan.proofs.Naming.{stands-length, name-stands, named_more}
 
 -- The suboptions before a place are good and taken in, and what is left is to be read from the place on.
-pub record Reading (s : List ℕ) (at : ℕ) (m : Tally) (c₀ c : Columns) : Type 0 where
+pub record Reading (s : List ℕ) (at : ℕ) (m : Contents) (c₀ c : Columns) : Type 0 where
   pub done : List SuboptionValue
   pub start : 3 ≤ at
   pub within : at ≤ length s
@@ -47,8 +46,8 @@ pub record Reading (s : List ℕ) (at : ℕ) (m : Tally) (c₀ c : Columns) : Ty
   pub networks : c.networks ≡ put c₀.networks 0 (map (λ e. e.network) (entries done))
   pub lengths : c.lengths ≡ put c₀.lengths 0 (map (λ e. e.length) (entries done))
 
-pub reading-none : (s : List ℕ) (at : ℕ) (m : Tally) (c : Columns) → 3 ≤ length s → at ≡ 3 → m ≡ no_tally → Reading s at m c c
-reading-none s at m c h place e = subst (λ (at : ℕ). Reading s at m c c) (sym place) (subst (λ (m : Tally). Reading s 3 m c c) (sym e) (record {
+pub reading-none : (s : List ℕ) (at : ℕ) (m : Contents) (c : Columns) → 3 ≤ length s → at ≡ 3 → m ≡ no_contents → Reading s at m c c
+reading-none s at m c h place e = subst (λ (at : ℕ). Reading s at m c c) (sym place) (subst (λ (m : Contents). Reading s 3 m c c) (sym e) (record {
   done = [];
   start = omega arith;
   within = h;
@@ -107,12 +106,12 @@ column-more f l l₁ l₂ n xs ys zs vs e₁ en ev ez e₂ =
     put-more l l₁ l₂ 0 (map f xs) n vs e₁ place e₂
     ∙ ap (put l 0) (ap (λ (ws : List ℕ). map f xs ++ ws) ev ∙ sym (map-append f xs ys) ∙ ap (map f) (sym ez))
 
-module _ (s : List ℕ) (at : ℕ) (m : Tally) (c₀ c : Columns) (h : Reading s at m c₀ c) where
+module _ (s : List ℕ) (at : ℕ) (m : Contents) (c₀ c : Columns) (h : Reading s at m c₀ c) where
   count-requests : m.requests ≡ length (requests h.done)
-  count-requests = ap (λ (m : Tally). m.requests) h.counted
+  count-requests = ap (λ (m : Contents). m.requests) h.counted
 
   count_entries : m.entries ≡ length (entries h.done)
-  count_entries = ap (λ (m : Tally). m.entries) h.counted
+  count_entries = ap (λ (m : Contents). m.entries) h.counted
 
   -- The entries so far are fewer than the bytes.
   pub reading-fewer : m.entries ≤ at
@@ -133,13 +132,13 @@ module _ (s : List ℕ) (at : ℕ) (m : Tally) (c₀ c : Columns) (h : Reading s
     reading_small short = (
       record {
         requests = omega (arith, count-requests, h.fewer, h.within);
-        listing = omega (arith, count-requests, ap (λ (m : Tally). m.listing) h.counted, filter-fewer (λ q. q.i) (requests h.done));
+        listing = omega (arith, count-requests, ap (λ (m : Contents). m.listing) h.counted, filter-fewer (λ q. q.i) (requests h.done));
       },
-      omega (arith, ap (λ (m : Tally). m.entries) tally-is, entries-are, (suboption-moves s at x next t).1),
+      omega (arith, ap (λ (m : Contents). m.entries) tally-is, entries-are, (suboption-moves s at x next t).1),
       subst Forward (sym e) (forward s at x next t),
     )
 
-    pub reading-more : (r : Tally) (d : Columns)
+    pub reading-more : (r : Contents) (d : Columns)
         → Added m f c.asked_lengths c.asked_h r d.asked_lengths d.asked_h
         → InColumns (entries_of x) m.entries c.networks c.lengths d.networks d.lengths → Reading s next r c₀ d
     reading-more r d added stored =
@@ -154,10 +153,10 @@ module _ (s : List ℕ) (at : ℕ) (m : Tally) (c₀ c : Columns) (h : Reading s
               h.read
               ∙ ap (λ (q : List SuboptionValue × End). (h.done ++ q.0, q.1)) rest
               ∙ ap (λ (subs : List SuboptionValue). (subs, (read_suboptions s next).1)) (sym (append_assoc h.done (x ∷ []) (read_suboptions s next).0));
-          counted = subst (Counted (h.done ++ x ∷ [])) (sym added.tally) tally-is;
+          counted = subst (Counted (h.done ++ x ∷ [])) (sym added.contents) tally-is;
           filled = all_append Filled h.done (x ∷ []) h.filled (some-filled s at x next t, tt);
           named =
-              subst (λ (v : Tally). Stands s v.name v.name_bytes (first_name (h.done ++ x ∷ []))) (sym (added.tally ∙ ap (with_suboption m) e))
+              subst (λ (v : Contents). Stands s v.name v.name_bytes (first_name (h.done ++ x ∷ []))) (sym (added.contents ∙ ap (with_suboption m) e))
               (named_more s m h.done h.named h.filled at x next t);
           fewer =
               omega (arith, h.fewer, moves.0, requests-need x, ap length (requests-append h.done (x ∷ [])), length-append (requests h.done) (requests (x ∷ [])));
@@ -182,22 +181,22 @@ column-scanned f l l₁ n xs e en fits =
     let size : length (map f xs) ≡ length xs = length-map xs f in
     ap₂ take (en ∙ sym size) (e ∙ put_front (map f xs) l (omega arith)) ∙ take_at (map f xs) _ _ refl
 
-position-scanned : (p : Option ℕ) → cond (eqb (flag_of (some? p)) 1) (some (get_or p 0)) none ≡ p
+position-scanned : (p : Option ℕ) → asked_position (told_position p) ≡ p
 position-scanned none = refl
 position-scanned (some x) = refl
 
 module _ (s : List ℕ) where
-  pub read-other : (m : Tally) (r : Contents) (c : Columns) → option? s ≡ false → r ≡ contents_of m NotTheOption → Reads s r c
+  pub read-other : (c : Columns) → option? s ≡ false → Reads s (Err NotTheOption) c
   unfolding read_option
-  read-other m r c h n =
+  read-other c h =
       let refusal : read_option s ≡ refused 6 0 = rw h refl in
       record {
-        checked = ap (λ (r : Contents). r.checked) n ∙ sym (ap checked_of refusal);
-        holds = λ subs e. let z : ◌≡◌ {A = ℕ} 0 1 = cc in absurd (omega arith);
-        named = λ subs e. let z : ◌≡◌ {A = ℕ} 0 1 = cc in absurd (omega arith);
+        checked = sym (ap checked_of refusal);
+        holds = λ m k. absurd cc;
+        named = λ m k. absurd cc;
       }
 
-  module _ (at : ℕ) (m : Tally) (c₀ c : Columns) (h : Reading s at m c₀ c) (yes : option? s ≡ true) (r : Contents) where
+  module _ (at : ℕ) (m : Contents) (c₀ c : Columns) (h : Reading s at m c₀ c) (yes : option? s ≡ true) where
     -- The option reads as its suboptions do.
     read_as : (e : End) → read_suboption s at ≡ stop e → read_option s ≡ ended h.done e
     unfolding read_option
@@ -208,43 +207,43 @@ module _ (s : List ℕ) where
         ∙ ap (λ (subs : List SuboptionValue). (subs, e)) (append-nil h.done) in
         rw (yes, all)
 
-    pub reading-bad : (fault : Fault) (place : ℕ) → read_suboption s at ≡ stop (bad_at fault place) → r ≡ contents_of m (BadSuboption fault place) → (d : Columns) → Reads s r d
-    reading-bad fault place t n d =
-        let refusal : read_option s ≡ refused (fault_number fault) place = read_as (bad_at fault place) t in
-        record {
-          checked = ap (λ (r : Contents). r.checked) n ∙ sym (ap checked_of refusal ∙ checked-ended h.done (bad_at fault place));
-          holds = λ subs e. let z : ◌≡◌ {A = ℕ} 0 1 = cc in absurd (omega arith);
-          named = λ subs e. let z : ◌≡◌ {A = ℕ} 0 1 = cc in absurd (omega arith);
-        }
+    pub reading-bad : (bad : BadOne) → read_suboption s at ≡ stop (bad_at bad.fault bad.place) → (d : Columns) → Reads s (Err (BadSuboption bad)) d
+    reading-bad bad t d = record {
+      checked = sym (ap checked_of (read_as (bad_at bad.fault bad.place) t) ∙ checked-bad h.done (bad_at bad.fault bad.place) bad refl);
+      holds = λ m k. absurd cc;
+      named = λ m k. absurd cc;
+    }
 
     module _ (short : length s ≤ longest_option) (long : Long c₀) where
-      done-scanned : ScannedOf (contents_of m Good) c h.done
+      done-scanned : ScannedOf m c h.done
       done-scanned =
           let k = count-requests s at m c₀ c h in
           let l = count_entries s at m c₀ c h in
           let few : 7 * length (entries h.done) ≤ longest_option - 6 = omega (arith, h.few, h.within) in
           record {
             requests = k;
-            listing = ap (λ (m : Tally). m.listing) h.counted;
+            listing = ap (λ (m : Contents). m.listing) h.counted;
             asked_lengths = λ q. column-scanned (λ q. q.length) _ _ _ (requests h.done) h.asked_lengths k (omega (arith, long.asked_lengths));
             asked_h = λ q. column-scanned (λ q. flag_of q.h) _ _ _ (requests h.done) h.asked_h k (omega (arith, long.asked_h));
             entries = l;
             few = omega arith;
             networks = column-scanned (λ e. e.network) _ _ _ (entries h.done) h.networks l (omega (arith, long.networks));
             lengths = column-scanned (λ e. e.length) _ _ _ (entries h.done) h.lengths l (omega (arith, long.lengths));
-            position = ap (λ (m : Tally). position_of (contents_of m Good)) h.counted ∙ position-scanned (position none h.done);
+            position = ap position_of h.counted ∙ position-scanned (position none h.done);
           }
 
-      pub reading-all : read_suboption s at ≡ stop whole → r ≡ contents_of m Good → (ns ls : List ℕ) → (ns ≡ c.networks) × (ls ≡ c.lengths) → Reads s r (columns c.asked_lengths c.asked_h ns ls)
-      reading-all t n ns ls kept =
+      pub reading-all : read_suboption s at ≡ stop whole → (ns ls : List ℕ) → (ns ≡ c.networks) × (ls ≡ c.lengths) → Reads s (Ok m) (columns c.asked_lengths c.asked_h ns ls)
+      reading-all t ns ls kept =
           let acceptance : read_option s ≡ accepted h.done = read_as whole t in
           let same : columns c.asked_lengths c.asked_h ns ls ≡ c = ap₂ (λ (ns ls : List ℕ). columns c.asked_lengths c.asked_h ns ls) kept.0 kept.1 in
-          subst (Reads s r) (sym same) (record {
-            checked = ap (λ (r : Contents). r.checked) n ∙ sym (ap checked_of acceptance);
-            holds = λ subs f.
+          subst (Reads s (Ok m)) (sym same) (record {
+            checked = sym (ap checked_of acceptance);
+            holds = λ n k subs f.
                 let same : h.done ≡ subs = cc in
-                subst (ScannedOf r c) same (subst (λ (r : Contents). ScannedOf r c h.done) (sym n) done-scanned);
-            named = λ subs f.
+                let found : m ≡ n = cc in
+                subst (ScannedOf n c) same (subst (λ (n : Contents). ScannedOf n c h.done) found done-scanned);
+            named = λ n k subs f.
                 let same : h.done ≡ subs = cc in
-                subst (λ (subs : List SuboptionValue). NamedIn s r (first_name subs)) same (subst (λ (r : Contents). NamedIn s r (first_name h.done)) (sym n) h.named);
+                let found : m ≡ n = cc in
+                subst (λ (subs : List SuboptionValue). NamedIn s n (first_name subs)) same (subst (λ (n : Contents). NamedIn s n (first_name h.done)) found h.named);
           })

@@ -1,11 +1,12 @@
 -- What is read of an option's suboptions, in the ledger's terms.
-use Rattle.std.specs.Prelude.{ℕ, ◌+◌, ◌≤◌, ◌≡◌, Bool, cond, List, map, length, take, drop}
+use Rattle.std.specs.Prelude.{ℕ, ◌+◌, ◌≤◌, ◌≡◌, Bool, cond, List, map, length, take, drop, Option as Maybe, Some, None, Result, Ok, Err}
 use Rattle.std.proofs.Math.Option.{Option, none, some}
 use Rattle.lists.specs.Lists.{filter}
 use Rattle.option.specs.Values.{most_requests, most_entries, Entry, SuboptionValue, accepted}
 use Rattle.option.specs.Reading.{read_option}
 use Rattle.option.specs.Answers.{checked_of}
 use Rattle.option.specs.Contents as contents
+use Rattle.option.specs.declared.OptionFault.{OptionFault}
 use Rattle.option_scan.specs.declared.Contents.{Contents}
 
 -- The lent columns: lengths and h of the requests, networks and lengths of the entries.
@@ -22,8 +23,13 @@ columns asked_lengths asked_h networks lengths = record { asked_lengths = asked_
 abbrev pub flag_of : Bool → ℕ
 flag_of b = cond b 1 0
 
+-- The position of a list, as the ledger has it.
+abbrev pub asked_position : Maybe ℕ → Option ℕ
+asked_position None = none
+asked_position (Some x) = some x
+
 abbrev pub position_of : Contents → Option ℕ
-position_of r = cond r.resumes (some r.position) none
+position_of r = asked_position r.position
 
 -- What is read, and the columns, hold these requests and entries, and this position of a list. Requests past those that an ask may
 -- have are only counted.
@@ -58,8 +64,13 @@ pub record Long (c : Columns) : Type 0 where
   pub networks : most_entries ≤ length c.networks
   pub lengths : most_entries ≤ length c.lengths
 
--- WHAT `read` ANSWERS: rows 6, 7 and 16, and all that the calls look at in an option that is accepted.
-pub record Reads (option : List ℕ) (r : Contents) (c : Columns) : Type 0 where
-  pub checked : r.checked ≡ checked_of (read_option option)
-  pub holds : (subs : List SuboptionValue) → read_option option ≡ accepted subs → ScannedOf r c subs
-  pub named : (subs : List SuboptionValue) → read_option option ≡ accepted subs → NamedIn option r (contents.first_name subs)
+-- What the answer says of the check.
+abbrev pub checked_by : Result Contents OptionFault → Result (Unit {0}) OptionFault
+checked_by (Ok contents) = Ok tt
+checked_by (Err fault) = Err fault
+
+-- WHAT `read` ANSWERS: rows 6, 7 and 16, or all that the calls look at in an option that is accepted.
+pub record Reads (option : List ℕ) (r : Result Contents OptionFault) (c : Columns) : Type 0 where
+  pub checked : checked_by r ≡ checked_of (read_option option)
+  pub holds : (m : Contents) → r ≡ Ok m → (subs : List SuboptionValue) → read_option option ≡ accepted subs → ScannedOf m c subs
+  pub named : (m : Contents) → r ≡ Ok m → (subs : List SuboptionValue) → read_option option ≡ accepted subs → NamedIn option m (contents.first_name subs)

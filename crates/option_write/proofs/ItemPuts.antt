@@ -1,15 +1,14 @@
 -- Items, put piece by piece, and the option around them.
 -- Assumes nothing.
-use Prim.Native.Nat.{ℕ, suc, ◌+◌, ◌-◌, ◌*◌, ◌≤◌, ◌<◌}
+use Prim.Native.Nat.{ℕ, suc, ◌+◌, ◌-◌, ◌≤◌, ◌<◌}
 use native.Mathlib.Omega.{arith}
-use native.Mathlib.Numerals.{add-one}
 use mathlib.Core.Path.{◌≡◌, refl, sym, ap, ap₂, subst, ◌∙◌}
 use mathlib.Core.Bool.{Bool, true, false, ◌&&◌, and-false}
 use mathlib.Core.List.{List, [], ◌∷◌, ◌++◌, map}
-use lib.ListN.{length, get_or, set, take, length-append, length-take, length-map, get_or-map}
-use lib.Seq.{take-suc, get_or-take}
+use lib.ListN.{length, get_or, length-map, get_or-map}
 use lib.Dec.{leb}
 use borrow.Author.Tests.{leb-true, le-leb, lt-leb}
+use Rattle.std.specs.Prelude.{Result, Ok, Err, Some, None}
 use Rattle.lists.specs.Lists.{all?}
 use Rattle.lists.specs.Put.{put}
 use Rattle.lists.proofs.Tests.{and-to}
@@ -19,22 +18,19 @@ use Rattle.option.specs.Values.{Entry, SuboptionValue, information, name, unknow
 use Rattle.option.specs.Writing.{entries_bytes, information_head, suboption_bytes, suboptions_bytes, option_head, option_bytes}
 use Rattle.option.specs.Writer.{entry_writable?, writable?, write_option}
 use Rattle.option_entry.specs.declared.EntryFields.{EntryFields}
-use Rattle.option.proofs.WritingLaws.{information-length, option-length, suboptions-append, suboptions-one}
-use Rattle.option_measure.specs.Lists.{entry_slots, octet_slots, entry_of, part, information_in, name_in, value_at}
+use Rattle.option.proofs.WritingLaws.{information-length, option-length}
+use Rattle.option_measure.specs.Lists.{entry_slots, octet_slots, entry_of, part, information_in, name_in, value_of}
 use Rattle.option_reply.specs.Answers.{into}
 use Rattle.option_measure.specs.Measuring.{measure_list}
 use Rattle.option_write.specs.Inner.{suboptions_at, most_bytes, Fitting, FittingList, PutAt}
 use Rattle.option_measure.specs.declared.InformationItem.{InformationItem}
 use Rattle.option_measure.specs.declared.NameItem.{NameItem}
-use Rattle.option_measure.specs.declared.Slot.{Slot}
-use Rattle.option_reply.specs.declared.Written.{Written}
-use Rattle.option_reply.specs.declared.Written.TheVariants as written_as
-use Rattle.option_measure.specs.declared.Measured.TheVariants.{Bytes, Outside}
+use Rattle.option_measure.specs.declared.Item.{Item}
+use Rattle.option_reply.specs.declared.WriteFault.{WriteFault}
+use Rattle.option_reply.specs.declared.WriteFault.TheVariants.{OutsideRules, TooLong}
 use Rattle.lists.proofs.IndexLaws.{all?-at}
-use Rattle.lists.proofs.MapLaws.{map-append}
-use Rattle.option_reply.proofs.StoreLaws.{two-stores}
 use Rattle.option_measure.proofs.PartLaws.{length_part}
-use Rattle.option_measure.proofs.MeasureLaws.{bytes-picked, outside-left}
+use Rattle.option_measure.proofs.MeasureLaws.{some-picked, none-left}
 
 -- An information that can be written points into the array, and its entries can be written.
 module _ (entries : List EntryFields) (f : InformationItem) where
@@ -106,84 +102,58 @@ module _ (octets : List ℕ) (n : NameItem) where
   pub name-fitting : Fitting (name_in octets n) → NameFitting
   name-fitting r = named (leb (n.first + n.count) octet_slots) refl r
 
-  pub name-put : (l l₁ l₂ l₃ : List ℕ) (at : ℕ) → length octets ≡ octet_slots → NameFitting → l₁ ≡ set l at 3 → l₂ ≡ set l₁ (at + 1) n.count → l₃ ≡ put l₂ (at + 2) os
-      → PutAt l l₃ at (at + 2 + n.count) (suboption_bytes (name_in octets n))
+  pub name-put : (l l₁ l₂ : List ℕ) (at : ℕ) → length octets ≡ octet_slots → NameFitting → l₁ ≡ put l at (3 ∷ n.count ∷ []) → l₂ ≡ put l₁ (at + 2) os
+      → PutAt l l₂ at (at + 2 + n.count) (suboption_bytes (name_in octets n))
   unfolding suboption_bytes
-  name-put l l₁ l₂ l₃ at full r e₁ e₂ e₃ =
+  name-put l l₁ l₂ at full r e₁ e₂ =
       let c : length os ≡ n.count = length_part octets n.first n.count (omega (arith, r.placed)) in
       let size : length (suboption_bytes (name_in octets n)) ≡ suc (suc (length os)) = ap (λ (x : SuboptionValue). length (suboption_bytes x)) r.value in
       record {
         stored =
-            put-more l l₂ l₃ at (3 ∷ n.count ∷ []) (at + 2) os (two-stores l l₁ l₂ at 3 n.count e₁ e₂) refl e₃
+            put-more l l₁ l₂ at (3 ∷ n.count ∷ []) (at + 2) os e₁ refl e₂
             ∙ ap (λ (k : ℕ). put l at (3 ∷ k ∷ os)) (sym c)
             ∙ ap (λ (x : SuboptionValue). put l at (suboption_bytes x)) (sym r.value);
         place = omega arith;
       }
 
--- A turn of the loop that puts items.
-module _ (items : List Slot) (entries : List EntryFields) (octets : List ℕ) where
-  abbrev up_to : ℕ → List SuboptionValue
-  up_to k = map (value_at entries octets) (take k items)
+-- An item of a list that can be written.
+pub item-fitting : (items : List Item) (entries : List EntryFields) (octets : List ℕ) → FittingList (map (value_of entries octets) items)
+    → (i : ℕ) (d : Item) → i < length items → Fitting (value_of entries octets (get_or items i d))
+unfolding suboptions_bytes
+item-fitting items entries octets r i d h =
+    let v = value_of entries octets in
+    let there : get_or (map v items) i (v d) ≡ v (get_or items i d) = get_or-map v items i d in
+    let within : i < length (map v items) = omega (arith, length-map items v) in
+    let one = length-concat_map-at suboption_bytes (map v items) i (v d) within in
+    record {
+      good = sym (ap writable? there) ∙ all?-at writable? (map v items) r.good i (v d) within;
+      short = omega (arith, r.short, ap (λ (x : SuboptionValue). length (suboption_bytes x)) there);
+    }
 
-  pub item-fitting : (count : ℕ) → count ≤ length items → FittingList (up_to count) → (i : ℕ) (d : Slot) → i < count → Fitting (value_at entries octets (get_or items i d))
-  unfolding suboptions_bytes
-  item-fitting count fits r i d h =
-      let v = value_at entries octets in
-      let there : get_or (up_to count) i (v d) ≡ v (get_or items i d) = get_or-map v (take count items) i d ∙ ap v (get_or-take count items i d h) in
-      let within : i < length (up_to count) = simp (length-map, length-take) (omega arith) in
-      let one = length-concat_map-at suboption_bytes (up_to count) i (v d) within in
-      record {
-        good = sym (ap writable? there) ∙ all?-at writable? (up_to count) r.good i (v d) within;
-        short = omega (arith, r.short, ap (λ (x : SuboptionValue). length (suboption_bytes x)) there);
-      }
-
-  items_more : (i : ℕ) (d : Slot) → i < length items → suboptions_bytes (up_to (i + 1)) ≡ suboptions_bytes (up_to i) ++ suboption_bytes (value_at entries octets (get_or items i d))
-  items_more i d h =
-      let v = value_at entries octets in
-      ap (λ (n : ℕ). suboptions_bytes (up_to n)) (add-one i)
-      ∙ ap (λ (l : List Slot). suboptions_bytes (map v l)) (take-suc items i d h)
-      ∙ ap suboptions_bytes (map-append v (take i items) (get_or items i d ∷ []))
-      ∙ suboptions-append (up_to i) (v (get_or items i d) ∷ [])
-      ∙ ap (λ (l : List ℕ). suboptions_bytes (up_to i) ++ l) (suboptions-one (v (get_or items i d)))
-
-  pub record Turned (l l₂ : List ℕ) (p₂ i : ℕ) : Type 0 where
-    pub bytes : l₂ ≡ put l suboptions_at (suboptions_bytes (up_to (i + 1)))
-    pub place : p₂ ≡ suboptions_at + length (suboptions_bytes (up_to (i + 1)))
-    pub short : p₂ ≤ suboptions_at + most_bytes * (i + 1)
-
-  pub turned : (l l₁ l₂ : List ℕ) (p p₂ i : ℕ) (d : Slot) → i < length items → Fitting (value_at entries octets (get_or items i d))
-      → l₁ ≡ put l suboptions_at (suboptions_bytes (up_to i)) → p ≡ suboptions_at + length (suboptions_bytes (up_to i)) → p ≤ suboptions_at + most_bytes * i
-      → PutAt l₁ l₂ p p₂ (suboption_bytes (value_at entries octets (get_or items i d))) → Turned l l₂ p₂ i
-  turned l l₁ l₂ p p₂ i d h r e₁ ep le e₂ =
-      let before : List ℕ = suboptions_bytes (up_to i) in
-      let w : List ℕ = suboption_bytes (value_at entries octets (get_or items i d)) in
-      let m = items_more i d h in
-      let n : length (suboptions_bytes (up_to (i + 1))) ≡ length before + length w = ap length m ∙ length-append before w in
-      record {
-        bytes = put-more l l₁ l₂ suboptions_at before p w e₁ ep e₂.stored ∙ ap (put l suboptions_at) (sym m);
-        place = omega (arith, e₂.place);
-        short = omega (arith, e₂.place, r.short);
-      }
+-- It takes at most as many bytes as all of them.
+pub item-short : (l l₂ : List ℕ) (p p₂ : ℕ) (items : List Item) (entries : List EntryFields) (octets : List ℕ) (i : ℕ) (d : Item) → FittingList (map (value_of entries octets) items)
+    → i < length items → PutAt l l₂ p p₂ (suboption_bytes (value_of entries octets (get_or items i d))) → p₂ ≤ p + most_bytes
+item-short l l₂ p p₂ items entries octets i d r h a = let f = item-fitting items entries octets r i d h in omega (arith, f.short, a.place)
 
 -- The answer, from what was measured.
 module _ (subs : List SuboptionValue) (buffer : List ℕ) where
-  pub answer-outside : measure_list subs ≡ Outside → ◌≡◌ {A = Written × List ℕ} (written_as.OutsideRules, buffer) (into (write_option (length buffer) subs) buffer)
+  pub answer-outside : measure_list subs ≡ None → ◌≡◌ {A = Result ℕ WriteFault × List ℕ} (Err OutsideRules, buffer) (into (write_option (length buffer) subs) buffer)
   unfolding measure_list write_option into
-  answer-outside m = simp (outside-left (leb 1 (length subs) && all? writable? subs) (length (suboptions_bytes subs)) m)
+  answer-outside m = simp (none-left (leb 1 (length subs) && all? writable? subs) (length (suboptions_bytes subs)) m)
 
-  module _ (n : ℕ) (m : measure_list subs ≡ Bytes n) where
+  module _ (n : ℕ) (m : measure_list subs ≡ Some n) where
     told : ((leb 1 (length subs) && all? writable? subs) ≡ true) × (length (suboptions_bytes subs) ≡ n)
     unfolding measure_list
-    told = bytes-picked (leb 1 (length subs) && all? writable? subs) (length (suboptions_bytes subs)) n m
+    told = some-picked (leb 1 (length subs) && all? writable? subs) (length (suboptions_bytes subs)) n m
 
-    pub answer-long : most_bytes < n → ◌≡◌ {A = Written × List ℕ} (written_as.TooLong, buffer) (into (write_option (length buffer) subs) buffer)
+    pub answer-long : most_bytes < n → ◌≡◌ {A = Result ℕ WriteFault × List ℕ} (Err TooLong, buffer) (into (write_option (length buffer) subs) buffer)
     unfolding write_option into
     answer-long h =
         let t = told in
         let long : most_bytes + 1 < 1 + length (suboptions_bytes subs) = omega (arith, t.1) in
         simp (t.0, lt-leb _ _ long, and-false)
 
-    pub answer-full : length buffer < n + suboptions_at → ◌≡◌ {A = Written × List ℕ} (written_as.TooLong, buffer) (into (write_option (length buffer) subs) buffer)
+    pub answer-full : length buffer < n + suboptions_at → ◌≡◌ {A = Result ℕ WriteFault × List ℕ} (Err TooLong, buffer) (into (write_option (length buffer) subs) buffer)
     unfolding write_option into
     answer-full h =
         let t = told in
@@ -194,7 +164,7 @@ module _ (subs : List SuboptionValue) (buffer : List ℕ) where
     list-fitting h = let t = told in record { good = (and-to (leb 1 (length subs)) (all? writable? subs) t.0).1; short = omega (arith, t.1) }
 
     pub answer-written : (l₁ l₂ : List ℕ) (xs : List SuboptionValue) → subs ≡ xs → n ≤ most_bytes → n + suboptions_at ≤ length buffer → l₁ ≡ put buffer 0 (option_head (n + 1)) → l₂ ≡ put l₁ suboptions_at (suboptions_bytes xs)
-        → ◌≡◌ {A = Written × List ℕ} (written_as.Bytes (n + suboptions_at), l₂) (into (write_option (length buffer) subs) buffer)
+        → ◌≡◌ {A = Result ℕ WriteFault × List ℕ} (Ok (n + suboptions_at), l₂) (into (write_option (length buffer) subs) buffer)
     unfolding write_option into option_bytes option_head
     answer-written l₁ l₂ xs same small room e₁ e₂ =
         let t = told in
@@ -207,7 +177,7 @@ module _ (subs : List SuboptionValue) (buffer : List ℕ) where
         put-more buffer l₁ l₂ 0 (option_head (n + 1)) suboptions_at (suboptions_bytes xs) e₁ refl e₂
         ∙ ap (λ (l : List SuboptionValue). put buffer 0 (option_head (n + 1) ++ suboptions_bytes l)) (sym same)
         ∙ ap (λ (k : ℕ). put buffer 0 (option_head k ++ suboptions_bytes subs)) head in
-        ap₂ (λ (k : ℕ) (l : List ℕ). (written_as.Bytes k, l)) count stored ∙ simp (t.0, le-leb _ _ fits, le-leb _ _ len)
+        ap₂ (λ (k : ℕ) (l : List ℕ). (Ok k, l)) count stored ∙ simp (t.0, le-leb _ _ fits, le-leb _ _ len)
 
 pub put_as : (l l₂ : List ℕ) (at next : ℕ) (x y : SuboptionValue) → x ≡ y → PutAt l l₂ at next (suboption_bytes y) → PutAt l l₂ at next (suboption_bytes x)
 put_as l l₂ at next x y e p = subst (λ (z : SuboptionValue). PutAt l l₂ at next (suboption_bytes z)) (sym e) p

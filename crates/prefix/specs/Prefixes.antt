@@ -1,7 +1,7 @@
 -- Address prefixes (document 01: blocks): a network and a length, from which every size and end comes.
-use Rattle.std.specs.Prelude.{ℕ, ◌+◌, ◌-◌, ◌^◌, ◌%◌, ◌≤◌, ◌<◌, ◌≡◌, ◌⊎◌, Bool, true, false, cond, not, ◌&&◌, ◌||◌, leb, eqb}
-use Rattle.prefix.specs.declared.{Prefix.Prefix, Checked.Checked}
-use Rattle.prefix.specs.declared.Checked.TheVariants.{Good, BadLength, Misaligned}
+use Rattle.std.specs.Prelude.{ℕ, ◌+◌, ◌-◌, ◌^◌, ◌%◌, ◌≤◌, ◌<◌, ◌≡◌, ◌⊎◌, Bool, cond, not, ◌&&◌, ◌||◌, leb, eqb, Result, Ok, Err, is_ok}
+use Rattle.prefix.specs.declared.{Prefix.Prefix, PrefixFault.PrefixFault}
+use Rattle.prefix.specs.declared.PrefixFault.TheVariants.{BadLength, Misaligned}
 
 -- "A block length runs from 1 to 30"
 abbrev pub shortest : ℕ
@@ -54,13 +54,11 @@ abbrev pub In : ℕ → Prefix → Type 0
 In address p = (p.network ≤ address) × (address < end p)
 
 -- A prefix as document 01 has it: of a length that a block may have, and aligned. The first rule that fails is the answer.
-abbrev pub checked : ℕ → ℕ → Checked
+abbrev pub checked : ℕ → ℕ → Result Prefix PrefixFault
 checked network length =
-    cond (not (leb shortest length && leb length longest)) BadLength
-    (cond (aligned? (prefix network length)) (Good (prefix network length)) Misaligned)
+    cond (not (leb shortest length && leb length longest)) (Err BadLength)
+    (cond (aligned? (prefix network length)) (Ok (prefix network length)) (Err Misaligned))
 
 -- Whether it is one.
-abbrev pub block? : Checked → Bool
-block? (Good p) = true
-block? BadLength = false
-block? Misaligned = false
+abbrev pub block? : Result Prefix PrefixFault → Bool
+block? = is_ok

@@ -34,16 +34,15 @@ pub fn offset(address: u64, length: u8) -> u64
     address & (size(length) - 1)
 }
 
-#[derive(Clone, Copy)]
+#[derive(Clone, Copy, Debug, PartialEq, Eq)]
 pub struct Prefix {
     pub network: u32,
     pub length: u8,
 }
 
-// What the constructor answers.
-#[derive(Clone, Copy)]
-pub enum Checked {
-    Good(Prefix),
+// Why a network and a length are no block.
+#[derive(Clone, Copy, Debug, PartialEq, Eq)]
+pub enum PrefixFault {
     BadLength,
     Misaligned,
 }
@@ -55,20 +54,16 @@ impl Prefix {
     pub const LONGEST: u8 = 30;
 
     // The prefix with this network and length, refused where it is no block of document 01.
-    pub fn new(network: u32, length: u8) -> Checked
+    pub fn new(network: u32, length: u8) -> Result<Prefix, PrefixFault>
         ensures { result ≡ checked network length }
     {
-        if length < Prefix::SHORTEST {
-            return Checked::BadLength;
+        if length < Prefix::SHORTEST || Prefix::LONGEST < length {
+            return Err(PrefixFault::BadLength);
         }
-        if Prefix::LONGEST < length {
-            return Checked::BadLength;
+        if offset(u64::from(network), length) != 0 {
+            return Err(PrefixFault::Misaligned);
         }
-        if offset(network as u64, length) == 0 {
-            Checked::Good(Prefix { network, length })
-        } else {
-            Checked::Misaligned
-        }
+        Ok(Prefix { network, length })
     }
 
     // The first address after it; 64 bits, since the last prefix ends at 2^32.
@@ -76,7 +71,7 @@ impl Prefix {
         ensures value { result ≡ end_of self }
         ensures upper_bound { result ≤ 8589934591 }
     {
-        (self.network as u64) + size(self.length)
+        u64::from(self.network) + size(self.length)
     }
 
     // The lower half of a prefix that is not of the longest length.
@@ -96,7 +91,7 @@ impl Prefix {
         ensures { result ≡ upper_of self }
     {
         let length = self.length + 1;
-        let network = (self.network as u64) + size(length);
+        let network = u64::from(self.network) + size(length);
         Prefix {
             network: network as u32,
             length,
@@ -108,9 +103,5 @@ impl Prefix {
 pub fn is_block(network: u32, length: u8) -> bool
     ensures { result ≡ block? (checked network length) }
 {
-    match Prefix::new(network, length) {
-        Checked::Good(_) => true,
-        Checked::BadLength => false,
-        Checked::Misaligned => false,
-    }
+    Prefix::new(network, length).is_ok()
 }

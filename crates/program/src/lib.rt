@@ -2,9 +2,9 @@
 // standard error is where a failure shows.
 #![tactic(auto)]
 
-ghost use Rattle.std.specs.Prelude.{◌≤◌, length};
-ghost use Rattle.program.specs.Inputs.{Within};
+ghost use Rattle.std.specs.Prelude.{◌≤◌, length, IfOk};
 
+use either::{Either, Left, Right};
 use std::env::{Env, FillError};
 use std::fs::Files;
 use std::io::{ErrorKind, Read, Write};
@@ -19,52 +19,25 @@ const ARGUMENT: usize = 4096;
 // Room for the reason of an error.
 const REASON: usize = 512;
 
-// How a program is to run: whether commands are echoed, and the number of the argument that names its input; 0 where none does.
-#[derive(Clone, Copy)]
+// How a program is to run: whether commands are echoed, and the number of the argument that names its input, if one does.
+#[derive(Clone, Copy, Debug, PartialEq, Eq)]
 pub struct Options {
     pub echo: bool,
-    pub file: usize,
-}
-
-// What the command line asks for. Where it is no command line, or asks for a text only, all is done.
-#[derive(Clone, Copy)]
-pub enum Request {
-    Run(Options),
-    Done,
+    pub file: Option<usize>,
 }
 
 // What an argument is.
-#[derive(Clone, Copy)]
+#[derive(Clone, Copy, Debug, PartialEq, Eq)]
 enum Argument {
     File,
     Echo,
     Help,
     Version,
-    Unknown,
 }
 
-// What was read of an input: how many bytes, or that it cannot be read.
-#[derive(Clone, Copy)]
-pub enum Input {
-    Bytes(usize),
-    Unreadable,
-}
-
-// The input that is read: a file, or standard input.
-#[derive(Drop)]
-pub enum Source<F, S> {
-    File(F),
-    Standard(S),
-}
-
-impl<F: Read, S: Read> Read for Source<F, S> {
-    fn read(&mut self, buf: &mut [u8]) -> io::Result<usize> {
-        match self {
-            Source::File(f) => f.read(buf),
-            Source::Standard(s) => s.read(buf),
-        }
-    }
-}
+// A read that failed, as was said then.
+#[derive(Clone, Copy, Debug, PartialEq, Eq)]
+pub struct ReadFailed;
 
 // STANDARD ERROR
 
@@ -143,22 +116,16 @@ fn is_file(word: &[u8]) -> bool {
     word[0] != b'-'
 }
 
-fn read_argument(word: &[u8], echoes: bool) -> Argument {
+fn read_argument(word: &[u8], echoes: bool) -> Option<Argument> {
     if is_file(word) {
-        return Argument::File;
+        return Some(Argument::File);
     }
-    if check::same(word, b"--help") {
-        return Argument::Help;
+    match word {
+        b"--help" => Some(Argument::Help),
+        b"--version" => Some(Argument::Version),
+        b"--echo" if echoes => Some(Argument::Echo),
+        _ => None,
     }
-    if check::same(word, b"--version") {
-        return Argument::Version;
-    }
-    if echoes {
-        if check::same(word, b"--echo") {
-            return Argument::Echo;
-        }
-    }
-    Argument::Unknown
 }
 
 // The options with the argument of this number; or a text is written, and all is done.
@@ -171,76 +138,57 @@ fn with_argument(
     name: &[u8],
     help: &[u8],
     echoes: bool,
-) -> Request {
+) -> Option<Options> {
     match read_argument(word, echoes) {
-        Argument::File => {
-            if o.file != 0 {
+        Some(Argument::File) => {
+            if o.file.is_some() {
                 complain(errors, name, b": no more than one file: ", word, help);
-                return Request::Done;
+                return None;
             }
-            Request::Run(Options {
-                echo: o.echo,
-                file: i,
-            })
+            Some(Options { file: Some(i), ..o })
         }
-        Argument::Echo => Request::Run(Options {
-            echo: true,
-            file: o.file,
-        }),
-        Argument::Help => {
+        Some(Argument::Echo) => Some(Options { echo: true, ..o }),
+        Some(Argument::Help) => {
             write_output(rt, errors, name, help);
-            Request::Done
+            None
         }
-        Argument::Version => {
+        Some(Argument::Version) => {
             write_output(rt, errors, name, &VERSION);
-            Request::Done
+            None
         }
-        Argument::Unknown => {
+        None => {
             complain(errors, name, b": no such option: ", word, help);
-            Request::Done
+            None
         }
     }
 }
 
-// What the command line asks of the program of this name. The first line of its help says how it is called; not every program can echo.
+// What the command line asks of the program of this name; none where it is no command line, or asks for a text only, and all is done.
+// The first line of the program's help says how it is called; not every program can echo.
 pub fn command_line(
     rt: &(impl Env + Print),
     errors: &impl Print,
     name: &[u8],
     help: &[u8],
     echoes: bool,
-) -> Request {
+) -> Option<Options> {
     let mut o = Options {
         echo: false,
-        file: 0,
+        file: None,
     };
     let mut word = [0u8; ARGUMENT];
     for i in 1..usize::MAX {
         match rt.arg(i, &mut word) {
-            Ok(n) => {
-                let Request::Run(next) = with_argument(
-                    rt,
-                    errors,
-                    o,
-                    i,
-                    &word[..n],
-                    name,
-                    help,
-                    echoes,
-                ) else {
-                    return Request::Done;
-                };
-                o = next;
-            }
-            Err(FillError::NotPresent) => return Request::Run(o),
+            Ok(n) => o = with_argument(rt, errors, o, i, &word[..n], name, help, echoes)?,
+            Err(FillError::NotPresent) => return Some(o),
             Err(FillError::TooLong) => {
                 say(errors, name);
                 say(errors, b": an argument: File name too long\n");
-                return Request::Done;
+                return None;
             }
         }
     }
-    Request::Run(o)
+    Some(o)
 }
 
 // INPUT
@@ -258,22 +206,19 @@ pub fn open_input<R: Env + Files + io::Input>(
     rt: &R,
     errors: &impl Print,
     name: &[u8],
-    file: usize,
-) -> Option<Source<R::File, R::Reader>> {
-    if file == 0 {
-        return Some(Source::Standard(rt.reader()));
-    }
-    let mut word = [0u8; ARGUMENT];
-    let n = match rt.arg(file, &mut word) {
-        Ok(n) => n,
-        Err(_) => 0,
+    file: Option<usize>,
+) -> Option<Either<R::File, R::Reader>> {
+    let Some(i) = file else {
+        return Some(Right(rt.reader()));
     };
+    let mut word = [0u8; ARGUMENT];
+    let n = rt.arg(i, &mut word).unwrap_or(0);
     let path = &word[..n];
-    if check::same(path, b"-") {
-        return Some(Source::Standard(rt.reader()));
+    if path == b"-".as_slice() {
+        return Some(Right(rt.reader()));
     }
     match open_file(rt, path) {
-        Ok(f) => Some(Source::File(f)),
+        Ok(f) => Some(Left(f)),
         Err(error) => {
             say(errors, name);
             fail(errors, b": ", path, error);
@@ -283,31 +228,39 @@ pub fn open_input<R: Env + Files + io::Input>(
 }
 
 // Reads once; no bytes are the end of the input. Where it cannot be read, that is said.
-pub fn read_some<R: Read>(errors: &impl Print, name: &[u8], from: &mut R, buf: &mut [u8]) -> Input
-    ensures { Within result (length buf.old) }
+pub fn read_some<R: Read>(
+    errors: &impl Print,
+    name: &[u8],
+    from: &mut R,
+    buf: &mut [u8],
+) -> Result<usize, ReadFailed>
+    ensures { IfOk result (λ n. n ≤ length buf.old) }
 {
     match from.read(buf) {
-        Ok(n) => Input::Bytes(n),
+        Ok(n) => Ok(n),
         Err(error) => {
             unreadable(errors, name, error);
-            Input::Unreadable
+            Err(ReadFailed)
         }
     }
 }
 
 // Reads until the buffer is full or the input ends.
-pub fn read_full<R: Read>(errors: &impl Print, name: &[u8], from: &mut R, buf: &mut [u8]) -> Input
-    ensures { Within result (length buf.old) }
+pub fn read_full<R: Read>(
+    errors: &impl Print,
+    name: &[u8],
+    from: &mut R,
+    buf: &mut [u8],
+) -> Result<usize, ReadFailed>
+    ensures { IfOk result (λ n. n ≤ length buf.old) }
 {
-    let mut n: usize = 0;
+    let mut n = 0;
     while n < buf.len() {
-        let Input::Bytes(more) = read_some(errors, name, from, &mut buf[n..]) else {
-            return Input::Unreadable;
-        };
+        let more = read_some(errors, name, from, &mut buf[n..])?;
         if more == 0 {
-            return Input::Bytes(n);
+            return Ok(n);
         }
-        n = n + more;
+        n += more;
     }
-    Input::Bytes(n)
+    Ok(n)
 }

@@ -2,8 +2,6 @@
 #![tactic(auto)]
 
 use image::FULL_IMAGE;
-use program::{Input, Request};
-use sheet_text::SheetAnswer;
 use std::io::Read;
 
 const NAME: [u8; 5] = *b"sheet";
@@ -27,12 +25,12 @@ const INPUT: usize = FULL_IMAGE + 1;
 // Prints the sheet of what is read.
 fn show<R: Read>(rt: &impl Print, errors: &impl Print, from: &mut R) {
     let mut input = [0u8; INPUT];
-    let Input::Bytes(n) = program::read_full(errors, &NAME, from, &mut input) else {
+    let Ok(n) = program::read_full(errors, &NAME, from, &mut input) else {
         return;
     };
     // Holds every sheet, so what is not written is refused for its bytes.
     let mut out = sheet_text::buffer();
-    let SheetAnswer::Written(bytes) = sheet_text::sheet_of_image(&input[..n], &mut out) else {
+    let Ok(bytes) = sheet_text::sheet_of_image(&input[..n], &mut out) else {
         program::write_output(rt, errors, &NAME, b"refused 5\n");
         return;
     };
@@ -41,7 +39,7 @@ fn show<R: Read>(rt: &impl Print, errors: &impl Print, from: &mut R) {
 
 fn main(rt: HostRuntime) {
     let errors = rt.stderr();
-    let Request::Run(o) = program::command_line(&rt, &errors, &NAME, &HELP, false) else {
+    let Some(o) = program::command_line(&rt, &errors, &NAME, &HELP, false) else {
         return;
     };
     if let Some(mut from) = program::open_input(&rt, &errors, &NAME, o.file) {

@@ -24,8 +24,9 @@ use Rattle.image.proofs.ImageLaws.{load-image, image-loaded-in, length-image-in,
 use Rattle.image_check.specs.declared.ImageSummary.{ImageSummary}
 use Rattle.image_check.specs.ImageSummary.{summary_of}
 use Rattle.image_check.proofs.SummaryLaws.{summary-some, summary-none}
-use Rattle.sheet_text.specs.declared.SheetAnswer.{SheetAnswer}
-use Rattle.sheet_text.specs.declared.SheetAnswer.TheVariants.{Written, NotSound, TooSmall}
+use Rattle.std.specs.Prelude.{Result, Ok, Err}
+use Rattle.sheet_text.specs.declared.SheetFault.{SheetFault}
+use Rattle.sheet_text.specs.declared.SheetFault.TheVariants.{NotSound, TooSmall}
 use Rattle.sheet_text.specs.Sheet.{free_in, rows, head_text, sheet_text}
 use Rattle.sheet_text.specs.Answers.{into, sheet_of_image}
 use Rattle.sheet_text.specs.SheetSizes.{used_most, free_most, head_most}
@@ -77,10 +78,10 @@ module _ (image : List ℕ) (k n : ℕ) (s : SoundImage image k n) where
           (record { small = omega (arith, w.place, sheet-size, sheet-fits s.table s.sound); fits = inr (omega (arith, w.place, sheet-size)) })
 
       pub written : length (sheet_text s.table) ≤ length old → (out : List ℕ) (size : ℕ) → Wrote new head (scan_text (scan_first image base n k)) out size
-          → OfTable image (λ t. (Written size, out) ≡ into (sheet_text t) old)
+          → OfTable image (λ t. (Ok size, out) ≡ into (sheet_text t) old)
       written enough out size v =
           let all : Wrote old 0 (sheet_text s.table) out size = wrote_as (wrote_then w v) sheet-text in
-          of-table (λ t. (Written size, out) ≡ into (sheet_text t) old)
+          of-table (λ t. (Ok size, out) ≡ into (sheet_text t) old)
           (into-written (sheet_text s.table) old size out (omega (arith, all.place)) (omega (arith, all.place)) all.bytes)
 
     pub head-fits : (room : ℕ) → length (sheet_text s.table) ≤ room → length (head_text n free) ≤ room
@@ -90,9 +91,9 @@ module _ (image : List ℕ) (k n : ℕ) (s : SoundImage image k n) where
   enough room r told e = ltb-false room (length (sheet_text s.table)) (sym (told s.table s.loads) ∙ e)
 
   pub refused-small : (out : List ℕ) (r : Bool) → OfTable image (λ t. r ≡ ltb (length out) (length (sheet_text t))) → r ≡ true
-      → OfTable image (λ t. (TooSmall, out) ≡ into (sheet_text t) out)
+      → OfTable image (λ t. (Err TooSmall, out) ≡ into (sheet_text t) out)
   refused-small out r told e =
-      of-table (λ t. (TooSmall, out) ≡ into (sheet_text t) out)
+      of-table (λ t. (Err TooSmall, out) ≡ into (sheet_text t) out)
       (into-small (sheet_text s.table) out (ltb-true (length out) (length (sheet_text s.table)) (sym (told s.table s.loads) ∙ e)))
 
 -- An image of the first form, widened at the front of a buffer.
@@ -129,7 +130,7 @@ module _ (image : List ℕ) (form : Form) (ef : form ≡ form_of image) (summary
   as-form : {o : Option LeaseTable} → load_in form image ≡ o → load_in (form_of image) image ≡ o
   as-form e = ap (λ (f : Form). load_in f image) (sym ef) ∙ e
 
-  pub told-unsound : (l : List ℕ) → summary.sound ≡ false → (NotSound, l) ≡ sheet_of_image image l
+  pub told-unsound : (l : List ℕ) → summary.sound ≡ false → (Err NotSound, l) ≡ sheet_of_image image l
   told-unsound l e = image-unsound image l (as-form (summary-none 0 (load_in form image) (ap (λ (b : ImageSummary). b.sound) (sym eb) ∙ e)))
 
   module _ (e : summary.sound ≡ true) (bytes : (i : ℕ) → get_or image i 0 < 256) (told : Form) (et : form ≡ told) where
@@ -159,7 +160,7 @@ module _ (image : List ℕ) (form : Form) (ef : form ≡ form_of image) (summary
     pub told-sound : SoundSaved told image summary.pools summary.leases
     told-sound = subst (λ (f : Form). SoundSaved f image summary.pools summary.leases) et here
 
-    pub told-sheet : (r : SheetAnswer) (l l' : List ℕ) → OfSaved told image (λ t. (r, l') ≡ into (sheet_text t) l) → (r, l') ≡ sheet_of_image image l
+    pub told-sheet : (r : Result ℕ SheetFault) (l l' : List ℕ) → OfSaved told image (λ t. (r, l') ≡ into (sheet_text t) l) → (r, l') ≡ sheet_of_image image l
     told-sheet r l l' h =
         let loads : load_in form image ≡ some here.table = here.loads in
         h here.table (ap (λ (f : Form). load_in f image) (sym et) ∙ loads) ∙ image-sound image l here.table (as-form loads)

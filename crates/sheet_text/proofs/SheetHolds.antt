@@ -23,8 +23,9 @@ use Rattle.table.specs.Table.{pool_prefix, prefix_of, prefixes_of, pools_of, pre
 use Rattle.table.proofs.Ascending.{ascending-apart}
 use Rattle.table.proofs.TableLaws.{GoodPool, Good, sound-pools, sound-used, sound-fine}
 use Rattle.image.specs.Image.{used_pools, used_leases}
-use Rattle.sheet_text.specs.declared.SheetAnswer.{SheetAnswer}
-use Rattle.sheet_text.specs.declared.SheetAnswer.TheVariants.{Written, TooSmall}
+use Rattle.std.specs.Prelude.{Result, Ok, Err}
+use Rattle.sheet_text.specs.declared.SheetFault.{SheetFault}
+use Rattle.sheet_text.specs.declared.SheetFault.TheVariants.{TooSmall}
 use Rattle.sheet_text.specs.Sheet.{used_by, prefix_used, Row, used_row, free_row, used_in, free_in, rows, row_text, head_text, sheet_text}
 use Rattle.sheet_text.specs.Answers.{sheet_of_image}
 use Rattle.sheet_text.specs.SheetSizes.{used_most, free_most, head_most, most_free, sheet_size}
@@ -127,21 +128,21 @@ module _ (t : LeaseTable) (e : sound t ≡ true) where
 -- WHAT IS ANSWERED
 module _ (bytes l : List ℕ) where
   -- With such a buffer the answer is never that it is too small: it is the sheet, or the refusal of the bytes.
-  pub never-too-small : sheet_size ≤ length l → (sheet_of_image bytes l).0 ≡ TooSmall → ⊥
+  pub never-too-small : sheet_size ≤ length l → (sheet_of_image bytes l).0 ≡ Err TooSmall → ⊥
   never-too-small h =
-      answer-cases bytes l (λ r. r.0 ≡ TooSmall → ⊥) (λ e. let z : ◌≡◌ {A = ℕ} 0 1 = cc in omega arith)
+      answer-cases bytes l (λ r. r.0 ≡ Err TooSmall → ⊥) (λ e. let z : ◌≡◌ {A = ℕ} 0 1 = cc in omega arith)
       (λ t e lt f. omega (arith, sheet-fits t e)) (λ t e le f. let z : ◌≡◌ {A = ℕ} 0 1 = cc in omega arith)
 
   -- Where the sheet is written, no more bytes than every sheet has, and they lie in the buffer.
-  pub written_small : (n : ℕ) → (sheet_of_image bytes l).0 ≡ Written n → (n ≤ sheet_size) × (n ≤ length (sheet_of_image bytes l).1)
+  pub written_small : (n : ℕ) → (sheet_of_image bytes l).0 ≡ Ok n → (n ≤ sheet_size) × (n ≤ length (sheet_of_image bytes l).1)
   written_small n =
-      answer-cases bytes l (λ r. r.0 ≡ Written n → (n ≤ sheet_size) × (n ≤ length r.1)) (λ f. let z : ◌≡◌ {A = ℕ} 0 1 = cc in absurd (omega arith))
+      answer-cases bytes l (λ r. r.0 ≡ Ok n → (n ≤ sheet_size) × (n ≤ length r.1)) (λ f. let z : ◌≡◌ {A = ℕ} 0 1 = cc in absurd (omega arith))
       (λ t e lt f. let z : ◌≡◌ {A = ℕ} 0 1 = cc in absurd (omega arith))
       (λ t e le f.
       let m : n ≡ length (sheet_text t) = cc in
       (omega (arith, m, sheet-fits t e), omega (arith, m, length-append (sheet_text t) (drop (length (sheet_text t)) l))))
 
   -- What a caller has in hand.
-  pub written-within : {l' : List ℕ} {r : SheetAnswer} {n : ℕ} → (r, l') ≡ sheet_of_image bytes l → r ≡ Written n → (n ≤ sheet_size) × (n ≤ length l')
+  pub written-within : {l' : List ℕ} {r : Result ℕ SheetFault} {n : ℕ} → (r, l') ≡ sheet_of_image bytes l → r ≡ Ok n → (n ≤ sheet_size) × (n ≤ length l')
   written-within {l'} {r} {n} e f =
-      subst (λ (q : SheetAnswer × List ℕ). q.0 ≡ Written n → (n ≤ sheet_size) × (n ≤ length q.1)) (sym e) (written_small n) f
+      subst (λ (q : Result ℕ SheetFault × List ℕ). q.0 ≡ Ok n → (n ≤ sheet_size) × (n ≤ length q.1)) (sym e) (written_small n) f

@@ -32,8 +32,9 @@ use Rattle.image.specs.declared.Form.{Form}
 use Rattle.image.specs.Image.{used_pools, used_leases, head_size}
 use Rattle.image.specs.Reading.{table_with, head_at_in, pools_at, leases_at_in, whole, after_head_in, load_in, form_of, load_saved}
 use Rattle.sheet_text.specs.declared.Used.{Used}
-use Rattle.sheet_text.specs.declared.SheetAnswer.{SheetAnswer}
-use Rattle.sheet_text.specs.declared.SheetAnswer.TheVariants.{Written, NotSound, TooSmall}
+use Rattle.std.specs.Prelude.{Result, Ok, Err}
+use Rattle.sheet_text.specs.declared.SheetFault.{SheetFault}
+use Rattle.sheet_text.specs.declared.SheetFault.TheVariants.{NotSound, TooSmall}
 use Rattle.sheet_text.specs.Sheet.{used_by, prefix_used, leases_shown, rows, sheet_text}
 use Rattle.sheet_text.specs.Answers.{into, sheet_of, sheet_of_loaded, sheet_of_image}
 use Rattle.sheet_text.specs.InnerScan.{scan_all}
@@ -113,14 +114,14 @@ module _ (t : LeaseTable) (e : sound t ≡ true) where
 -- WHAT IS ANSWERED
 
 module _ (text l : List ℕ) where
-  pub into-small : length l < length text → (TooSmall, l) ≡ into text l
+  pub into-small : length l < length text → (Err TooSmall, l) ≡ into text l
   into-small h = rw (lt-ltb (length l) (length text) h) refl
 
-  into-front : length text ≤ length l → (Written (length text), text ++ drop (length text) l) ≡ into text l
+  into-front : length text ≤ length l → (Ok (length text), text ++ drop (length text) l) ≡ into text l
   into-front h = rw (le-ltb (length l) (length text) h) refl
 
-  pub into-written : (size : ℕ) (l' : List ℕ) → size ≡ length text → size ≤ length l → l' ≡ put l 0 text → (Written size, l') ≡ into text l
-  into-written size l' es h el = ap₂ (λ (k : ℕ) (m : List ℕ). (Written k, m)) es (el ∙ put_front text l (omega arith)) ∙ into-front (omega arith)
+  pub into-written : (size : ℕ) (l' : List ℕ) → size ≡ length text → size ≤ length l → l' ≡ put l 0 text → (Ok size, l') ≡ into text l
+  into-written size l' es h el = ap₂ (λ (k : ℕ) (m : List ℕ). (Ok k, m)) es (el ∙ put_front text l (omega arith)) ∙ into-front (omega arith)
 
 -- What loads is sound.
 whole-sound : (u t : LeaseTable) (rest : List ℕ) → whole u rest ≡ some t → sound t ≡ true
@@ -153,13 +154,13 @@ module _ (image l : List ℕ) where
       let sheet : sheet_of t l ≡ into (sheet_text t) l = rw (loads-sound (form_of image) image t e) refl in
       sym (ap (λ (o : Option LeaseTable). sheet_of_loaded o l) e ∙ sheet)
 
-  pub image-unsound : load_saved image ≡ none → (NotSound, l) ≡ sheet_of_image image l
+  pub image-unsound : load_saved image ≡ none → (Err NotSound, l) ≡ sheet_of_image image l
   unfolding sheet_of_image
   image-unsound e = ap (λ (o : Option LeaseTable). sheet_of_loaded o l) (sym e)
 
   -- What holds of each of its answers.
-  pub answer-cases : (P : SheetAnswer × List ℕ → Type 0) → P (NotSound, l) → ((t : LeaseTable) → sound t ≡ true → length l < length (sheet_text t) → P (TooSmall, l))
-      → ((t : LeaseTable) → sound t ≡ true → length (sheet_text t) ≤ length l → P (Written (length (sheet_text t)), sheet_text t ++ drop (length (sheet_text t)) l)) → P (sheet_of_image image l)
+  pub answer-cases : (P : Result ℕ SheetFault × List ℕ → Type 0) → P (Err NotSound, l) → ((t : LeaseTable) → sound t ≡ true → length l < length (sheet_text t) → P (Err TooSmall, l))
+      → ((t : LeaseTable) → sound t ≡ true → length (sheet_text t) ≤ length l → P (Ok (length (sheet_text t)), sheet_text t ++ drop (length (sheet_text t)) l)) → P (sheet_of_image image l)
   answer-cases P unsound small written = cases (load_saved image) refl
     where
       cases : (o : Option LeaseTable) → load_saved image ≡ o → P (sheet_of_image image l)

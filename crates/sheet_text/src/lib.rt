@@ -96,9 +96,9 @@ pub fn buffer() -> [u8; SHEET]
     [0; SHEET]
 }
 
-#[derive(Clone, Copy)]
-pub enum SheetAnswer {
-    Written(usize),
+// Why there is no sheet: bytes that are the image of no sound table, or a buffer without room for it.
+#[derive(Clone, Copy, Debug, PartialEq, Eq)]
+pub enum SheetFault {
     NotSound,
     TooSmall,
 }
@@ -307,7 +307,7 @@ fn pool(image: &[u8], j: usize) -> Prefix
     requires { head_size + pool_size * j + pool_size ≤ length image.now }
     ensures { result ≡ pool_shown image.now j }
 {
-    table::pool_prefix(image::pool_at(image, HEAD + POOL * j))
+    Prefix::from(image::pool_at(image, HEAD + POOL * j))
 }
 
 // Shows the first k pools.
@@ -349,21 +349,21 @@ fn too_small(room: usize, image: &[u8], k: usize, n: usize, free: u32) -> bool
     room < show_pools(&mut none, image, HEAD + POOL * k, n, k, head)
 }
 
-fn write_sheet(image: &[u8], k: usize, n: usize, out: &mut [u8]) -> SheetAnswer
+fn write_sheet(image: &[u8], k: usize, n: usize, out: &mut [u8]) -> Result<usize, SheetFault>
     requires { SoundImage image.now k n }
     ensures { OfTable image.now (λ t. (result, out.new) ≡ into (sheet_text t) out.old) }
 {
     let free = free_rows(image, k, n);
     if too_small(out.len(), image, k, n, free) {
-        return SheetAnswer::TooSmall;
+        return Err(SheetFault::TooSmall);
     }
     let head = put_head(out, n as u32, free);
     let size = show_pools(out, image, HEAD + POOL * k, n, k, head);
-    SheetAnswer::Written(size)
+    Ok(size)
 }
 
 // An image of the first form is shown as it is in the second.
-fn write_first(saved: &[u8], k: usize, n: usize, out: &mut [u8]) -> SheetAnswer
+fn write_first(saved: &[u8], k: usize, n: usize, out: &mut [u8]) -> Result<usize, SheetFault>
     requires { SoundSaved First saved.now k n }
     ensures { OfSaved First saved.now (λ t. (result, out.new) ≡ into (sheet_text t) out.old) }
 {
@@ -373,13 +373,13 @@ fn write_first(saved: &[u8], k: usize, n: usize, out: &mut [u8]) -> SheetAnswer
 }
 
 // The sheet of an image, in either form, into a buffer; the bytes after it stay, and a refusal leaves all of them.
-pub fn sheet_of_image(saved: &[u8], out: &mut [u8]) -> SheetAnswer
+pub fn sheet_of_image(saved: &[u8], out: &mut [u8]) -> Result<usize, SheetFault>
     ensures { (result, out.new) ≡ sheet_of_image saved.now out.old }
 {
     let form = image::form_of(saved);
     let summary = image_check::check_in(form, saved, 0);
     if !summary.sound {
-        return SheetAnswer::NotSound;
+        return Err(SheetFault::NotSound);
     }
     match form {
         Form::First => write_first(saved, summary.pools, summary.leases, out),

@@ -16,64 +16,7 @@ pub fn put(out: &mut [u8], at: usize, s: &[u8]) -> usize
 fn width(n: u64) -> usize
     ensures { Width n result }
 {
-    if n < 10 {
-        return 1;
-    }
-    if n < 100 {
-        return 2;
-    }
-    if n < 1000 {
-        return 3;
-    }
-    if n < 10000 {
-        return 4;
-    }
-    if n < 100000 {
-        return 5;
-    }
-    if n < 1000000 {
-        return 6;
-    }
-    if n < 10000000 {
-        return 7;
-    }
-    if n < 100000000 {
-        return 8;
-    }
-    if n < 1000000000 {
-        return 9;
-    }
-    if n < 10000000000 {
-        return 10;
-    }
-    if n < 100000000000 {
-        return 11;
-    }
-    if n < 1000000000000 {
-        return 12;
-    }
-    if n < 10000000000000 {
-        return 13;
-    }
-    if n < 100000000000000 {
-        return 14;
-    }
-    if n < 1000000000000000 {
-        return 15;
-    }
-    if n < 10000000000000000 {
-        return 16;
-    }
-    if n < 100000000000000000 {
-        return 17;
-    }
-    if n < 1000000000000000000 {
-        return 18;
-    }
-    if n < 10000000000000000000 {
-        return 19;
-    }
-    20
+    n.checked_ilog10().unwrap_or(0) as usize + 1
 }
 
 // A number in decimal, its last digits first, two at a time.
@@ -101,7 +44,7 @@ pub fn decimal(out: &mut [u8], at: usize, n: u32) -> usize
     requires { at + length (decimal_of n) ≤ length out.old }
     ensures { Wrote out.old at (decimal_of n) out.new result }
 {
-    number(out, at, n as u64)
+    number(out, at, u64::from(n))
 }
 
 // A mark, and a number after it.

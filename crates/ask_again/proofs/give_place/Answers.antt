@@ -11,5 +11,5 @@ returns-then-requests-j c = record { one = λ h. absurd (omega arith); none = λ
 pub returns : goal.returns
 returns c =
     let a = c.args in
-    let it = c.wide-j.ensures in
+    let it = c.from-j.ensures in
     record { one = λ h. (ap (λ (j : ℕ). set a.places.now j a.place) it, ap (λ (j : ℕ). set a.first.now a.key (get_or a.next.now j 0)) it, refl); none = λ h. absurd (omega arith) }

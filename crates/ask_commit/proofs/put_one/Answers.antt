@@ -1,7 +1,11 @@
 -- `put_one` meets its contract.
+use Prim.Native.Nat.{ℕ, ◌+◌, ◌*◌}
 use mathlib.Core.Path.{ap, ◌∙◌}
 use native.Mathlib.Omega.{arith}
+use lib.ListN.{drop}
 use Rattle.lists.specs.Put.{put}
+use Rattle.image.specs.Image.{lease_size}
+use Rattle.image.specs.Reading.{lease_in}
 use Rattle.option.specs.Writing.{suboption_bytes}
 use Rattle.table.specs.declared.Lease.{Lease}
 use Rattle.ledger.specs.Ledger.{information_for}
@@ -20,7 +24,7 @@ returns-then-place-ne-NONE c =
       bounds = (omega arith, omega arith);
       equation = λ before xs shown.
           shown-again a.place _ a.x before a.reply.now a.at xs shown c.if-place-ne-NONE.true c.put_offer.new.reply
-          (c.put_offer.ensures ∙ ap (λ (y : Lease). put a.reply.now a.at (suboption_bytes (information_for y))) c.lease_at-y.ensures);
+          (c.put_offer.ensures ∙ ap (λ (y : Lease). put a.reply.now a.at (suboption_bytes (information_for y))) (c.lease_at-y.ensures ∙ ap (λ (p : ℕ). lease_in (drop (a.from + lease_size * p) a.image.now)) c.from.ensures));
     }
 
 pub returns-then-x-ne0 : goal.returns-then-x-ne0

@@ -5,6 +5,7 @@ use mathlib.Core.Bool.{true}
 use mathlib.Core.List.{List}
 use native.Mathlib.Omega.{arith}
 use Rattle.table.specs.Table.{present}
+use Rattle.gap_list.specs.declared.Ends.{Ends}
 use Rattle.image_check.specs.declared.ImageSummary.{ImageSummary}
 use Rattle.ledger.specs.Ledger.{narrowed}
 use Rattle.call_spec.specs.ImageCalls.{Lent, table_in}
@@ -13,14 +14,11 @@ use Rattle.ask_commit.specs.InnerRest.{AdmittedImage}
 use Rattle.ask_commit.proofs.AdmittedLaws.{fewer, default-long}
 use Rattle.ask_commit.proofs.RestGround.{pools-fit, leases-fit, pools-end, gaps-few, rest-ready, rest-given, rest-refused}
 use Rattle.ask_commit.proofs.serve_rest.Goals as goal
-use Rattle.ask_commit.proofs.serve_rest.Goals.{After-gaps_in-gaps}
+use Rattle.ask_commit.proofs.serve_rest.Goals.{After-gaps_in-n}
 
--- The gaps in their columns.
-abbrev starts-of : After-gaps_in-gaps → List ℕ
-starts-of c = c.gaps_in-gaps.new.starts
-
-abbrev lasts-of : After-gaps_in-gaps → List ℕ
-lasts-of c = c.gaps_in-gaps.new.lasts
+-- The gaps in their buffer.
+abbrev gaps-of : After-gaps_in-n → List Ends
+gaps-of c = c.gaps_in-n.new.gaps
 
 -- The image of a call that is admitted.
 abbrev admitted : (h : Lent) (image : List ℕ) (now client : ℕ) (summary : ImageSummary) → h.image ≡ image → Admitted true h now client summary → AdmittedImage image now client summary
@@ -67,15 +65,14 @@ overflow_add-span-2 c =
     let o = pre.0.admitted in
     omega (arith, pre.1.1, o.few-pools, o.few-leases)
 
-pub gaps_in-gaps-requires : goal.gaps_in-gaps-requires
-gaps_in-gaps-requires c =
+pub gaps_in-n-requires : goal.gaps_in-n-requires
+gaps_in-n-requires c =
     let q = c.requires.0 in
     let w = c.requires.1 in
     let o = q.admitted in
     let g = c.args.site.area in (
       pools-fit _ _ _ _ q g w.0 w.1,
       leases-fit _ _ _ _ q g w.0 w.1,
-      omega (arith, w.0, w.1, o.few-pools, o.few-leases),
       omega (arith, w.0, w.1, o.few-pools, o.few-leases),
       pools-end _ _ _ _ q g w.0 w.1,
     )
@@ -85,10 +82,9 @@ serve-requires c =
     let pre = c.requires in
     let w = pre.1 in
     let o = pre.0.admitted in
-    let few = gaps-few _ _ _ _ pre.0 c.args.site.area w.0 w.1 (starts-of (goal.at.serve-requires c).After-gaps_in-gaps) (lasts-of (goal.at.serve-requires c).After-gaps_in-gaps) c.gaps_in-gaps.result c.gaps_in-gaps.ensures.result_after
-    (omega (arith, w.0, w.1, o.few-pools, o.few-leases, c.gaps_in-gaps.ensures.upper_bound, c.gaps_in-gaps.auto.starts))
-    (omega (arith, w.0, w.1, o.few-pools, o.few-leases, c.gaps_in-gaps.ensures.upper_bound, c.gaps_in-gaps.auto.lasts)) in
-    (pre.2, omega (arith, few, c.gaps_in-gaps.auto.starts), omega (arith, few, c.gaps_in-gaps.auto.lasts), default-long _ _ _ _ pre.0, pre.4, pre.5)
+    let few = gaps-few _ _ _ _ pre.0 c.args.site.area w.0 w.1 (gaps-of (goal.at.serve-requires c).After-gaps_in-n) c.gaps_in-n.result c.gaps_in-n.ensures.result_after
+    (omega (arith, w.0, w.1, o.few-pools, o.few-leases, c.gaps_in-n.ensures.upper_bound, c.gaps_in-n.auto.gaps)) in
+    (pre.2, omega (arith, few, c.gaps_in-n.auto.gaps), default-long _ _ _ _ pre.0, pre.4, pre.5)
 
 pub returns : goal.returns
 returns c =
@@ -97,5 +93,5 @@ returns c =
       bounds = (r.upper_bound, r.upper_bound_2, r.value);
       equation = λ h call us rs e o k asked long.
           r.granted (table_in h) call a.asker.time a.asker.client a.asker.name (present a.asker.time (table_in h).leases) us rs
-          (rest-ready a.image.now a.asker.time a.asker.client a.site.summary (admitted h a.image.now a.asker.time a.asker.client a.site.summary e o) a.site.area k.few-pools k.few-leases (starts-of (goal.at.returns c).After-gaps_in-gaps) (lasts-of (goal.at.returns c).After-gaps_in-gaps) c.gaps_in-gaps.result c.gaps_in-gaps.ensures.result_after call k rs a.ask_lengths.now asked long);
+          (rest-ready a.image.now a.asker.time a.asker.client a.site.summary (admitted h a.image.now a.asker.time a.asker.client a.site.summary e o) a.site.area k.few-pools k.few-leases (gaps-of (goal.at.returns c).After-gaps_in-n) c.gaps_in-n.result c.gaps_in-n.ensures.result_after call k rs a.ask_lengths.now asked long);
     }

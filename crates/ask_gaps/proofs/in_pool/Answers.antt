@@ -1,7 +1,7 @@
 -- `ask_gaps::in_pool` meets its contract. The loop's invariant: the gaps that are pushed and those that are ahead are the pool's, and each lease so far
--- made at most one. The measure is the number of leases ahead.
-use Prim.Native.Nat.{ℕ, ◌+◌, ◌-◌}
-use mathlib.Core.Path.{◌≡◌, refl, ap, subst, ◌∙◌}
+-- made at most one.
+use Prim.Native.Nat.{ℕ}
+use mathlib.Core.Path.{◌≡◌, refl, sym, ap, subst, ◌∙◌}
 use native.Mathlib.Omega.{arith}
 use lib.ListN.{length}
 use Rattle.prefix.specs.Prefixes.{end}
@@ -14,16 +14,16 @@ use Rattle.ask_gaps.proofs.in_pool.Goals.{then-time-x+else-stop-first, else-time
 pub loop-i-init : goal.loop-i-init
 loop-i-init c =
     let a = c.args in
-    (omega arith, omega arith, omega arith, refl, refl, walked_none a.image.now a.from a.n a.time a.pool.network c.end-stop.result a.at a.starts.now a.lasts.now)
+    (omega arith, refl, rw c.from-cursor.ensures (walked_none a.image.now a.span.from a.span.leases a.time a.pool.network c.end-stop.result a.at a.gaps.now))
 
 pub returns-then-stop-first : goal.returns-then-stop-first
 returns-then-stop-first c =
     let l = c.loop-i in
     let a = c.args in
-    subst (λ (stop : ℕ). Went a.image.now a.from a.n a.time a.pool.network stop a.at a.starts.now a.lasts.now (record { leases = l.i; gaps = c.push.result }) c.push.new.starts c.push.new.lasts) c.end-stop.ensures.value
-    (walked-past a.image.now a.from a.n a.time a.pool.network c.end-stop.result a.at a.starts.now a.lasts.now l.cursor l.gaps l.i l.starts l.lasts l.invariant.5
-    (omega arith) c.lease_at-x.result c.lease_at-x.ensures c.if-time-x.true c.push.result c.push.new.starts c.push.new.lasts
-    l.invariant.0 l.invariant.2 (omega (arith, c.if-stop-first.true)) c.push.ensures)
+    subst (λ (stop : ℕ). Went a.image.now a.span.from a.span.leases a.time a.pool.network stop a.at a.gaps.now (record { leases = l.i; gaps = c.push.result }) c.push.new.gaps) c.end-stop.ensures.value
+    (walked-past a.image.now a.span.from a.span.leases a.time a.pool.network c.end-stop.result a.at a.gaps.now l.cursor l.n l.i l.gaps l.invariant.2
+    (omega arith) c.lease_at-x.result c.lease_at-x.ensures c.if-time-x.true c.push.result c.push.new.gaps
+    l.auto.i l.invariant.0 (omega (arith, c.if-stop-first.true, c.from-first.ensures)) c.push.ensures)
 
 pub loop-i-preserved : goal.loop-i-preserved
 loop-i-preserved c =
@@ -33,24 +33,18 @@ loop-i-preserved c =
     let x = c.lease_at-x.result in
     elim j.branch [
       | then-time-x+else-stop-first w ↦
-          let cursor-is : j.cursor ≡ end (prefix_of x) = omega arith in (
-            omega arith,
-            omega arith,
-            omega (arith, w.push-gaps.ensures.few, w.gaps-is),
-            ap length w.starts-is ∙ w.push-gaps.auto.starts ∙ l.invariant.3,
-            ap length w.lasts-is ∙ w.push-gaps.auto.lasts ∙ l.invariant.4,
-            rw (cursor-is, w.gaps-is, w.starts-is, w.lasts-is)
-                (walked-lease a.image.now a.from a.n a.time a.pool.network c.end-stop.result a.at a.starts.now a.lasts.now l.cursor l.gaps l.i l.starts l.lasts l.invariant.5
-                (omega arith) x c.lease_at-x.ensures w.if-time-x.true w.push-gaps.result w.push-gaps.new.starts w.push-gaps.new.lasts w.if-stop-first.false w.push-gaps.ensures),
+          let cursor-is : j.cursor ≡ end (prefix_of x) = omega (arith, w.from-first.ensures) in (
+            omega (arith, w.push-n.ensures.few, w.n-is),
+            ap length w.gaps-is ∙ w.push-n.auto.gaps ∙ l.invariant.1,
+            rw (cursor-is, w.n-is, w.gaps-is)
+                (walked-lease a.image.now a.span.from a.span.leases a.time a.pool.network c.end-stop.result a.at a.gaps.now l.cursor l.n l.i l.gaps l.invariant.2
+                (omega arith) x c.lease_at-x.ensures w.if-time-x.true w.push-n.result w.push-n.new.gaps (omega (arith, w.from-first.ensures, w.if-stop-first.false)) (rw (sym w.from-first.ensures) w.push-n.ensures)),
           )
       | else-time-x w ↦ (
-        omega arith,
-        omega arith,
-        omega (arith, w.gaps-is),
-        ap length w.starts-is ∙ l.invariant.3,
-        ap length w.lasts-is ∙ l.invariant.4,
-        rw (w.cursor-is, w.gaps-is, w.starts-is, w.lasts-is)
-            (walked-expired a.image.now a.from a.n a.time a.pool.network c.end-stop.result a.at a.starts.now a.lasts.now l.cursor l.gaps l.i l.starts l.lasts l.invariant.5
+        omega (arith, w.n-is),
+        ap length w.gaps-is ∙ l.invariant.1,
+        rw (w.cursor-is, w.n-is, w.gaps-is)
+            (walked-expired a.image.now a.span.from a.span.leases a.time a.pool.network c.end-stop.result a.at a.gaps.now l.cursor l.n l.i l.gaps l.invariant.2
             (omega arith) x c.lease_at-x.ensures w.if-time-x.false),
       )
     ]
@@ -59,6 +53,6 @@ pub returns : goal.returns
 returns c =
     let l = c.loop-i in
     let a = c.args in
-    subst (λ (stop : ℕ). Went a.image.now a.from a.n a.time a.pool.network stop a.at a.starts.now a.lasts.now (record { leases = l.i; gaps = c.push-2.result }) c.push-2.new.starts c.push-2.new.lasts) c.end-stop.ensures.value
-    (walked_all a.image.now a.from a.n a.time a.pool.network c.end-stop.result a.at a.starts.now a.lasts.now l.cursor l.gaps l.i l.starts l.lasts l.invariant.5
-    c.loop-i-test.false l.invariant.1 l.invariant.0 l.invariant.2 c.push-2.result c.push-2.new.starts c.push-2.new.lasts c.push-2.ensures)
+    subst (λ (stop : ℕ). Went a.image.now a.span.from a.span.leases a.time a.pool.network stop a.at a.gaps.now (record { leases = a.span.leases; gaps = c.push-2.result }) c.push-2.new.gaps) c.end-stop.ensures.value
+    (walked_all a.image.now a.span.from a.span.leases a.time a.pool.network c.end-stop.result a.at a.gaps.now l.cursor l.n l.i l.gaps l.invariant.2
+    (omega arith) (omega arith) l.auto.i l.invariant.0 c.push-2.result c.push-2.new.gaps c.push-2.ensures)

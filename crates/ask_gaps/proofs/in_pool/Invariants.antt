@@ -1,4 +1,4 @@
-use Prim.Native.Nat.{◌+◌, ◌-◌, ◌≤◌}
+use Prim.Native.Nat.{◌+◌, ◌≤◌}
 use mathlib.Core.Path.{◌≡◌}
 use lib.ListN.{length}
 use Rattle.ask_gaps.proofs.PassLaws.{Walked}
@@ -6,8 +6,5 @@ use Rattle.ask_gaps.proofs.in_pool.Given as goal
 
 abbrev pub invariant-loop-i : goal.invariant-loop-i
 invariant-loop-i l =
-    (l.initial.i ≤ l.i) × (l.i ≤ l.n) × (l.gaps + l.initial.i ≤ l.initial.gaps + l.i) × (length l.starts ≡ length l.initial.starts) × (length l.lasts ≡ length l.initial.lasts)
-    × Walked l.image l.from l.n l.time l.initial.cursor l.stop (record { leases = l.initial.i; gaps = l.initial.gaps }) l.initial.starts l.initial.lasts l.cursor l.gaps l.i l.starts l.lasts
-
-abbrev pub decreases-loop-i : goal.decreases-loop-i
-decreases-loop-i l = l.n - l.i
+    (l.n + l.fn.at.leases ≤ l.fn.at.gaps + l.i) × (length l.gaps ≡ length l.initial.gaps)
+    × Walked l.image l.span.from l.span.leases l.time l.fn.pool.network l.stop l.fn.at l.initial.gaps l.cursor l.n l.i l.gaps

@@ -1,4 +1,4 @@
-use Prim.Native.Nat.{ℕ, ◌+◌, ◌-◌, ◌≤◌}
+use Prim.Native.Nat.{ℕ, ◌+◌, ◌≤◌}
 use mathlib.Core.Path.{◌≡◌}
 use mathlib.Core.List.{List}
 use lib.ListN.{length}
@@ -19,12 +19,9 @@ abbrev pub start-of : ℕ → Progress → Start
 start-of default-length at₀ = record { default_length = default-length; gaps = at₀.gaps; slots = at₀.left }
 
 abbrev pub invariant-loop-j : goal.invariant-loop-j
-invariant-loop-j l = (l.j ≤ length l.ask_lengths) × (l.at.granted ≤ l.j) × (l.at.gaps + l.at.left ≤ l.initial.at.gaps + l.initial.at.left)
-    × (length l.starts ≡ length l.initial.starts) × (length l.lasts ≡ length l.initial.lasts) × (length l.networks ≡ length l.initial.networks) × (length l.lengths ≡ length l.initial.lengths)
+invariant-loop-j l = (l.at.granted ≤ l.j) × (l.at.gaps + l.at.left ≤ l.initial.at.gaps + l.initial.at.left)
+    × (length l.gaps ≡ length l.initial.gaps) × (length l.networks ≡ length l.initial.networks) × (length l.lengths ≡ length l.initial.lengths)
     × (l.at.granted + l.at.left ≤ l.initial.at.left) × (l.at.granted ≡ leases_in l.lengths l.j)
     × ((t : LeaseTable) (call : Call) (time client : ℕ) (name : Name) (xs us : List Lease) (rs : List Request)
-    → Serving t call time client xs rs l.initial.starts l.initial.lasts (start-of l.default_length l.initial.at) l.ask_lengths
-    → After t call time client name xs us l.places rs l.j (columns l.starts l.lasts l.networks l.lengths) l.at)
-
-abbrev pub decreases-loop-j : goal.decreases-loop-j
-decreases-loop-j l = length l.ask_lengths - l.j
+    → Serving t call time client xs rs l.initial.gaps (start-of l.default_length l.initial.at) l.ask_lengths
+    → After t call time client name xs us l.places rs l.j (columns l.gaps l.networks l.lengths) l.at)

@@ -14,16 +14,16 @@ returns-then-s-place c later inside good some = absurd (omega (arith, skipping-h
 
 pub returns-then-s-place-eq-INFORMATION : goal.returns-then-s-place-eq-INFORMATION
 returns-then-s-place-eq-INFORMATION c later inside good some =
-    let byte = c.wide in
-    skipping-here _ _ _ c.loop-place.invariant c.loop-place-test.true byte.result _ refl byte.ensures.0 c.if-s-place-eq-INFORMATION.true later inside good
+    let byte = c.from in
+    skipping-here _ _ _ c.loop-place.invariant c.loop-place-test.true byte.result _ refl byte.ensures c.if-s-place-eq-INFORMATION.true later inside good
 
 pub loop-place-smaller : goal.loop-place-smaller
 loop-place-smaller c = omega (arith, c.loop-place-test.true)
 
 pub loop-place-preserved : goal.loop-place-preserved
 loop-place-preserved c =
-    let byte = c.wide in
-    skipping-more _ _ _ c.loop-place.invariant c.loop-place-test.true byte.result _ refl byte.ensures.0 c.if-s-place-eq-INFORMATION.false
+    let byte = c.from in
+    skipping-more _ _ _ c.loop-place.invariant c.loop-place-test.true byte.result _ refl byte.ensures c.if-s-place-eq-INFORMATION.false
 
 pub returns : goal.returns
 returns c later inside good some = absurd (omega (arith, ap length (skipping-end _ _ _ c.loop-place.invariant c.loop-place-test.false later inside good), some))

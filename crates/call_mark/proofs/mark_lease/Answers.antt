@@ -9,7 +9,6 @@ use lib.Dec.{leb, ltb, eqb}
 use Rattle.lists.specs.Lists.{filter}
 use Rattle.lists.proofs.PutLaws.{length-put}
 use Rattle.prefix.specs.declared.Prefix.{Prefix}
-use Rattle.prefix.specs.declared.Checked.{Checked}
 use Rattle.prefix.specs.Prefixes.{prefix, checked}
 use Rattle.image.specs.Image.{lease_size, used_leases}
 use Rattle.ledger.specs.declared.Answer.{Answer}
@@ -17,7 +16,6 @@ use Rattle.ledger.specs.Ledger.{outcome, refusal}
 use Rattle.call_spec.specs.ImageCalls.{Lent, lent, table_in, mark_image}
 use Rattle.call_rows.specs.Admission.{leases_from}
 use Rattle.call_mark.proofs.MarkLaws.{no_block, block-is, marked?, marked-of, mark-no-block, mark-none, mark-other, mark-found}
-use borrow.Enum.Refused.{opened}
 use Rattle.call_mark.proofs.mark_lease.Goals as goal
 
 -- What is lent.
@@ -44,73 +42,43 @@ lent_of-5 s = let a = s.args in lent a.image.now a.image_bytes.now a.figures.now
 abbrev lent_of-6 : goal.After-accepted → Lent
 lent_of-6 s = let a = s.args in lent a.image.now a.image_bytes.now a.figures.now
 
--- What the constructor was asked.
-asked : (c : goal.After-refused) → let a = c.args in (r : Checked) → r ≡ checked a.network c.length_of.result
-    → r ≡ checked a.network (cond (ltb 255 a.length) 0 a.length)
-asked c r e = let a = c.args in e ∙ ap (checked a.network) c.length_of.ensures
-
--- What the constructor was asked.
-asked-2 : (c : goal.After-refused-then-place-eq0) → let a = c.args in (r : Checked) → r ≡ checked a.network c.length_of.result
-    → r ≡ checked a.network (cond (ltb 255 a.length) 0 a.length)
-asked-2 c r e = let a = c.args in e ∙ ap (checked a.network) c.length_of.ensures
-
--- What the constructor was asked.
-asked-3 : (c : goal.After-refused-then-x-p) → let a = c.args in (r : Checked) → r ≡ checked a.network c.length_of.result
-    → r ≡ checked a.network (cond (ltb 255 a.length) 0 a.length)
-asked-3 c r e = let a = c.args in e ∙ ap (checked a.network) c.length_of.ensures
-
--- What the constructor was asked.
-asked-4 : (c : goal.After-refused-then-x-p-2) → let a = c.args in (r : Checked) → r ≡ checked a.network c.length_of.result
-    → r ≡ checked a.network (cond (ltb 255 a.length) 0 a.length)
-asked-4 c r e = let a = c.args in e ∙ ap (checked a.network) c.length_of.ensures
-
--- What the constructor was asked.
-asked-5 : (c : goal.After-refused-then-x-time) → let a = c.args in (r : Checked) → r ≡ checked a.network c.length_of.result
-    → r ≡ checked a.network (cond (ltb 255 a.length) 0 a.length)
-asked-5 c r e = let a = c.args in e ∙ ap (checked a.network) c.length_of.ensures
-
--- What the constructor was asked.
-asked-6 : (c : goal.After-accepted) → let a = c.args in (r : Checked) → r ≡ checked a.network c.length_of.result
-    → r ≡ checked a.network (cond (ltb 255 a.length) 0 a.length)
-asked-6 c r e = let a = c.args in e ∙ ap (checked a.network) c.length_of.ensures
-
 -- The prefix is no block.
 pub returns-in_default : goal.returns-in_default
 returns-in_default c =
     let a = c.args in
     ap (λ (r : Answer). outcome r (lent_of c) []) c.refused.ensures
     ∙ mark-no-block (lent_of c) a.time a.network a.length (not (eqb a.deprecated 0)) a.summary c.requires
-    (no_block a.network a.length c.new.result (asked c c.new.result c.new.ensures) (opened c.in_default.in_default-own.keys2))
+    (no_block a.network a.length (λ p e. c.in_default.not-Ok p (c.new.ensures ∙ ap (checked a.network) c.length_of.ensures ∙ e)))
 
 -- It is the one that was asked for.
-made : (c : goal.After-refused-then-place-eq0) → let a = c.args in c.in-Good.p ≡ prefix a.network a.length
+made : (c : goal.After-refused-then-place-eq0) → let a = c.args in c.in-Ok.p ≡ prefix a.network a.length
 made c =
     let a = c.args in
-    block-is a.network a.length _ (sym (asked-2 c c.new.result c.new.ensures) ∙ c.in-Good.is)
+    block-is a.network a.length _ (ap (checked a.network) (sym c.length_of.ensures) ∙ sym c.new.ensures ∙ c.in-Ok.is)
 
 -- It is the one that was asked for.
-made-2 : (c : goal.After-refused-then-x-p) → let a = c.args in c.in-Good.p ≡ prefix a.network a.length
+made-2 : (c : goal.After-refused-then-x-p) → let a = c.args in c.in-Ok.p ≡ prefix a.network a.length
 made-2 c =
     let a = c.args in
-    block-is a.network a.length _ (sym (asked-3 c c.new.result c.new.ensures) ∙ c.in-Good.is)
+    block-is a.network a.length _ (ap (checked a.network) (sym c.length_of.ensures) ∙ sym c.new.ensures ∙ c.in-Ok.is)
 
 -- It is the one that was asked for.
-made-3 : (c : goal.After-refused-then-x-p-2) → let a = c.args in c.in-Good.p ≡ prefix a.network a.length
+made-3 : (c : goal.After-refused-then-x-p-2) → let a = c.args in c.in-Ok.p ≡ prefix a.network a.length
 made-3 c =
     let a = c.args in
-    block-is a.network a.length _ (sym (asked-4 c c.new.result c.new.ensures) ∙ c.in-Good.is)
+    block-is a.network a.length _ (ap (checked a.network) (sym c.length_of.ensures) ∙ sym c.new.ensures ∙ c.in-Ok.is)
 
 -- It is the one that was asked for.
-made-4 : (c : goal.After-refused-then-x-time) → let a = c.args in c.in-Good.p ≡ prefix a.network a.length
+made-4 : (c : goal.After-refused-then-x-time) → let a = c.args in c.in-Ok.p ≡ prefix a.network a.length
 made-4 c =
     let a = c.args in
-    block-is a.network a.length _ (sym (asked-5 c c.new.result c.new.ensures) ∙ c.in-Good.is)
+    block-is a.network a.length _ (ap (checked a.network) (sym c.length_of.ensures) ∙ sym c.new.ensures ∙ c.in-Ok.is)
 
 -- It is the one that was asked for.
-made-5 : (c : goal.After-accepted) → let a = c.args in c.in-Good.p ≡ prefix a.network a.length
+made-5 : (c : goal.After-accepted) → let a = c.args in c.in-Ok.p ≡ prefix a.network a.length
 made-5 c =
     let a = c.args in
-    block-is a.network a.length _ (sym (asked-6 c c.new.result c.new.ensures) ∙ c.in-Good.is)
+    block-is a.network a.length _ (ap (checked a.network) (sym c.length_of.ensures) ∙ sym c.new.ensures ∙ c.in-Ok.is)
 
 pub overflow_mul-from : goal.overflow_mul-from
 overflow_mul-from c = let o = c.requires in omega (arith, o.few-pools)

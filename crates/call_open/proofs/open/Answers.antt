@@ -4,7 +4,8 @@ use mathlib.Core.Path.{◌≡◌, refl, sym, ap, ap₂, ◌∙◌}
 use mathlib.Core.Bool.{Bool, true, false, cond}
 use mathlib.Core.List.{List, []}
 use native.Mathlib.Omega.{arith}
-use lib.ListN.{length}
+use lib.ListN.{length, take, length-take}
+use lib.Seq.{length-take-le}
 use lib.Dec.{ltb}
 use Rattle.lists.specs.Lists.{concat_map}
 use Rattle.lists.specs.Put.{put}
@@ -64,17 +65,34 @@ returns-then-figures-ne-FIGURES c =
     ∙ open-refuses b a.networks.now a.lengths.now a.terms.term a.terms.default_length a.terms.start 14 (λ z. omega (arith, z))
     (open-other b.lent a.networks.now a.lengths.now a.terms.term a.terms.default_length a.terms.start (decides a.networks.now a.lengths.now a.terms _ _ true c.admits.ensures.value c.length_of-length.ensures c.if-not-admits.false) (omega arith) c.if-figures-ne-FIGURES.true)
 
+-- No more numbers are taken than were asked for.
+within-taken : (n : ℕ) (keys : List ℕ) → length (take n keys) ≤ n
+within-taken n keys = omega (arith, length-take n keys)
+
+pub slice_bounds-keys-end : goal.slice_bounds-keys-end
+slice_bounds-keys-end c =
+    let a = c.args in
+    let few : length a.networks.now ≤ pool_slots = pools-few a.networks.now a.lengths.now a.terms.term _ a.terms.start (decides a.networks.now a.lengths.now a.terms _ _ true c.admits.ensures.value c.length_of-length.ensures c.if-not-admits.false) in
+    omega (arith, few, c.admits.auto.keys)
+
+pub slice_bounds-pools-end : goal.slice_bounds-pools-end
+slice_bounds-pools-end c =
+    let a = c.args in
+    let few : length a.networks.now ≤ pool_slots = pools-few a.networks.now a.lengths.now a.terms.term _ a.terms.start (decides a.networks.now a.lengths.now a.terms _ _ true c.admits.ensures.value c.length_of-length.ensures c.if-not-admits.false) in
+    omega (arith, length-take-le (length a.networks.now) c.admits.new.keys (omega (arith, few, c.admits.auto.keys)))
+
 pub open-t-requires : goal.open-t-requires
 open-t-requires c =
     let a = c.args in
     let few : length a.networks.now ≤ pool_slots = pools-few a.networks.now a.lengths.now a.terms.term _ a.terms.start (decides a.networks.now a.lengths.now a.terms _ _ true c.admits.ensures.value c.length_of-length.ensures c.if-not-admits.false) in
-    (few, omega (arith, few, c.admits.auto.keys))
+    omega (arith, few, within-taken (length a.networks.now) c.admits.new.keys)
 
 pub put_pools-requires : goal.put_pools-requires
 put_pools-requires c =
     let a = c.args in
     let few : length a.networks.now ≤ pool_slots = pools-few a.networks.now a.lengths.now a.terms.term _ a.terms.start (decides a.networks.now a.lengths.now a.terms _ _ true c.admits.ensures.value c.length_of-length.ensures c.if-not-admits.false) in
-    (omega (arith, few, c.put_head.auto.out), few, omega (arith, few, c.admits.auto.keys))
+    let most = within-taken (length a.networks.now) c.admits.new.keys in
+    (omega (arith, few, most, c.put_head.auto.out), omega (arith, few, most))
 
 pub overflow_mul-n : goal.overflow_mul-n
 overflow_mul-n c =

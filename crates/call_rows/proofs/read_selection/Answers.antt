@@ -7,8 +7,8 @@ use Rattle.call_rows.proofs.read_selection.Goals as goal
 pub returns-then-not-carried : goal.returns-then-not-carried
 returns-then-not-carried c = not_carried _ _ _ (ap not c.if-not-carried.true) refl
 
-pub returns-in-Address : goal.returns-in-Address
-returns-in-Address c = carried-read _ _ _ _ _ (ap not c.if-not-carried.false) c.read_selection.ensures c.in-Address.is refl refl
+pub returns-in-Some : goal.returns-in-Some
+returns-in-Some c = carried-read _ _ _ _ _ (ap not c.if-not-carried.false) c.read_selection.ensures c.in-Some.is refl refl
 
-pub returns-in-NotTheOption : goal.returns-in-NotTheOption
-returns-in-NotTheOption c = carried-read _ _ _ _ _ (ap not c.if-not-carried.false) c.read_selection.ensures c.in-NotTheOption.is refl refl
+pub returns-in-None : goal.returns-in-None
+returns-in-None c = carried-read _ _ _ _ _ (ap not c.if-not-carried.false) c.read_selection.ensures c.in-None.is refl refl

@@ -3,13 +3,13 @@ use mathlib.Core.Path.{subst, ◌∙◌}
 use native.Mathlib.Omega.{arith}
 use lib.ListN.{length}
 use Rattle.console_words.proofs.WordLaws.{length-between}
-use Rattle.console_script.specs.Commands.{Within, «open»}
-use Rattle.console.proofs.RunLaws.{ran-as, open-as, read-ran, write-ran, ok-ran, selection-ran, nothing-ran, bad-ran}
+use Rattle.console_script.specs.Commands.{Within, call, «open», octets_at}
+use Rattle.console.proofs.RunLaws.{ran-as, open-as, read-ran, write-ran, ok-ran, selection-ran, nothing-ran, call-as}
 use borrow.Author.Rules.{rules}
 use Rattle.console.proofs.run.Goals as goal
 
 pub slice_bounds-call-count : goal.slice_bounds-call-count
-slice_bounds-call-count c = (subst (Within (length c.args.line.now)) c.in-Call.is c.requires.answer_fits.2).0
+slice_bounds-call-count c = (subst (Within (length c.args.line.now)) c.in-Call.is c.requires.answer_fits.2).0.0
 
 pub slice_bounds-call-start : goal.slice_bounds-call-start
 slice_bounds-call-start c = omega (arith, (subst (Within (length c.args.line.now)) c.in-Call.is c.requires.answer_fits.2))
@@ -18,13 +18,13 @@ pub slice_bounds-call-end : goal.slice_bounds-call-end
 slice_bounds-call-end c = omega (arith, (subst (Within (length c.args.line.now)) c.in-Call.is c.requires.answer_fits.2))
 
 pub slice_bounds-call-count-in-Call : goal.slice_bounds-call-count-in-Call
-slice_bounds-call-count-in-Call c = (subst (Within (length c.args.line.now)) c.in-Call.is c.requires.answer_fits.2).2
+slice_bounds-call-count-in-Call c = (c.selection_place-selection.ensures.within (length c.args.line.now) (subst (Within (length c.args.line.now)) c.in-Call.is c.requires.answer_fits.2).1).0
 
 pub slice_bounds-call-start-in-Call : goal.slice_bounds-call-start-in-Call
-slice_bounds-call-start-in-Call c = omega (arith, (subst (Within (length c.args.line.now)) c.in-Call.is c.requires.answer_fits.2))
+slice_bounds-call-start-in-Call c = let w = c.selection_place-selection.ensures.within (length c.args.line.now) (subst (Within (length c.args.line.now)) c.in-Call.is c.requires.answer_fits.2).1 in omega (arith, w)
 
 pub slice_bounds-call-end-in-Call : goal.slice_bounds-call-end-in-Call
-slice_bounds-call-end-in-Call c = omega (arith, (subst (Within (length c.args.line.now)) c.in-Call.is c.requires.answer_fits.2))
+slice_bounds-call-end-in-Call c = let w = c.selection_place-selection.ensures.within (length c.args.line.now) (subst (Within (length c.args.line.now)) c.in-Call.is c.requires.answer_fits.2).1 in omega (arith, w)
 
 pub slice_bounds-open-count : goal.slice_bounds-open-count
 slice_bounds-open-count c = (subst (Within (length c.args.line.now)) c.in-Open.is c.requires.answer_fits.2)
@@ -57,7 +57,7 @@ pub slice_bounds-write-start : goal.slice_bounds-write-start
 slice_bounds-write-start c = omega (arith, (subst (Within (length c.args.line.now)) c.in-Write.is c.requires.answer_fits.2))
 
 pub slice_bounds-set_figures-count : goal.slice_bounds-set_figures-count
-slice_bounds-set_figures-count c = (subst (Within (length c.args.line.now)) c.in-SetFigures.is c.requires.answer_fits.2).0
+slice_bounds-set_figures-count c = (subst (Within (length c.args.line.now)) c.in-SetFigures.is c.requires.answer_fits.2).0.0
 
 pub slice_bounds-set_figures-start : goal.slice_bounds-set_figures-start
 slice_bounds-set_figures-start c = omega (arith, (subst (Within (length c.args.line.now)) c.in-SetFigures.is c.requires.answer_fits.2))
@@ -66,10 +66,10 @@ pub slice_bounds-set_figures-end : goal.slice_bounds-set_figures-end
 slice_bounds-set_figures-end c = omega (arith, (subst (Within (length c.args.line.now)) c.in-SetFigures.is c.requires.answer_fits.2))
 
 pub set_figures-requires : goal.set_figures-requires
-set_figures-requires c = let within = (subst (Within (length c.args.line.now)) c.in-SetFigures.is c.requires.answer_fits.2) in (c.requires.answer_fits.0, length-between c.args.line.now _ _ within.0 within.1 ∙ within.2, c.requires.figures_len)
+set_figures-requires c = let within = (subst (Within (length c.args.line.now)) c.in-SetFigures.is c.requires.answer_fits.2) in (c.requires.answer_fits.0, length-between c.args.line.now _ _ within.0.0 within.0.1 ∙ within.1, c.requires.figures_len)
 
 pub slice_bounds-set_counts-count : goal.slice_bounds-set_counts-count
-slice_bounds-set_counts-count c = (subst (Within (length c.args.line.now)) c.in-SetCounts.is c.requires.answer_fits.2).0
+slice_bounds-set_counts-count c = (subst (Within (length c.args.line.now)) c.in-SetCounts.is c.requires.answer_fits.2).0.0
 
 pub slice_bounds-set_counts-start : goal.slice_bounds-set_counts-start
 slice_bounds-set_counts-start c = omega (arith, (subst (Within (length c.args.line.now)) c.in-SetCounts.is c.requires.answer_fits.2))
@@ -78,10 +78,10 @@ pub slice_bounds-set_counts-end : goal.slice_bounds-set_counts-end
 slice_bounds-set_counts-end c = omega (arith, (subst (Within (length c.args.line.now)) c.in-SetCounts.is c.requires.answer_fits.2))
 
 pub set_counts-requires : goal.set_counts-requires
-set_counts-requires c = let within = (subst (Within (length c.args.line.now)) c.in-SetCounts.is c.requires.answer_fits.2) in (c.requires.answer_fits.0, length-between c.args.line.now _ _ within.0 within.1 ∙ within.2)
+set_counts-requires c = let within = (subst (Within (length c.args.line.now)) c.in-SetCounts.is c.requires.answer_fits.2) in (c.requires.answer_fits.0, length-between c.args.line.now _ _ within.0.0 within.0.1 ∙ within.1)
 
 pub returns-in-Call : goal.returns-in-Call
-returns-in-Call c = record { upper_bound = search rules; ran = ran-as _ _ _ c.in-Call.is c.call.ensures.ran }
+returns-in-Call c = let k = c.in-Call.c in record { upper_bound = search rules; ran = ran-as _ _ _ c.in-Call.is (call-as (λ o. call k.call k.client k.time (octets_at c.args.line.now k.message.option) o) _ _ (c.selection_place-selection.ensures.place c.args.line.now) c.call.ensures.ran) }
 
 pub returns-in-Mark : goal.returns-in-Mark
 returns-in-Mark c = record { upper_bound = search rules; ran = ran-as _ _ _ c.in-Mark.is c.mark.ensures.ran }
@@ -127,6 +127,3 @@ returns-in-Selection c = record { upper_bound = search rules; ran = ran-as _ _ _
 
 pub returns-in-Nothing : goal.returns-in-Nothing
 returns-in-Nothing c = record { upper_bound = search rules; ran = ran-as _ _ _ c.in-Nothing.is (nothing-ran _ _ _) }
-
-pub returns-in-Bad : goal.returns-in-Bad
-returns-in-Bad c = record { upper_bound = search rules; ran = ran-as _ _ _ c.in-Bad.is (bad-ran _ _ _ _ _ (search rules) c.error.ensures.wrote) }

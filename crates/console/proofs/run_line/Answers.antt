@@ -3,25 +3,26 @@ use Prim.Native.Nat.{ℕ, ◌≤◌}
 use mathlib.Core.Path.{sym, subst, ◌∙◌}
 use native.Mathlib.Omega.{arith}
 use lib.ListN.{length}
+use Rattle.std.specs.Prelude.{IfSome}
 use Rattle.call_spec.specs.Books.{book_of}
 use Rattle.console_script.specs.Commands.{Within}
 use Rattle.console.proofs.LineLaws.{ran_line, set-from}
 use Rattle.console.proofs.run_line.Goals as goal
 
-pub run-end-requires : goal.run-end-requires
-run-end-requires g c =
+pub run_read-end-requires : goal.run_read-end-requires
+run_read-end-requires g c =
     let read = c.read_command-command in
     let begun = c.echo-begun in record {
       answer_fits = (
         omega (arith, begun.ensures.answer_fits.0, begun.auto.out),
         omega (arith, begun.ensures.answer_fits.1.0, c.requires, c.next_line.ensures.0),
-        subst (λ (k : ℕ). Within k read.result) (sym read.auto.s) read.ensures.within,
+        subst (λ (k : ℕ). IfSome read.result (Within k)) (sym read.auto.s) read.ensures.within,
       );
       figures_len = c.requires.reply_length_bound.1;
     }
 
 pub shape_of-line : goal.shape_of-line
-shape_of-line g c = c.run-end.auto.line ∙ c.read_command-command.auto.s
+shape_of-line g c = c.run_read-end.auto.line ∙ c.read_command-command.auto.s
 
 pub returns : goal.returns
 returns g c =
@@ -29,7 +30,7 @@ returns g c =
     let read = c.read_command-command in
     let next = c.next_line in
     let begun = c.echo-begun in
-    let ran = c.run-end in
+    let ran = c.run_read-end in
     let put = c.with_output.ensures in
     let is_set = c.set.ensures in
     let inside : begun.result.at ≤ length a.out.now = omega (arith, begun.ensures.answer_fits.0) in

@@ -1,13 +1,12 @@
--- `set` sets what a `buffer` or a `selection` names, and nothing for any other command.
-use mathlib.Core.Path.{refl}
-use Rattle.console.proofs.LineLaws.{set-nothing, set-length, set-selected}
+-- `set` sets what its command sets, if there is one.
+use mathlib.Core.Path.{refl, sym, subst}
+use Rattle.std.specs.Prelude.{Option}
+use Rattle.console_script.specs.declared.Command.{Command}
+use Rattle.console.specs.InnerRuns.{Set}
 use Rattle.console.proofs.set.Goals as goal
 
-pub returns-in-Buffer : goal.returns-in-Buffer
-returns-in-Buffer c = let w = c.with_reply_length.ensures in (w.3, w.2, w.4, set-length c.args.command _ c.args.s c.with_reply_length.result c.in-Buffer.is w.0 w.1)
+pub returns-in-Some : goal.returns-in-Some
+returns-in-Some c = let w = c.set_by.ensures in (w.0, w.1, w.2, subst (λ (k : Option Command). Set k c.args.s c.set_by.result) (sym c.in-Some.is) w.3)
 
-pub returns-in-Selection : goal.returns-in-Selection
-returns-in-Selection c = let w = c.with_selected.ensures in (w.3, w.2, w.4, set-selected c.args.command _ c.args.s c.with_selected.result c.in-Selection.is w.0 w.1)
-
-pub returns : goal.returns
-returns c = (refl, refl, refl, set-nothing c.args.command c.args.s c.in_default.not-Buffer c.in_default-command.not-Selection)
+pub returns-in-None : goal.returns-in-None
+returns-in-None c = (refl, refl, refl, subst (λ (k : Option Command). Set k c.args.s c.args.s) (sym c.in-None.is) (λ words. (refl, refl)))

@@ -5,6 +5,7 @@ use mathlib.Core.Path.{ap, ◌∙◌}
 use mathlib.Core.List.{[], ◌++◌}
 use lib.ListN.{length, take, replicate}
 use borrow.Rule.Slice.PartMut.{post_of}
+use Rattle.std.specs.Prelude.{is_some}
 use Rattle.ledger.specs.Ledger.{Call, call as message}
 use Rattle.call_spec.specs.Books.{book_of, ask_book, take_book, list_book}
 use Rattle.call_spec.proofs.RepliesOnBooks.{without-sheet}
@@ -49,7 +50,7 @@ returns-in-Ask c =
     let said = c.replied in
     let size = reply-size n c.requires.1 in
     let inside = reply-inside a.s.at n _ a.out.now c.requires.0 c.requires.1 said.result said.ensures.upper_bound in
-    let same = did.ensures ∙ with-selection (λ (q : Call). ask_book (book_of a.image.now a.image_bytes.now a.figures.now a.counts.now) a.c.time q) _ _ _ _ _ a.s.selected a.c.message.carries c.carried.ensures in record { upper_bound = inside; ran = call-ran _ _ _ _ _ _ _ inside _ command.Ask _ _ _ _ (take (n - 0) (replicate {A = ℕ} longest_reply 0)) did.new.reply c.in-Ask.is size same (wrote_as _ _ _ _ _ _ (ap (replied_line did.result) (reply-left n did.new.reply _ (did.auto.reply ∙ size))) said.ensures.wrote) }
+    let same = did.ensures ∙ with-selection (λ (q : Call). ask_book (book_of a.image.now a.image_bytes.now a.figures.now a.counts.now) a.c.time q) _ _ _ _ _ a.s.selected (is_some a.c.message.selection) c.carried.ensures in record { upper_bound = inside; ran = call-ran _ _ _ _ _ _ _ inside _ command.Ask _ _ _ _ (take (n - 0) (replicate {A = ℕ} longest_reply 0)) did.new.reply c.in-Ask.is size same (wrote_as _ _ _ _ _ _ (ap (replied_line did.result) (reply-left n did.new.reply _ (did.auto.reply ∙ size))) said.ensures.wrote) }
 
 pub returns-in-Take : goal.returns-in-Take
 returns-in-Take c =
@@ -59,7 +60,7 @@ returns-in-Take c =
     let said = c.replied-in-Take in
     let size = reply-size n c.requires.1 in
     let inside = reply-inside a.s.at n _ a.out.now c.requires.0 c.requires.1 said.result said.ensures.upper_bound in
-    let same = did.ensures ∙ with-selection (λ (q : Call). take_book (book_of a.image.now a.image_bytes.now a.figures.now a.counts.now) a.c.time q) _ _ _ _ _ a.s.selected a.c.message.carries c.carried.ensures in record { upper_bound = inside; ran = call-ran _ _ _ _ _ _ _ inside _ command.Take _ _ _ _ (take (n - 0) (replicate {A = ℕ} longest_reply 0)) did.new.reply c.in-Take.is size same (wrote_as _ _ _ _ _ _ (ap (replied_line did.result) (reply-left n did.new.reply _ (did.auto.reply ∙ size))) said.ensures.wrote) }
+    let same = did.ensures ∙ with-selection (λ (q : Call). take_book (book_of a.image.now a.image_bytes.now a.figures.now a.counts.now) a.c.time q) _ _ _ _ _ a.s.selected (is_some a.c.message.selection) c.carried.ensures in record { upper_bound = inside; ran = call-ran _ _ _ _ _ _ _ inside _ command.Take _ _ _ _ (take (n - 0) (replicate {A = ℕ} longest_reply 0)) did.new.reply c.in-Take.is size same (wrote_as _ _ _ _ _ _ (ap (replied_line did.result) (reply-left n did.new.reply _ (did.auto.reply ∙ size))) said.ensures.wrote) }
 
 pub returns-in-List : goal.returns-in-List
 returns-in-List c =

@@ -17,12 +17,12 @@ slice_bounds-written-end c = part-fits c.args.s.reply_length c.write.new.buffer 
 pub written-requires : goal.written-requires
 written-requires c = reply-fits c.args.s.at c.args.s.reply_length (c.write.new.buffer ++ (post_of 0 (c.args.s.reply_length - 0) (replicate {A = ℕ} longest_reply 0))) c.args.out.now c.requires.0 c.requires.1
 
-pub returns-in-Bad : goal.returns-in-Bad
-returns-in-Bad c =
+pub returns-in-None : goal.returns-in-None
+returns-in-None c =
     let said = c.error in
     let inside : said.result ≤ length c.args.out.now = omega (arith, said.ensures.upper_bound, c.requires.0) in record { upper_bound = inside; wrote_option = write-bad _ _ _ _ _ _ inside said.ensures.wrote }
 
-pub returns-in-Of : goal.returns-in-Of
-returns-in-Of c =
+pub returns-in-Some : goal.returns-in-Some
+returns-in-Some c =
     let said = c.written in
-    let inside = reply-inside c.args.s.at c.args.s.reply_length _ c.args.out.now c.requires.0 c.requires.1 said.result said.ensures.upper_bound in record { upper_bound = inside; wrote_option = write-of _ _ _ _ (take (c.args.s.reply_length - 0) (replicate {A = ℕ} longest_reply 0)) _ _ _ _ _ inside (reply-size c.args.s.reply_length c.requires.1) c.in-Of.is c.write.ensures (wrote_as _ _ _ _ _ _ (ap (written_line c.in-Of.a) (reply-left c.args.s.reply_length c.write.new.buffer _ (c.write.auto.buffer ∙ (reply-size c.args.s.reply_length c.requires.1)))) said.ensures.wrote) }
+    let inside = reply-inside c.args.s.at c.args.s.reply_length _ c.args.out.now c.requires.0 c.requires.1 said.result said.ensures.upper_bound in record { upper_bound = inside; wrote_option = write-of _ _ _ _ (take (c.args.s.reply_length - 0) (replicate {A = ℕ} longest_reply 0)) _ _ _ _ _ inside (reply-size c.args.s.reply_length c.requires.1) c.in-Some.is c.write.ensures (wrote_as _ _ _ _ _ _ (ap (written_line c.in-Some.a) (reply-left c.args.s.reply_length c.write.new.buffer _ (c.write.auto.buffer ∙ (reply-size c.args.s.reply_length c.requires.1)))) said.ensures.wrote) }

@@ -1,17 +1,17 @@
 -- `entries` stays within the buffer: 28 bytes for each byte that is left of the information. That is the measure too.
-use Prim.Native.Nat.{◌-◌}
-use mathlib.Core.Path.{sym, ◌∙◌}
+use mathlib.Core.Path.{sym, ap, ◌∙◌}
+use Rattle.std.specs.declared.result.Result.TheVariants.{Ok}
 use native.Mathlib.Omega.{arith}
 use Rattle.console_lines.proofs.SizeLaws.{EntryTaken, entry-taken}
 use Rattle.console_lines.proofs.entries.Goals as goal
 
 -- What the turn's answer tells.
-taken_here : (c : goal.After-entry-arg-1) → EntryTaken c.loop-e.cursor.end c.loop-e.cursor.at c.in-Entry.next
-taken_here c = entry-taken _ _ _ _ _ (sym c.in-Entry.is ∙ c.step.ensures)
+taken_here : (c : goal.After-entry-arg-1) → EntryTaken c.loop-e.cursor.end c.loop-e.cursor.at c.in-Ok-Some.next
+taken_here c = entry-taken _ _ _ c.in-Ok-Some.e c.in-Ok-Some.next (sym c.step.ensures ∙ c.in-Ok-Some.is ∙ ap Ok c.in-Ok-Some.field-0-is)
 
 -- What the turn's answer tells.
-taken_here-2 : (c : goal.After-slice_known-in-Entry-1) → EntryTaken c.loop-e.cursor.end c.loop-e.cursor.at c.in-Entry.next
-taken_here-2 c = entry-taken _ _ _ _ _ (sym c.in-Entry.is ∙ c.step.ensures)
+taken_here-2 : (c : goal.After-slice_known-in-Ok-Some-1) → EntryTaken c.loop-e.cursor.end c.loop-e.cursor.at c.in-Ok-Some.next
+taken_here-2 c = entry-taken _ _ _ c.in-Ok-Some.e c.in-Ok-Some.next (sym c.step.ensures ∙ c.in-Ok-Some.is ∙ ap Ok c.in-Ok-Some.field-0-is)
 
 pub entry-end-requires : goal.entry-end-requires
 entry-end-requires c =

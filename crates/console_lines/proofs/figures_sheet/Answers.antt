@@ -1,5 +1,4 @@
 -- `figures_sheet` meets its contract: after i turns the lines of the first i rows are written. The measure is how many rows are left.
-use Prim.Native.Nat.{◌-◌}
 use mathlib.Core.Path.{refl, ap}
 use native.Mathlib.Omega.{arith}
 use Rattle.table.specs.Table.{lease_slots}
@@ -9,13 +8,13 @@ use Rattle.console_lines.proofs.FigureLaws.{rows_none, rows_more, sheet-written}
 use Rattle.console_lines.proofs.figures_sheet.Goals as goal
 
 pub loop-i-init : goal.loop-i-init
-loop-i-init c = (omega arith, omega arith, refl, rows_none lease_slots c.args.sheet.now c.args.out.now c.args.at)
+loop-i-init c = (omega arith, refl, rows_none lease_slots c.args.sheet.now c.args.out.now c.args.at)
 
 pub loop-i-preserved : goal.loop-i-preserved
 loop-i-preserved c =
     let inv = c.loop-i.invariant in
     let row = c.row-end in
-    (omega arith, omega (arith, row.ensures.upper_bound), omega (arith, row.auto), rows_more lease_slots c.args.sheet.now c.loop-i.i _ _ _ _ _ _ (omega arith) inv.3 (wrote_as _ _ _ _ _ _ (ap row_text c.row_at.ensures) row.ensures.wrote))
+    (omega (arith, row.ensures.upper_bound), omega (arith, row.auto), rows_more lease_slots c.args.sheet.now c.loop-i.i _ _ _ _ _ _ (omega arith) inv.2 (wrote_as _ _ _ _ _ _ (ap row_text c.row_at.ensures) row.ensures.wrote))
 
 pub returns : goal.returns
-returns c = record { upper_bound = omega (arith, c.ok.ensures.place); wrote = wrote_as _ _ _ _ _ _ (sheet-written c.args.sheet.now c.loop-i.i c.requires.0 (omega arith)) (then-wrote _ _ _ _ _ _ _ _ c.loop-i.invariant.3 c.ok.ensures) }
+returns c = record { upper_bound = omega (arith, c.ok.ensures.place); wrote = wrote_as _ _ _ _ _ _ (sheet-written c.args.sheet.now c.loop-i.i c.requires.0 (omega arith)) (then-wrote _ _ _ _ _ _ _ _ c.loop-i.invariant.2 c.ok.ensures) }

@@ -1,4 +1,4 @@
-use Prim.Native.Nat.{◌+◌, ◌-◌, ◌*◌, ◌≤◌}
+use Prim.Native.Nat.{◌+◌, ◌*◌, ◌≤◌}
 use mathlib.Core.Path.{◌≡◌}
 use lib.ListN.{length, take}
 use Rattle.lists.specs.Lists.{concat_map}
@@ -10,7 +10,4 @@ use Rattle.console_lines.specs.FigureLines.{row_text}
 use Rattle.console_lines.proofs.figures_sheet.Given as goal
 
 abbrev pub invariant-loop-i : goal.invariant-loop-i
-invariant-loop-i l = (l.i ≤ lease_slots) × (l.end ≤ l.at + row_most * l.i) × (length l.out ≡ length l.initial.out) × Wrote l.initial.out l.at (concat_map row_text (take l.i (rows_in lease_slots l.sheet))) l.out l.end
-
-abbrev pub decreases-loop-i : goal.decreases-loop-i
-decreases-loop-i l = lease_slots - l.i
+invariant-loop-i l = (l.end ≤ l.at + row_most * l.i) × (length l.out ≡ length l.initial.out) × Wrote l.initial.out l.at (concat_map row_text (take l.i (rows_in lease_slots l.sheet))) l.out l.end

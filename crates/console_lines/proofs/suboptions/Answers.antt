@@ -1,17 +1,17 @@
 -- `suboptions` stays within the buffer: 28 bytes for each byte that is left of the option. That is the measure too.
-use Prim.Native.Nat.{◌-◌}
-use mathlib.Core.Path.{sym, ◌∙◌}
+use mathlib.Core.Path.{sym, ap, ◌∙◌}
+use Rattle.std.specs.declared.result.Result.TheVariants.{Ok}
 use native.Mathlib.Omega.{arith}
 use Rattle.console_lines.proofs.SizeLaws.{Taken, taken}
 use Rattle.console_lines.proofs.suboptions.Goals as goal
 
 -- What the turn's answer tells.
-taken_here : (c : goal.After-suboption-arg-1) → Taken c.args.s.now c.loop-x.cursor.at c.in-Piece.x c.in-Piece.next
-taken_here c = taken _ _ _ _ (sym c.in-Piece.is ∙ c.step.ensures)
+taken_here : (c : goal.After-suboption-arg-1) → Taken c.args.s.now c.loop-x.cursor.at c.in-Ok-Some.x c.in-Ok-Some.next
+taken_here c = taken _ _ c.in-Ok-Some.x c.in-Ok-Some.next (sym c.step.ensures ∙ c.in-Ok-Some.is ∙ ap Ok c.in-Ok-Some.field-0-is)
 
 -- What the turn's answer tells.
-taken_here-2 : (c : goal.After-slice_known-in-Piece-1) → Taken c.args.s.now c.loop-x.cursor.at c.in-Piece.x c.in-Piece.next
-taken_here-2 c = taken _ _ _ _ (sym c.in-Piece.is ∙ c.step.ensures)
+taken_here-2 : (c : goal.After-slice_known-in-Ok-Some-1) → Taken c.args.s.now c.loop-x.cursor.at c.in-Ok-Some.x c.in-Ok-Some.next
+taken_here-2 c = taken _ _ c.in-Ok-Some.x c.in-Ok-Some.next (sym c.step.ensures ∙ c.in-Ok-Some.is ∙ ap Ok c.in-Ok-Some.field-0-is)
 
 pub suboption-end-requires : goal.suboption-end-requires
 suboption-end-requires c =

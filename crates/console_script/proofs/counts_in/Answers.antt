@@ -1,5 +1,5 @@
--- `counts_in` meets its contract: after k turns the first k rows are read. The measure is how many are left.
-use Prim.Native.Nat.{ℕ, ◌-◌}
+-- `counts_in` meets its contract: after k turns the first k rows are read.
+use Prim.Native.Nat.{ℕ}
 use mathlib.Core.Path.{◌≡◌, sym, ap, ◌∙◌}
 use mathlib.Core.List.{List}
 use native.Mathlib.Omega.{arith}
@@ -12,17 +12,16 @@ use Rattle.console_script.proofs.CountOctetLaws.{no-row-read, row-stored}
 use Rattle.console_script.proofs.counts_in.Goals as goal
 
 pub loop-k-init : goal.loop-k-init
-loop-k-init c = let none = replicate {A = ℕ} counted_lengths 0 in (omega arith, length-replicate {A = List ℕ} pool_slots none, no-row-read c.args.octets.now (replicate {A = List ℕ} pool_slots none))
+loop-k-init c = let none = replicate {A = ℕ} counted_lengths 0 in (length-replicate {A = List ℕ} pool_slots none, no-row-read c.args.octets.now (replicate {A = List ℕ} pool_slots none))
 
 pub loop-k-preserved : goal.loop-k-preserved
 loop-k-preserved c =
-    let row = c.row_in-row in (
-      omega arith,
+    let row = c.row_in in (
       omega (arith, length-set c.loop-k.rows c.loop-k.k row.result),
-      row-stored c.args.octets.now c.loop-k.rows c.loop-k.k row.result (omega arith) c.loop-k.invariant.2 row.ensures,
+      row-stored c.args.octets.now c.loop-k.rows c.loop-k.k row.result (omega arith) c.loop-k.invariant.1 row.ensures,
     )
 
 pub returns : goal.returns
 returns c =
     let all : c.loop-k.k ≡ pool_slots = omega arith in
-    sym (take_all c.loop-k.k c.loop-k.rows (omega arith)) ∙ c.loop-k.invariant.2 ∙ ap (λ (n : ℕ). rows_in n c.args.octets.now) all
+    sym (take_all c.loop-k.k c.loop-k.rows (omega arith)) ∙ c.loop-k.invariant.1 ∙ ap (λ (n : ℕ). rows_in n c.args.octets.now) all

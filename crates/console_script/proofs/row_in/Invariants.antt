@@ -1,4 +1,3 @@
-use Prim.Native.Nat.{◌-◌, ◌≤◌}
 use mathlib.Core.Path.{◌≡◌}
 use lib.ListN.{length, take, drop}
 use Rattle.counts.specs.Counts.{counted_lengths}
@@ -6,7 +5,4 @@ use Rattle.console_script.specs.CountOctets.{numbers_in}
 use Rattle.console_script.proofs.row_in.Given as goal
 
 abbrev pub invariant-loop-j : goal.invariant-loop-j
-invariant-loop-j l = (l.j ≤ counted_lengths) × (length l.row ≡ counted_lengths) × (take l.j l.row ≡ numbers_in l.j (drop l.at l.octets))
-
-abbrev pub decreases-loop-j : goal.decreases-loop-j
-decreases-loop-j l = counted_lengths - l.j
+invariant-loop-j l = (length l.row ≡ counted_lengths) × (take l.j l.row ≡ numbers_in l.j (drop l.at l.octets))

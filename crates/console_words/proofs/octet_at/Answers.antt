@@ -13,6 +13,6 @@ returns c =
     record {
       later = omega (arith, f.place);
       inside = f.in_bounds;
-      spelt = c.read_octet-octet.ensures ∙ ap (λ (l : List ℕ). octet_of (number_of l)) (found_before _ _ 46 _ f.place);
+      spelt = c.read_octet-value.ensures ∙ ap (λ (l : List ℕ). octet_of (number_of l)) (found_before _ _ 46 _ f.place);
       rest = found-rest _ _ 46 _ f.place;
     }

@@ -1,23 +1,18 @@
--- `read_number` meets its contract, digit by digit. The measure is what is left of the word.
-use Prim.Native.Nat.{◌-◌}
+-- `read_number` meets its contract, digit by digit.
+use mathlib.Core.Path.{sym, ◌∙◌}
 use native.Mathlib.Omega.{arith}
-use Rattle.console_words.proofs.NumberLaws.{reading-more, reading-below, reading-above, reading-over, reading-all, number-none}
+use Rattle.std.proofs.Common.{rules}
+use Rattle.console_words.proofs.NumberLaws.{reading-other, reading-over, reading-all, number-none}
 use Rattle.console_words.proofs.read_number.Goals as goal
 
-pub returns-then-s-eq0 : goal.returns-then-s-eq0
-returns-then-s-eq0 c = number-none _ c.if-s-eq0.true
+pub returns-then-is_empty : goal.returns-then-is_empty
+returns-then-is_empty c = number-none _ (search rules)
 
-pub returns-then-c-lt48 : goal.returns-then-c-lt48
-returns-then-c-lt48 c = let l = c.loop-i in reading-below _ _ _ l.invariant (omega arith) c.if-c-lt48.true
+pub returns-then-not-is_ascii_digit : goal.returns-then-not-is_ascii_digit
+returns-then-not-is_ascii_digit c = reading-other _ _ _ c.loop-c.invariant (omega arith) (sym c.is_ascii_digit.ensures.value ∙ c.if-not-is_ascii_digit.true)
 
-pub returns-then-c-gt57 : goal.returns-then-c-gt57
-returns-then-c-gt57 c = let l = c.loop-i in reading-above _ _ _ l.invariant (omega arith) c.if-c-gt57.true
-
-pub returns-then-n-gt4294967295 : goal.returns-then-n-gt4294967295
-returns-then-n-gt4294967295 c = let l = c.loop-i in reading-over _ _ _ l.invariant (omega arith) _ c.wide.ensures.0 c.if-n-gt4294967295.true
-
-pub loop-i-preserved : goal.loop-i-preserved
-loop-i-preserved c = let l = c.loop-i in reading-more _ _ _ l.invariant (omega arith) _ c.wide.ensures.0 (omega arith) (omega arith) (omega arith)
+pub returns-then-from-n : goal.returns-then-from-n
+returns-then-from-n c = reading-over _ _ _ c.loop-c.invariant (omega arith) _ c.from.ensures (omega arith)
 
 pub returns : goal.returns
-returns c = let l = c.loop-i in reading-all _ _ _ l.invariant (omega arith) (omega arith)
+returns c = reading-all _ _ _ c.loop-c.invariant (search rules) (omega arith)

@@ -3,8 +3,8 @@ use lib.ListN.{length}
 use Rattle.console_words.proofs.PrefixLaws.{Reading}
 use Rattle.console_words.proofs.read_prefixes.Given as goal
 
-abbrev pub invariant-loop-from : goal.invariant-loop-from
-invariant-loop-from l = Reading l.s l.from l.networks l.lengths (length l.initial.networks) l.at l.n
+abbrev pub invariant-loop-w : goal.invariant-loop-w
+invariant-loop-w l = Reading l.s l.from l.networks l.lengths (length l.initial.networks) l.at l.n
 
-abbrev pub decreases-loop-from : goal.decreases-loop-from
-decreases-loop-from l = length l.s - l.at
+abbrev pub decreases-loop-w : goal.decreases-loop-w
+decreases-loop-w l = length l.s - l.at

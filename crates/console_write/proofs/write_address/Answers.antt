@@ -1,18 +1,10 @@
 -- `write_address` meets its contract.
 use native.Mathlib.Omega.{arith}
-use mathlib.Core.Path.{sym, ap, ◌∙◌}
-use Rattle.console_write.specs.Writes.{answer_of}
 use Rattle.console_write.proofs.WriteLaws.{answered, selection-short}
 use Rattle.console_write.proofs.write_address.Goals as goal
 
-pub overflow_cast-n : goal.overflow_cast-n
-overflow_cast-n c = record { fits = omega (arith, c.requires, selection-short _ _ _ _ _ _ c.in-Bytes.is c.write_selection.ensures) }
+pub written-requires : goal.written-requires
+written-requires c = selection-short _ _ _ _ _ (omega (arith, c.requires)) c.write_selection.ensures
 
-pub returns-in-Bytes : goal.returns-in-Bytes
-returns-in-Bytes c = answered _ _ _ _ _ (c.accepted.ensures ∙ ap answer_of (sym c.in-Bytes.is)) c.write_selection.ensures
-
-pub returns-in-OutsideRules : goal.returns-in-OutsideRules
-returns-in-OutsideRules c = answered _ _ _ _ _ (c.refused.ensures ∙ ap answer_of (sym c.in-OutsideRules.is)) c.write_selection.ensures
-
-pub returns-in-TooLong : goal.returns-in-TooLong
-returns-in-TooLong c = answered _ _ _ _ _ (c.refused-in-TooLong.ensures ∙ ap answer_of (sym c.in-TooLong.is)) c.write_selection.ensures
+pub returns : goal.returns
+returns c = answered _ _ _ _ _ c.written.ensures c.write_selection.ensures

@@ -1,33 +1,7 @@
 -- `counts::same` meets its contract.
-use Prim.Native.Nat.{◌-◌}
-use mathlib.Core.Path.{refl, sym, ◌∙◌}
-use native.Mathlib.Omega.{arith}
-use Rattle.counts.proofs.CompareLaws.{counts-more, counts-differ, counts_same}
+use mathlib.Core.Path.{◌∙◌}
+use Rattle.counts.proofs.CompareLaws.{counts-pointwise}
 use Rattle.counts.proofs.same.Goals as goal
 
-pub loop-k-init : goal.loop-k-init
-loop-k-init c = (omega arith, refl)
-
-pub bounds-a-k : goal.bounds-a-k
-bounds-a-k c = omega arith
-
-pub bounds-b-k : goal.bounds-b-k
-bounds-b-k c = omega arith
-
-pub returns-then-not-same_row : goal.returns-then-not-same_row
-returns-then-not-same_row c =
-    let a = c.args in
-    let loop = c.loop-k in
-    counts-differ a.a a.b loop.k (omega arith) (omega arith) (sym c.if-not-same_row.true ∙ c.same_row.ensures) loop.invariant.1
-
-pub loop-k-preserved : goal.loop-k-preserved
-loop-k-preserved c =
-    let a = c.args in
-    let loop = c.loop-k in
-    (omega arith, counts-more a.a a.b loop.k (omega arith) (omega arith) (sym c.if-not-same_row.false ∙ c.same_row.ensures) loop.invariant.1)
-
 pub returns : goal.returns
-returns c =
-    let a = c.args in
-    let loop = c.loop-k in
-    counts_same a.a a.b loop.k (omega arith) (omega arith) loop.invariant.1
+returns c = c.eq.ensures ∙ counts-pointwise c.args.a c.args.b

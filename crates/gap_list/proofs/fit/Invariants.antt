@@ -1,9 +1,10 @@
 use Prim.Native.Nat.{◌-◌}
+use lib.ListN.{length}
 use Rattle.gap_list.proofs.SearchLaws.{Searching}
 use Rattle.gap_list.proofs.fit.Given as goal
 
-abbrev pub invariant-loop-i : goal.invariant-loop-i
-invariant-loop-i l = Searching l.starts l.lasts l.n l.length l.best l.index l.i
+abbrev pub invariant-loop-index : goal.invariant-loop-index
+invariant-loop-index l = Searching l.gaps l.length l.best l.most l.from
 
-abbrev pub decreases-loop-i : goal.decreases-loop-i
-decreases-loop-i l = l.n - l.i
+abbrev pub decreases-loop-index : goal.decreases-loop-index
+decreases-loop-index l = length l.gaps - l.from

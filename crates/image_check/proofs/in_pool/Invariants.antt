@@ -11,15 +11,12 @@ use Rattle.image_check.specs.InnerPass.{Left, Reached}
 use Rattle.image_check.proofs.ScanLaws.{Along}
 use Rattle.image_check.proofs.in_pool.Given as goal
 
-abbrev pub passed : ℕ → ℕ → Pass
-passed at expired = record { at = at; expired = expired }
-
 -- The pass stands in the pool from `low₀` to `stop`, which it came to at p.
 abbrev pub Known : Form → List ℕ → ℕ → ℕ → ℕ → ℕ → Pass → ℕ → Pass → Type 0
 Known form s last time stop low₀ p low q = (x : Head) (n k : ℕ) → Begun x s n → x.last ≡ last → k < n → low₀ ≡ (nth_pool s k).network → stop ≡ end (nth_pool s k) → Reached form x s n time k p → Along form x s n time k low q
 
-abbrev pub invariant-loop-at : goal.invariant-loop-at
-invariant-loop-at l = Left l.form l.s (passed l.at l.expired) × Known l.form l.s l.last l.time l.stop l.initial.low (passed l.initial.at l.initial.expired) l.low (passed l.at l.expired)
+abbrev pub invariant-loop-pass : goal.invariant-loop-pass
+invariant-loop-pass l = Left l.form l.s l.pass × Known l.form l.s l.last l.time l.stop l.initial.low l.initial.pass l.low l.pass
 
-abbrev pub decreases-loop-at : goal.decreases-loop-at
-decreases-loop-at l = length l.s - l.at
+abbrev pub decreases-loop-pass : goal.decreases-loop-pass
+decreases-loop-pass l = length l.s - l.pass.at

@@ -4,4 +4,4 @@ use Rattle.table.specs.Table.{pool_prefix}
 use Rattle.image_check.proofs.pool.Goals as goal
 
 pub returns : goal.returns
-returns c = c.pool_prefix.ensures ∙ ap pool_prefix c.pool_at.ensures
+returns c = c.from.ensures ∙ ap pool_prefix c.pool_at.ensures

@@ -31,9 +31,9 @@ loop-j-init c =
       sym here ∙ total_first closed a.pool at pre.5 place,
       omega (arith, pre.2 a.pool),
       omega (arith, pre.3 a.pool, here),
-      ap (λ (l : List ℕ). take (at + 1) (set l at c.less.result) ++ frees_on a.pool a.opened closed (at + 1 + 7) (counted_lengths - (at + 1))) pre.6
-          ∙ row_first a.pool a.opened closed pre.4 pre.5 at c.less.result place (omega (arith, pre.1)) c.less.ensures,
-      length-set a.row.now at c.less.result ∙ ap length pre.6,
+      ap (λ (l : List ℕ). take (at + 1) (set l at c.saturating_sub.result) ++ frees_on a.pool a.opened closed (at + 1 + 7) (counted_lengths - (at + 1))) pre.6
+          ∙ row_first a.pool a.opened closed pre.4 pre.5 at c.saturating_sub.result place (omega (arith, pre.1)) c.saturating_sub.ensures,
+      length-set a.row.now at c.saturating_sub.result ∙ ap length pre.6,
       omega (arith, pre.0),
     )
 
@@ -74,9 +74,9 @@ loop-j-preserved c =
       ap (λ (m : ℕ). loop.down + m) (sym here) ∙ total-more (both_of a.sides) loop.j loop.down loop.invariant.2,
       omega (arith, pre.2 (loop.j + 8), loop.invariant),
       omega (arith, pre.3 (loop.j + 8), here, loop.invariant),
-      row_next a.pool a.opened (both_of a.sides) loop.row loop.j loop.up loop.down c.less-in-loop-j.result (omega arith) loop.invariant.7 loop.invariant.6 loop.invariant.1 loop.invariant.2 c.less-in-loop-j.ensures
+      row_next a.pool a.opened (both_of a.sides) loop.row loop.j loop.up loop.down c.saturating_sub-in-loop-j.result (omega arith) loop.invariant.7 loop.invariant.6 loop.invariant.1 loop.invariant.2 c.saturating_sub-in-loop-j.ensures
           loop.invariant.5,
-      length-set loop.row loop.j c.less-in-loop-j.result ∙ loop.invariant.6,
+      length-set loop.row loop.j c.saturating_sub-in-loop-j.result ∙ loop.invariant.6,
       omega (arith, loop.invariant.7),
     )
 

@@ -11,6 +11,3 @@ abbrev pub invariant-loop-j : goal.invariant-loop-j
 invariant-loop-j l = (l.j ≤ counted_lengths) × (l.up ≡ total (l.j + 7) l.opened) × (l.down ≡ total (l.j + 7) (both_of l.sides)) × (l.up ≤ lease_slots * l.j) × (l.down ≤ lease_slots * l.j)
     × (take l.j l.row ++ frees_on l.pool l.opened (both_of l.sides) (l.j + 7) (counted_lengths - l.j) ≡ frees_on l.pool l.opened (both_of l.sides) 7 counted_lengths) × (length l.row ≡ counted_lengths)
     × (l.pool < l.j + 8)
-
-abbrev pub decreases-loop-j : goal.decreases-loop-j
-decreases-loop-j l = counted_lengths - l.j

@@ -1,11 +1,11 @@
 -- `image_counts::in_pool` meets its contract. The loop's invariant: the leases counted, on both sides, and those still to count are all. The measure is the
 -- number of leases ahead.
-use Prim.Native.Nat.{ℕ, ◌+◌, ◌-◌, ◌*◌, ◌%◌}
-use mathlib.Core.Path.{refl, sym, subst, ◌∙◌}
+use Prim.Native.Nat.{ℕ, ◌+◌, ◌*◌, ◌%◌}
+use mathlib.Core.Path.{◌≡◌, refl, sym, subst, ◌∙◌}
 use mathlib.Core.List.{List}
 use native.Mathlib.Omega.{arith}
 use lib.ListN.{get_or, set, replicate, length-set}
-use Rattle.image_counts.specs.InnerTally.{open_lengths, zeros, both_of}
+use Rattle.image_counts.specs.InnerTally.{open_lengths, zeros, both_of, Tallied}
 use Rattle.image_counts.proofs.TallyLaws.{Counting, counting-first, counting_more, counting-stop, counting-end}
 use Rattle.image_counts.proofs.SideLaws.{side-first, side-more, side-few}
 use Rattle.image_counts.proofs.in_pool.Goals as goal
@@ -100,5 +100,7 @@ returns c =
     let pre = c.requires in
     let end = c.end-stop in
     let loop = c.loop-i in
-    counting-end a.image.now a.from a.n end.result a.p.length a.at loop.opened loop.sides loop.before loop.i loop.invariant.0 a.p end.ensures.value refl pre.1
-    (omega arith)
+    let all : loop.i ≡ a.n = omega arith in
+    subst (λ (k : ℕ). Tallied a.image.now a.from a.n a.p a.at (record { next = k; opened = loop.opened; sides = loop.sides })) all
+    (counting-end a.image.now a.from a.n end.result a.p.length a.at loop.opened loop.sides loop.before loop.i loop.invariant.0 a.p end.ensures.value refl pre.1
+    (omega arith))

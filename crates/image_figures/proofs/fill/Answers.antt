@@ -6,6 +6,6 @@ pub returns : goal.returns
 returns c xs r e =
     let a = c.args in
     let lines = c.fill_leases in
-    let rest = c.clear_rest in
+    let rest = c.clear_rows in
     let pre = c.requires in
     filled a.sheet.now _ _ a.n xs pre.0 pre.1 e (lines.ensures xs r e) rest.ensures

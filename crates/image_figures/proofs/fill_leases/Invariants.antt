@@ -1,11 +1,7 @@
-use Prim.Native.Nat.{◌-◌, ◌≤◌}
 use mathlib.Core.Path.{◌≡◌}
 use lib.ListN.{length}
 use Rattle.image_figures.proofs.FillLaws.{Filling}
 use Rattle.image_figures.proofs.fill_leases.Given as goal
 
 abbrev pub invariant-loop-i : goal.invariant-loop-i
-invariant-loop-i l = (l.i ≤ l.n) × (length l.sheet ≡ length l.initial.sheet) × Filling l.initial.sheet l.image l.from l.n l.sheet l.i
-
-abbrev pub decreases-loop-i : goal.decreases-loop-i
-decreases-loop-i l = l.n - l.i
+invariant-loop-i l = (length l.sheet ≡ length l.initial.sheet) × Filling l.initial.sheet l.image l.from l.n l.sheet l.i

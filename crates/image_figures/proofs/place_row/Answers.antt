@@ -28,7 +28,7 @@ returns-then-is_own c =
       value = λ rows x s e.
           let inside : a.left - 1 < length rows = omega (arith, sheet-length a.sheet.now rows s, c.requires.0, c.requires.1, some) in
           placed-own a.sheet.now a.left a.k x c.requires.1 rows s _ (ap (own? rows a.left) e ∙ sym (is.ensures.value rows s) ∙ c.if-is_own.true)
-          (c.put_bytes.ensures ∙ ap (put a.sheet.now (row_size * a.k)) (c.bytes_at-bytes.ensures ∙ bytes-in-place a.sheet.now rows s (a.left - 1) inside));
+          (c.put_chunk.ensures ∙ ap (put a.sheet.now (row_size * a.k)) (c.chunk_at-row.ensures ∙ bytes-in-place a.sheet.now rows s (a.left - 1) inside));
     }
 
 pub returns : goal.returns

@@ -5,4 +5,4 @@ use Rattle.image_figures.proofs.read16.Goals as goal
 
 pub returns : goal.returns
 unfolding number16
-returns c = omega (arith, c.wide.ensures.0, c.wide-2.ensures.0)
+returns c = omega (arith, c.from_le_bytes.ensures)

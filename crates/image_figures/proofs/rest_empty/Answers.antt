@@ -1,31 +1,26 @@
--- `image_figures::rest_empty` meets its contract: the rows up to i are empty, so the answer is that for the rest.
-use Prim.Native.Nat.{◌-◌}
-use mathlib.Core.Path.{refl}
+-- `image_figures::rest_empty` meets its contract.
+use Prim.Native.Nat.{◌-◌, ◌*◌}
+use mathlib.Core.Path.{◌≡◌, ap, ◌∙◌}
 use native.Mathlib.Omega.{arith}
+use lib.ListN.{length, take, drop, length-drop}
+use lib.Seq.{take_all}
+use lib.Dec.{eqb}
+use lib.Pointwise.{pointwise}
+use Rattle.std.proofs.lemmas.Bool.Decides.{Decides-eqb}
+use Rattle.std.proofs.lemmas.Slice.Eq.{slice_eq-Decides}
 use Rattle.table.specs.Table.{lease_slots}
-use Rattle.image_figures.proofs.MatchLaws.{empty-more, empty-not, empty-last}
+use Rattle.image.proofs.FieldLaws.{Bytes}
+use Rattle.image_figures.specs.Sheets.{row_size}
+use Rattle.image_figures.proofs.EmptyBytes.{empty_bytes}
+use Rattle.image_figures.proofs.MatchLaws.{rest-told}
 use Rattle.image_figures.proofs.rest_empty.Goals as goal
-
-pub returns-then-n-gt-LEASES : goal.returns-then-n-gt-LEASES
-returns-then-n-gt-LEASES c = c.each_empty.ensures
-
-pub loop-i-init : goal.loop-i-init
-loop-i-init c = (omega arith, omega arith, refl)
-
-pub returns-then-not-thirty_two_empty : goal.returns-then-not-thirty_two_empty
-returns-then-not-thirty_two_empty c =
-    let s = c.args.sheet.now in
-    let test = c.thirty_two_empty in
-    empty-not s lease_slots c.loop-i.i 32 (omega arith) test.result test.ensures _ c.loop-i.invariant.2 c.if-not-thirty_two_empty.true
-
-pub loop-i-preserved : goal.loop-i-preserved
-loop-i-preserved c =
-    let s = c.args.sheet.now in
-    let test = c.thirty_two_empty in
-    (omega arith, omega arith, empty-more s lease_slots c.loop-i.i 32 (omega arith) test.result test.ensures _ c.loop-i.invariant.2 c.if-not-thirty_two_empty.false)
 
 pub returns : goal.returns
 returns c =
     let a = c.args in
-    let test = c.thirty_two_empty-2 in
-    empty-last a.sheet.now lease_slots (lease_slots - 32) 32 (omega arith) test.result test.ensures (omega arith) a.n c.loop-i.i (omega arith) (omega arith) c.loop-i.invariant.2
+    let l = a.sheet.now in
+    let rest = drop (row_size * a.n) l in
+    let whole : take (length l - row_size * a.n) rest ≡ rest = take_all (length l - row_size * a.n) rest (omega (arith, length-drop (row_size * a.n) l)) in
+    let bytes : Bytes l = λ i. omega (arith, c.type_inv.sheet i) in
+    rest-told lease_slots l bytes (c.requires.1) a.n c.requires.0 c.eq.result
+    (slice_eq-Decides Decides-eqb rest (empty_bytes (lease_slots - a.n)) c.eq.result (c.eq.ensures ∙ ap (λ t. pointwise eqb t c.empty_rows.result.now) whole ∙ ap (pointwise eqb rest) c.empty_rows.ensures))

@@ -11,5 +11,5 @@ returns c =
     let close = c.close_rows-kept in record {
       upper_bound = omega (arith, close.ensures.upper_bound, pre.1);
       value = struck a.sheet.now a.image.now a.from a.first a.last a.n a.time pre.0 pre.1 pre.2 _ close.result close.ensures.upper_bound close.ensures.closing _ _ _
-          c.lower.ensures refl c.clear_rows.ensures;
+          c.shift.ensures refl c.clear_rows.ensures;
     }

@@ -1,24 +1,22 @@
--- `image_forms::any_named` meets its contract: no name has been seen among the first i leases.
-use Prim.Native.Nat.{◌-◌}
-use mathlib.Core.Path.{refl, sym, ◌∙◌}
+-- `image_forms::any_named` meets its contract: each record tells of its lease.
+use Prim.Native.Nat.{◌+◌, ◌-◌, ◌*◌}
+use mathlib.Core.Path.{◌≡◌, ap, ◌∙◌}
+use mathlib.Core.List.{map}
 use native.Mathlib.Omega.{arith}
-use Rattle.image_forms.proofs.NamedLaws.{named_here, unnamed_here, unseen-all}
+use Rattle.std.proofs.Common.{rules}
+use Rattle.std.proofs.lemmas.Iterator.{YieldsList-from_slice}
+use Rattle.std.proofs.lemmas.Iterator.Search.{any_from_yields_List}
+use Rattle.std.specs.List.{list_any}
+use Rattle.image.specs.Image.{lease_size, lease_record}
+use Rattle.image_records.proofs.PlaceLaws.{chunks-are}
+use Rattle.image_forms.proofs.NamedLaws.{record_named, records-named}
 use Rattle.image_forms.proofs.any_named.Goals as goal
 
-pub loop-i-init : goal.loop-i-init
-loop-i-init c = (omega arith, λ xs r e. refl)
-
-pub returns-then-name_length_at-ne0 : goal.returns-then-name_length_at-ne0
-returns-then-name_length_at-ne0 c =
-    let loop = c.loop-i in
-    let a = c.args in
-    λ xs r e. sym (loop.invariant.1 xs r e ∙ named_here a.image.now a.from loop.i c.name_length_at.result c.name_length_at.ensures xs r (omega arith) c.if-name_length_at-ne0.true)
-
-pub loop-i-preserved : goal.loop-i-preserved
-loop-i-preserved c =
-    let loop = c.loop-i in
-    let a = c.args in
-    (omega arith, λ xs r e. loop.invariant.1 xs r e ∙ unnamed_here a.image.now a.from loop.i c.name_length_at.result c.name_length_at.ensures xs r (omega arith) c.if-name_length_at-ne0.false)
-
 pub returns : goal.returns
-returns c = let loop = c.loop-i in λ xs r e. sym (loop.invariant.1 xs r e ∙ unseen-all xs loop.i (omega arith))
+returns c = λ xs r e.
+    let a = c.args in
+    let records = c.as_chunks.result.0.now in
+    let same : records ≡ map lease_record xs = c.as_chunks.ensures.front ∙ chunks-are a.image.now a.from a.n (a.from + lease_size * a.n - a.from) xs r e (omega arith) in
+    any_from_yields_List record_named _ _ c.any.result c.any.ensures.ran (YieldsList-from_slice records c.iter.ensures.rest) (λ b v q k. search rules)
+    ∙ ap (list_any record_named) same
+    ∙ records-named xs

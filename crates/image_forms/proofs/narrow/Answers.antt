@@ -19,6 +19,6 @@ returns c =
           let here : a.image.now ≡ image_as Second t ++ q = sym (take-append-drop bytes a.image.now) ∙ ap (λ s. s ++ q) (sym e) in
           let counted : n ≡ head_size + pool_size * length (used_pools t) = omega arith in (
             moved-size First t n a.leases counted leases,
-            moved-image Second First t a.image.now q here n counted fits a.leases leases a.buffer.now _ _ (omega arith) c.put_front.ensures c.narrow_leases.ensures,
+            moved-image Second First t a.image.now q here n counted fits a.leases leases a.buffer.now _ _ (omega arith) c.put_front.ensures c.put_leases_as.ensures,
           );
     }

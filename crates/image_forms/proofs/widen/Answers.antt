@@ -18,6 +18,6 @@ returns c =
           let here : a.saved.now ≡ image_as First t ++ [] = sym e ∙ sym (append-nil (image_as First t)) in
           let counted : n ≡ head_size + pool_size * length (used_pools t) = omega arith in (
             moved-size Second t n a.leases counted leases,
-            moved-image First Second t a.saved.now [] here n counted fits a.leases leases a.image.now _ _ (omega arith) c.put_front.ensures c.widen_leases.ensures,
+            moved-image First Second t a.saved.now [] here n counted fits a.leases leases a.image.now _ _ (omega arith) c.put_front.ensures c.put_leases_as.ensures,
           );
     }

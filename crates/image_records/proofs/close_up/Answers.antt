@@ -1,11 +1,11 @@
 -- `image_records::close_up` meets its contract: of the first i leases those present stand first.
 use Rattle.image.specs.Image.{lease_size}
-use Prim.Native.Nat.{◌+◌, ◌-◌, ◌*◌}
+use Prim.Native.Nat.{◌+◌, ◌*◌}
 use mathlib.Core.Path.{◌≡◌, refl, subst, ◌∙◌}
 use lib.ListN.{drop}
 use native.Mathlib.Omega.{arith}
 use Rattle.image_records.specs.Inner.{Closed}
-use Rattle.image_records.proofs.RemoveLaws.{closed-first, closed-behind, closed-more}
+use Rattle.image_records.proofs.RemoveLaws.{one-if, closed-first, closed-behind, closed-more}
 use Rattle.image_records.proofs.close_up.Goals as goal
 
 pub loop-i-init : goal.loop-i-init
@@ -17,12 +17,13 @@ pub loop-i-preserved : goal.loop-i-preserved
 loop-i-preserved c =
     let loop = c.loop-i in
     let a = c.args in
-    let l = a.image.now in (
+    let l = a.image.now in
+    let counts = one-if a.time c.expires_at-expires.result c.from-kept.result c.from-kept.ensures in (
+      omega (arith, counts.0),
       omega arith,
-      omega arith,
-      c.put_record.auto.image ∙ loop.invariant.2,
-      closed-behind l a.from a.first a.time loop.image loop.kept loop.i loop.invariant.4 loop.invariant.0 loop.invariant.3 loop.invariant.2 (omega arith) _ c.record_at-bytes.ensures _ c.put_record.ensures,
-      closed-more l a.from a.first a.time loop.image loop.kept loop.i loop.invariant.4 loop.invariant.0 loop.invariant.3 loop.invariant.2 (omega arith) _ c.record_at-bytes.ensures _ c.put_record.ensures _ c.expires_at-expires.ensures c.stays-kept.result c.stays-kept.ensures.1 c.stays-kept.ensures.2,
+      c.put_chunk.auto.out ∙ loop.invariant.2,
+      closed-behind l a.from a.first a.time loop.image loop.kept loop.i loop.invariant.4 loop.invariant.0 loop.invariant.3 loop.invariant.2 (omega arith) _ c.chunk_at-record.ensures _ c.put_chunk.ensures,
+      closed-more l a.from a.first a.time loop.image loop.kept loop.i loop.invariant.4 loop.invariant.0 loop.invariant.3 loop.invariant.2 (omega arith) _ c.chunk_at-record.ensures _ c.put_chunk.ensures _ c.expires_at-expires.ensures c.from-kept.result counts.1 counts.2,
     )
 
 pub shape_of-image : goal.shape_of-image

@@ -9,5 +9,5 @@ returns c =
     let up = c.close_up-kept in record {
       upper_bound = omega (arith, up.ensures.upper_bound.0);
       value = removed a.image.now a.from a.n a.first a.last a.time c.requires.0 c.requires.1 c.requires.2 _ up.result up.ensures.upper_bound.0 up.ensures.upper_bound.1 up.ensures.closed up.auto.image _ _
-          c.lower.ensures c.clear.ensures;
+          c.shift.ensures c.clear.ensures;
     }

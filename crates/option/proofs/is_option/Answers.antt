@@ -16,21 +16,21 @@ returns-then-s c = (simp (ne_eqb _ _ c.if-s.true, and-false), λ e. absurd (fals
 pub returns-then-len-s : goal.returns-then-len-s
 unfolding option?
 returns-then-len-s c =
-    let wrong = simp c.wide-len.ensures.0 at c.if-len-s.true in
+    let wrong = simp c.from-len.ensures at c.if-len-s.true in
     (simp (ne_eqb _ _ wrong, and-false), λ e. absurd (false≢true e))
 
 pub returns-then-len-lt2 : goal.returns-then-len-lt2
 unfolding option?
 returns-then-len-lt2 c =
-    let none = simp c.wide-len.ensures.0 at c.if-len-lt2.true in
+    let none = simp c.from-len.ensures at c.if-len-lt2.true in
     (simp (lt-leb _ _ none, and-false), λ e. absurd (false≢true e))
 
 pub returns : goal.returns
 unfolding option?
 returns c =
-    let w = c.wide-len.ensures.0 in
+    let w = c.from-len.ensures in
     let len = simp w at c.if-len-s.false in
     let some = simp w at c.if-len-lt2.false in (
       simp (le-leb _ _ c.if-s-lt2.false, eq-eqb _ _ c.if-s.false, eq-eqb _ _ len, le-leb _ _ some),
-      λ e. omega (arith, c.wide-len.ensures.1, c.if-len-s.false),
+      λ e. omega (arith, c.from-len.ensures, c.type_inv.s 1, c.if-len-s.false),
     )

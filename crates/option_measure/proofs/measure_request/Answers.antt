@@ -1,5 +1,4 @@
 -- `measure_request` meets its contract.
-use native.Mathlib.Omega.{arith}
 use borrow.Author.Tests.{le-leb, lt-leb}
 use Rattle.option.specs.Rules.{fields?}
 use Rattle.option.specs.Writing.{request_bytes, suboption_bytes}
@@ -7,10 +6,10 @@ use Rattle.option.specs.Writer.{writable?}
 use Rattle.option_measure.specs.Measuring.{measure_one}
 use Rattle.option_measure.proofs.measure_request.Goals as goal
 
-pub returns-then-r-gt-LONGEST : goal.returns-then-r-gt-LONGEST
+pub returns-then-r-gt-LONGEST-clause-value : goal.returns-then-r-gt-LONGEST-clause-value
 unfolding measure_one writable? fields?
-returns-then-r-gt-LONGEST c = (simp (lt-leb _ _ c.if-r-gt-LONGEST.true), tt)
+returns-then-r-gt-LONGEST-clause-value c = simp (lt-leb _ _ c.if-r-gt-LONGEST.true)
 
-pub returns : goal.returns
+pub returns-clause-value : goal.returns-clause-value
 unfolding measure_one writable? fields? suboption_bytes request_bytes
-returns c = (simp (le-leb _ _ c.if-r-gt-LONGEST.false), omega arith)
+returns-clause-value c = simp (le-leb _ _ c.if-r-gt-LONGEST.false)

@@ -1,5 +1,7 @@
 -- `write_selection` meets its contract.
-use native.Mathlib.Omega.{arith}
+use mathlib.Core.Path.{ap, ◌∙◌}
+use Rattle.lists.specs.Put.{put}
+use Rattle.option_reply.proofs.BytePuts.{four-high-first}
 use Rattle.option_reply.proofs.SelectionPuts.{selection-full, selection-written}
 use Rattle.option_reply.proofs.write_selection.Goals as goal
 
@@ -8,5 +10,5 @@ returns-then-buf-lt6 c = selection-full _ _ c.if-buf-lt6.true
 
 pub returns : goal.returns
 returns c =
-    let a = c.args in
-    selection-written a.address a.buf.now _ _ _ (omega arith) c.store.ensures c.store-2.ensures c.put_four.ensures
+    selection-written c.args.address c.args.buf.now _ _ c.if-buf-lt6.false c.put_bytes.ensures
+    (c.put_bytes-2.ensures ∙ ap (put _ 2) (c.to_be_bytes.ensures ∙ four-high-first _ c.ranges.address.fits))

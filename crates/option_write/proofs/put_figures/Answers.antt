@@ -1,19 +1,18 @@
--- `put_figures` meets its contract: each count has its figures.
+-- `put_figures` meets its contract: the figures that are counted, each high byte first.
 use native.Mathlib.Omega.{arith}
-use mathlib.Core.Path.{◌≡◌}
-use Rattle.option_write.proofs.EntryPuts.{figures-none, figures-one, figures-two, figures-three}
+use Prim.Native.Nat.{ℕ, ◌*◌}
+use mathlib.Core.Path.{ap, ap₂, ◌∙◌}
+use mathlib.Core.List.{List, ◌++◌}
+use lib.ListN.{take}
+use Rattle.lists.specs.Put.{put}
+use Rattle.option_reply.proofs.BytePuts.{two-high-first}
+use Rattle.option_write.proofs.EntryPuts.{figures-put}
 use Rattle.option_write.proofs.put_figures.Goals as goal
-
-pub returns-then-n-eq0 : goal.returns-then-n-eq0
-returns-then-n-eq0 c = figures-none _ _ c.args.f c.if-n-eq0.true
-
-pub returns-then-n-eq1 : goal.returns-then-n-eq1
-returns-then-n-eq1 c = figures-one _ _ c.args.f _ c.if-n-eq1.true c.put_two.ensures
-
-pub returns-then-n-eq2 : goal.returns-then-n-eq2
-returns-then-n-eq2 c = figures-two _ _ c.args.f _ _ c.put_two.ensures c.put_two-2.ensures c.if-n-eq2.true
 
 pub returns : goal.returns
 returns c =
-    let three : c.args.f.count ≡ 3 = omega arith in
-    figures-three _ _ c.args.f _ _ c.put_two.ensures c.put_two-2.ensures _ three c.put_two-3.ensures
+    let f = c.args.f in
+    let flat = c.as_flattened.ensures.value
+    ∙ simp (c.to_be_bytes.ensures, c.to_be_bytes-2.ensures, c.to_be_bytes-3.ensures)
+    (ap₂ (λ (x y : List ℕ). x ++ y) (two-high-first f.high_water.0 (omega arith)) (ap₂ (λ (x y : List ℕ). x ++ y) (two-high-first f.in_use.0 (omega arith)) (two-high-first f.unusable.0 (omega arith)))) in
+    c.put_bytes.ensures ∙ ap (λ (s : List ℕ). put c.args.buf.now c.args.at (take (2 * f.count) s)) flat ∙ ap (put c.args.buf.now c.args.at) (figures-put f c.requires)

@@ -4,6 +4,4 @@ use Rattle.option_write.proofs.EntryPuts.{entry-put}
 use Rattle.option_write.proofs.put_full_entry.Goals as goal
 
 pub returns : goal.returns
-returns c =
-    let a = c.args in
-    (entry-put _ _ _ _ a.e c.put_entry.ensures c.put_figures.ensures, entry_next a.at a.e)
+returns c = record { stored = entry-put _ _ _ _ c.args.e c.put_entry.ensures c.put_figures.ensures; place = entry_next c.args.at c.args.e }

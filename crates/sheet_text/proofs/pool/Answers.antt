@@ -5,4 +5,4 @@ use Rattle.table.specs.Table.{pool_prefix}
 use Rattle.sheet_text.proofs.pool.Goals as goal
 
 pub returns : goal.returns
-returns c = c.pool_prefix.ensures ∙ ap (λ (p : Pool). pool_prefix p) c.pool_at.ensures
+returns c = c.from.ensures ∙ ap (λ (p : Pool). pool_prefix p) c.pool_at.ensures

@@ -6,7 +6,8 @@ use native.Mathlib.Omega.{arith}
 use borrow.Author.Tests.{not-true, not-false}
 use Rattle.image.specs.declared.Form.{Form}
 use Rattle.image.specs.declared.Form.TheVariants.{First, Second}
-use Rattle.sheet_text.specs.declared.SheetAnswer.{SheetAnswer}
+use Rattle.std.specs.Prelude.{Result, Ok, Err}
+use Rattle.sheet_text.specs.declared.SheetFault.{SheetFault}
 use Rattle.sheet_text.specs.Sheet.{sheet_text}
 use Rattle.sheet_text.specs.Answers.{into, sheet_of_image}
 use Rattle.sheet_text.specs.InnerScan.{SoundSaved, OfSaved}
@@ -28,12 +29,12 @@ sound-as-2 : (c : goal.After-write_sheet-arg-1) (form : Form) → c.form_of-form
 sound-as-2 c form e =
     told-sound _ _ c.form_of-form.ensures _ c.check_in-summary.ensures (not-false _ c.if-not-summary.false) (λ i. omega (arith, c.type_inv.saved i)) form e
 
-sheet-as : (c : goal.After-slice_known-in-First-1) (form : Form) → c.form_of-form.result ≡ form → (r : SheetAnswer) (l l' : List ℕ)
+sheet-as : (c : goal.After-slice_known-in-First-1) (form : Form) → c.form_of-form.result ≡ form → (r : Result ℕ SheetFault) (l l' : List ℕ)
     → OfSaved form c.args.saved.now (λ t. (r, l') ≡ into (sheet_text t) l) → (r, l') ≡ sheet_of_image c.args.saved.now l
 sheet-as c form e =
     told-sheet _ _ c.form_of-form.ensures _ c.check_in-summary.ensures (not-false _ c.if-not-summary.false) (λ i. omega (arith, c.type_inv.saved i)) form e
 
-sheet-as-2 : (c : goal.After-slice_known-in-Second-1) (form : Form) → c.form_of-form.result ≡ form → (r : SheetAnswer) (l l' : List ℕ)
+sheet-as-2 : (c : goal.After-slice_known-in-Second-1) (form : Form) → c.form_of-form.result ≡ form → (r : Result ℕ SheetFault) (l l' : List ℕ)
     → OfSaved form c.args.saved.now (λ t. (r, l') ≡ into (sheet_text t) l) → (r, l') ≡ sheet_of_image c.args.saved.now l
 sheet-as-2 c form e =
     told-sheet _ _ c.form_of-form.ensures _ c.check_in-summary.ensures (not-false _ c.if-not-summary.false) (λ i. omega (arith, c.type_inv.saved i)) form e

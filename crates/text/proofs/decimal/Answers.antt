@@ -4,7 +4,7 @@ use Rattle.text.proofs.TextLaws.{decimal-room, wrote-decimal}
 use Rattle.text.proofs.decimal.Goals as goal
 
 pub number-requires : goal.number-requires
-number-requires c = decimal-room _ _ _ (omega arith) (omega arith)
+number-requires c = rw c.from.ensures (decimal-room c.args.n c.args.at _ (omega arith) (omega arith))
 
 pub returns : goal.returns
-returns c = wrote-decimal (omega arith) c.number.ensures
+returns c = wrote-decimal (omega arith) (rw c.from.ensures at c.number.ensures)

@@ -1,6 +1,5 @@
 -- `text::number` meets its contract: the digits that are left, put before those that stand, are all of them.
 use mathlib.Core.Path.{refl, ap, ◌∙◌}
-use mathlib.Core.Logic.{⊎_elim}
 use native.Mathlib.Omega.{arith}
 use lib.ListN.{length, length-set}
 use borrow.Author.Rules.{rules}

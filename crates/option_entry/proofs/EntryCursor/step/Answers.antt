@@ -23,21 +23,21 @@ returns-then-stat-ne0 c = simp (lt-leb _ _ c.if-end-at.false, ne_eqb _ _ c.if-st
 pub returns-then-end-next : goal.returns-then-end-next
 unfolding read_entry entry_framed?
 returns-then-end-next c =
-    let short = simp c.wide.ensures.0 at c.if-end-next.true in
+    let short = simp c.from.ensures at c.if-end-next.true in
     simp (lt-leb _ _ c.if-end-at.false, lt-leb _ _ short, and-false)
 
 pub returns : goal.returns
 unfolding read_entry entry_framed? entry_at
 returns c =
-    let within = simp c.wide.ensures.0 at c.if-end-next.false in
+    let within = simp c.from.ensures at c.if-end-next.false in
     simp (
       lt-leb _ _ c.if-end-at.false,
       le-leb _ _ c.if-s-end.false,
       le-leb _ _ c.if-end-at-2.false,
       eq-eqb _ _ c.if-stat-ne0.false,
       le-leb _ _ within,
-      c.wide.ensures.0,
-      c.four_at-network.ensures,
-      c.figures_at-figures.ensures,
-      c.wide-2.ensures.0,
+      c.from.ensures,
+      c.four_at.ensures,
+      c.figures_at.ensures,
+      c.from-2.ensures,
     )
