@@ -16,6 +16,7 @@ ghost use Rattle.table.specs.Table.{lease_slots, present};
 ghost use Rattle.image.specs.Image.{lease_size};
 ghost use Rattle.image.specs.Reading.{lease_in};
 ghost use Rattle.image_records.specs.Records.{Records};
+ghost use Rattle.ledger.specs.Answers.{answer_of};
 ghost use Rattle.ledger.specs.Ledger.{Call, call_with, outcome, narrowed, information_for};
 ghost use Rattle.ask_again.specs.Places.{no_place, Within, InBuffer, given_in, others_in};
 ghost use Rattle.ask_serve.specs.Granting.{offers_in, leases_in, Granted};
@@ -33,7 +34,7 @@ use call_ground::Ground;
 use gap_list::Ends;
 use image::{HEAD, LEASE, POOL};
 use image_check::ImageSummary;
-use ledger::Answer;
+use ledger::{Accepted, Refusal};
 use option::MOST_REQUESTS;
 use table::{LEASES, Lease, POOLS};
 
@@ -169,12 +170,12 @@ pub fn grant(
     site: Site,
     ask_lengths: &[u8],
     ask_h: &[u8],
-) -> Answer
+) -> Result<Accepted, Refusal>
     requires { Ready (lent image.old image_bytes.old figures.old) asker.time asker.client reply.old site ask_lengths.now ask_h.now }
-    ensures bytes_bound { result.bytes ≤ longest_option }
+    ensures bytes_bound { (answer_of result).bytes ≤ longest_option }
     ensures equation { ((option : List ℕ) (selection : Option (List ℕ))
         → Asking (lent image.old image_bytes.old figures.old) asker.time asker.name (call_with asker.client option selection reply.old) site ask_lengths.now ask_h.now
-        → returning selection (outcome result (lent image.new image_bytes.new figures.new) reply.new)
+        → returning selection (outcome (answer_of result) (lent image.new image_bytes.new figures.new) reply.new)
         ≡ ask_image (lent image.old image_bytes.old figures.old) asker.time (call_with asker.client option selection reply.old)) }
 {
     let summary = site.summary;
@@ -208,9 +209,9 @@ pub fn grant(
     let count = again + granted;
     if count == 0 {
         if LEASES <= summary.leases - summary.expired {
-            return call_spec::refused(9, 0);
+            return Err(Refusal::TableFull);
         }
-        return call_spec::refused(10, 0);
+        return Err(Refusal::NoFreePrefix);
     }
     let bytes = put_offers(
         reply,
@@ -225,5 +226,8 @@ pub fn grant(
     *image_bytes = ask_insert::commit_grants(
         image, figures, summary, asker, &networks, &lengths, ask_h,
     );
-    call_spec::accepted(bytes as u32, count as u32)
+    Ok(Accepted {
+        bytes: bytes as u32,
+        count: count as u32,
+    })
 }

@@ -9,10 +9,10 @@ use mathlib.Core.List.{List, [], ◌∷◌, ◌++◌, map}
 use lib.ListN.{length, get_or, take, length-map, get_or-map}
 use lib.Seq.{take-suc}
 use lib.Dec.{ltb}
-use Rattle.lists.specs.Lists.{All, filter, concat_map}
+use Rattle.std.specs.Prelude.{Option}
+use Rattle.lists.specs.Lists.{All, concat_map}
 use Rattle.lists.specs.Put.{put}
 use Rattle.lists.proofs.ListLaws.{pairwise_map, pairwise_image}
-use Rattle.lists.proofs.FilterLaws.{filter_none}
 use Rattle.option.specs.Values.{Entry}
 use Rattle.table.specs.declared.Lease.{Lease}
 use Rattle.ledger.specs.Ledger.{named_by?}
@@ -21,16 +21,8 @@ use Rattle.image_records.specs.Records.{Records, Ascending}
 use Rattle.image_records.proofs.PutForms.{put-over}
 use Rattle.image_records.proofs.RecordLaws.{length-leases, put-records, put-leases-same}
 use Rattle.image_records.proofs.FindLaws.{none-map}
-use Rattle.call_entries.specs.EntryLeases.{named?, Hold, FoundAt, leased_until, changed_if, changed_by, changed_in, ExpirySet}
+use Rattle.call_entries.specs.EntryLeases.{named?, Hold, leased_until, changed_if, changed_by, changed_in, ExpirySet}
 use Rattle.call_entries.proofs.ManyLaws.{named_by_present?, changed-none, changed-more}
-
--- How many pass, by whether one is found.
-module _ (g : Lease → Bool) (xs : List Lease) (r : ℕ) (f : FoundAt g xs r) where
-  pub found-one : r < length xs → length (filter g xs) ≡ 1
-  found-one h = ap length (f.one h)
-
-  pub found-no : r ≡ length xs → filter g xs ≡ []
-  found-no z = filter_none g xs (f.none z)
 
 -- THE ENTRIES OF TWO COLUMNS
 
@@ -100,7 +92,7 @@ module _ (now client expires : ℕ) where
           subst (λ (s : List ℕ). Records s from (map (changed_by now client expires es) xs)) (sym e)
           (put-records l from (map (changed_by now client expires es) xs) (omega (arith, length-map xs (changed_by now client expires es))))
 
-      pub changed-by-more : (a : Entry) (after : List ℕ) (r : ℕ)
+      pub changed-by-more : (a : Entry) (after : List ℕ) (r : Option ℕ)
           → ExpirySet (named? now client a.network a.length) expires image from (map (changed_by now client expires es) xs) after r
           → after ≡ changed_in now client expires (es ++ (a ∷ [])) l from xs
       changed-by-more a after r c =
@@ -114,7 +106,7 @@ module _ (now client expires : ℕ) where
 -- ONE TURN of a loop over the columns: what `change` ensures, of the leases as the entries before left them.
 module _ (now client expires : ℕ) (l : List ℕ) (from : ℕ) (xs : List Lease) (held : Records l from xs) (room : from + lease_size * length xs ≤ length l) (ascending : Ascending xs)
     (networks lengths : List ℕ) (es : List Entry) (p : Hold networks lengths es) (k : ℕ) (lt : k < length networks)
-    (image : List ℕ) (e : image ≡ changed_in now client expires (take k es) l from xs) (after : List ℕ) (r : ℕ)
+    (image : List ℕ) (e : image ≡ changed_in now client expires (take k es) l from xs) (after : List ℕ) (r : Option ℕ)
     (set_expiry : (ys : List Lease) → Records image from ys → length xs ≡ length ys → Ascending ys
     → ExpirySet (named? now client (get_or networks k 0) (get_or lengths k 0)) expires image from ys after r) where
   pub turn-changed : ExpirySet (named? now client (get_or es k no_entry).network (get_or es k no_entry).length) expires image from (map (changed_by now client expires (take k es)) xs) after r

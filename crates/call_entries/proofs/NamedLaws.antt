@@ -3,13 +3,14 @@
 use Prim.Native.Nat.{ℕ, ◌+◌, ◌-◌, ◌*◌, ◌≤◌, ◌<◌}
 use native.Mathlib.Omega.{arith}
 use mathlib.Core.Path.{◌≡◌, refl, sym, ap, ap₂, subst, ◌∙◌}
-use mathlib.Core.Bool.{Bool, true, false}
+use mathlib.Core.Bool.{Bool, true}
 use mathlib.Core.List.{List, [], ◌∷◌, ◌++◌, map}
 use lib.ListN.{length, set, get_or, take, drop, length-map, take-append-drop}
 use lib.Seq.{get_or-set_same, length-take-le}
 use lib.Dec.{leb, ltb, eqb}
 use borrow.Author.Tests.{ltb-true, lt-ltb, eqb-true, eq-eqb}
-use Rattle.lists.specs.Lists.{All, and, filter, concat_map}
+use Rattle.std.specs.Prelude.{Option, Some, None}
+use Rattle.lists.specs.Lists.{and, filter, concat_map}
 use Rattle.lists.specs.Put.{put}
 use Rattle.lists.proofs.Tests.{and-to, and-of, not-true⇒false, and-list-to, and-list-of}
 use Rattle.table.specs.declared.Lease.{Lease}
@@ -45,18 +46,14 @@ module _ (now client network len : ℕ) (x : Lease) where
 
 -- FINDING IT
 
-missing : (g : Lease → Bool) (xs : List Lease) (n : ℕ) → n ≡ length xs → All (λ x. g x ≡ false) xs → FoundAt g xs n
-missing g xs n e a = record { none = λ z. a; one = λ h. absurd (omega arith); edited = λ h. absurd (omega arith) }
-
 module _ (now client network len : ℕ) (l : List ℕ) (from n r : ℕ)
     (placed : (xs : List Lease) → Records l from xs → n ≡ length xs → Ascending xs → r ≡ length (filter (λ x. leb x.network network) xs)) where
   only : (x : Lease) → named? now client network len x ≡ true → x.network ≡ network
   only x t = (named-to now client network len x t).2
 
   -- No lease has a network up to this one.
-  pub find_none : r ≡ 0 → (xs : List Lease) → Records l from xs → n ≡ length xs → Ascending xs → FoundAt (named? now client network len) xs n
-  find_none z xs held counted a =
-      missing (named? now client network len) xs n counted (found_none network xs a r (placed xs held counted a) (named? now client network len) only z)
+  pub find_none : r ≡ 0 → (xs : List Lease) → Records l from xs → n ≡ length xs → Ascending xs → FoundAt (named? now client network len) xs None
+  find_none z xs held counted a = found_none network xs a r (placed xs held counted a) (named? now client network len) only z
 
   -- The last of those that have.
   module _ (h : 0 < r) (x : Lease) (read : x ≡ lease_in (drop (from + lease_size * (r - 1)) l)) where
@@ -66,22 +63,20 @@ module _ (now client network len : ℕ) (l : List ℕ) (from n r : ℕ)
         (sym (read ∙ lease-in-place l from xs held (r - 1) (found_within network xs a r (placed xs held counted a) h)))
 
     pub find-other : (Named now client network len x → ⊥) → (xs : List Lease) → Records l from xs → n ≡ length xs → Ascending xs
-        → FoundAt (named? now client network len) xs n
+        → FoundAt (named? now client network len) xs None
     find-other k xs held counted a =
-        missing (named? now client network len) xs n counted
-        (found-other network xs a r (placed xs held counted a) (named? now client network len) only
-        (it-is xs held counted a ∙ not-true⇒false (named? now client network len x) (λ t. k (named-to now client network len x t))))
+        found-other network xs a r (placed xs held counted a) (named? now client network len) only
+        (it-is xs held counted a ∙ not-true⇒false (named? now client network len x) (λ t. k (named-to now client network len x t)))
 
     pub find-here : Named now client network len x → (xs : List Lease) → Records l from xs → n ≡ length xs → Ascending xs
-        → FoundAt (named? now client network len) xs (r - 1)
+        → FoundAt (named? now client network len) xs (Some (r - 1))
     find-here p xs held counted a =
         let place = placed xs held counted a in
-        let within = found_within network xs a r place h in
         let here = it-is xs held counted a ∙ named-of now client network len x p in
         record {
-          none = λ z. absurd (omega arith);
-          one = λ i. found-filter network xs a r place (named? now client network len) only h here;
-          edited = λ i. found_map network xs a r place (named? now client network len) only h here;
+          within = found_within network xs a r place h;
+          one = found-filter network xs a r place (named? now client network len) only h here;
+          edited = found_map network xs a r place (named? now client network len) only h here;
         }
 
 -- CHANGING IT
@@ -104,36 +99,35 @@ leased-in-place l at x q expires within e =
     ∙ sym (put-inside at (lease_record (leased_until expires x)) p (lease_record x) q size (length-lease x ∙ sym (length-lease (leased_until expires x))))
     ∙ ap (λ (m : List ℕ). put m at (lease_record (leased_until expires x))) (sym here)
 
-module _ (g : Lease → Bool) (expires : ℕ) (l : List ℕ) (from : ℕ) (xs : List Lease) (held : Records l from xs) (r : ℕ) (f : FoundAt g xs r) where
+module _ (g : Lease → Bool) (expires : ℕ) (l : List ℕ) (from : ℕ) (xs : List Lease) (held : Records l from xs) where
   -- There is none.
-  pub set-expiry-none : r ≡ length xs → (after : List ℕ) → after ≡ l → ExpirySet g expires l from xs after r
-  set-expiry-none z after same = record {
+  pub set-expiry-none : FoundAt g xs None → ExpirySet g expires l from xs l None
+  set-expiry-none f = record {
     found = f;
-    after_is =
-        same
-        ∙ sym (ap (λ (ys : List Lease). put l from (concat_map lease_record ys)) (none-map g (leased_until expires) xs (f.none z)) ∙ put-leases-same l from xs held);
+    after_is = sym (ap (λ (ys : List Lease). put l from (concat_map lease_record ys)) (none-map g (leased_until expires) xs f) ∙ put-leases-same l from xs held);
   }
 
   -- Of its record the state and the end are written.
-  pub set-expiry-here : r < length xs → (after : List ℕ) → after ≡ put (set l (from + lease_size * r + 9) (state_byte true)) (from + lease_size * r + 15) (le32 expires) → ExpirySet g expires l from xs after r
-  set-expiry-here h after e = record {
+  pub set-expiry-here : (r : ℕ) → FoundAt g xs (Some r) → (after : List ℕ) → after ≡ put (set l (from + lease_size * r + 9) (state_byte true)) (from + lease_size * r + 15) (le32 expires)
+      → ExpirySet g expires l from xs after (Some r)
+  set-expiry-here r f after e = record {
     found = f;
     after_is =
         e
-        ∙ leased-in-place l (from + lease_size * r) (get_or xs r no_lease) (drop (from + lease_size * r + lease_size) l) expires (omega (arith, record-within l from xs held r h)) (record-at l from xs held r h)
-        ∙ edit-is l from xs held r h (leased_until expires (get_or xs r no_lease))
-        ∙ ap (λ (ys : List Lease). put l from (concat_map lease_record ys)) (sym (f.edited h (leased_until expires)));
+        ∙ leased-in-place l (from + lease_size * r) (get_or xs r no_lease) (drop (from + lease_size * r + lease_size) l) expires (omega (arith, record-within l from xs held r f.within)) (record-at l from xs held r f.within)
+        ∙ edit-is l from xs held r f.within (leased_until expires (get_or xs r no_lease))
+        ∙ ap (λ (ys : List Lease). put l from (concat_map lease_record ys)) (sym (f.edited (leased_until expires)));
   }
 
-  module _ (after : List ℕ) (c : ExpirySet g expires l from xs after r) where
-    -- The leases stand there, with the changed one.
-    pub set-expiry-holds : from + lease_size * length xs ≤ length l → Records after from (map (changed_if g expires) xs)
-    set-expiry-holds room =
-        subst (λ (s : List ℕ). Records s from (map (changed_if g expires) xs)) (sym c.after_is)
-        (put-records l from (map (changed_if g expires) xs) (omega (arith, length-map xs (changed_if g expires))))
+  -- The leases stand there, with the changed one.
+  pub set-expiry-holds : (after : List ℕ) (r : Option ℕ) → ExpirySet g expires l from xs after r → from + lease_size * length xs ≤ length l → Records after from (map (changed_if g expires) xs)
+  set-expiry-holds after r c room =
+      subst (λ (s : List ℕ). Records s from (map (changed_if g expires) xs)) (sym c.after_is)
+      (put-records l from (map (changed_if g expires) xs) (omega (arith, length-map xs (changed_if g expires))))
 
-    pub set-expiry-lease : r < length xs → lease_in (drop (from + lease_size * r) after) ≡ leased_until expires (get_or xs r no_lease)
-    set-expiry-lease h =
-        lease-in-place after from (map (changed_if g expires) xs) (set-expiry-holds (records-room l from xs held (omega arith))) r (omega (arith, length-map xs (changed_if g expires)))
-        ∙ ap (λ (ys : List Lease). get_or ys r no_lease) (f.edited h (leased_until expires))
-        ∙ get_or-set_same xs r (leased_until expires (get_or xs r no_lease)) no_lease h
+  pub set-expiry-lease : (after : List ℕ) (r : ℕ) → ExpirySet g expires l from xs after (Some r) → lease_in (drop (from + lease_size * r) after) ≡ leased_until expires (get_or xs r no_lease)
+  set-expiry-lease after r c =
+      let within = c.found.within in
+      lease-in-place after from (map (changed_if g expires) xs) (set-expiry-holds after (Some r) c (records-room l from xs held (omega arith))) r (omega (arith, length-map xs (changed_if g expires)))
+      ∙ ap (λ (ys : List Lease). get_or ys r no_lease) (c.found.edited (leased_until expires))
+      ∙ get_or-set_same xs r (leased_until expires (get_or xs r no_lease)) no_lease within

@@ -1,5 +1,5 @@
 -- The leases that entries name, among leases that stand as records in a buffer, and what becomes of them.
-use Rattle.std.specs.Prelude.{ℕ, ◌<◌, ◌≡◌, Bool, true, false, cond, ◌&&◌, List, [], ◌∷◌, map, length, get_or, set, ltb, eqb}
+use Rattle.std.specs.Prelude.{ℕ, ◌<◌, ◌≡◌, Bool, true, false, cond, ◌&&◌, List, [], ◌∷◌, map, length, get_or, set, ltb, eqb, Option, MatchOption}
 use Rattle.lists.specs.Lists.{All, and, filter, concat_map}
 use Rattle.lists.specs.Put.{put}
 use Rattle.option.specs.Values.{Entry}
@@ -16,11 +16,15 @@ named? now client network len x = ltb now x.expires && and (eqb x.client client 
 abbrev pub Hold : List ℕ → List ℕ → List Entry → Type 0
 Hold networks lengths es = (networks ≡ map (λ e. e.network) es) × (lengths ≡ map (λ e. e.length) es)
 
--- At r stands the lease that passes the test, and no other does; r is the number of leases if none does.
-pub record FoundAt (g : Lease → Bool) (xs : List Lease) (r : ℕ) : Type 0 where
-  pub none : r ≡ length xs → All (λ x. g x ≡ false) xs
-  pub one : r < length xs → filter g xs ≡ get_or xs r no_lease ∷ []
-  pub edited : r < length xs → (f : Lease → Lease) → map (λ x. cond (g x) (f x) x) xs ≡ set xs r (f (get_or xs r no_lease))
+-- At r stands the lease that passes the test, and no other does.
+pub record OneAt (g : Lease → Bool) (xs : List Lease) (r : ℕ) : Type 0 where
+  pub within : r < length xs
+  pub one : filter g xs ≡ get_or xs r no_lease ∷ []
+  pub edited : (f : Lease → Lease) → map (λ x. cond (g x) (f x) x) xs ≡ set xs r (f (get_or xs r no_lease))
+
+-- The place of that lease; nothing, where none passes.
+abbrev pub FoundAt : (Lease → Bool) → List Lease → Option ℕ → Type 0
+FoundAt g xs r = MatchOption r (All (λ x. g x ≡ false) xs) (OneAt g xs)
 
 -- Take renews a lease so, and release ends it, by a time that has passed.
 abbrev pub leased_until : ℕ → Lease → Lease
@@ -37,7 +41,7 @@ changed_by now client expires es x = changed_if (λ y. ltb now y.expires && name
 abbrev pub changed_in : ℕ → ℕ → ℕ → List Entry → List ℕ → ℕ → List Lease → List ℕ
 changed_in now client expires es buffer from xs = put buffer from (concat_map lease_record (map (changed_by now client expires es) xs))
 
--- The lease that passes the test is changed in place, and r is its place.
-pub record ExpirySet (g : Lease → Bool) (expires : ℕ) (buffer : List ℕ) (from : ℕ) (xs : List Lease) (after : List ℕ) (r : ℕ) : Type 0 where
+-- The lease that passes the test, if one does, is changed in place, and r is its place.
+pub record ExpirySet (g : Lease → Bool) (expires : ℕ) (buffer : List ℕ) (from : ℕ) (xs : List Lease) (after : List ℕ) (r : Option ℕ) : Type 0 where
   pub found : FoundAt g xs r
   pub after_is : after ≡ put buffer from (concat_map lease_record (map (changed_if g expires) xs))

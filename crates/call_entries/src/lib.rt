@@ -1,7 +1,7 @@
 // What take and release have in common: the entries of an option, and the leases that they name, found and changed in place.
 #![tactic(auto)]
 
-ghost use Rattle.std.specs.Prelude.{◌≡◌, List, ◌∷◌, ◌+◌, ◌*◌, ◌≤◌, ◌<◌, length as count};
+ghost use Rattle.std.specs.Prelude.{◌≡◌, List, ◌∷◌, ◌+◌, ◌*◌, ◌≤◌, ◌<◌, length as count, IfSome};
 ghost use Rattle.table.specs.declared.Lease.{Lease};
 ghost use Rattle.image.specs.Image.{lease_size};
 ghost use Rattle.option.specs.Values.{most_entries, Entry, SuboptionValue};
@@ -14,51 +14,30 @@ ghost use Rattle.call_entries.specs.EntryRows.{ReadsEntries};
 ghost use Rattle.call_entries.specs.EntryFigures.{first_entries, LeftAt};
 
 use image::{EXPIRES, LEASE, STATE};
-use ledger::Answer;
+use ledger::Refusal;
 use option::{EntryCursor, Figures};
 
 // THE ENTRIES
 
-// The refusal of rows 6, 7, 16 and 8, with number 0 where none applies; then there are entries, and these are how many.
-#[derive(Clone, Copy)]
-pub struct EntriesRead {
-    pub answer: Answer,
-    pub count: usize,
-}
-
-// The networks and lengths of an option's entries, into two columns.
-pub fn read_entries(option: &[u8], networks: &mut [u32], lengths: &mut [u8]) -> EntriesRead
+// The networks and lengths of an option's entries, into two columns, and how many these are; or rows 6, 7, 16 and 8.
+pub fn read_entries(
+    option: &[u8],
+    networks: &mut [u32],
+    lengths: &mut [u8],
+) -> Result<usize, Refusal>
     requires { (most_entries ≤ count networks.old) × (most_entries ≤ count lengths.old) }
     ensures { ReadsEntries option.now result networks.new lengths.new }
 {
     let mut asks = [0u8; option_scan::MOST_REQUESTS];
     let mut h = [0u8; option_scan::MOST_REQUESTS];
-    let m = match option_scan::read(option, &mut asks, &mut h, networks, lengths) {
-        Ok(m) => m,
-        Err(fault) => {
-            return EntriesRead {
-                answer: call_rows::option_refusal(fault),
-                count: 0,
-            };
-        }
-    };
-    if m.requests != 0 {
-        return EntriesRead {
-            answer: call_spec::refused(8, 0),
-            count: 0,
-        };
+    let pieces = call_rows::read_option(option, &mut asks, &mut h, networks, lengths)?;
+    if pieces.requests != 0 {
+        return Err(Refusal::WrongSuboptions);
     }
-    let n = m.entries;
-    if n == 0 {
-        return EntriesRead {
-            answer: call_spec::refused(8, 0),
-            count: 0,
-        };
+    if pieces.entries == 0 {
+        return Err(Refusal::WrongSuboptions);
     }
-    EntriesRead {
-        answer: call_spec::refused(0, 0),
-        count: n,
-    }
+    Ok(pieces.entries)
 }
 
 // THE FIGURES OF THE ENTRIES, which only a take looks at: read from an option that has passed the rows, entry by entry. The
@@ -134,7 +113,7 @@ pub fn read_figures(s: &[u8], entries: EntryCursor) -> FiguresRead
 
 // THE LEASE THAT AN ENTRY NAMES
 
-// The place of the lease that is present at `time`, is this client's and has this network and length; n if there is none.
+// The place of the lease that is present at `time`, is this client's and has this network and length.
 pub fn find(
     image: &[u8],
     from: usize,
@@ -143,29 +122,17 @@ pub fn find(
     client: u32,
     network: u32,
     length: u8,
-) -> usize
+) -> Option<usize>
     requires { from + lease_size * n ≤ count image.now }
-    ensures upper_bound { result ≤ n }
+    ensures upper_bound { IfSome result (λ i. i < n) }
     ensures found_at { (xs : List Lease) → Records image.now from xs → n ≡ count xs → Ascending xs → FoundAt (named? time client network length) xs result }
 {
-    let place = image_records::place_after(image, from, n, network);
-    if place == 0 {
-        return n;
+    let place = image_records::place_after(image, from, n, network).checked_sub(1)?;
+    let x = image_records::lease_at(image, from + LEASE * place);
+    if x.network == network && x.length == length && x.client == client && time < x.expires {
+        return Some(place);
     }
-    let x = image_records::lease_at(image, from + LEASE * (place - 1));
-    if x.network != network {
-        return n;
-    }
-    if x.length != length {
-        return n;
-    }
-    if x.client != client {
-        return n;
-    }
-    if x.expires <= time {
-        return n;
-    }
-    place - 1
+    None
 }
 
 // Whose leases change, at what time, and until when they are leased then.
@@ -176,7 +143,7 @@ pub struct Expiry {
     pub expires: u32,
 }
 
-// That lease, leased until another time; its place, or n. Of its record only the state and the end are written.
+// That lease, leased until another time, and its place. Of its record only the state and the end are written.
 pub fn set_expiry(
     image: &mut [u8],
     from: usize,
@@ -184,17 +151,15 @@ pub fn set_expiry(
     expiry: Expiry,
     network: u32,
     length: u8,
-) -> usize
+) -> Option<usize>
     requires { from + lease_size * n ≤ count image.old }
-    ensures upper_bound { result ≤ n }
+    ensures upper_bound { IfSome result (λ i. i < n) }
     ensures expiry_set { (xs : List Lease) → Records image.old from xs → n ≡ count xs → Ascending xs
         → ExpirySet (named? expiry.time expiry.client network length) expiry.expires image.old from xs image.new result }
 {
-    let i = find(image, from, n, expiry.time, expiry.client, network, length);
-    if i < n {
-        let at = from + LEASE * i;
-        image[at + STATE] = image_records::state_byte(true);
-        image_records::put32(image, at + EXPIRES, expiry.expires);
-    }
-    i
+    let i = find(image, from, n, expiry.time, expiry.client, network, length)?;
+    let at = from + LEASE * i;
+    image[at + STATE] = image_records::state_byte(true);
+    image_records::put32(image, at + EXPIRES, expiry.expires);
+    Some(i)
 }

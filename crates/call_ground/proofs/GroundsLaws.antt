@@ -3,13 +3,12 @@
 use Prim.Native.Nat.{ℕ, zero, suc, ◌+◌, ◌*◌, ◌≤◌, ◌<◌}
 use native.Mathlib.Omega.{arith}
 use mathlib.Core.Path.{◌≡◌, refl, sym, ap, ap₂, subst, ◌∙◌}
-use mathlib.Core.Bool.{Bool, true, false, ◌&&◌}
+use mathlib.Core.Bool.{Bool, true, false, cond, ◌&&◌}
 use mathlib.Core.List.{List, [], ◌∷◌, ◌++◌, map, append-nil}
 use mathlib.Core.Option.{Option, none, some}
 use lib.ListN.{length, get_or, take, drop, length-append, length-drop}
 use lib.Seq.{drop-drop, take_all, length-take-le}
-use lib.Dec.{eqb, ltb}
-use borrow.Author.Tests.{ne_eqb}
+use lib.Dec.{ltb}
 use Rattle.lists.specs.Lists.{All, Any, any?, filter}
 use Rattle.lists.proofs.DropLaws.{all-at}
 use Rattle.lists.proofs.ListLaws.{all_map, all-map₂, all_append, all_left, all_right, all-every}
@@ -31,14 +30,16 @@ use Rattle.image_records.proofs.PoolRecords.{image-pools}
 use Rattle.ledger.specs.Ledger.{Call, nothing?, narrowed_to, narrowed, on_ground, usable_leases}
 use Rattle.ledger.proofs.GroundLaws.{narrowed_none, ground-whole}
 use Rattle.call_spec.specs.ImageCalls.{Lent, table_in}
-use Rattle.call_rows.specs.Admission.{Admitted}
+use Rattle.call_rows.specs.Admission.{Admitted, selection_read}
 use Rattle.call_ground.specs.declared.{LeaseRange.LeaseRange, Ground.Ground}
-use Rattle.std.specs.Prelude.{Some, None}
-use Rattle.call_ground.specs.Ground.{Index, one_pool, PoolOf, LeasesIn, starts_in?, on_it?, leases_in, OfAdmitted, Grounds}
+use Rattle.std.specs.Prelude.{Some, None, Ok, Err}
+use Rattle.option.specs.Selection.{selection?}
+use Rattle.ledger.specs.declared.Refusal.TheVariants.{NotTheOption}
+use Rattle.call_ground.specs.Ground.{Index, PoolOf, LeasesIn, starts_in?, on_it?, leases_in, OfAdmitted, Grounds}
 use Rattle.call_ground.proofs.PoolLaws.{pool_at}
 use Rattle.call_ground.proofs.RangeLaws.{ascending-drop}
 use Rattle.call_ground.proofs.LeaseLaws.{starts-inside}
-use Rattle.call_ground.proofs.RowLaws.{ground-is, ground-one, ground-member}
+use Rattle.call_ground.proofs.RowLaws.{ground-is, groundless, ground-one, grounded, ground-member, always-grounded}
 
 -- THE LEASES BEFORE THE GROUND, ON IT, AND AFTER IT
 
@@ -108,6 +109,24 @@ module _ (h : Lent) (time client : ℕ) (summary : ImageSummary) (a : Admitted t
 pub admitted-ends : (image : List ℕ) (summary : ImageSummary) → OfAdmitted image summary → (r : ℕ) → r < summary.pools → end (pool_prefix (pool_at image r)) ≤ addresses
 admitted-ends image summary o r k = pool-ends o.lent o.time o.client summary o.admitted image o.same r k
 
+-- WHAT THE READER OF OPTION 118 ANSWERED: the call carries none, or one with this address.
+
+pub read-none : (o : Option (List ℕ)) → Ok None ≡ selection_read o → o ≡ none
+read-none none e = refl
+read-none (some s) e = go (selection? s) e
+  where
+    go : (b : Bool) → Ok None ≡ cond b (Ok (Some (four s 2))) (Err NotTheOption) → some s ≡ none
+    go true e = cc
+    go false e = cc
+
+pub read-some : (o : Option (List ℕ)) (a : ℕ) → Ok (Some a) ≡ selection_read o → (s : List ℕ) × (o ≡ some s) × (a ≡ four s 2)
+read-some none a e = cc
+read-some (some s) a e = (s, refl, go (selection? s) e)
+  where
+    go : (b : Bool) → Ok (Some a) ≡ cond b (Ok (Some (four s 2))) (Err NotTheOption) → a ≡ four s 2
+    go true e = cc
+    go false e = cc
+
 -- THE GROUND OF A CALL
 
 -- Every lease of a sound table lies in a pool, also one that has ended.
@@ -115,10 +134,6 @@ used-pooled : (t : LeaseTable) → sound t ≡ true → All (λ x. Any (Inside (
 used-pooled t e =
     all_map (λ (x : Lease) (k : Good (pools_of t) t.last x). k.pooled) (used_leases t)
     (subst (All (Good (pools_of t) t.last)) (sym (sound-used t e)) (sound-fine t e t.last).0)
-
-nothing-counted : {A B : Type 0} (f : A → B) (xs : List A) → nothing? (map f xs) ≡ eqb (length xs) 0
-nothing-counted f [] = refl
-nothing-counted f (x ∷ xs) = sym (ne_eqb (suc (length xs)) 0 (λ (e : suc (length xs) ≡ 0). omega arith))
 
 on-it : (o p : Option (List ℕ)) (t : LeaseTable) (b : Bool) (xs : List Lease) → o ≡ p → All (λ x. on_it? p t x ≡ b) xs → All (λ x. on_it? o t x ≡ b) xs
 on-it o p t b xs e a = subst (λ (q : Option (List ℕ)). All (λ (x : Lease). on_it? q t x ≡ b) xs) (sym e) a
@@ -141,7 +156,7 @@ module _ (h : Lent) (time : ℕ) (c : Call) (summary : ImageSummary) (a : Admitt
       record {
         few-pools = omega arith;
         few-leases = omega arith;
-        row = ap nothing? same ∙ nothing-counted pool_prefix (used_pools the_table) ∙ ap (λ (n : ℕ). eqb n 0) (sym a.pools);
+        row = always-grounded the_table a.sound c free;
         pools-are = same ∙ ap (map pool_prefix) (sym all);
         inside = on-it c.selection none the_table true (take summary.leases (used_leases the_table)) free (all-every (λ x. refl) (take summary.leases (used_leases the_table)));
         outside = subst (All (λ x. on_it? c.selection the_table x ≡ false)) (sym none_after) tt;
@@ -154,41 +169,28 @@ module _ (h : Lent) (time : ℕ) (c : Call) (summary : ImageSummary) (a : Admitt
       drop_all (suc n) (x ∷ l) k = drop_all n l (omega arith)
 
   -- With it the pool that contains its address.
-  module _ (s : List ℕ) (carries : c.selection ≡ some s) (address : ℕ) (four_is : address ≡ four s 2) (image : List ℕ) (same : h.image ≡ image) (r : Index)
-      (found : PoolOf image summary.pools address r) where
-    p : PoolOf h.image summary.pools address r
-    p = subst (λ (l : List ℕ). PoolOf l summary.pools address r) (sym same) found
+  module _ (s : List ℕ) (carries : c.selection ≡ some s) (address : ℕ) (four_is : address ≡ four s 2) (image : List ℕ) (same : h.image ≡ image) where
+    there : (r : Index) → PoolOf image summary.pools address r → PoolOf h.image summary.pools address r
+    there r found = subst (λ (l : List ℕ). PoolOf l summary.pools address r) (sym same) found
 
-    pub grounds-none : r ≡ None → Grounds h c summary (record { pool = 0; pools = 0; first = 0; leases = 0 })
-    grounds-none out =
-        let t : LeaseTable = the_table in
-        let no : pools_of (narrowed t c) ≡ [] =
-        ground-is t a.sound h.image h.bytes a.image summary.pools address r a.pools p c s carries four_is ∙ ap (one_pool (used_pools t)) out in
-        let here : pools_of (narrowed_to (some s) t) ≡ [] = narrowed-to t c s carries ∙ no in
-        record {
-          few-pools = omega arith;
-          few-leases = omega arith;
-          row = ap nothing? no;
-          pools-are = no;
-          inside = tt;
-          outside =
-              on-it c.selection (some s) t false (used_leases t) carries
-              (all-every (λ x. ap (any? (inside? (prefix_of x))) here) (used_leases t));
-        }
+    pub grounds-none : PoolOf image summary.pools address None → nothing? (pools_of (narrowed the_table c)) ≡ true
+    grounds-none found = groundless the_table a.sound h.image h.bytes a.image summary.pools address None a.pools (there None found) c s carries four_is refl
 
-    pub grounds-one : (k : ℕ) → r ≡ Some k → k < summary.pools → (range : LeaseRange) → range.first + range.count ≤ summary.leases
+    pub grounds-one : (k : ℕ) → PoolOf image summary.pools address (Some k) → (range : LeaseRange) → range.first + range.count ≤ summary.leases
         → ((xs : List Lease) → Records image (head_size + pool_size * summary.pools) xs → summary.leases ≡ length xs → Ascending xs → LeasesIn (pool_prefix (pool_at image k)) xs range)
         → Grounds h c summary (record { pool = k; pools = 1; first = range.first; leases = range.count })
-    grounds-one k one-is lt range few finds =
+    grounds-one k found range few finds =
+        let p = there (Some k) found in
+        let lt : k < summary.pools = found.within in
         let t : LeaseTable = the_table in
         let is : LeasesIn (theirs t k) (used_leases t) range =
         subst (λ (q : Prefix). LeasesIn q (used_leases t) range) (pool-there h time c.client summary a image same k lt)
         (finds (used_leases t) (subst (λ (l : List ℕ). Records l (head_size + pool_size * summary.pools) (used_leases t)) same a.records) a.leases a.ascending) in
         let xs : List Lease = used_leases t in
         let q : Prefix = theirs t k in
-        let one : pools_of (narrowed t c) ≡ q ∷ [] = ground-one t a.sound h.image h.bytes a.image summary.pools address r a.pools p c s carries four_is k one-is lt in
+        let one : pools_of (narrowed t c) ≡ q ∷ [] = ground-one t a.sound h.image h.bytes a.image summary.pools address (Some k) a.pools p c s carries four_is k refl lt in
         let here : pools_of (narrowed_to (some s) t) ≡ q ∷ [] = narrowed-to t c s carries ∙ one in
-        let member = ground-member t a.sound h.image h.bytes a.image summary.pools address r a.pools p c s carries four_is k one-is lt in
+        let member = ground-member t a.sound h.image h.bytes a.image summary.pools address (Some k) a.pools p c s carries four_is k refl lt in
         let tests : All (λ x. on_it? (some s) t x ≡ starts_in? q x) xs =
         all_map
         (λ (x : Lease) (z : Any (Inside (prefix_of x)) (pools_of t)).
@@ -203,8 +205,8 @@ module _ (h : Lent) (time : ℕ) (c : Call) (summary : ImageSummary) (a : Admitt
         record {
           few-pools = omega arith;
           few-leases = few;
-          row = ap nothing? one;
-          pools-are = ground-is t a.sound h.image h.bytes a.image summary.pools address r a.pools p c s carries four_is ∙ ap (one_pool (used_pools t)) one-is;
+          row = grounded t a.sound h.image h.bytes a.image summary.pools address (Some k) a.pools p c s carries four_is k refl lt;
+          pools-are = ground-is t a.sound h.image h.bytes a.image summary.pools address (Some k) a.pools p c s carries four_is;
           inside =
               on-it c.selection (some s) t true on carries
               (all-map₂ (λ x (u : same x) (v : starts_in? q x ≡ true). u ∙ v) on (all_left same on after rest) (part-passes (starts_in? q) range.first range.count xs is));

@@ -1,19 +1,18 @@
 -- Laws of option 118 in the reply.
 -- Assumes nothing.
-use Prim.Native.Nat.{ℕ, ◌+◌, ◌≤◌, ◌<◌}
+use Prim.Native.Nat.{ℕ, ◌+◌, ◌≤◌}
 use native.Mathlib.Omega.{arith}
 use mathlib.Core.Path.{◌≡◌, refl, sym, ap, ap₂, ◌∙◌}
 use mathlib.Core.Bool.{Bool, true, false}
 use mathlib.Core.List.{List, ◌++◌, append-nil}
 use mathlib.Core.Option.{Option, none, some}
-use native.Mathlib.Numerals.{add-one}
-use lib.ListN.{length, get_or, set, take, drop, length-append, length-drop}
-use lib.Seq.{take_all, take-suc, take-append_seam, drop-append-add, drop-drop, length-take-le}
+use lib.ListN.{length, drop, length-append, length-drop}
+use lib.Seq.{take-append_seam, drop-append-add, drop-drop}
 use lib.Dec.{eqb}
-use borrow.Author.Tests.{eq-eqb, ne_eqb}
+use borrow.Author.Tests.{ne_eqb}
 use Rattle.lists.specs.Put.{put}
-use Rattle.lists.proofs.Tests.{cond-true, cond-false}
-use Rattle.lists.proofs.PutLaws.{put-fits, set_more}
+use Rattle.lists.proofs.Tests.{cond-false}
+use Rattle.lists.proofs.PutLaws.{put-fits}
 use Rattle.ledger.specs.Ledger.{Result, outcome, acceptance, accept, refuse, returned}
 use Rattle.call_spec.specs.ImageCalls.{carried_if}
 use Rattle.call_ground.specs.Ground.{returning}
@@ -34,12 +33,9 @@ returning-free selected s r e = ap (λ (b : Bool). returning (carried_if b s) r)
 
 -- An accepted call has it after its reply.
 
-pub returning-put : {S : Type 0} (selected : Bool) (s : List ℕ) (r : Result S) → r.answer.number ≡ 0 → selected ≡ true
-    → returning (carried_if selected s) r ≡ outcome (acceptance (r.answer.bytes + length s) r.answer.count) r.state (put r.reply r.answer.bytes s)
-returning-put selected s r z e =
-    ap (λ (b : Bool). returning (carried_if b s) r) e
-    ∙ cond-true (eqb r.answer.number 0)
-    (outcome (acceptance (r.answer.bytes + length s) r.answer.count) r.state (put r.reply r.answer.bytes s)) r (eq-eqb r.answer.number 0 z)
+pub returning-put : {S : Type 0} (selected : Bool) (s : List ℕ) (bytes count : ℕ) (st : S) (reply : List ℕ) → selected ≡ true
+    → returning (carried_if selected s) (outcome (acceptance bytes count) st reply) ≡ outcome (acceptance (bytes + length s) count) st (put reply bytes s)
+returning-put selected s bytes count st reply e = ap (λ (b : Bool). returning (carried_if b s) (outcome (acceptance bytes count) st reply)) e
 
 pub returning-accept : {S : Type 0} (o : Option (List ℕ)) (s : S) (w : List ℕ) (count : ℕ) (reply : List ℕ) → length w + length (returned o) ≤ length reply
     → returning o (accept s w count reply) ≡ accept s (w ++ returned o) count reply
@@ -53,17 +49,3 @@ returning-accept (some v) s w count reply h =
         put-fits v (w ++ drop (length w) reply) (length w) (omega (arith, whole))
         ∙ ap₂ (λ (l m : List ℕ). l ++ v ++ m) (take-append_seam w (drop (length w) reply))
         (drop-append-add w (drop (length w) reply) (length v) ∙ drop-drop (length v) (length w) reply ∙ ap (λ (n : ℕ). drop n reply) (sym (length-append w v)))
-
--- While it is put: the first k bytes of it.
-
-pub put-none : (reply : List ℕ) (at : ℕ) (s : List ℕ) → reply ≡ put reply at (take 0 s)
-unfolding put
-put-none reply at s = refl
-
-pub put_next : (before reply : List ℕ) (at k : ℕ) (s : List ℕ) → k < length s → reply ≡ put before at (take k s) → set reply (at + k) (get_or s k 0) ≡ put before at (take (k + 1) s)
-put_next before reply at k s h e =
-    set_more before reply (set reply (at + k) (get_or s k 0)) at (take k s) (at + k) (get_or s k 0) e (ap (λ (n : ℕ). at + n) (sym (length-take-le k s (omega arith)))) refl
-    ∙ ap (put before at) (sym (ap (λ (n : ℕ). take n s) (add-one k) ∙ take-suc s k 0 h))
-
-pub put_whole : (before reply : List ℕ) (at k : ℕ) (s : List ℕ) → length s ≤ k → reply ≡ put before at (take k s) → reply ≡ put before at s
-put_whole before reply at k s h e = e ∙ ap (put before at) (take_all k s h)

@@ -1,7 +1,7 @@
 -- THE GROUND OF A CALL that carries option 118, in an image: the pool that contains its address, and the leases in it.
 use Rattle.std.specs.Prelude.{ℕ, ◌+◌, ◌≤◌, ◌<◌, ◌≡◌, Bool, true, false, cond, List, [], ◌∷◌, ◌++◌, map, length, get_or, take, drop, leb, ltb, eqb}
 use Rattle.std.proofs.Math.Option.{Option, none, some}
-use Rattle.std.specs.Prelude.{Option as Found, Some, None, IfSome}
+use Rattle.std.specs.Prelude.{Option as Found, Some, None, IfSome, MatchOption}
 use Rattle.lists.specs.Lists.{All, and, any?, filter}
 use Rattle.lists.specs.Put.{put}
 use Rattle.prefix.specs.declared.Prefix.{Prefix}
@@ -14,7 +14,7 @@ use Rattle.table.specs.Table.{pool_prefix, prefix_of, pools_of, no_lease, sound}
 use Rattle.image.specs.Image.{used_pools, used_leases, image_of}
 use Rattle.image_check.specs.declared.ImageSummary.{ImageSummary}
 use Rattle.ledger.specs.Ledger.{Call, Result, outcome, acceptance, nothing?, narrowed_to, narrowed}
-use Rattle.ledger.specs.declared.Answer.{Answer}
+use Rattle.ledger.specs.declared.Accepted.{Accepted}
 use Rattle.call_spec.specs.ImageCalls.{Lent, table_in}
 use Rattle.call_rows.specs.Admission.{Admitted}
 use Rattle.call_ground.specs.declared.{LeaseRange.LeaseRange, Ground.Ground}
@@ -75,14 +75,18 @@ pub record OfAdmitted (image : List ℕ) (summary : ImageSummary) : Type 0 where
   pub same : lent.image ≡ image
   pub admitted : Admitted true lent time client summary
 
--- What the ground of a call is, in an image that is lent. Row 19 applies where it has no pool.
+-- What the ground of a call is, in an image that is lent, where row 19 does not apply.
 pub record Grounds (h : Lent) (c : Call) (summary : ImageSummary) (g : Ground) : Type 0 where
   pub few-pools : g.pool + g.pools ≤ summary.pools
   pub few-leases : g.first + g.leases ≤ summary.leases
-  pub row : nothing? (pools_of (narrowed (table_in h) c)) ≡ eqb g.pools 0
+  pub row : nothing? (pools_of (narrowed (table_in h) c)) ≡ false
   pub pools-are : pools_of (narrowed (table_in h) c) ≡ map pool_prefix (pools_in g (used_pools (table_in h)))
   pub inside : All (λ x. on_it? c.selection (table_in h) x ≡ true) (leases_in g (used_leases (table_in h)))
   pub outside : All (λ x. on_it? c.selection (table_in h) x ≡ false) (leases_beside g (used_leases (table_in h)))
+
+-- The answer is that ground, or none where row 19 applies.
+abbrev pub GroundOf : Lent → Call → ImageSummary → Found Ground → Type 0
+GroundOf h c summary r = MatchOption r (nothing? (pools_of (narrowed (table_in h) c)) ≡ true) (λ g. Grounds h c summary g)
 
 -- THE OPTION IN THE REPLY: "The option follows, unaltered, after option 220 in the reply"; a refusal has none.
 abbrev pub returning : {S : Type 0} → Option (List ℕ) → Result S → Result S
@@ -92,5 +96,5 @@ returning (some s) r =
     (outcome (acceptance (r.answer.bytes + length s) r.answer.count) r.state (put r.reply r.answer.bytes s)) r
 
 -- What it takes to put it there: six bytes of it, and room for them.
-abbrev pub MayReturn : Answer → Bool → List ℕ → List ℕ → Type 0
-MayReturn a selected s reply = a.number ≡ 0 → selected ≡ true → (length s ≡ selection_size) × (a.bytes + selection_size ≤ length reply) × (a.bytes ≤ longest_option)
+abbrev pub MayReturn : Accepted → Bool → List ℕ → List ℕ → Type 0
+MayReturn a selected s reply = selected ≡ true → (length s ≡ selection_size) × (a.bytes + selection_size ≤ length reply) × (a.bytes ≤ longest_option)

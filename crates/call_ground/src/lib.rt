@@ -2,22 +2,22 @@
 // them; and that option in the reply.
 #![tactic(auto)]
 
-ghost use Rattle.std.specs.Prelude.{◌≡◌, true, List, ℕ, ◌+◌, ◌*◌, ◌≤◌, length};
+ghost use Rattle.std.specs.Prelude.{◌≡◌, true, List, ℕ, ◌+◌, ◌*◌, ◌≤◌, length, Ok, IfSome};
 ghost use Rattle.prefix.specs.Prefixes.{end};
 ghost use Rattle.table.specs.declared.Lease.{Lease};
 ghost use Rattle.table.specs.Table.{addresses};
 ghost use Rattle.image.specs.Image.{head_size, pool_size, lease_size};
 ghost use Rattle.image_records.specs.Records.{Records, Ascending};
-ghost use Rattle.option.specs.Reading.{four};
+ghost use Rattle.ledger.specs.Answers.{answer_of};
 ghost use Rattle.ledger.specs.Ledger.{Call, outcome};
 ghost use Rattle.call_spec.specs.ImageCalls.{Lent, carried_if};
-ghost use Rattle.call_rows.specs.Admission.{Admitted};
-ghost use Rattle.call_ground.specs.Ground.{in_pool?, PoolOf, Before, LeasesIn, OfAdmitted, Grounds, returning, MayReturn};
+ghost use Rattle.call_rows.specs.Admission.{Admitted, selection_read};
+ghost use Rattle.call_ground.specs.Ground.{in_pool?, PoolOf, Before, LeasesIn, OfAdmitted, GroundOf, returning, MayReturn};
 
 use call_rows::SELECTION;
 use image::{HEAD, LEASE, POOL};
 use image_check::ImageSummary;
-use ledger::Answer;
+use ledger::Accepted;
 use prefix::Prefix;
 use table::Pool;
 
@@ -73,7 +73,7 @@ pub fn leases_in(image: &[u8], from: usize, n: usize, p: Prefix) -> LeaseRange
 }
 
 // The ground of a call: so many pools from a place on, and so many leases from a place on. Without option 118 it is all of both;
-// with it one pool, or none where no pool contains its address, and the leases in that pool.
+// with it one pool, and the leases in that pool.
 #[derive(Clone, Copy)]
 pub struct Ground {
     pub pool: usize,
@@ -82,53 +82,51 @@ pub struct Ground {
     pub leases: usize,
 }
 
-// The ground of a call that is admitted and carries the option, with this address, or does not.
-pub fn ground_of(image: &[u8], summary: ImageSummary, selected: bool, address: u32) -> Ground
+// The ground of a call that is admitted and carries the option, with this address, or does not; none, where no pool contains the
+// address.
+pub fn ground_of(image: &[u8], summary: ImageSummary, address: Option<u32>) -> Option<Ground>
     requires { OfAdmitted image.now summary }
-    ensures bounds { (result.pool + result.pools ≤ summary.pools) × (result.first + result.leases ≤ summary.leases) }
-    ensures equation { ((h : Lent) (time : ℕ) (c : Call) (s : List ℕ) → h.image ≡ image.now → Admitted true h time c.client summary
-        → c.selection ≡ carried_if selected s → (selected ≡ true → address ≡ four s 2) → Grounds h c summary result) }
+    ensures bounds { IfSome result (λ g. (g.pool + g.pools ≤ summary.pools) × (g.first + g.leases ≤ summary.leases)) }
+    ensures equation { ((h : Lent) (time : ℕ) (c : Call) → h.image ≡ image.now → Admitted true h time c.client summary
+        → Ok address ≡ selection_read c.selection → GroundOf h c summary result) }
 {
-    if !selected {
-        return Ground {
+    let Some(address) = address else {
+        return Some(Ground {
             pool: 0,
             pools: summary.pools,
             first: 0,
             leases: summary.leases,
-        };
-    }
-    let Some(pool) = pool_of(image, summary.pools, address) else {
-        return Ground {
-            pool: 0,
-            pools: 0,
-            first: 0,
-            leases: 0,
-        };
+        });
     };
+    let pool = pool_of(image, summary.pools, address)?;
     let p = Prefix::from(image::pool_at(image, HEAD + POOL * pool));
     let range = leases_in(image, HEAD + POOL * summary.pools, summary.leases, p);
-    Ground {
+    Some(Ground {
         pool,
         pools: 1,
         first: range.first,
         leases: range.count,
-    }
+    })
 }
 
-// Puts option 118, unaltered, after the reply of a call that is accepted and carries it.
+// Puts option 118, unaltered, after the reply of a call that is accepted, if it carries one that is enabled.
 pub fn return_selection(
-    answer: Answer,
+    accepted: Accepted,
     selected: bool,
     selection: &[u8],
     reply: &mut [u8],
-) -> Answer
-    requires { MayReturn answer selected selection.now reply.old }
-    ensures { ((s : Lent) → outcome result s reply.new ≡ returning (carried_if selected selection.now) (outcome answer s reply.old)) }
+) -> Accepted
+    requires { MayReturn accepted selected selection.now reply.old }
+    ensures { ((s : Lent) → outcome (answer_of (Ok result)) s reply.new
+        ≡ returning (carried_if selected selection.now) (outcome (answer_of (Ok accepted)) s reply.old)) }
 {
-    if answer.number != 0 || !selected {
-        return answer;
+    if !selected {
+        return accepted;
     }
-    let bytes = answer.bytes as usize;
+    let bytes = accepted.bytes as usize;
     reply[bytes..bytes + SELECTION].copy_from_slice(selection);
-    call_spec::accepted((bytes + SELECTION) as u32, answer.count)
+    Accepted {
+        bytes: (bytes + SELECTION) as u32,
+        count: accepted.count,
+    }
 }

@@ -15,25 +15,27 @@ use Rattle.lists.proofs.TakeLaws.{take_short, short_none, short-of}
 use Rattle.lists.proofs.MapLaws.{all?-count}
 use Rattle.lists.proofs.DropLaws.{drop-end}
 use Rattle.lists.proofs.PutLaws.{put_front}
-use Rattle.option.specs.Values.{SuboptionValue, information}
+use Rattle.option.specs.Values.{SuboptionValue, information, refused}
 use Rattle.option.specs.Writing.{option_head, information_head, entries_bytes, option_bytes}
 use Rattle.table.specs.declared.Lease.{Lease}
 use Rattle.table.specs.Table.{present}
 use Rattle.image.specs.Image.{used_leases}
 use Rattle.option.specs.Contents.{Request, requests, requests_in}
-use Rattle.ledger.specs.declared.Answer.{Answer}
-use Rattle.ledger.specs.Ledger.{State, Call, Result, outcome, refusal, acceptance, accept, refusal_place, least_reply, nothing?, for_list, listed, list_rows, list}
+use Rattle.std.specs.Prelude.{Ok, Err}
+use Rattle.option.specs.Reading.{read_option}
+use Rattle.ledger.specs.declared.{Answer.Answer, Refusal.Refusal}
+use Rattle.ledger.specs.Answers.{refusal_number, bad_place, answer_of}
+use Rattle.ledger.specs.Ledger.{State, Call, Result, outcome, refusal, acceptance, accept, refusal_place, least_reply, bad_selection?, nothing?, for_list, listed, list_rows, list}
 use Rattle.option_reply.specs.Reply.{most_entries, reply_bytes, entry_of}
 use Rattle.option_reply.proofs.ReplyLaws.{entries_none, heads-last, reply-length}
 use Rattle.option_scan.specs.declared.Contents.{Contents}
-use Rattle.option_scan.specs.Scanned.{position_of}
+use Rattle.option_scan.specs.Scanned.{Columns, position_of}
 use Rattle.image_check.specs.declared.ImageSummary.{ImageSummary}
 use Rattle.call_spec.specs.ImageCalls.{Lent, table_in, state_in, list_image}
 use Rattle.call_spec.specs.Books.{Book, lent_in, list_book}
 use Rattle.call_spec.proofs.StoreLaws.{list-row-refuses, list-no-row}
-use Rattle.call_rows.specs.declared.Admission.{Admission}
-use Rattle.call_rows.specs.Admission.{Admits}
-use Rattle.call_rows.proofs.RowLaws.{ReadCall, RefusedBy, rows_with8, scan-of, admitted-short, refused-admission, refused-option, refused-8, own-left, nothing-found, none_left}
+use Rattle.call_rows.specs.Admission.{Admits, ReadOption}
+use Rattle.call_rows.proofs.RowLaws.{ReadCall, RefusedBy, rows_with8, admitted-short, refused-admission, refused-option, refused-8, own-left, nothing-found, none_left}
 use Rattle.call_rows.proofs.SettleLaws.{admitted-lent}
 use Rattle.call_list.specs.declared.Page.{Page}
 use Rattle.call_list.specs.InnerPage.{shown?, start_of, PageOf}
@@ -89,28 +91,31 @@ module _ (h : Lent) (now : ℕ) (c : Call) where
   unfolding list list_rows
   by_row = list-row-refuses h (list_rows (state_in h) now c) (refusal_place c.option) c.reply (settled_outcome (state_in h) (listed_by h now c) c.reply)
 
-  pub list-refused : (a : Admission) → Admits false (ltb (length c.reply) least_reply) h now c.client a → (a.number ≡ 0 → ⊥) → outcome (refusal a.number 0) h c.reply ≡ list_image h now c
+  pub list-refused : (e : Refusal) → Admits false (ltb (length c.reply) least_reply) h now c.client (Err e) → outcome (answer_of (Err e)) h c.reply ≡ list_image h now c
   list-refused = refused-admission false (ltb (length c.reply) least_reply) h now c wanted (eleven h now c) (list_image h now c) by_row
 
-  module _ (s : ReadCall false (ltb (length c.reply) least_reply) h now c) where
-    pub list-unread : (s.answer.number ≡ 0 → ⊥) → outcome s.answer h c.reply ≡ list_image h now c
-    list-unread = refused-option false (ltb (length c.reply) least_reply) h now c wanted (eleven h now c) (list_image h now c) by_row s
+  module _ (summary : ImageSummary) (ad : Admits false (ltb (length c.reply) least_reply) h now c.client (Ok summary)) (selected : bad_selection? c.selection ≡ false) where
+    pub list-unread : (e : Refusal) → read_option c.option ≡ refused (refusal_number e) (bad_place e) → outcome (answer_of (Err e)) h c.reply ≡ list_image h now c
+    list-unread = refused-option false (ltb (length c.reply) least_reply) h now c wanted (eleven h now c) (list_image h now c) by_row summary ad selected
 
-    module _ (good : s.answer.number ≡ 0) (b : Bool) (is : b ≡ (not (eqb s.contents.requests 0) && eqb s.contents.listing s.contents.requests)) where
+    module _ (m : Contents) (k : Columns) (r : ReadOption c.option m k) (b : Bool) (is : b ≡ (not (eqb m.requests 0) && eqb m.listing m.requests)) where
+      s : ReadCall false (ltb (length c.reply) least_reply) h now c
+      s = record { summary = summary; admits = ad; selected = selected; contents = m; columns = k; reads = r }
+
       asks-are : b ≡ for_list (requests_in c.option)
-      asks-are = let holding = scan-of false (ltb (length c.reply) least_reply) h now c s good in is ∙ rw (holding.requests, holding.listing) (sym (for-list (requests_in c.option)))
+      asks-are = is ∙ rw (r.holds.requests, r.holds.listing) (sym (for-list (requests_in c.option)))
 
       pub list-wrong : b ≡ false → outcome (refusal 8 0) h c.reply ≡ list_image h now c
-      list-wrong w = refused-8 false (ltb (length c.reply) least_reply) h now c wanted (eleven h now c) (list_image h now c) by_row s good (sym asks-are ∙ w)
+      list-wrong w = refused-8 false (ltb (length c.reply) least_reply) h now c wanted (eleven h now c) (list_image h now c) by_row s (sym asks-are ∙ w)
 
       -- Every row before 11 has passed.
-      pub list-passed : b ≡ true → Listing h now c s.admission.summary s.contents
+      pub list-passed : b ≡ true → Listing h now c summary m
       unfolding list_rows
       list-passed w = record {
-        admitted = s.admits.admitted s.admitted;
-        room = ltb-false (length c.reply) least_reply (admitted-short false (ltb (length c.reply) least_reply) h now c.client s.admission s.admits [] s.admitted);
-        left-rows = own-left false (ltb (length c.reply) least_reply) h now c wanted (eleven h now c) (list_image h now c) by_row s good (sym asks-are ∙ w);
-        position-is = (scan-of false (ltb (length c.reply) least_reply) h now c s good).position;
+        admitted = ad.1;
+        room = ltb-false (length c.reply) least_reply (admitted-short false (ltb (length c.reply) least_reply) h now c.client [] summary ad);
+        left-rows = own-left false (ltb (length c.reply) least_reply) h now c wanted (eleven h now c) (list_image h now c) by_row s (sym asks-are ∙ w);
+        position-is = r.holds.position;
       }
 
 -- ROW 11, AND THE PAGE

@@ -7,6 +7,7 @@ ghost use Rattle.lists.specs.Lists.{filter};
 ghost use Rattle.table.specs.declared.Lease.{Lease};
 ghost use Rattle.image_records.specs.Records.{Records, Ascending};
 ghost use Rattle.image.specs.Image.{lease_size};
+ghost use Rattle.ledger.specs.Answers.{answer_of};
 ghost use Rattle.ledger.specs.Ledger.{call, outcome, least_reply};
 ghost use Rattle.call_spec.specs.ImageCalls.{lent, list_image};
 ghost use Rattle.call_spec.specs.Books.{book_of, list_book};
@@ -16,7 +17,7 @@ ghost use Rattle.call_list.specs.InnerPage.{shown?, start_of, PageOf};
 use counts::Counts;
 use image::{HEAD, LEASE, POOL};
 use image_check::ImageSummary;
-use ledger::Answer;
+use ledger::{Accepted, Refusal};
 use option_scan::Contents;
 use table::Lease;
 
@@ -103,24 +104,27 @@ fn show_listed(
     reply: &mut [u8],
     summary: ImageSummary,
     pieces: Contents,
-) -> Answer
+) -> Result<Accepted, Refusal>
     requires { Listing (lent image.now image_bytes []) time (call client option.now reply.old) summary pieces }
-    ensures { outcome result (lent image.now image_bytes []) reply.new
+    ensures { outcome (answer_of result) (lent image.now image_bytes []) reply.new
         ≡ list_image (lent image.now image_bytes []) time (call client option.now reply.old) }
 {
     let n = summary.leases;
     if n == 0 {
-        return call_spec::refused(11, 0);
+        return Err(Refusal::NothingFound);
     }
     let from = HEAD + POOL * summary.pools;
     let first = first_above(image, from, n, pieces.position);
     let page = show_page(image, from, first, n, time, client, reply);
     let shown = page.count;
     if shown == 0 {
-        return call_spec::refused(11, 0);
+        return Err(Refusal::NothingFound);
     }
     let bytes = option_reply::put_heads(reply, shown, true, page.more);
-    call_spec::accepted(bytes as u32, shown as u32)
+    Ok(Accepted {
+        bytes: bytes as u32,
+        count: shown as u32,
+    })
 }
 
 // List changes nothing, so the image is only read; it has no figures sheet.
@@ -132,11 +136,11 @@ pub fn list(
     time: u32,
     option: &[u8],
     reply: &mut [u8],
-) -> Answer
-    ensures { outcome result (book_of image.now image_bytes [] counts.now) reply.new
+) -> Result<Accepted, Refusal>
+    ensures { outcome (answer_of result) (book_of image.now image_bytes [] counts.now) reply.new
         ≡ list_book (book_of image.now image_bytes [] counts.now) time (call client option.now reply.old) }
 {
-    let admission = call_rows::admit(
+    let summary = call_rows::admit(
         image,
         image_bytes,
         &image[..0],
@@ -145,22 +149,15 @@ pub fn list(
         reply.len() < call_rows::SHORTEST_REPLY,
         client,
         time,
-    );
-    if admission.number != 0 {
-        return call_spec::refused(admission.number, 0);
-    }
+    )?;
     let mut asks = [0u8; option_scan::MOST_REQUESTS];
     let mut h = [0u8; option_scan::MOST_REQUESTS];
     let mut networks = [0u32; option_scan::MOST_ENTRIES];
     let mut lengths = [0u8; option_scan::MOST_ENTRIES];
-    let pieces = match option_scan::read(option, &mut asks, &mut h, &mut networks, &mut lengths) {
-        Ok(pieces) => pieces,
-        Err(fault) => return call_rows::option_refusal(fault),
-    };
+    let pieces = call_rows::read_option(option, &mut asks, &mut h, &mut networks, &mut lengths)?;
     if !for_list(pieces.requests, pieces.listing) {
-        return call_spec::refused(8, 0);
+        return Err(Refusal::WrongSuboptions);
     }
-    let summary = admission.summary;
     show_listed(
         image,
         image_bytes,

@@ -21,7 +21,7 @@ use Rattle.image.specs.Image.{full_image, head_size, pool_size, lease_size, leas
 use Rattle.image.specs.Reading.{form_of, load_saved}
 use Rattle.image.proofs.ImageLaws.{image-loaded-in, length-image-in, length-image, longest-image, table-whole}
 use Rattle.image_check.specs.declared.ImageSummary.{ImageSummary}
-use Rattle.image_check.specs.ImageSummary.{summary_of}
+use Rattle.image_check.specs.ImageSummary.{summary_at}
 use Rattle.image_records.specs.Records.{Records}
 use Rattle.image_records.proofs.SoundLaws.{used-few, image-records}
 use Rattle.image_figures.specs.Sheets.{figures_size, sheet_of}
@@ -66,7 +66,7 @@ module _ (h : Lent) (saved : List ℕ) where
         read-image = ap (λ (g : Form). image_as g t) f ∙ (image-loaded-in (form_of saved) saved t bytes e).1.1
 
       -- The check has counted its pools and leases.
-      module _ (summary : ImageSummary) (is : summary ≡ summary_of 0 (some t)) where
+      module _ (summary : ImageSummary) (is : summary ≡ summary_at 0 t) where
         pub leases-are : summary.leases ≡ length (used_leases t)
         leases-are = ap (λ (x : ImageSummary). x.leases) is
 

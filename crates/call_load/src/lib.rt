@@ -5,13 +5,14 @@
 ghost use Rattle.std.specs.Prelude.{◌≡◌, true, [], ◌++◌, ◌+◌, ◌*◌, ◌≤◌, length, drop};
 ghost use Rattle.table.specs.declared.LeaseTable.{LeaseTable};
 ghost use Rattle.image.specs.Image.{full_image, head_size, pool_size, lease_size, lease_size_in, used_pools, used_leases, image_as, image_of, fits_form};
+ghost use Rattle.ledger.specs.Answers.{answer_of};
 ghost use Rattle.ledger.specs.Ledger.{outcome};
 ghost use Rattle.call_spec.specs.Books.{book_of, load_book};
 
 use counts::Counts;
 use image::{FULL_IMAGE, Form, HEAD, POOL};
 use image_figures::FIGURES;
-use ledger::Answer;
+use ledger::{Accepted, Refusal};
 
 // The image in the second form at the front of a buffer; how long it is.
 fn put_image(form: Form, saved: &[u8], pools: usize, leases: usize, image: &mut [u8]) -> usize
@@ -32,25 +33,22 @@ pub fn load(
     figures: &mut [u8],
     counts: &mut Counts,
     saved: &[u8],
-) -> Answer
-    ensures { outcome result (book_of image.new image_bytes.new figures.new counts.new) []
+) -> Result<Accepted, Refusal>
+    ensures { outcome (answer_of result) (book_of image.new image_bytes.new figures.new counts.new) []
         ≡ load_book (book_of image.old image_bytes.old figures.old counts.old) saved.now }
 {
     let form = image::form_of(saved);
-    let summary = image_check::check_in(form, saved, 0);
-    if !summary.sound {
-        return call_spec::refused(5, 0);
-    }
+    let summary = image_check::check_in(form, saved, 0).ok_or(Refusal::NotSound)?;
     if image.len() < FULL_IMAGE {
-        return call_spec::refused(14, 0);
+        return Err(Refusal::BufferTooShort);
     }
     if figures.len() != FIGURES {
-        return call_spec::refused(14, 0);
+        return Err(Refusal::BufferTooShort);
     }
     let n = put_image(form, saved, summary.pools, summary.leases, image);
     image_records::clear(image, n, FULL_IMAGE);
     image_figures::fill(figures, image, HEAD + POOL * summary.pools, summary.leases);
     image_counts::recount(image, summary.pools, summary.leases, counts);
     *image_bytes = n;
-    call_spec::accepted(0, 0)
+    Ok(Accepted { bytes: 0, count: 0 })
 }

@@ -3,7 +3,6 @@
 use Prim.Native.Nat.{ℕ, ◌+◌, ◌-◌, ◌*◌, ◌%◌, ◌≤◌, ◌<◌}
 use native.Mathlib.Omega.{arith}
 use mathlib.Core.Path.{◌≡◌, refl, sym, ap, ap₂, subst, ◌∙◌}
-use mathlib.Core.Logic.{◌⊎◌}
 use mathlib.Core.Bool.{Bool, true, false, not, cond, ◌&&◌}
 use mathlib.Core.List.{List, [], ◌∷◌, ◌++◌, map}
 use mathlib.Core.Option.{none, some}
@@ -15,7 +14,7 @@ use Rattle.lists.specs.Put.{put}
 use Rattle.lists.proofs.Tests.{and-to, and-of, not-true⇒false, and-list-to, and-list-of, cond-true, cond-false, not-of, not-to}
 use Rattle.lists.proofs.MapLaws.{filter_map, any?-filter}
 use Rattle.lists.proofs.ListLaws.{all_map}
-use Rattle.std.specs.Prelude.{Ok}
+use Rattle.std.specs.Prelude.{Result as Res, Ok, Err, is_ok}
 use Rattle.prefix.specs.declared.Prefix.{Prefix}
 use Rattle.prefix.specs.Prefixes.{size, prefix, checked}
 use Rattle.prefix.proofs.BlockLaws.{Block, block-made, made-block}
@@ -24,7 +23,7 @@ use Rattle.table.specs.Table.{lease_slots, latest, no_lease, prefix_of, present,
 use Rattle.table.proofs.TableLaws.{Good as GoodLease, present?, sound-fine}
 use Rattle.image.specs.Image.{lease_size, lease_record, used_leases}
 use Rattle.image.specs.Reading.{lease_in}
-use Rattle.image_records.specs.Records.{Records}
+use Rattle.image_records.specs.Records.{Records, Ascending}
 use Rattle.image_records.proofs.RecordLaws.{lease-in-place, edit-is, edit-holds}
 use Rattle.image_records.proofs.FindLaws.{none_any, found_within, found_none, found-other, found-any, found_map}
 use Rattle.figures.specs.declared.FigureRow.{FigureRow}
@@ -34,7 +33,9 @@ use Rattle.image_figures.specs.Sheets.{sheet_of}
 use Rattle.image_figures.proofs.AcceptedLaws.{strike-changed, nothing-changed, stays-follow}
 use Rattle.image_check.specs.declared.ImageSummary.{ImageSummary}
 use Rattle.counts.specs.Counts.{counts_of}
-use Rattle.ledger.specs.declared.Answer.{Answer}
+use Rattle.ledger.specs.declared.{Accepted.Accepted, Refusal.Refusal}
+use Rattle.ledger.specs.Answers.{refusal_number, answer_of}
+use Rattle.ledger.proofs.RefusalLaws.{number-some}
 use Rattle.ledger.specs.Ledger.{State, left, Result, outcome, refusal, acceptance, accept, Row, first_of, at?, with_d, mark_rows, mark}
 use Rattle.ledger.proofs.RowLaws.{none_first, first-after, served-or-not}
 use Rattle.ledger.proofs.SoundKept.{mark-sound}
@@ -44,7 +45,6 @@ use Rattle.call_spec.proofs.StoreLaws.{row-refuses}
 use Rattle.call_spec.proofs.OnImages.{follows-all}
 use Rattle.call_spec.proofs.BookLaws.{refuses-book}
 use Rattle.call_spec.proofs.PoolsKept.{mark-pools}
-use Rattle.call_rows.specs.declared.Admission.{Admission}
 use Rattle.call_rows.specs.Admission.{admission_rows, leases_from, Admitted, Admits, Finished, LeftIfAccepted}
 use Rattle.call_rows.proofs.RowLaws.{not-admitted, accepts}
 use Rattle.call_rows.proofs.SettleLaws.{admitted-lent, admitted-book, admitted-counts, unmoved, countable, settles}
@@ -56,11 +56,11 @@ use Rattle.call_rows.proofs.StruckLaws.{struck-is}
 
 module _ (network len : ℕ) where
   -- It refuses no block.
-  pub no_block : ((p : Prefix) → checked network (cond (ltb 255 len) 0 len) ≡ Ok p → ⊥) → Block (prefix network len) → ⊥
+  no_block : ((p : Prefix) → checked network (cond (ltb 255 len) 0 len) ≡ Ok p → ⊥) → Block (prefix network len) → ⊥
   no_block absent b = absent (prefix network len) (ap (checked network) (cond-false (ltb 255 len) 0 len (le-ltb 255 len (omega (arith, b.long)))) ∙ block-made network len b)
 
   -- What it makes has this network and length.
-  pub block-is : (p : Prefix) → checked network (cond (ltb 255 len) 0 len) ≡ Ok p → p ≡ prefix network len
+  block-is : (p : Prefix) → checked network (cond (ltb 255 len) 0 len) ≡ Ok p → p ≡ prefix network len
   block-is p e =
       let m = made-block network (cond (ltb 255 len) 0 len) p e in
       m.0 ∙ ap (prefix network) (held (ltb 255 len) m.1.short)
@@ -71,7 +71,7 @@ module _ (network len : ℕ) where
 
 -- THE LEASE: present, with this network and length.
 
-abbrev pub marked? : ℕ → ℕ → ℕ → Lease → Bool
+abbrev marked? : ℕ → ℕ → ℕ → Lease → Bool
 marked? now network len x = present? now x && at? network len x
 
 abbrev at_tests : ℕ → ℕ → Lease → List Bool
@@ -84,7 +84,7 @@ module _ (now network len : ℕ) (x : Lease) where
       let tests = and-list-to (at_tests network len x) both.1 in
       (ltb-true now x.expires both.0, eqb-true x.network network tests.0, eqb-true x.length len tests.1.0)
 
-  pub marked-of : now < x.expires → x.network ≡ network → x.length ≡ len → marked? now network len x ≡ true
+  marked-of : now < x.expires → x.network ≡ network → x.length ≡ len → marked? now network len x ≡ true
   marked-of a b c =
       and-of (present? now x) (at? network len x) (lt-ltb now x.expires a)
       (and-list-of (at_tests network len x) (eq-eqb x.network network b, (eq-eqb x.length len c, tt)))
@@ -143,8 +143,10 @@ module _ (h : Lent) (now network len : ℕ) (d : Bool) where
   unfolding mark mark_rows
   by_row n k e = row-refuses h (mark_rows (state_in h) now network len) (λ m. 0) [] (settled_outcome h now network len d) n k e
 
-  pub mark-refused : (a : Admission) → Admits true false h now 1 a → (a.number ≡ 0 → ⊥) → outcome (refusal a.number 0) h [] ≡ mark_image h now network len d
-  mark-refused a ad k = by_row a.number k (not-admitted true false h now 1 a ad (own h now network len) k).0
+  pub mark-refused : (e : Refusal) → Admits true false h now 1 (Err e) → outcome (answer_of (Err e)) h [] ≡ mark_image h now network len d
+  mark-refused e ad =
+      ap (λ (place : ℕ). outcome (refusal (refusal_number e) place) h []) ad.1
+      ∙ by_row (refusal_number e) (number-some e) (not-admitted true false h now 1 (own h now network len) (refusal_number e) ad.0).0
 
   module _ (summary : ImageSummary) (o : Admitted true h now 1 summary) where
     -- The rows before its own have passed.
@@ -172,18 +174,26 @@ module _ (h : Lent) (now network len : ℕ) (d : Bool) where
     missing b = not-meant (found-is ∙ none_any (marked? now network len) (leases_in h) b)
 
     -- Every lease is a block.
-    pub mark-no-block : (Block (prefix network len) → ⊥) → outcome (refusal 11 0) h [] ≡ mark_image h now network len d
-    mark-no-block k =
+    pub mark-no-block : ((p : Prefix) → checked network (cond (ltb 255 len) 0 len) ≡ Ok p → ⊥) → outcome (refusal 11 0) h [] ≡ mark_image h now network len d
+    mark-no-block absent =
         let other : (x : Lease) → GoodLease (pools_of (table_in h)) now x → at? network len x ≡ false =
         λ x g. not-true⇒false (at? network len x) (λ t.
         let same = and-list-to (at_tests network len x) t in
         let n = eqb-true x.network network same.0 in
         let l = eqb-true x.length len same.1.0 in
-        k (record { short = omega (arith, g.short); long = omega (arith, g.long); aligned = ap₂ (λ (a b : ℕ). a % size b) (sym n) (sym l) ∙ g.aligned })) in
+        no_block network len absent (record { short = omega (arith, g.short); long = omega (arith, g.long); aligned = ap₂ (λ (a b : ℕ). a % size b) (sym n) (sym l) ∙ g.aligned })) in
         let xs : List Lease = present now (table_in h).leases in
         not-meant (none_any (at? network len) xs (all_map other xs (sound-fine (table_in h) o.sound now).0))
 
-    module _ (r : ℕ) (c : r ≡ length (filter (λ x. leb x.network network) (leases_in h))) where
+    -- How many leases have a network up to that of the prefix.
+    module _ (p : Prefix) (made : checked network (cond (ltb 255 len) 0 len) ≡ Ok p)
+        (r : ℕ) (value : (xs : List Lease) → Records h.image (leases_from summary) xs → summary.leases ≡ length xs → Ascending xs → r ≡ length (filter (λ x. leb x.network p.network) xs)) where
+      is : p ≡ prefix network len
+      is = block-is network len p made
+
+      c : r ≡ length (filter (λ x. leb x.network network) (leases_in h))
+      c = subst (λ (q : Prefix). r ≡ length (filter (λ x. leb x.network q.network) (leases_in h))) is (value (leases_in h) o.records o.leases o.ascending)
+
       only : (x : Lease) → marked? now network len x ≡ true → x.network ≡ network
       only x t = (marked-to now network len x t).1
 
@@ -192,7 +202,10 @@ module _ (h : Lent) (now network len : ℕ) (d : Bool) where
       mark-none e = missing (found_none network (leases_in h) o.ascending r c (marked? now network len) only e)
 
       -- The last of those that have.
-      module _ (above : 0 < r) (x : Lease) (read : x ≡ lease_in (drop (leases_from summary + lease_size * (r - 1)) h.image)) where
+      module _ (some-lease : r ≡ 0 → ⊥) (x : Lease) (read : x ≡ lease_in (drop (leases_from summary + lease_size * (r - 1)) h.image)) where
+        above : 0 < r
+        above = omega (arith, some-lease)
+
         inside : r - 1 < length (leases_in h)
         inside = found_within network (leases_in h) o.ascending r c above
 
@@ -200,13 +213,18 @@ module _ (h : Lent) (now network len : ℕ) (d : Bool) where
         it-is = read ∙ lease-in-place h.image (leases_from summary) (leases_in h) o.records (r - 1) inside
 
         -- It is another one, or has expired.
-        pub mark-other : ((now < x.expires) × (x.network ≡ network) × (x.length ≡ len) → ⊥) → outcome (refusal 11 0) h [] ≡ mark_image h now network len d
+        pub mark-other : (x.network ≡ p.network → x.length ≡ p.length → now < x.expires → ⊥) → outcome (refusal 11 0) h [] ≡ mark_image h now network len d
         mark-other k =
             missing (found-other network (leases_in h) o.ascending r c (marked? now network len) only
-            (ap (marked? now network len) (sym it-is) ∙ not-true⇒false (marked? now network len x) (λ t. k (marked-to now network len x t))))
+            (ap (marked? now network len) (sym it-is) ∙ not-true⇒false (marked? now network len x) (λ t.
+            let m = marked-to now network len x t in
+            k (m.1 ∙ sym (ap (λ (q : Prefix). q.network) is)) (m.2 ∙ sym (ap (λ (q : Prefix). q.length) is)) m.0)))
 
         -- It is the one: edited in place, and what is left of the leases.
-        module _ (yes-it-is : marked? now network len x ≡ true) where
+        module _ (same-network : x.network ≡ p.network) (same-length : x.length ≡ p.length) (later : now < x.expires) where
+          yes-it-is : marked? now network len x ≡ true
+          yes-it-is = marked-of now network len x later (same-network ∙ ap (λ (q : Prefix). q.network) is) (same-length ∙ ap (λ (q : Prefix). q.length) is)
+
           here : marked? now network len (get_or (leases_in h) (r - 1) no_lease) ≡ true
           here = ap (marked? now network len) (sym it-is) ∙ yes-it-is
 
@@ -291,34 +309,33 @@ mark-unmoved h now network len d summary o none-gone =
     served-or-not (λ (r : Result State). counts_of r.state.table ≡ counts_of (table_in h)) (mark_rows (state_in h) now network len) _ _ (λ n. refl)
     (λ e. unmoved now (λ (x : Lease). cond (at? network len x) (with_d d x) x) (λ x. mark-prefix d (at? network len x) x) (λ x. mark-later now d (at? network len x) x) true h 1 summary o none-gone)
 
-module _ (b : Book) (now network len : ℕ) (d : Bool) (a : Admission) (ad : Admits true false (lent_in b) now 1 a) where
-  pub book-refused : (a.number ≡ 0 → ⊥) → (r : Answer) → r ≡ refusal a.number 0 → outcome r b [] ≡ mark_book b now network len d
-  book-refused k r is =
-      refuses-book b (mark_image (lent_in b) now network len d) r (lent_in b) [] (ap (λ (y : Answer). outcome y (lent_in b) []) is ∙ mark-refused (lent_in b) now network len d a ad k)
-      (λ z. k (sym (ap (λ (y : Answer). y.number) is) ∙ z))
+module _ (b : Book) (now network len : ℕ) (d : Bool) where
+  pub book-refused : (e : Refusal) → Admits true false (lent_in b) now 1 (Err e) → outcome (answer_of (Err e)) b [] ≡ mark_book b now network len d
+  book-refused e ad =
+      refuses-book b (mark_image (lent_in b) now network len d) (answer_of (Err e)) (lent_in b) [] (mark-refused (lent_in b) now network len d e ad) (number-some e)
 
-  module _ (z : a.number ≡ 0) where
+  module _ (summary : ImageSummary) (ad : Admits true false (lent_in b) now 1 (Ok summary)) where
     -- It is admitted, so it is the call on what is lent.
-    pub on-lent : Admitted true b.lent now 1 a.summary
-    on-lent = admitted-book true b now 1 a.summary (ad.admitted z)
+    pub on-lent : Admitted true b.lent now 1 summary
+    on-lent = admitted-book true b now 1 summary ad.1
 
     -- What it leaves, and the counts.
-    module _ (r : Answer) (g : Lent) (is : outcome r g [] ≡ mark_image b.lent now network len d) where
-      pub mark-countable : LeftIfAccepted r.number (lent g.image g.bytes []) a.summary.pools
+    module _ (r : Res Accepted Refusal) (g : Lent) (is : outcome (answer_of r) g [] ≡ mark_image b.lent now network len d) where
+      pub mark-countable : LeftIfAccepted r (lent g.image g.bytes []) summary.pools
       mark-countable =
           countable b.lent (mark (state_in b.lent) now network len d) (follows-all.marks b.lent now network len d)
-          (mark-sound (state_in b.lent) now network len d) (mark-pools (state_in b.lent) now network len d) r g [] is a.summary.pools on-lent.pools
+          (mark-sound (state_in b.lent) now network len d) (mark-pools (state_in b.lent) now network len d) r g [] is summary.pools on-lent.pools
 
-      stay : a.summary.expired ≡ 0 → counts_of (table_in g) ≡ b.counts
+      stay : summary.expired ≡ 0 → counts_of (table_in g) ≡ b.counts
       stay none-gone =
           ap (λ (w : Result Lent). counts_of (table_in w.state)) is
           ∙ ap (λ (u : State). counts_of u.table) (follows-all.marks b.lent now network len d).holds
-          ∙ mark-unmoved b.lent now network len d a.summary on-lent none-gone
-          ∙ sym (admitted-counts true b now 1 a.summary (ad.admitted z))
+          ∙ mark-unmoved b.lent now network len d summary on-lent none-gone
+          ∙ sym (admitted-counts true b now 1 summary ad.1)
 
-      pub mark-settles : (moved : Bool) → (moved ≡ false → a.summary.expired ≡ 0) → (counts : List (List ℕ))
-          → counts ≡ cond (eqb r.number 0 && moved) (counts_of (table_in (lent g.image g.bytes []))) b.counts
-          → outcome r (record { lent = g; counts = counts }) [] ≡ mark_book b now network len d
+      pub mark-settles : (moved : Bool) → (moved ≡ false → summary.expired ≡ 0) → (counts : List (List ℕ))
+          → counts ≡ cond (is_ok r && moved) (counts_of (table_in (lent g.image g.bytes []))) b.counts
+          → outcome (answer_of r) (record { lent = g; counts = counts }) [] ≡ mark_book b now network len d
       mark-settles moved none-gone counts left-are =
-          settles b (admitted-lent true b now 1 a.summary (ad.admitted z)) (mark (state_in b.lent) now network len d) (λ (h : Lent). mark_image h now network len d)
+          settles b (admitted-lent true b now 1 summary ad.1) (mark (state_in b.lent) now network len d) (λ (h : Lent). mark_image h now network len d)
           (follows-all.marks b.lent now network len d) r g [] is moved counts left-are (λ y e. stay (none-gone e))

@@ -2,6 +2,7 @@
 #![tactic(auto)]
 
 ghost use Rattle.std.specs.Prelude.{◌≡◌, true, not, [], eqb};
+ghost use Rattle.ledger.specs.Answers.{answer_of};
 ghost use Rattle.ledger.specs.Ledger.{outcome};
 ghost use Rattle.call_spec.specs.ImageCalls.{lent, mark_image};
 ghost use Rattle.call_spec.specs.Books.{book_of, mark_book};
@@ -10,7 +11,7 @@ ghost use Rattle.call_rows.specs.Admission.{Admitted};
 use counts::Counts;
 use image::{HEAD, LEASE, POOL};
 use image_check::ImageSummary;
-use ledger::Answer;
+use ledger::{Accepted, Refusal};
 use prefix::Prefix;
 
 // Mark has no client and no reply: what stands for them at the admission is refused by no row.
@@ -24,42 +25,38 @@ fn mark_lease(
     figures: &mut [u8],
     network: u32,
     length: u32,
-    deprecated: u32,
+    deprecated: bool,
     time: u32,
     summary: ImageSummary,
-) -> Answer
+) -> Result<Accepted, Refusal>
     requires { Admitted true (lent image.old image_bytes.old figures.old) time 1 summary }
-    ensures { outcome result (lent image.new image_bytes.new figures.new) []
-        ≡ mark_image (lent image.old image_bytes.old figures.old) time network length (not (eqb deprecated 0)) }
+    ensures { outcome (answer_of result) (lent image.new image_bytes.new figures.new) []
+        ≡ mark_image (lent image.old image_bytes.old figures.old) time network length deprecated }
 {
     // Every lease is a block, so what is none is no lease's prefix.
     let Ok(p) = Prefix::new(network, call_spec::length_of(length)) else {
-        return call_spec::refused(11, 0);
+        return Err(Refusal::NothingFound);
     };
     let from = HEAD + POOL * summary.pools;
     let n = summary.leases;
     let place = image_records::place_after(image, from, n, p.network);
     if place == 0 {
-        return call_spec::refused(11, 0);
+        return Err(Refusal::NothingFound);
     }
     let at = from + LEASE * (place - 1);
     let mut x = image_records::lease_at(image, at);
-    if x.network != p.network {
-        return call_spec::refused(11, 0);
+    if x.network != p.network || x.length != p.length || x.expires <= time {
+        return Err(Refusal::NothingFound);
     }
-    if x.length != p.length {
-        return call_spec::refused(11, 0);
-    }
-    if x.expires <= time {
-        return call_spec::refused(11, 0);
-    }
-    x.d = deprecated != 0;
+    x.d = deprecated;
     image_records::put_lease(image, at, x);
     call_rows::strike_expired(figures, image, from, n, summary.expired, time);
     *image_bytes = call_rows::remove_expired(image, from, n, summary.expired, time);
-    call_spec::accepted(0, 0)
+    Ok(Accepted { bytes: 0, count: 0 })
 }
 
+// `deprecated`: 0 clears d, and any other number sets it.
+// Stays: a `bool` would ask more of callers, as edit mark_only_one shows; the C interface passes the buffers and the numbers so.
 pub fn mark(
     image: &mut [u8],
     image_bytes: &mut usize,
@@ -69,35 +66,24 @@ pub fn mark(
     length: u32,
     deprecated: u32,
     time: u32,
-) -> Answer
-    ensures { outcome result (book_of image.new image_bytes.new figures.new counts.new) []
+) -> Result<Accepted, Refusal>
+    ensures { outcome (answer_of result) (book_of image.new image_bytes.new figures.new counts.new) []
         ≡ mark_book (book_of image.old image_bytes.old figures.old counts.old) time network length (not (eqb deprecated 0)) }
 {
     let bytes = *image_bytes;
-    let admission = call_rows::admit(image, bytes, figures, true, counts, false, ANY_CLIENT, time);
-    if admission.number != 0 {
-        return call_spec::refused(admission.number, 0);
-    }
-    let summary = admission.summary;
+    let summary = call_rows::admit(image, bytes, figures, true, counts, false, ANY_CLIENT, time)?;
     let answer = mark_lease(
         image,
         image_bytes,
         figures,
         network,
         length,
-        deprecated,
+        deprecated != 0,
         time,
         summary,
     );
     // Of the leases only expired ones go.
     let moved = summary.expired != 0;
-    call_rows::settle(
-        answer.number,
-        moved,
-        image,
-        *image_bytes,
-        summary.pools,
-        counts,
-    );
+    call_rows::settle(answer, moved, image, *image_bytes, summary.pools, counts);
     answer
 }

@@ -8,13 +8,14 @@ ghost use Rattle.lists.specs.Put.{put};
 ghost use Rattle.table.specs.Table.{pool_slots};
 ghost use Rattle.table_open.specs.Keys.{pool_of};
 ghost use Rattle.image.specs.Image.{head_size, pool_size, pool_record};
+ghost use Rattle.ledger.specs.Answers.{answer_of};
 ghost use Rattle.ledger.specs.Ledger.{outcome};
 ghost use Rattle.call_spec.specs.Books.{book_of, open_book};
 
 use counts::Counts;
 use image::{FULL_IMAGE, HEAD, Head, POOL};
 use image_figures::FIGURES;
-use ledger::Answer;
+use ledger::{Accepted, Refusal};
 use table::POOLS;
 
 // What the head of a table is opened with.
@@ -45,8 +46,8 @@ pub fn open(
     networks: &[u32],
     lengths: &[u8],
     terms: Terms,
-) -> Answer
-    ensures { outcome result (book_of image.new image_bytes.new figures.new counts.new) []
+) -> Result<Accepted, Refusal>
+    ensures { outcome (answer_of result) (book_of image.new image_bytes.new figures.new counts.new) []
         ≡ open_book (book_of image.old image_bytes.old figures.old counts.old) networks.now lengths.now terms.term terms.default_length terms.start }
 {
     let term = terms.term;
@@ -54,13 +55,13 @@ pub fn open(
     let length = call_spec::length_of(terms.default_length);
     let mut keys = [0u64; POOLS];
     if !table_open::admits(&mut keys, networks, lengths, term, length, start) {
-        return call_spec::refused(12, 0);
+        return Err(Refusal::BadTerms);
     }
     if image.len() < FULL_IMAGE {
-        return call_spec::refused(14, 0);
+        return Err(Refusal::BufferTooShort);
     }
     if figures.len() != FIGURES {
-        return call_spec::refused(14, 0);
+        return Err(Refusal::BufferTooShort);
     }
     let n = networks.len();
     let pools = &keys[..n];
@@ -76,5 +77,5 @@ pub fn open(
     image_figures::fill(figures, image, HEAD + POOL * n, 0);
     image_counts::recount(image, n, 0, counts);
     *image_bytes = HEAD + POOL * n;
-    call_spec::accepted(0, 0)
+    Ok(Accepted { bytes: 0, count: 0 })
 }

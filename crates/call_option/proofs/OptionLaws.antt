@@ -8,21 +8,20 @@ use native.Mathlib.Omega.{arith}
 use lib.ListN.{length}
 use lib.Dec.{leb}
 use borrow.Author.Tests.{leb-true}
-use Rattle.std.specs.Prelude.{Result, IfOk}
+use Rattle.std.specs.Prelude.{Result, Ok, Err, IfOk}
 use Rattle.lists.proofs.PutLaws.{put_front}
-use Rattle.option.specs.Values.{SuboptionValue, refused}
-use Rattle.option.specs.declared.Fault.TheVariants.{Framing, Field}
-use Rattle.option.specs.Reading.{End, whole, bad_at, ended, option?, read_suboptions, read_option}
+use Rattle.option.specs.Values.{SuboptionValue, refused, accepted}
+use Rattle.option.specs.Reading.{read_option}
 use Rattle.option.specs.Writing.{refused_with, written, four_bytes}
 use Rattle.option.specs.Selection.{read_selection, selection_bytes, write_selection}
 use Rattle.std.specs.Prelude.{Option}
-use Rattle.option.specs.Answers.{checked_of, selected_by}
+use Rattle.option.specs.Answers.{selected_by}
 use Rattle.option_reply.specs.declared.WriteFault.{WriteFault}
 use Rattle.option_reply.specs.Answers.{into}
-use Rattle.ledger.specs.declared.Answer.{Answer}
+use Rattle.ledger.specs.declared.{Accepted.Accepted, Answer.Answer, Refusal.Refusal}
 use Rattle.ledger.specs.Ledger.{acceptance}
-use Rattle.ledger.specs.Answers.{checked_answer}
-use Rattle.call_spec.specs.Written.{answer_of}
+use Rattle.ledger.specs.Answers.{refusal_number, bad_place, unwritten, answer_of}
+use Rattle.call_spec.specs.Written.{as_answer}
 use Rattle.call_option.specs.declared.SelectionAnswer.{SelectionAnswer}
 use Rattle.call_option.specs.Options.{selection_answer, selection_in, writing_answer, selection_into, option_check, reading_answer}
 
@@ -34,17 +33,18 @@ selected option r x a e f g = g ∙ ap (λ (y : Option ℕ). selection_answer (s
 
 -- What is written fits: it goes to the front of the buffer.
 into-answer : (b : Bool) (xs buffer : List ℕ) → (b ≡ true → length xs ≤ length buffer)
-    → (answer_of (into (cond b (written xs) (refused_with 14)) buffer).0, (into (cond b (written xs) (refused_with 14)) buffer).1) ≡ writing_answer (cond b (written xs) (refused_with 14)) buffer
+    → (answer_of (as_answer (into (cond b (written xs) (refused_with 14)) buffer).0), (into (cond b (written xs) (refused_with 14)) buffer).1)
+    ≡ writing_answer (cond b (written xs) (refused_with 14)) buffer
 unfolding into
 into-answer true xs buffer fits = ap (λ (l : List ℕ). (acceptance (length xs) 0, l)) (put_front xs buffer (fits refl))
 into-answer false xs buffer fits = refl
 
-pub written-selection : (address : ℕ) (old new : List ℕ) (w : Result ℕ WriteFault) (a : Answer) → ◌≡◌ {A = Result ℕ WriteFault × List ℕ} (w, new) (into (write_selection (length old) address) old) → a ≡ answer_of w
-    → ◌≡◌ {A = Answer × List ℕ} (a, new) (selection_into address old)
+pub written-selection : (address : ℕ) (old new : List ℕ) (w : Result ℕ WriteFault) → ◌≡◌ {A = Result ℕ WriteFault × List ℕ} (w, new) (into (write_selection (length old) address) old)
+    → (a : Result Accepted Refusal) → a ≡ as_answer w → ◌≡◌ {A = Answer × List ℕ} (answer_of a, new) (selection_into address old)
 unfolding selection_into write_selection
-written-selection address old new w a e g =
-    ap (λ (x : Answer). (x, new)) g
-    ∙ ap (λ (p : Result ℕ WriteFault × List ℕ). (answer_of p.0, p.1)) e
+written-selection address old new w e a g =
+    ap (λ (x : Result Accepted Refusal). (answer_of x, new)) g
+    ∙ ap (λ (p : Result ℕ WriteFault × List ℕ). (answer_of (as_answer p.0), p.1)) e
     ∙ into-answer (leb (length (selection_bytes address)) (length old)) (selection_bytes address) old (leb-true (length (selection_bytes address)) (length old))
 
 few_bytes : (b : Bool) (xs buffer : List ℕ) → length xs ≤ 6 → IfOk (into (cond b (written xs) (refused_with 14)) buffer).0 (λ n. n < 4294967296)
@@ -60,13 +60,10 @@ selection-few address old new w h =
 
 -- OPTION 220
 
-reading-answer : (b : Bool) (subs : List SuboptionValue) (e : End)
-    → checked_answer (checked_of (cond b (ended subs e) (refused 6 0))) ≡ reading_answer (cond b (ended subs e) (refused 6 0))
-reading-answer true subs whole = refl
-reading-answer true subs (bad_at Framing place) = refl
-reading-answer true subs (bad_at Field place) = refl
-reading-answer false subs e = refl
+pub unread : (option : List ℕ) (e : Refusal) → read_option option ≡ refused (refusal_number e) (bad_place e) → answer_of (Err e) ≡ option_check option
+unfolding option_check
+unread option e is = sym (ap reading_answer is)
 
-pub checked-option : (option : List ℕ) → checked_answer (checked_of (read_option option)) ≡ option_check option
-unfolding option_check read_option
-checked-option option = reading-answer (option? option) (read_suboptions option 3).0 (read_suboptions option 3).1
+pub read : (option : List ℕ) (subs : List SuboptionValue) → read_option option ≡ accepted subs → acceptance 0 0 ≡ option_check option
+unfolding option_check
+read option subs is = sym (ap reading_answer is)

@@ -2,9 +2,10 @@
 #![tactic(auto)]
 
 ghost use Rattle.std.specs.Prelude.{◌≡◌};
+ghost use Rattle.ledger.specs.Answers.{answer_of};
 ghost use Rattle.call_option.specs.Options.{selection_in, selection_into, option_check};
 
-use ledger::Answer;
+use ledger::{Accepted, Refusal};
 use option_scan::{MOST_ENTRIES, MOST_REQUESTS};
 
 // The address of an option 118; 0 of a refusal.
@@ -28,22 +29,20 @@ pub fn read_selection(option: &[u8]) -> SelectionAnswer
     }
 }
 
-pub fn write_selection(address: u32, buffer: &mut [u8]) -> Answer
-    ensures { (result, buffer.new) ≡ selection_into address buffer.old }
+pub fn write_selection(address: u32, buffer: &mut [u8]) -> Result<Accepted, Refusal>
+    ensures { (answer_of result, buffer.new) ≡ selection_into address buffer.old }
 {
     call_spec::written(option_reply::write_selection(address, buffer))
 }
 
 // By the reader of the calls, so that the library has it once; what it finds in the option is not looked at.
-pub fn check_option(option: &[u8]) -> Answer
-    ensures { result ≡ option_check option.now }
+pub fn check_option(option: &[u8]) -> Result<Accepted, Refusal>
+    ensures { answer_of result ≡ option_check option.now }
 {
     let mut asks = [0u8; MOST_REQUESTS];
     let mut h = [0u8; MOST_REQUESTS];
     let mut networks = [0u32; MOST_ENTRIES];
     let mut lengths = [0u8; MOST_ENTRIES];
-    match option_scan::read(option, &mut asks, &mut h, &mut networks, &mut lengths) {
-        Ok(_) => call_spec::accepted(0, 0),
-        Err(fault) => call_rows::option_refusal(fault),
-    }
+    call_rows::read_option(option, &mut asks, &mut h, &mut networks, &mut lengths)?;
+    Ok(Accepted { bytes: 0, count: 0 })
 }

@@ -6,6 +6,8 @@ use mathlib.Core.Path.{◌≡◌, refl, sym, ap, ap₂, subst, ◌∙◌}
 use mathlib.Core.Bool.{Bool, true, false, cond, true≢false}
 use mathlib.Core.List.{List, [], ◌∷◌, ◌++◌, append_assoc}
 use mathlib.Core.Option.{Option, none, some}
+use Rattle.std.specs.Prelude.{Some, None, Ok, Err, Result, is_ok}
+use Rattle.std.proofs.lemmas.Option.{same_Some}
 use lib.ListN.{length, get_or, take, drop, take-append-drop}
 use lib.Seq.{drop-drop, drop_at}
 use borrow.Author.Tests.{lt-leb, le-leb}
@@ -20,11 +22,14 @@ use Rattle.image.specs.Reading.{pool_in, lease_in, load_image}
 use Rattle.image.proofs.FieldLaws.{spell32}
 use Rattle.image.proofs.ImageLaws.{length-image, length-head, length-pool}
 use Rattle.image_check.specs.declared.ImageSummary.{ImageSummary}
-use Rattle.image_check.specs.ImageSummary.{unsound, summary_of}
+use Rattle.image_check.specs.ImageSummary.{summary_at, summary_of}
 use Rattle.image_records.proofs.RecordLaws.{lease-in-place}
 use Rattle.image_records.proofs.SoundLaws.{used-few, image-records}
 use Rattle.counts.specs.Counts.{sum_at}
 use Rattle.ledger.specs.Sizes.{Bytes}
+use Rattle.ledger.specs.declared.{Accepted.Accepted, Answer.Answer, Refusal.Refusal}
+use Rattle.ledger.specs.Answers.{answer_of}
+use Rattle.ledger.proofs.RefusalLaws.{number-some}
 use Rattle.ledger.specs.Ledger.{refusal, acceptance}
 use Rattle.call_spec.specs.ImageCalls.{Lent, image_in, table_in}
 use Rattle.call_spec.specs.Books.{Book, lent_in, whole_book}
@@ -71,56 +76,54 @@ image-pools t l bytes e k h =
 
 -- WHAT THE CHECK SAYS
 
-says-unsound : (o : Option LeaseTable) → (summary_of 0 o).sound ≡ false → summary_of 0 o ≡ unsound
-says-unsound none e = refl
-says-unsound (some t) e = absurd (true≢false e)
-
 -- The head that it has.
-abbrev pub head_from : ℕ → ImageSummary → HeadAnswer
-head_from number s = record { number = number; term = s.term; default_length = s.default_length; last_time = s.last; pools = s.pools; leases = s.leases }
+abbrev pub head_from : ImageSummary → HeadAnswer
+head_from s = record { number = 0; term = s.term; default_length = s.default_length; last_time = s.last; pools = s.pools; leases = s.leases }
 
-module _ (book : Book) (bytes : Bytes book.lent.image) (summary : ImageSummary) (i : SummaryIn (lent_in book) 0 summary) where
+module _ (book : Book) where
   abbrev h : Lent
   h = lent_in book
 
-  -- Its buffer is the one that is lent.
-  its : h.image ≡ book.lent.image
-  its = (same-buffers book).0
-
-  b : Bytes h.image
-  b = subst Bytes (sym its) bytes
-
   -- ROW 5
-  module _ (no : summary.sound ≡ false) where
-    unsound-is : sound (table_in h) ≡ false
-    unsound-is = sym i.sound ∙ no
-
+  module _ (i : SummaryIn h 0 None) where
     pub check-refused : refusal 5 0 ≡ check_image h
     unfolding check_image
-    check-refused = rw unsound-is
+    check-refused = rw (sym i.sound)
 
-    nothing_is : summary ≡ unsound
-    nothing_is = i.is ∙ says-unsound (load_image (image_in h)) (sym (ap (λ (x : ImageSummary). x.sound) i.is) ∙ no)
+    pub head-refused : head_refusal 5 ≡ head_image h
+    unfolding head_image
+    head-refused = rw (sym i.sound)
 
     pub pool-refused : (index : ℕ) → pool_answer 5 no_pool ≡ pool_image h index
     unfolding pool_image
-    pool-refused index = rw unsound-is
+    pool-refused index = rw (sym i.sound)
 
     pub lease-refused : (index : ℕ) → lease_answer 5 0 no_lease ≡ lease_image h index
     unfolding lease_image
-    lease-refused index = rw unsound-is
+    lease-refused index = rw (sym i.sound)
 
   -- A TABLE
-  module _ (yes : summary.sound ≡ true) where
+  module _ (bytes : Bytes book.lent.image) (summary : ImageSummary) (i : SummaryIn h 0 (Some summary)) where
+    -- Its buffer is the one that is lent.
+    its : h.image ≡ book.lent.image
+    its = (same-buffers book).0
+
+    b : Bytes h.image
+    b = subst Bytes (sym its) bytes
+
     sound-is : sound (table_in h) ≡ true
-    sound-is = sym i.sound ∙ yes
+    sound-is = sym i.sound
 
     pub check-accepted : acceptance 0 0 ≡ check_image h
     unfolding check_image
     check-accepted = rw sound-is
 
-    summary-is : summary ≡ summary_of 0 (some (table_in h))
-    summary-is = i.is ∙ ap (summary_of 0) (held-loads h sound-is)
+    summary-is : summary ≡ summary_at 0 (table_in h)
+    summary-is = same_Some summary (summary_at 0 (table_in h)) (i.is ∙ ap (summary_of 0) (held-loads h sound-is))
+
+    pub head-found : head_from summary ≡ head_image h
+    unfolding head_image
+    head-found = ap head_from summary-is ∙ rw sound-is
 
     pools-are : summary.pools ≡ length (used_pools (table_in h))
     pools-are = ap (λ (x : ImageSummary). x.pools) summary-is
@@ -172,44 +175,21 @@ module _ (book : Book) (bytes : Bytes book.lent.image) (summary : ImageSummary) 
           ∙ lease-in-place h.image (head_size + pool_size * length (used_pools (table_in h))) xs (image-records (table_in h) h.image h.bytes (held-image h sound-is b)) index lt)
           ∙ lease-accepted lt
 
-  -- THE HEAD, in both cases.
-  head-refused : sound (table_in h) ≡ false → head_refusal 5 ≡ head_image h
-  unfolding head_image
-  head-refused f = rw f
-
-  head-accepted : sound (table_in h) ≡ true → head_answer (table_in h) ≡ head_image h
-  unfolding head_image
-  head-accepted f = rw f
-
-  pub few-at-all : (summary.pools ≤ pool_slots) × (summary.leases ≤ lease_slots)
-  few-at-all = by-sound summary.sound refl
-    where
-      by-sound : (s : Bool) → summary.sound ≡ s → (summary.pools ≤ pool_slots) × (summary.leases ≤ lease_slots)
-      by-sound true f = few f
-      by-sound false f = let z = nothing_is f in (omega (arith, ap (λ (x : ImageSummary). x.pools) z), omega (arith, ap (λ (x : ImageSummary). x.leases) z))
-
-  pub head-answered : head_from (cond summary.sound 0 5) summary ≡ head_image h
-  head-answered = by-sound summary.sound refl
-    where
-      by-sound : (s : Bool) → summary.sound ≡ s → head_from (cond s 0 5) summary ≡ head_image h
-      by-sound true f = ap (head_from 0) (summary-is f) ∙ head-accepted (sound-is f)
-      by-sound false f = ap (head_from 5) (nothing_is f) ∙ head-refused (unsound-is f)
-
 -- HOW MUCH IS LEFT: refused where the check is.
 
-module _ (book : Book) (len : ℕ) where
-  pub whole-refused : ((check_image (lent_in book)).number ≡ 0 → ⊥) → check_image (lent_in book) ≡ whole_book book len
+module _ (book : Book) (len : ℕ) (r : Result Accepted Refusal) (checked : answer_of r ≡ check_image (lent_in book)) where
+  pub whole-refused : (e : Refusal) → r ≡ Err e → answer_of (Err e) ≡ whole_book book len
   unfolding check_image whole_book
-  whole-refused k = by-sound (sound (table_in (lent_in book))) refl
+  whole-refused e is = by-sound (sound (table_in (lent_in book))) refl
     where
-      by-sound : (s : Bool) → sound (table_in (lent_in book)) ≡ s → check_image (lent_in book) ≡ whole_book book len
-      by-sound true f = absurd (k (rw f refl))
-      by-sound false f = rw f
+      by-sound : (s : Bool) → sound (table_in (lent_in book)) ≡ s → answer_of (Err e) ≡ whole_book book len
+      by-sound true f = absurd (number-some e (ap (λ (a : Answer). a.number) (sym (ap answer_of is) ∙ checked) ∙ rw f refl))
+      by-sound false f = sym (ap answer_of is) ∙ checked ∙ rw f refl
 
-  pub whole-accepted : (check_image (lent_in book)).number ≡ 0 → acceptance 0 (sum_at book.counts len) ≡ whole_book book len
+  pub whole-accepted : (a : Accepted) → r ≡ Ok a → acceptance 0 (sum_at book.counts len) ≡ whole_book book len
   unfolding check_image whole_book
-  whole-accepted z = by-sound (sound (table_in (lent_in book))) refl
+  whole-accepted a is = by-sound (sound (table_in (lent_in book))) refl
     where
       by-sound : (s : Bool) → sound (table_in (lent_in book)) ≡ s → acceptance 0 (sum_at book.counts len) ≡ whole_book book len
       by-sound true f = rw f
-      by-sound false f = let five : (check_image (lent_in book)).number ≡ 5 = rw f refl in absurd (omega (arith, z, five))
+      by-sound false f = let five : 0 ≡ 5 = ap (λ (x : Answer). x.number) (sym (ap answer_of is) ∙ checked) ∙ rw f refl in absurd (omega (arith, five))

@@ -2,8 +2,9 @@
 // length it has. Each checks the book and reads what it is asked for where it stands.
 #![tactic(auto)]
 
-ghost use Rattle.std.specs.Prelude.{◌≡◌, cond, []};
+ghost use Rattle.std.specs.Prelude.{◌≡◌, []};
 ghost use Rattle.image.specs.Image.{bit};
+ghost use Rattle.ledger.specs.Answers.{answer_of};
 ghost use Rattle.call_spec.specs.Books.{book_of, lent_in, whole_book};
 ghost use Rattle.call_query.specs.Queries.{
   check_image,
@@ -16,7 +17,7 @@ ghost use Rattle.call_query.specs.Queries.{
 
 use counts::Counts;
 use image::{HEAD, LEASE, POOL};
-use ledger::Answer;
+use ledger::{Accepted, Refusal};
 use table::{Lease, Pool};
 
 // The head of the table, and how many pools and leases it has. Of a refusal all but the number is 0, here and below.
@@ -56,32 +57,31 @@ pub struct LeaseAnswer {
 }
 
 // No query looks at which leases have expired, so the time of the summary is 0, here and below.
-pub fn check(image: &[u8], image_bytes: usize, counts: &Counts) -> Answer
-    ensures { result ≡ check_image (lent_in (book_of image.now image_bytes [] counts.now)) }
+pub fn check(image: &[u8], image_bytes: usize, counts: &Counts) -> Result<Accepted, Refusal>
+    ensures { answer_of result ≡ check_image (lent_in (book_of image.now image_bytes [] counts.now)) }
 {
-    let summary = call_rows::summary_in(image, image_bytes, counts, 0);
-    if !summary.sound {
-        return call_spec::refused(5, 0);
-    }
-    call_spec::accepted(0, 0)
+    call_rows::summary_in(image, image_bytes, counts, 0).ok_or(Refusal::NotSound)?;
+    Ok(Accepted { bytes: 0, count: 0 })
 }
 
-// Row 5, or 0.
-fn row_5(sound: bool) -> u32
-    ensures { result ≡ cond sound 0 5 }
-{
-    if sound { 0 } else { 5 }
-}
-
-// Where there is no table the summary is all 0.
+// Where there is no table, all else is 0.
 pub fn head(image: &[u8], image_bytes: usize, counts: &Counts) -> HeadAnswer
     ensures { result ≡ head_image (lent_in (book_of image.now image_bytes [] counts.now)) }
 {
-    let summary = call_rows::summary_in(image, image_bytes, counts, 0);
+    let Some(summary) = call_rows::summary_in(image, image_bytes, counts, 0) else {
+        return HeadAnswer {
+            number: 5,
+            term: 0,
+            default_length: 0,
+            last_time: 0,
+            pools: 0,
+            leases: 0,
+        };
+    };
     HeadAnswer {
-        number: row_5(summary.sound),
+        number: 0,
         term: summary.term,
-        default_length: summary.default_length as u32,
+        default_length: u32::from(summary.default_length),
         last_time: summary.last,
         pools: summary.pools as u32,
         leases: summary.leases as u32,
@@ -96,17 +96,16 @@ fn pool_answer(number: u32, p: Pool) -> PoolAnswer
     PoolAnswer {
         number,
         network: p.network,
-        length: p.length as u32,
+        length: u32::from(p.length),
     }
 }
 
 pub fn pool(image: &[u8], image_bytes: usize, counts: &Counts, index: usize) -> PoolAnswer
     ensures { result ≡ pool_image (lent_in (book_of image.now image_bytes [] counts.now)) index }
 {
-    let summary = call_rows::summary_in(image, image_bytes, counts, 0);
-    if !summary.sound {
+    let Some(summary) = call_rows::summary_in(image, image_bytes, counts, 0) else {
         return pool_answer(5, table::no_pool());
-    }
+    };
     if summary.pools <= index {
         return pool_answer(11, table::no_pool());
     }
@@ -119,7 +118,7 @@ pub fn pool(image: &[u8], image_bytes: usize, counts: &Counts, index: usize) -> 
 fn bit(b: bool) -> u32
     ensures { result ≡ bit b }
 {
-    if b { 1 } else { 0 }
+    u32::from(b)
 }
 
 fn lease_answer(number: u32, state: u8, x: Lease) -> LeaseAnswer
@@ -128,9 +127,9 @@ fn lease_answer(number: u32, state: u8, x: Lease) -> LeaseAnswer
     LeaseAnswer {
         number,
         network: x.network,
-        length: x.length as u32,
+        length: u32::from(x.length),
         client: x.client,
-        state: state as u32,
+        state: u32::from(state),
         h: bit(x.h),
         d: bit(x.d),
         expires: x.expires,
@@ -142,10 +141,9 @@ fn lease_answer(number: u32, state: u8, x: Lease) -> LeaseAnswer
 pub fn lease(image: &[u8], image_bytes: usize, counts: &Counts, index: usize) -> LeaseAnswer
     ensures { result ≡ lease_image (lent_in (book_of image.now image_bytes [] counts.now)) index }
 {
-    let summary = call_rows::summary_in(image, image_bytes, counts, 0);
-    if !summary.sound {
+    let Some(summary) = call_rows::summary_in(image, image_bytes, counts, 0) else {
         return lease_answer(5, 0, table::no_lease());
-    }
+    };
     if summary.leases <= index {
         return lease_answer(11, 0, table::no_lease());
     }
@@ -156,12 +154,17 @@ pub fn lease(image: &[u8], image_bytes: usize, counts: &Counts, index: usize) ->
 // HOW MUCH IS LEFT
 
 // How many whole free blocks of a length there are, as last written; 0 outside 8 to 30.
-pub fn whole(image: &[u8], image_bytes: usize, counts: &Counts, length: u32) -> Answer
-    ensures { result ≡ whole_book (book_of image.now image_bytes [] counts.now) length }
+pub fn whole(
+    image: &[u8],
+    image_bytes: usize,
+    counts: &Counts,
+    length: u32,
+) -> Result<Accepted, Refusal>
+    ensures { answer_of result ≡ whole_book (book_of image.now image_bytes [] counts.now) length }
 {
-    let checked = check(image, image_bytes, counts);
-    if checked.number != 0 {
-        return checked;
-    }
-    call_spec::accepted(0, counts::sum(*counts, length))
+    check(image, image_bytes, counts)?;
+    Ok(Accepted {
+        bytes: 0,
+        count: counts::sum(*counts, length),
+    })
 }

@@ -1,5 +1,5 @@
 -- What striking leases in place leaves.
-use Rattle.std.specs.Prelude.{ℕ, ◌≡◌, List, map, length}
+use Rattle.std.specs.Prelude.{ℕ, ◌≡◌, List, [], map, length, Option, MatchOption}
 use Rattle.lists.specs.Lists.{filter}
 use Rattle.option.specs.Values.{Entry}
 use Rattle.table.specs.declared.Lease.{Lease}
@@ -18,6 +18,10 @@ pub record Struck (buffer : List ℕ) (from : ℕ) (xs : List Lease) (now client
   pub counted : s.count ≡ length (filter (named_by? client es) (present now xs))
   pub after_is : after ≡ changed_in now client 0 es buffer from xs
   pub between : present now xs ≡ xs → ExpiredIn now s.first s.last (map (changed_by now client 0 es) xs)
+
+-- Nothing, where the entries name none that is present; then the buffer stays.
+abbrev pub StruckBy : List ℕ → ℕ → List Lease → ℕ → ℕ → List Entry → List ℕ → Option Strikes → Type 0
+StruckBy buffer from xs now client es after r = MatchOption r ((filter (named_by? client es) (present now xs) ≡ []) × (after ≡ buffer)) (Struck buffer from xs now client es after)
 
 -- The struck and the expired ones are removed, and their rows with them.
 pub record Removed (buffer sheet : List ℕ) (from : ℕ) (xs : List Lease) (now : ℕ) (after figures : List ℕ) (bytes : ℕ) : Type 0 where

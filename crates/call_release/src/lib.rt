@@ -1,10 +1,11 @@
 // Return as a call on an open book, in place; `return` is a keyword.
 #![tactic(auto)]
 
-ghost use Rattle.std.specs.Prelude.{◌≡◌, List, [], ℕ, ◌+◌, ◌*◌, ◌≤◌, length};
+ghost use Rattle.std.specs.Prelude.{◌≡◌, List, [], ℕ, ◌+◌, ◌*◌, ◌≤◌, length, IfSome};
 ghost use Rattle.option.specs.Values.{Entry};
 ghost use Rattle.table.specs.declared.Lease.{Lease};
 ghost use Rattle.image.specs.Image.{head_size, lease_size};
+ghost use Rattle.ledger.specs.Answers.{answer_of};
 ghost use Rattle.ledger.specs.Ledger.{call, outcome};
 ghost use Rattle.image_records.specs.Records.{Records, Ascending, ExpiredIn};
 ghost use Rattle.call_entries.specs.EntryLeases.{Hold};
@@ -13,13 +14,13 @@ ghost use Rattle.call_spec.specs.ImageCalls.{lent, release_image};
 ghost use Rattle.call_spec.specs.Books.{book_of, release_book};
 ghost use Rattle.image_figures.specs.Sheets.{row_size};
 ghost use Rattle.call_release.specs.InnerReleasing.{Releasing};
-ghost use Rattle.call_release.specs.InnerStruck.{Struck, Removed};
+ghost use Rattle.call_release.specs.InnerStruck.{StruckBy, Removed};
 
 use call_entries::Expiry;
 use counts::Counts;
 use image::{HEAD, POOL};
 use image_check::ImageSummary;
-use ledger::Answer;
+use ledger::{Accepted, Refusal};
 
 // How many leases are struck; all of them stand from the place `first` up to `last`.
 #[derive(Clone, Copy)]
@@ -29,19 +30,8 @@ struct Strikes {
     last: usize,
 }
 
-fn smaller(a: usize, b: usize) -> usize
-    ensures { (result ≤ a) × (result ≤ b) }
-{
-    if a < b { a } else { b }
-}
-
-fn larger(a: usize, b: usize) -> usize
-    ensures { (a ≤ result) × (b ≤ result) × ((m : ℕ) → a ≤ m → b ≤ m → result ≤ m) }
-{
-    if a < b { b } else { a }
-}
-
-// Strikes each lease that an entry names: it expires at 0, so it counts as expired and no later entry finds it.
+// Strikes each lease that an entry names: it expires at 0, so it counts as expired and no later entry finds it. Nothing, where
+// they name none.
 fn strike_named(
     image: &mut [u8],
     from: usize,
@@ -50,31 +40,32 @@ fn strike_named(
     client: u32,
     networks: &[u32],
     lengths: &[u8],
-) -> Strikes
+) -> Option<Strikes>
     requires { (from + lease_size * n ≤ length image.old) × (length networks.now ≡ length lengths.now) }
-    ensures bounds { (result.count ≤ length networks.now) × (result.last ≤ n) × (1 ≤ result.count → result.first ≤ result.last) }
+    ensures bounds { IfSome result (λ s. (1 ≤ s.count) × (s.count ≤ length networks.now) × (s.first ≤ s.last) × (s.last ≤ n)) }
     ensures equation { ((xs : List Lease) → Records image.old from xs → n ≡ length xs → Ascending xs → (es : List Entry) → Hold networks.now lengths.now es
-        → Struck image.old from xs time client es image.new result) }
+        → StruckBy image.old from xs time client es image.new result) }
 {
+    let struck = Expiry {
+        client,
+        time,
+        expires: 0,
+    };
     let mut count: usize = 0;
     let mut first: usize = n;
     let mut last: usize = 0;
-    let mut k: usize = 0;
-    while k < networks.len() {
-        let struck = Expiry {
-            client,
-            time,
-            expires: 0,
-        };
-        let i = call_entries::set_expiry(image, from, n, struck, networks[k], lengths[k]);
-        if i < n {
-            count = count + 1;
-            first = smaller(first, i);
-            last = larger(last, i + 1);
+    for (k, network) in networks.iter().enumerate() {
+        let found = call_entries::set_expiry(image, from, n, struck, *network, lengths[k]);
+        if let Some(i) = found {
+            count += 1;
+            first = first.min(i);
+            last = last.max(i + 1);
         }
-        k = k + 1;
     }
-    Strikes { count, first, last }
+    if count == 0 {
+        return None;
+    }
+    Some(Strikes { count, first, last })
 }
 
 // Removes the leases that are struck and those that have expired, if there are any of these, which can stand anywhere; their rows
@@ -111,19 +102,16 @@ fn strike_found(
     summary: ImageSummary,
     networks: &[u32],
     lengths: &[u8],
-) -> Answer
+) -> Result<Accepted, Refusal>
     requires { Sized (lent image.old image_bytes.old figures.old) summary networks.now lengths.now }
     ensures { ((option : List ℕ) → Releasing (lent image.old image_bytes.old figures.old) time (call client option []) summary networks.now lengths.now
-        → outcome result (lent image.new image_bytes.new figures.new) []
+        → outcome (answer_of result) (lent image.new image_bytes.new figures.new) []
         ≡ release_image (lent image.old image_bytes.old figures.old) time (call client option [])) }
 {
     let from = HEAD + POOL * summary.pools;
     let n = summary.leases;
-    let strikes = strike_named(image, from, n, time, client, networks, lengths);
-    let struck = strikes.count;
-    if struck == 0 {
-        return call_spec::refused(11, 0);
-    }
+    let struck = strike_named(image, from, n, time, client, networks, lengths);
+    let strikes = struck.ok_or(Refusal::NothingFound)?;
     *image_bytes = remove_struck(
         image,
         figures,
@@ -134,7 +122,10 @@ fn strike_found(
         strikes.last,
         time,
     );
-    call_spec::accepted(0, struck as u32)
+    Ok(Accepted {
+        bytes: 0,
+        count: strikes.count as u32,
+    })
 }
 
 pub fn release(
@@ -145,24 +136,15 @@ pub fn release(
     client: u32,
     time: u32,
     option: &[u8],
-) -> Answer
-    ensures { outcome result (book_of image.new image_bytes.new figures.new counts.new) []
+) -> Result<Accepted, Refusal>
+    ensures { outcome (answer_of result) (book_of image.new image_bytes.new figures.new counts.new) []
         ≡ release_book (book_of image.old image_bytes.old figures.old counts.old) time (call client option.now []) }
 {
     let bytes = *image_bytes;
-    let admission = call_rows::admit(image, bytes, figures, true, counts, false, client, time);
-    if admission.number != 0 {
-        return call_spec::refused(admission.number, 0);
-    }
+    let summary = call_rows::admit(image, bytes, figures, true, counts, false, client, time)?;
     let mut networks = [0u32; option_scan::MOST_ENTRIES];
     let mut lengths = [0u8; option_scan::MOST_ENTRIES];
-    let read = call_entries::read_entries(option, &mut networks, &mut lengths);
-    let refusal = read.answer;
-    if refusal.number != 0 {
-        return refusal;
-    }
-    let n = read.count;
-    let summary = admission.summary;
+    let n = call_entries::read_entries(option, &mut networks, &mut lengths)?;
     let answer = strike_found(
         image,
         image_bytes,
@@ -175,13 +157,6 @@ pub fn release(
     );
     // An accepted return removes leases.
     let moved = true;
-    call_rows::settle(
-        answer.number,
-        moved,
-        image,
-        *image_bytes,
-        summary.pools,
-        counts,
-    );
+    call_rows::settle(answer, moved, image, *image_bytes, summary.pools, counts);
     answer
 }

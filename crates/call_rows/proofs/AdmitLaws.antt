@@ -1,86 +1,88 @@
--- Laws of the admission: by row 1, and by the others.
+-- Laws of the admission: what each of its steps says of the rows.
 -- Assumes nothing.
-use Prim.Native.Nat.{ℕ}
-use native.Mathlib.Omega.{arith}
+use Prim.Native.Nat.{ℕ, ◌≤◌}
 use mathlib.Core.Path.{◌≡◌, refl, sym, ap, subst, ◌∙◌}
 use mathlib.Core.Bool.{Bool, true, false, not, cond, ◌||◌}
 use mathlib.Core.List.{List, [], ◌∷◌, ◌++◌}
 use mathlib.Core.Option.{some}
 use lib.Dec.{ltb, eqb}
-use borrow.Author.Tests.{ltb-false, not-false}
-use Rattle.lists.proofs.Tests.{cond-true, cond-false}
+use Rattle.std.specs.Prelude.{Some, None}
+use Rattle.lists.proofs.Tests.{cond-true, cond-false, not-of, not-to}
 use Rattle.table.specs.Table.{latest, sound}
 use Rattle.figures.specs.Figures.{matches?}
 use Rattle.ledger.specs.Sizes.{Bytes}
-use Rattle.ledger.specs.Ledger.{Row, first_of, time_rows}
+use Rattle.ledger.specs.Ledger.{Row, first_of, table_rows, state_rows, time_rows}
 use Rattle.ledger.specs.FiguresKept.{Matched}
-use Rattle.ledger.proofs.RowLaws.{first-none}
 use Rattle.image_check.specs.declared.ImageSummary.{ImageSummary}
 use Rattle.call_spec.specs.ImageCalls.{Lent, table_in, state_in}
 use Rattle.call_spec.specs.Books.{Book, lent_in}
 use Rattle.call_spec.proofs.BookLaws.{same-buffers}
 use Rattle.call_spec.proofs.TableLaws.{held-size, held-sheet}
-use Rattle.call_rows.specs.declared.Admission.{Admission}
-use Rattle.call_rows.specs.Admission.{number_of, SheetIn, Admits}
+use Rattle.call_rows.specs.Admission.{admission_rows, SheetIn, Admitted}
 use Rattle.call_rows.specs.InnerSummary.{SummaryIn, Measured, SheetPasses}
-use Rattle.call_rows.proofs.SummaryLaws.{passes-is, admits, measured}
-use Rattle.call_rows.proofs.RowLaws.{number-none}
+use Rattle.call_rows.proofs.SummaryLaws.{passes-is, admits, measured, last-is}
 
--- ROW 15: what the code tests in every call is one row more for those that have the sheet, and none for the others.
-row-15 : (sheet sound? matches passes : Bool) (later : List Row) → (sound? ≡ true → passes ≡ (not sheet || matches))
-    → first_of ((5, not sound?) ∷ (15, not passes) ∷ later) ≡ first_of (cond sheet ((5, not sound?) ∷ (15, not matches) ∷ []) ((5, not sound?) ∷ []) ++ later)
-row-15 true false matches passes later e = refl
-row-15 false false matches passes later e = refl
-row-15 true true matches passes later e = ap (λ (p : Bool). first_of ((15, not p) ∷ later)) (e refl)
-row-15 false true matches passes later e = ap (λ (p : Bool). first_of ((15, not p) ∷ later)) (e refl)
+module _ (sheet short : Bool) (h : Lent) (now client : ℕ) where
+  abbrev rows : List Row
+  rows = admission_rows sheet short h now client
 
-sheet-of : (h : Lent) → sound (table_in h) ≡ true → Bytes h.figures → Matched (state_in h) → SheetIn h
-sheet-of h s b m = record { matched = m; size = held-size h s m; whole = held-sheet h s m b }
+  abbrev later : List Row
+  later = (2, eqb client 0) ∷ time_rows (state_in h) now
 
-module _ (sheet short : Bool) (h : Lent) (now client : ℕ) (a : Admission) where
-  pub admit-short : short ≡ true → a.number ≡ 1 → Admits sheet short h now client a
-  admit-short is e = record {
-    number = e ∙ ap number_of (sym (cond-true short (some 1) _ is));
-    admitted = λ z. absurd (omega (arith, e, z));
-  }
+  pub row-1 : short ≡ true → first_of rows ≡ some 1
+  row-1 e = cond-true short (some 1) _ e
 
-  -- Rows 5, 15, 2, 3 and 4, of what the check says.
-  abbrev rest : Bool → Bool → ℕ → List Row
-  rest sound? passes last = (5, not sound?) ∷ (15, not passes) ∷ (2, eqb client 0) ∷ (3, ltb now last) ∷ (4, ltb latest now) ∷ []
+  module _ (long : short ≡ false) where
+    abbrev ok : Bool
+    ok = sound (table_in h)
 
-  pub admit-rest : short ≡ false → Bytes h.image → Bytes h.figures → SummaryIn h now a.summary → (passes : Bool) → SheetPasses sheet a.summary h.image h.figures passes
-      → a.number ≡ number_of (first_of (rest a.summary.sound passes a.summary.last)) → Admits sheet short h now client a
-  admit-rest long b k i passes p e =
-      let rows : List Row = rest (sound (table_in h)) passes (table_in h).last in
-      let same : a.number ≡ number_of (first_of rows) = e ∙ rw (i.sound, i.last) in
-      let is : sound (table_in h) ≡ true → passes ≡ (not sheet || matches? (table_in h).leases (state_in h).rows) = λ s. passes-is h now b a.summary i s sheet passes p in
-      let by-sheet = row-15 sheet (sound (table_in h)) (matches? (table_in h).leases (state_in h).rows) passes ((2, eqb client 0) ∷ time_rows (state_in h) now) is in
-      record {
-        number = same ∙ ap number_of (by-sheet ∙ sym (cond-false short (some 1) _ long));
-        admitted = λ z.
-            let r = first-none rows (number-none rows (refl, (refl, (refl, (refl, (refl, tt))))) a.number same z) in
-            let s : sound (table_in h) ≡ true = not-false (sound (table_in h)) r.0 in
-            let matched : sheet ≡ true → Matched (state_in h) =
-            λ c. ap (λ (x : Bool). not x || matches? (table_in h).leases (state_in h).rows) (sym c) ∙ sym (is s) ∙ not-false passes r.1.0 in
-            admits h now b a.summary i s sheet client r.1.1.0 (ltb-false now (table_in h).last r.1.1.1.0) (ltb-false latest now r.1.1.1.1.0)
-            (λ c. sheet-of h s k (matched c));
-      }
+    pub row-5 : ok ≡ false → first_of rows ≡ some 5
+    row-5 e = cond-false short (some 1) _ long ∙ go sheet
+      where
+        go : (w : Bool) → first_of (cond w (state_rows (state_in h)) (table_rows (state_in h)) ++ later) ≡ some 5
+        go true = cond-true (not ok) (some 5) _ (not-of ok e)
+        go false = cond-true (not ok) (some 5) _ (not-of ok e)
+
+    -- What the code tests in every call is one row more for those that have the sheet, and none for the others.
+    after-5 : ok ≡ true → (passes : Bool) → passes ≡ (not sheet || matches? (table_in h).leases (state_in h).rows) → first_of rows ≡ first_of ((15, not passes) ∷ later)
+    after-5 e passes is = cond-false short (some 1) _ long ∙ go sheet is
+      where
+        go : (w : Bool) → passes ≡ (not w || matches? (table_in h).leases (state_in h).rows)
+            → first_of (cond w (state_rows (state_in h)) (table_rows (state_in h)) ++ later) ≡ first_of ((15, not passes) ∷ later)
+        go true p = cond-false (not ok) (some 5) _ (not-to ok e) ∙ ap (λ (b : Bool). first_of ((15, not b) ∷ later)) (sym p)
+        go false p = cond-false (not ok) (some 5) _ (not-to ok e) ∙ sym (cond-false (not passes) (some 15) _ (not-to passes p))
 
 -- AN OPEN BOOK: its buffers are those of what is given in its place.
-module _ (b : Book) (now : ℕ) (image : Bytes b.lent.image) (summary : ImageSummary) (i : SummaryIn (lent_in b) now summary) where
-  given-bytes : Bytes (lent_in b).image
-  given-bytes = subst Bytes (sym (same-buffers b).0) image
+module _ (b : Book) (now : ℕ) (image : Bytes b.lent.image) (summary : ImageSummary) (i : SummaryIn (lent_in b) now (Some summary)) where
+  abbrev h : Lent
+  h = lent_in b
+
+  in_image : Bytes h.image
+  in_image = subst Bytes (sym (same-buffers b).0) image
 
   pub book-measured : Measured summary b.lent.image
-  book-measured = subst (Measured summary) (same-buffers b).0 (measured (lent_in b) now given-bytes summary i)
+  book-measured = subst (Measured summary) (same-buffers b).0 (measured h now in_image summary i)
 
-module _ (sheet short : Bool) (b : Book) (now client : ℕ) (a : Admission) where
-  pub admit-book : short ≡ false → Bytes b.lent.image → Bytes b.lent.figures → SummaryIn (lent_in b) now a.summary → (passes : Bool)
-      → SheetPasses sheet a.summary b.lent.image b.lent.figures passes
-      → a.number ≡ number_of (first_of ((5, not a.summary.sound) ∷ (15, not passes) ∷ (2, eqb client 0) ∷ (3, ltb now a.summary.last) ∷ (4, ltb latest now) ∷ []))
-      → Admits sheet short (lent_in b) now client a
-  admit-book long image figures i passes p e =
-      let same = same-buffers b in
-      admit-rest sheet short (lent_in b) now client a long (subst Bytes (sym same.0) image) (subst Bytes (sym same.1) figures) i passes
-      (subst (λ (f : List ℕ). SheetPasses sheet a.summary (lent_in b).image f passes) (sym same.1)
-      (subst (λ (l : List ℕ). SheetPasses sheet a.summary l b.lent.figures passes) (sym same.0) p)) e
+  module _ (sheet short : Bool) (client : ℕ) (figures : Bytes b.lent.figures) (passes : Bool) (p : SheetPasses sheet summary b.lent.image b.lent.figures passes) where
+    its-sheet : passes ≡ (not sheet || matches? (table_in h).leases (state_in h).rows)
+    its-sheet =
+        let same = same-buffers b in
+        passes-is h now in_image summary i sheet passes
+        (subst (λ (f : List ℕ). SheetPasses sheet summary h.image f passes) (sym same.1)
+        (subst (λ (l : List ℕ). SheetPasses sheet summary l b.lent.figures passes) (sym same.0) p))
+
+    pub rows-after-5 : short ≡ false
+        → first_of (admission_rows sheet short h now client)
+        ≡ first_of ((15, not passes) ∷ (2, eqb client 0) ∷ (3, ltb now summary.last) ∷ (4, ltb latest now) ∷ [])
+    rows-after-5 long =
+        after-5 sheet short h now client long (sym i.sound) passes its-sheet
+        ∙ ap (λ (n : ℕ). first_of ((15, not passes) ∷ (2, eqb client 0) ∷ (3, ltb now n) ∷ (4, ltb latest now) ∷ [])) (sym (last-is h now in_image summary i))
+
+    pub book-admitted : passes ≡ true → eqb client 0 ≡ false → summary.last ≤ now → now ≤ latest → Admitted sheet h now client summary
+    book-admitted matched named since early =
+        let s : sound (table_in h) ≡ true = sym i.sound in
+        let f : Bytes h.figures = subst Bytes (sym (same-buffers b).1) figures in
+        admits h now in_image summary i sheet client named (subst (λ (n : ℕ). n ≤ now) (last-is h now in_image summary i) since) early
+        (λ c.
+        let m : Matched (state_in h) = ap (λ (x : Bool). not x || matches? (table_in h).leases (state_in h).rows) (sym c) ∙ sym its-sheet ∙ matched in
+        record { matched = m; size = held-size h s m; whole = held-sheet h s m f })

@@ -6,7 +6,9 @@ use mathlib.Core.Path.{◌≡◌, refl, sym, ap, subst, ◌∙◌}
 use mathlib.Core.Logic.{⊎_elim}
 use mathlib.Core.Bool.{Bool, true, false, true≢false}
 use mathlib.Core.List.{List, []}
-use mathlib.Core.Option.{Option, none, some}
+use mathlib.Core.Option.{none}
+use Rattle.std.specs.Prelude.{Some, None}
+use Rattle.std.proofs.lemmas.Option.{same_Some}
 use lib.ListN.{length, take}
 use Rattle.lists.proofs.Tests.{bool_cases}
 use Rattle.table.specs.declared.LeaseTable.{LeaseTable}
@@ -16,7 +18,7 @@ use Rattle.image.specs.Reading.{load_image}
 use Rattle.image.proofs.ImageLaws.{length-image}
 use Rattle.image_records.proofs.SoundLaws.{used-few}
 use Rattle.image_check.specs.declared.ImageSummary.{ImageSummary}
-use Rattle.image_check.specs.ImageSummary.{summary_of}
+use Rattle.image_check.specs.ImageSummary.{summary_at, summary_of}
 use Rattle.counts.specs.Counts.{counts_of, same_counts?}
 use Rattle.image_counts.specs.Standing.{Stands, SomeTable}
 use Rattle.ledger.specs.Sizes.{Bytes}
@@ -33,10 +35,6 @@ use Rattle.call_rows.proofs.SummaryLaws.{summary-in}
 no-image : (image figures : List ℕ) → load_image (image_in (lent image 0 figures)) ≡ none
 no-image image figures = ap (λ (n : ℕ). load_image (take n image)) (cond_both (holds? (lent image 0 figures)) 0) ∙ nothing-loads
 
-none-loaded : (now : ℕ) (o : Option LeaseTable) → (summary_of now o).sound ≡ false → o ≡ none
-none-loaded now none e = refl
-none-loaded now (some t) e = absurd (true≢false e)
-
 -- A SOUND TABLE STANDS at the front of its buffer.
 pub stands : (h : Lent) → sound (table_in h) ≡ true → image_of (table_in h) ≡ take h.bytes h.image → length (image_of (table_in h)) ≡ h.bytes → (pools leases : ℕ)
     → pools ≡ length (used_pools (table_in h)) → leases ≡ length (used_leases (table_in h)) → Stands (table_in h) h.image pools leases
@@ -44,28 +42,28 @@ stands h s image size pools leases p l = record { sound-table = s; image-is = im
 
 -- THE SUMMARY
 
-module _ (image : List ℕ) (bytes : ℕ) (counts : List (List ℕ)) (now : ℕ) (b : Bytes image) (summary : ImageSummary)
-    (i : (figures : List ℕ) → SummaryIn (lent image bytes figures) now summary) where
+module _ (image : List ℕ) (bytes : ℕ) (counts : List (List ℕ)) (now : ℕ) (b : Bytes image) where
+  -- Of no bytes it says nothing.
+  nothing-in : (figures : List ℕ) → SummaryIn (lent image 0 figures) now None
+  nothing-in figures = summary-in (lent image 0 figures) now b None (ap (summary_of now) (sym (no-image image figures)))
+
   -- Of what is no image nothing is judged.
-  pub book-unsound : summary.sound ≡ false → (figures : List ℕ) → SummaryIn (lent_in (book_of image bytes figures counts)) now summary
-  book-unsound e figures =
-      let nothing : load_image (image_in (lent image bytes figures)) ≡ none = none-loaded now (load_image (image_in (lent image bytes figures))) (sym (ap (λ (x : ImageSummary). x.sound) (i figures).is) ∙ e) in
+  pub book-unsound : ((figures : List ℕ) → SummaryIn (lent image bytes figures) now None) → (figures : List ℕ) → SummaryIn (lent_in (book_of image bytes figures counts)) now None
+  book-unsound i figures =
       ⊎_elim
-      (λ (c : counted? (book_of image bytes figures counts) ≡ true). subst (λ (h : Lent). SummaryIn h now summary) (sym (lent-counted (book_of image bytes figures counts) c)) (i figures))
+      (λ (c : counted? (book_of image bytes figures counts) ≡ true).
+      subst (λ (h : Lent). SummaryIn h now None) (sym (lent-counted (book_of image bytes figures counts) c)) (i figures))
       (λ (c : counted? (book_of image bytes figures counts) ≡ false).
-      subst (λ (h : Lent). SummaryIn h now summary) (sym (lent-differing (book_of image bytes figures counts) c))
-      (summary-in (lent image 0 figures) now b summary ((i figures).is ∙ ap (summary_of now) (nothing ∙ sym (no-image image figures)))))
+      subst (λ (h : Lent). SummaryIn h now None) (sym (lent-differing (book_of image bytes figures counts) c)) (nothing-in figures))
       (bool_cases (counted? (book_of image bytes figures counts)))
 
-  module _ (e : summary.sound ≡ true) where
-    table-sound : (figures : List ℕ) → sound (table_in (lent image bytes figures)) ≡ true
-    table-sound figures = sym (i figures).sound ∙ e
-
+  module _ (summary : ImageSummary) (i : (figures : List ℕ) → SummaryIn (lent image bytes figures) now (Some summary)) where
     pub summary-stands : (figures : List ℕ) → Stands (table_in (lent image bytes figures)) image summary.pools summary.leases
     summary-stands figures =
         let h : Lent = lent image bytes figures in
-        let whole : summary ≡ summary_of now (some (table_in h)) = (i figures).is ∙ ap (summary_of now) (held-loads h (table-sound figures)) in
-        stands h (table-sound figures) (held-image h (table-sound figures) b) (held-length h (table-sound figures) b) summary.pools summary.leases (ap (λ (x : ImageSummary). x.pools) whole) (ap (λ (x : ImageSummary). x.leases) whole)
+        let s : sound (table_in h) ≡ true = sym (i figures).sound in
+        let whole = same_Some summary (summary_at now (table_in h)) ((i figures).is ∙ ap (summary_of now) (held-loads h s)) in
+        stands h s (held-image h s b) (held-length h s b) summary.pools summary.leases (ap (λ (x : ImageSummary). x.pools) whole) (ap (λ (x : ImageSummary). x.leases) whole)
 
     pub summary-some : SomeTable image summary.pools summary.leases
     summary-some = record { table = table_in (lent image bytes []); stands = summary-stands [] }
@@ -75,14 +73,13 @@ module _ (image : List ℕ) (bytes : ℕ) (counts : List (List ℕ)) (now : ℕ)
       unfolding counted?
       judged figures = sym (r (table_in (lent image bytes figures)) (summary-stands figures))
 
-      pub book-counted : right ≡ true → (figures : List ℕ) → SummaryIn (lent_in (book_of image bytes figures counts)) now summary
-      book-counted c figures = subst (λ (h : Lent). SummaryIn h now summary) (sym (lent-counted (book_of image bytes figures counts) (judged figures ∙ c))) (i figures)
+      pub book-counted : right ≡ true → (figures : List ℕ) → SummaryIn (lent_in (book_of image bytes figures counts)) now (Some summary)
+      book-counted c figures =
+          subst (λ (h : Lent). SummaryIn h now (Some summary)) (sym (lent-counted (book_of image bytes figures counts) (judged figures ∙ c))) (i figures)
 
-      pub book-differing : right ≡ false → (nothing : ImageSummary) → nothing ≡ summary_of now (load_image (take 0 image)) → (figures : List ℕ)
-          → SummaryIn (lent_in (book_of image bytes figures counts)) now nothing
-      book-differing c nothing is figures =
-          subst (λ (h : Lent). SummaryIn h now nothing) (sym (lent-differing (book_of image bytes figures counts) (judged figures ∙ c)))
-          (summary-in (lent image 0 figures) now b nothing (is ∙ ap (λ (n : ℕ). summary_of now (load_image (take n image))) (sym (cond_both (holds? (lent image 0 figures)) 0))))
+      pub book-differing : right ≡ false → (figures : List ℕ) → SummaryIn (lent_in (book_of image bytes figures counts)) now None
+      book-differing c figures =
+          subst (λ (h : Lent). SummaryIn h now None) (sym (lent-differing (book_of image bytes figures counts) (judged figures ∙ c))) (nothing-in figures)
 
 -- COUNTED AGAIN
 

@@ -3,8 +3,8 @@
 -- Assumes nothing.
 use Prim.Native.Nat.{ℕ, ◌≤◌}
 use native.Mathlib.Omega.{arith}
-use mathlib.Core.Path.{◌≡◌, refl, sym, ap, subst, ◌∙◌}
-use mathlib.Core.Bool.{Bool, true, false, not, cond, ◌||◌}
+use mathlib.Core.Path.{◌≡◌, refl, sym, ap, ap₂, subst, ◌∙◌}
+use mathlib.Core.Bool.{Bool, true, false, not, cond, ◌||◌, true≢false}
 use mathlib.Core.List.{List, [], ◌∷◌, ◌++◌}
 use mathlib.Core.Option.{Option, none, some}
 use lib.ListN.{length}
@@ -13,164 +13,115 @@ use borrow.Author.Tests.{eqb-false}
 use Rattle.lists.specs.Lists.{All}
 use Rattle.lists.proofs.Tests.{cond-true, cond-false, not-of, not-to}
 use Rattle.lists.proofs.ListLaws.{all_map}
-use Rattle.option.specs.Reading.{read_suboptions, read_option}
+use Rattle.option.specs.Reading.{End, whole, bad_at, ended, option?, read_suboptions, read_option}
 use Rattle.option.specs.Values.{SuboptionValue, Outcome}
 use Rattle.option.specs.Values as values
 use Rattle.option.specs.Contents.{refuses?, place_in, suboptions}
 use Rattle.option.specs.Answers.{fault_of, checked_of, place_of}
-use Rattle.option.specs.declared.Fault.{Fault}
-use Rattle.option.specs.declared.Fault.TheVariants.{Framing, Field}
-use Rattle.option.specs.Reading.{fault_number}
-use Rattle.std.specs.Prelude.{Result as Answered, Ok, Err}
-use Rattle.option.specs.declared.OptionFault.{OptionFault}
+use Rattle.option.specs.declared.{OptionFault.OptionFault}
 use Rattle.option.specs.declared.OptionFault.TheVariants.{NotTheOption, BadSuboption}
+use Rattle.option.specs.declared.Fault.TheVariants.{Framing, Field}
+use Rattle.std.specs.Result.{result_ok, result_err}
+use Rattle.std.proofs.lemmas.Option.{none-some, same_Some}
 use Rattle.table.specs.Table.{pools_of}
 use Rattle.ledger.specs.declared.Answer.{Answer}
 use Rattle.ledger.specs.Ledger.{State, Call, call, Result, outcome, refusal, Row, first_of, by_rows, placed?, refusal_place, nothing?, bad_selection?, narrowed, option_rows, ground_rows}
 use Rattle.ledger.specs.Sizes.{Bytes}
-use Rattle.ledger.specs.Answers.{checked_answer, answered}
+use Rattle.std.specs.Prelude.{Ok, Err}
+use Rattle.ledger.specs.declared.Refusal.{Refusal}
+use Rattle.ledger.specs.Answers.{refusal_number, bad_place, answer_of}
 use Rattle.ledger.proofs.ReadLaws.{place_short}
-use Rattle.ledger.proofs.RowLaws.{Numbered, first-none, first-number, first-before, first-after, nothing-none, nothing-some}
-use Rattle.ledger.proofs.CommonRows.{option-rows, option-passed}
+use Rattle.ledger.proofs.RowLaws.{first-none, first-number, first-before, first-after, nothing-none, nothing-some}
+use Rattle.ledger.proofs.RefusalLaws.{number-some, option-refused, option-accepted}
 use Rattle.option_scan.specs.declared.Contents.{Contents}
-use Rattle.option_scan.specs.Scanned.{Columns, ScannedOf, checked_by, Reads}
+use Rattle.option_scan.specs.Scanned.{Columns}
+use Rattle.image_check.specs.declared.ImageSummary.{ImageSummary}
 use Rattle.call_spec.specs.ImageCalls.{Lent, table_in, state_in, stored_in, settled}
 use Rattle.call_spec.proofs.StoreLaws.{settled-accepted, no_row}
-use Rattle.call_rows.specs.declared.Admission.{Admission}
-use Rattle.call_rows.specs.Admission.{admission_rows, number_of, Admits}
+use Rattle.call_rows.specs.Admission.{admission_rows, Admits, refusal_of, ReadOption}
 
--- WHAT option_refusal REQUIRES: the place of a bad suboption is within the option.
+-- WHAT THE CHECK OF AN OPTION SAYS of its reading.
 
 checked-place : (o : Outcome) → place_in o ≤ 257 → (f : OptionFault) → Err f ≡ checked_of o → place_of f ≤ 257
-checked-place (values.accepted subs) h f e = absurd cc
-checked-place (values.refused number place) h f e = let same : f ≡ fault_of number place = cc in subst (λ (x : OptionFault). place_of x ≤ 257) (sym same) (pick (eqb number 6))
+checked-place (values.accepted subs) h f e = absurd (none-some f (sym (ap result_err e)))
+checked-place (values.refused number place) h f e =
+    subst (λ (x : OptionFault). place_of x ≤ 257) (sym (same_Some f (fault_of number place) (ap result_err e))) (pick (eqb number 6))
   where
     pick : (b : Bool) → place_of (cond b NotTheOption (BadSuboption (record { fault = cond (eqb number 7) Framing Field; place = place }))) ≤ 257
     pick true = omega arith
     pick false = h
 
-pub place-small : (option : List ℕ) → Bytes option → (r : Answered Contents OptionFault) (k : Columns) → Reads option r k → (f : OptionFault) → r ≡ Err f → place_of f ≤ 257
-place-small option b r k reads f e = checked-place (read_option option) (place_short option b 7) f (sym (ap checked_by e) ∙ reads.checked)
+checked-good : (o : Outcome) → Ok tt ≡ checked_of o → o ≡ values.accepted (suboptions o)
+checked-good (values.accepted subs) e = refl
+checked-good (values.refused number place) e = absurd (none-some tt (sym (ap result_ok e)))
 
--- No refusal of these rows is number 0.
-pub refused-some : (f : OptionFault) → (checked_answer (Err f)).number ≡ 0 → ⊥
-refused-some NotTheOption e = omega arith
-refused-some (BadSuboption bad) e = go bad.fault e
-  where
-    go : (f : Fault) → fault_number f ≡ 0 → ⊥
-    go Framing e = omega arith
-    go Field e = omega arith
+abbrev as_read : OptionFault → Outcome
+as_read f = values.refused (refusal_number (refusal_of f)) (bad_place (refusal_of f))
 
--- THE NUMBER OF THE FIRST ROW
+checked-bad : (ok : Bool) (subs : List SuboptionValue) (end : End) (f : OptionFault) → Err f ≡ checked_of (cond ok (ended subs end) (values.refused 6 0))
+    → cond ok (ended subs end) (values.refused 6 0) ≡ as_read f
+checked-bad true subs whole f e = absurd (none-some f (sym (ap result_err e)))
+checked-bad true subs (bad_at Framing place) f e = ap as_read (sym (same_Some f (fault_of 7 place) (ap result_err e)))
+checked-bad true subs (bad_at Field place) f e = ap as_read (sym (same_Some f (fault_of 16 place) (ap result_err e)))
+checked-bad false subs end f e = ap as_read (sym (same_Some f (fault_of 6 0) (ap result_err e)))
 
-module _ (rows : List Row) (numbered : Numbered rows) (n : ℕ) (e : n ≡ number_of (first_of rows)) where
-  pub number-some : (n ≡ 0 → ⊥) → first_of rows ≡ some n
-  number-some k = go (first_of rows) refl
-    where
-      go : (o : Option ℕ) → first_of rows ≡ o → first_of rows ≡ some n
-      go none f = absurd (k (e ∙ ap number_of f))
-      go (some m) f = f ∙ ap some (sym (e ∙ ap number_of f))
+module _ (option : List ℕ) where
+  -- The place of a bad suboption is within the option.
+  pub place-small : Bytes option → (f : OptionFault) → Err f ≡ checked_of (read_option option) → place_of f ≤ 257
+  place-small b = checked-place (read_option option) (place_short option b 7)
 
-  pub number-none : n ≡ 0 → first_of rows ≡ none
-  number-none z = go (first_of rows) refl
-    where
-      go : (o : Option ℕ) → first_of rows ≡ o → first_of rows ≡ none
-      go none f = f
-      go (some m) f = absurd (eqb-false m 0 (first-number (λ (k : ℕ). eqb k 0 ≡ false) rows numbered m f) (sym (e ∙ ap number_of f) ∙ z))
+  pub read-good : Ok tt ≡ checked_of (read_option option) → read_option option ≡ values.accepted (suboptions (read_option option))
+  read-good = checked-good (read_option option)
+
+  pub read-bad : (f : OptionFault) → Err f ≡ checked_of (read_option option) → read_option option ≡ as_read f
+  unfolding read_option
+  read-bad = checked-bad (option? option) (read_suboptions option 3).0 (read_suboptions option 3).1
 
 -- THE ROWS UP TO THE OPTION, AND WHAT FOLLOWS THEM
 
--- None of them has number 0, or one that has a place.
-admission-numbers : (sheet short : Bool) (h : Lent) (now client : ℕ)
-    → All (λ (r : Row). (eqb r.0 0 ≡ false) × (placed? r.0 ≡ false)) (admission_rows sheet short h now client)
-admission-numbers true short h now client = ((refl, refl), ((refl, refl), ((refl, refl), ((refl, refl), ((refl, refl), ((refl, refl), tt))))))
-admission-numbers false short h now client = ((refl, refl), ((refl, refl), ((refl, refl), ((refl, refl), ((refl, refl), tt)))))
+-- None of them has a place.
+admission-numbers : (sheet short : Bool) (h : Lent) (now client : ℕ) → All (λ (r : Row). placed? r.0 ≡ false) (admission_rows sheet short h now client)
+admission-numbers true short h now client = (refl, (refl, (refl, (refl, (refl, (refl, tt))))))
+admission-numbers false short h now client = (refl, (refl, (refl, (refl, (refl, tt)))))
 
-module _ (sheet short : Bool) (h : Lent) (now client : ℕ) (a : Admission) (ad : Admits sheet short h now client a) (rest : List Row) where
+module _ (sheet short : Bool) (h : Lent) (now client : ℕ) (rest : List Row) where
   abbrev first : List Row
   first = admission_rows sheet short h now client
 
-  numbered : Numbered first
-  numbered = all_map (λ (r : Row) (k : (eqb r.0 0 ≡ false) × (placed? r.0 ≡ false)). k.0) first (admission-numbers sheet short h now client)
+  pub not-admitted : (n : ℕ) → first_of first ≡ some n → (first_of (first ++ rest) ≡ some n) × (placed? n ≡ false)
+  not-admitted n e = (first-before first rest n e, first-number (λ (m : ℕ). placed? m ≡ false) first (admission-numbers sheet short h now client) n e)
 
-  placeless : All (λ (r : Row). placed? r.0 ≡ false) first
-  placeless = all_map (λ (r : Row) (k : (eqb r.0 0 ≡ false) × (placed? r.0 ≡ false)). k.1) first (admission-numbers sheet short h now client)
+  module _ (summary : ImageSummary) (ad : Admits sheet short h now client (Ok summary)) where
+    -- Row 1 has passed.
+    pub admitted-short : short ≡ false
+    admitted-short = (first-none first ad.0).0
 
-  pub not-admitted : (a.number ≡ 0 → ⊥) → (first_of (first ++ rest) ≡ some a.number) × (placed? a.number ≡ false)
-  not-admitted k =
-      let one = number-some first numbered a.number ad.number k in
-      (first-before first rest a.number one, first-number (λ (n : ℕ). placed? n ≡ false) first placeless a.number one)
-
-  none_of : a.number ≡ 0 → first_of first ≡ none
-  none_of = number-none first numbered a.number ad.number
-
-  -- Row 1 has passed.
-  pub admitted-short : a.number ≡ 0 → short ≡ false
-  admitted-short z = (first-none first (none_of z)).0
-
-  pub admitted-rows : a.number ≡ 0 → first_of (first ++ rest) ≡ first_of rest
-  admitted-rows z = first-after first rest (none_of z)
+    pub admitted-rows : first_of (first ++ rest) ≡ first_of rest
+    admitted-rows = first-after first rest ad.0
 
 -- OPTION 118 that is not bad leaves rows 6, 7 and 16 as they are without it.
 pub rows-without : (c : Call) → bad_selection? c.selection ≡ false → option_rows c ≡ option_rows (call 0 c.option [])
 rows-without c e =
     ap (λ (b : Bool). (6, refuses? 6 (read_option c.option) || b) ∷ (7, refuses? 7 (read_option c.option)) ∷ (16, refuses? 16 (read_option c.option)) ∷ []) e
 
--- ROWS 6, 7 AND 16, what follows them, and what is read of an option that passes them.
-
-module _ (c : Call) (selected : bad_selection? c.selection ≡ false) (r : Answered Contents OptionFault) (k : Columns) (reads : Reads c.option r k) (ans : Answer) (g : ans ≡ checked_answer (checked_by r)) where
-  answer-is : ans ≡ answered (first_of (option_rows c)) c.option
-  answer-is = g ∙ ap checked_answer reads.checked ∙ option-rows c selected
-
-  pub option-refuses : (own : List Row) → (ans.number ≡ 0 → ⊥)
-      → (first_of (option_rows c ++ own) ≡ some ans.number) × (ans ≡ refusal ans.number (refusal_place c.option ans.number))
-  option-refuses own some-row = go (first_of (option_rows c)) refl
-    where
-      go : (o : Option ℕ) → first_of (option_rows c) ≡ o → (first_of (option_rows c ++ own) ≡ some ans.number) × (ans ≡ refusal ans.number (refusal_place c.option ans.number))
-      go none f = absurd (some-row (ap (λ (x : Answer). x.number) (answer-is ∙ ap (λ (o : Option ℕ). answered o c.option) f)))
-      go (some n) f =
-          let whole : ans ≡ refusal n (refusal_place c.option n) = answer-is ∙ ap (λ (o : Option ℕ). answered o c.option) f in
-          let number : ans.number ≡ n = ap (λ (x : Answer). x.number) whole in
-          (first-before (option_rows c) own n f ∙ ap some (sym number), whole ∙ ap (λ (m : ℕ). refusal m (refusal_place c.option m)) (sym number))
-
-  module _ (good : ans.number ≡ 0) where
-    pub option-none : first_of (option_rows c) ≡ none
-    option-none = go (first_of (option_rows c)) refl
-      where
-        go : (o : Option ℕ) → first_of (option_rows c) ≡ o → first_of (option_rows c) ≡ none
-        go none f = f
-        go (some n) f =
-            absurd (eqb-false n 0 (first-number (λ (m : ℕ). eqb m 0 ≡ false) (option_rows c) (refl, (refl, (refl, tt))) n f)
-            (sym (ap (λ (x : Answer). x.number) (answer-is ∙ ap (λ (o : Option ℕ). answered o c.option) f)) ∙ good))
-
-    pub scanned : (m : Contents) → r ≡ Ok m → ScannedOf m k (suboptions (read_option c.option))
-    scanned m e =
-        let read = option-passed c option-none in
-        subst (λ (o : Outcome). ScannedOf m k (suboptions o)) (sym read) (reads.holds m e (read_suboptions c.option 3).0 read)
-
 -- A CALL WITH AN OPTION, at each of its steps. Its rows are those up to the option, rows 6, 7 and 16, row 8, which is about the option's suboptions, and its own.
 
--- It is admitted, its option 118 is not bad if it has one, its option is read, and this is the answer of rows 6, 7 and 16.
+-- It is admitted, its option 118 is not bad if it has one, and its option is read.
 pub record ReadCall (sheet short : Bool) (h : Lent) (now : ℕ) (c : Call) : Type 0 where
-  pub admission : Admission
-  pub admits : Admits sheet short h now c.client admission
-  pub admitted : admission.number ≡ 0
+  pub summary : ImageSummary
+  pub admits : Admits sheet short h now c.client (Ok summary)
   pub selected : bad_selection? c.selection ≡ false
-  pub found : Answered Contents OptionFault
-  pub columns : Columns
-  pub reads : Reads c.option found columns
-  pub answer : Answer
-  pub answer-is : answer ≡ checked_answer (checked_by found)
   pub contents : Contents
-  pub good : answer.number ≡ 0 → found ≡ Ok contents
-
-pub scan-of : (sheet short : Bool) (h : Lent) (now : ℕ) (c : Call) (s : ReadCall sheet short h now c) → s.answer.number ≡ 0
-    → ScannedOf s.contents s.columns (suboptions (read_option c.option))
-scan-of sheet short h now c s z = scanned c s.selected s.found s.columns s.reads s.answer s.answer-is z s.contents (s.good z)
+  pub columns : Columns
+  pub reads : ReadOption c.option contents columns
 
 -- The call gives `after`, whichever of these rows refuses it (`row-refuses`, `list-row-refuses` of crate `call_spec`).
 abbrev pub RefusedBy : List Row → Lent → Call → Result Lent → Type 0
 RefusedBy rows h c after = (n : ℕ) → (n ≡ 0 → ⊥) → first_of rows ≡ some n → outcome (refusal n (refusal_place c.option n)) h c.reply ≡ after
+
+refused-as : (rows : List Row) (h : Lent) (c : Call) (after : Result Lent) → RefusedBy rows h c after
+    → (e : Refusal) → first_of rows ≡ some (refusal_number e) → bad_place e ≡ refusal_place c.option (refusal_number e) → outcome (answer_of (Err e)) h c.reply ≡ after
+refused-as rows h c after by_Row e number place = ap (λ (p : ℕ). outcome (refusal (refusal_number e) p) h c.reply) place ∙ by_Row (refusal_number e) (number-some e) number
 
 or-second : (a b : Bool) → b ≡ true → (a || b) ≡ true
 or-second true b e = refl
@@ -188,39 +139,38 @@ module _ (sheet short : Bool) (h : Lent) (now : ℕ) (c : Call) (wanted : List S
   rows = rows_with8 sheet short h now c wanted own
 
   -- Rows 1, 5, 15, 2, 3 and 4: none of them has a place.
-  pub refused-admission : (a : Admission) → Admits sheet short h now c.client a → (a.number ≡ 0 → ⊥) → outcome (refusal a.number 0) h c.reply ≡ after
-  refused-admission a ad k =
-      let r = not-admitted sheet short h now c.client a ad (option_rows c ++ row-8) k in
-      ap (λ (p : ℕ). outcome (refusal a.number p) h c.reply) (sym (cond-false (placed? a.number) (place_in (read_option c.option)) 0 r.1))
-      ∙ by_Row a.number k r.0
+  pub refused-admission : (e : Refusal) → Admits sheet short h now c.client (Err e) → outcome (answer_of (Err e)) h c.reply ≡ after
+  refused-admission e ad =
+      let r = not-admitted sheet short h now c.client (option_rows c ++ row-8) (refusal_number e) ad.0 in
+      refused-as rows h c after by_Row e r.0 (ad.1 ∙ sym (cond-false (placed? (refusal_number e)) (place_in (read_option c.option)) 0 r.1))
 
-  -- Row 6 of option 118, whatever option 220 is.
-  pub refused-selection : (a : Admission) → Admits sheet short h now c.client a → a.number ≡ 0 → bad_selection? c.selection ≡ true → outcome (refusal 6 0) h c.reply ≡ after
-  refused-selection a ad z bad =
-      by_Row 6 (λ e. omega arith)
-      (admitted-rows sheet short h now c.client a ad (option_rows c ++ row-8) z
-      ∙ cond-true (refuses? 6 (read_option c.option) || bad_selection? c.selection) (some 6) _ (or-second (refuses? 6 (read_option c.option)) (bad_selection? c.selection) bad))
-
-  module _ (s : ReadCall sheet short h now c) where
+  module _ (summary : ImageSummary) (ad : Admits sheet short h now c.client (Ok summary)) where
     up-to-option : first_of rows ≡ first_of (option_rows c ++ row-8)
-    up-to-option = admitted-rows sheet short h now c.client s.admission s.admits (option_rows c ++ row-8) s.admitted
+    up-to-option = admitted-rows sheet short h now c.client (option_rows c ++ row-8) summary ad
+
+    -- Row 6 of option 118, whatever option 220 is.
+    pub refused-selection : bad_selection? c.selection ≡ true → outcome (refusal 6 0) h c.reply ≡ after
+    refused-selection bad =
+        by_Row 6 (λ e. omega arith)
+        (up-to-option ∙ cond-true (refuses? 6 (read_option c.option) || bad_selection? c.selection) (some 6) _ (or-second (refuses? 6 (read_option c.option)) (bad_selection? c.selection) bad))
 
     -- Rows 6, 7 and 16.
-    pub refused-option : (s.answer.number ≡ 0 → ⊥) → outcome s.answer h c.reply ≡ after
-    refused-option some-row =
-        let r = option-refuses c s.selected s.found s.columns s.reads s.answer s.answer-is row-8 some-row in
-        ap (λ (y : Answer). outcome y h c.reply) r.1 ∙ by_Row s.answer.number some-row (up-to-option ∙ r.0)
+    pub refused-option : bad_selection? c.selection ≡ false → (e : Refusal) → read_option c.option ≡ values.refused (refusal_number e) (bad_place e)
+        → outcome (answer_of (Err e)) h c.reply ≡ after
+    refused-option selected e is =
+        let r = option-refused c selected (refusal_number e) (bad_place e) is in
+        refused-as rows h c after by_Row e (up-to-option ∙ first-before (option_rows c) row-8 (refusal_number e) r.0) r.1
 
-    module _ (good : s.answer.number ≡ 0) where
-      up-to-8 : first_of rows ≡ first_of row-8
-      up-to-8 = up-to-option ∙ first-after (option_rows c) row-8 (option-none c s.selected s.found s.columns s.reads s.answer s.answer-is good)
+  module _ (s : ReadCall sheet short h now c) where
+    up-to-8 : first_of rows ≡ first_of row-8
+    up-to-8 = up-to-option s.summary s.admits ∙ first-after (option_rows c) row-8 (option-accepted c s.selected _ s.reads.accepted)
 
-      -- Row 8.
-      pub refused-8 : wanted (suboptions (read_option c.option)) ≡ false → outcome (refusal 8 0) h c.reply ≡ after
-      refused-8 e = by_Row 8 (λ z. omega arith) (up-to-8 ∙ cond-true (not (wanted (suboptions (read_option c.option)))) (some 8) (first_of own) (not-of (wanted (suboptions (read_option c.option))) e))
+    -- Row 8.
+    pub refused-8 : wanted (suboptions (read_option c.option)) ≡ false → outcome (refusal 8 0) h c.reply ≡ after
+    refused-8 e = by_Row 8 (λ z. omega arith) (up-to-8 ∙ cond-true (not (wanted (suboptions (read_option c.option)))) (some 8) (first_of own) (not-of (wanted (suboptions (read_option c.option))) e))
 
-      pub own-left : wanted (suboptions (read_option c.option)) ≡ true → first_of rows ≡ first_of own
-      own-left e = up-to-8 ∙ cond-false (not (wanted (suboptions (read_option c.option)))) (some 8) (first_of own) (not-to (wanted (suboptions (read_option c.option))) e)
+    pub own-left : wanted (suboptions (read_option c.option)) ≡ true → first_of rows ≡ first_of own
+    own-left e = up-to-8 ∙ cond-false (not (wanted (suboptions (read_option c.option)))) (some 8) (first_of own) (not-to (wanted (suboptions (read_option c.option))) e)
 
 -- WHERE ROW 19 IS LEFT, of an ask or a take: the address of its option 118 lies in no pool, or it has its ground.
 

@@ -2,45 +2,48 @@
 -- Assumes nothing.
 use Prim.Native.Nat.{ℕ}
 use mathlib.Core.Path.{◌≡◌, refl, sym, ap, ◌∙◌}
-use mathlib.Core.Bool.{Bool, true, false, not, cond, true≢false}
+use mathlib.Core.Bool.{Bool, true, false, not, cond}
 use mathlib.Core.List.{List}
+use mathlib.Core.Option.{Option, some, none}
+use Rattle.std.specs.Prelude.{Option as Maybe, Some, None, Result, Ok, Err}
+use Rattle.std.proofs.lemmas.Option.{none-some, same_Some}
+use Rattle.std.specs.Result.{result_ok, result_err}
+use Rattle.lists.proofs.Tests.{cond-true, cond-false}
 use Rattle.option.specs.Reading.{four}
 use Rattle.option.specs.Selection.{Selected, address, refused, selection?, read_selection}
-use Rattle.std.specs.Prelude.{Option}
 use Rattle.option.specs.Answers.{selected_by}
-use Rattle.call_rows.specs.declared.SelectionRead.{SelectionRead}
-use Rattle.call_rows.specs.Admission.{ReadsSelection}
-
--- It is not carried.
-pub not_carried : (carried : Bool) (s : List ℕ) (r : SelectionRead) → not carried ≡ true → r.bad ≡ false → ReadsSelection carried s r
-not_carried true s r e b = absurd (true≢false (sym e))
-not_carried false s r e b = record { bad = b; address = λ k. absurd (true≢false (sym k)) }
+use Rattle.ledger.specs.declared.Refusal.{Refusal}
+use Rattle.ledger.specs.declared.Refusal.TheVariants.{NotTheOption}
+use Rattle.ledger.specs.Ledger.{bad_selection?}
+use Rattle.call_rows.specs.Admission.{selection_read}
 
 -- What the reader says, as the code's answer.
-abbrev bad_in : Selected → Bool
-bad_in (refused number) = true
-bad_in (address a) = false
+abbrev answer_in : Selected → Result (Maybe ℕ) Refusal
+answer_in (refused number) = Err NotTheOption
+answer_in (address a) = Ok (Some a)
 
-abbrev address_in : Selected → ℕ
-address_in (refused number) = 0
-address_in (address a) = a
-
-bad-is : (b : Bool) (a : ℕ) → bad_in (cond b (address a) (refused 6)) ≡ not b
-bad-is true a = refl
-bad-is false a = refl
-
-address_is : (b : Bool) (a : ℕ) → bad_in (cond b (address a) (refused 6)) ≡ false → address_in (cond b (address a) (refused 6)) ≡ a
-address_is true a e = refl
-address_is false a e = absurd (true≢false e)
-
-pub carried-read : (carried : Bool) (s : List ℕ) (x y : Option ℕ) (r : SelectionRead) → not carried ≡ false → selected_by x ≡ read_selection s → x ≡ y
-    → r.bad ≡ bad_in (selected_by y) → r.address ≡ address_in (selected_by y) → ReadsSelection carried s r
+pub carried-read : (s : List ℕ) (x y : Maybe ℕ) → selected_by x ≡ read_selection s → x ≡ y → answer_in (selected_by y) ≡ selection_read (some s)
 unfolding read_selection
-carried-read false s x y r c e f b a = absurd (true≢false c)
-carried-read true s x y r c e f b a =
-    let same : selected_by y ≡ cond (selection? s) (address (four s 2)) (refused 6) = ap selected_by (sym f) ∙ e in
-    let bad : r.bad ≡ bad_in (cond (selection? s) (address (four s 2)) (refused 6)) = b ∙ ap bad_in same in
-    record {
-      bad = bad ∙ bad-is (selection? s) (four s 2);
-      address = λ _ good. a ∙ ap address_in same ∙ address_is (selection? s) (four s 2) (sym bad ∙ good);
-    }
+carried-read s x y e f = ap answer_in (ap selected_by (sym f) ∙ e) ∙ go (selection? s)
+  where
+    go : (b : Bool) → answer_in (cond b (address (four s 2)) (refused 6)) ≡ cond b (Ok (Some (four s 2))) (Err NotTheOption)
+    go true = refl
+    go false = refl
+
+-- WHAT A CALL KNOWS OF IT
+
+pub selection-bad : (c : Option (List ℕ)) (e : Refusal) → Err e ≡ selection_read c → (e ≡ NotTheOption) × (bad_selection? c ≡ true)
+selection-bad none e is = absurd (none-some _ (ap result_ok is))
+selection-bad (some s) e is = go (selection? s) refl
+  where
+    go : (b : Bool) → selection? s ≡ b → (e ≡ NotTheOption) × (not (selection? s) ≡ true)
+    go true good = absurd (none-some _ (ap result_ok is ∙ ap result_ok (cond-true (selection? s) _ _ good)))
+    go false bad = (same_Some e NotTheOption (ap result_err is ∙ ap result_err (cond-false (selection? s) _ _ bad)), ap not bad)
+
+pub selection-good : (c : Option (List ℕ)) (a : Maybe ℕ) → Ok a ≡ selection_read c → bad_selection? c ≡ false
+selection-good none a is = refl
+selection-good (some s) a is = go (selection? s) refl
+  where
+    go : (b : Bool) → selection? s ≡ b → not (selection? s) ≡ false
+    go true good = ap not good
+    go false bad = absurd (none-some a (sym (ap result_ok is ∙ ap result_ok (cond-false (selection? s) _ _ bad))))

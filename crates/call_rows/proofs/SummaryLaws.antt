@@ -6,7 +6,9 @@ use mathlib.Core.Path.{◌≡◌, refl, sym, ap, subst, ◌∙◌}
 use mathlib.Core.Logic.{⊎_elim}
 use mathlib.Core.Bool.{Bool, true, false, not, cond, ◌&&◌, ◌||◌}
 use mathlib.Core.List.{List, [], ◌∷◌}
-use mathlib.Core.Option.{Option, none, some}
+use mathlib.Core.Option.{Option as Maybe, none, some}
+use Rattle.std.specs.Prelude.{Option, Some, None, is_some}
+use Rattle.std.proofs.lemmas.Option.{same_Some}
 use lib.ListN.{length, take}
 use lib.Seq.{length-take-le}
 use lib.Dec.{leb, eqb}
@@ -23,14 +25,14 @@ use Rattle.image.specs.Image.{full_image, head_size, pool_size, lease_size, used
 use Rattle.image.specs.Reading.{load_image}
 use Rattle.image.proofs.ImageLaws.{image-loaded, length-image, longest-image, table-whole}
 use Rattle.image_check.specs.declared.ImageSummary.{ImageSummary}
-use Rattle.image_check.specs.ImageSummary.{summary_of}
+use Rattle.image_check.specs.ImageSummary.{summary_at, summary_of}
 use Rattle.image_records.specs.Records.{Records}
 use Rattle.image_records.proofs.SoundLaws.{sound-ascending, present-used, used-few, image-records}
 use Rattle.figures.specs.Figures.{matches?}
 use Rattle.ledger.specs.Sizes.{Byte, Bytes}
 use Rattle.ledger.proofs.Counts.{up_to-all}
 use Rattle.call_spec.specs.ImageCalls.{Lent, holds?, image_in, table_in, state_in}
-use Rattle.call_spec.proofs.TableLaws.{holds_of, held-loads, held-room, held-within, held-image, blank-unsound}
+use Rattle.call_spec.proofs.TableLaws.{holds_of, held-loads, held-room, held-within, held-image, blank-unsound, nothing-loads}
 use Rattle.call_rows.specs.Admission.{leases_from, SheetIn, Admitted}
 use Rattle.call_rows.specs.InnerSummary.{SummaryIn, Measured, SheetPasses}
 
@@ -49,17 +51,13 @@ none-due now (x ∷ xs) z =
     ∙ ap (λ (l : List Lease). x ∷ l) (none-due now xs (sym (ap length (filter-no (due? now) x xs e)) ∙ z)))
     (bool_cases (due? now x))
 
--- WHETHER IT IS SOUND, AND THE LAST TIME
+-- WHETHER IT IS SOUND
 
-summary-sound : (now : ℕ) (o : Option LeaseTable) → ((t : LeaseTable) → o ≡ some t → sound t ≡ true) → (summary_of now o).sound ≡ sound (loaded_table o)
+summary-sound : (now : ℕ) (o : Maybe LeaseTable) → ((t : LeaseTable) → o ≡ some t → sound t ≡ true) → is_some (summary_of now o) ≡ sound (loaded_table o)
 summary-sound now none s = sym blank-unsound
 summary-sound now (some t) s = sym (s t refl)
 
-summary-last : (now : ℕ) (o : Option LeaseTable) → (summary_of now o).last ≡ (loaded_table o).last
-summary-last now none = refl
-summary-last now (some t) = refl
-
-module _ (h : Lent) (now : ℕ) (b : Bytes h.image) (summary : ImageSummary) (is : summary ≡ summary_of now (load_image (image_in h))) where
+module _ (h : Lent) (now : ℕ) (b : Bytes h.image) (summary : Option ImageSummary) (is : summary ≡ summary_of now (load_image (image_in h))) where
   in_bytes : Bytes (image_in h)
   in_bytes = up_to-all Byte (cond (holds? h) h.bytes 0) h.image b
 
@@ -67,17 +65,16 @@ module _ (h : Lent) (now : ℕ) (b : Bytes h.image) (summary : ImageSummary) (is
   unfolding table_in
   summary-in = record {
     is = is;
-    sound = ap (λ (x : ImageSummary). x.sound) is ∙ summary-sound now (load_image (image_in h)) (λ t e. (image-loaded (image_in h) t in_bytes e).0);
-    last = ap (λ (x : ImageSummary). x.last) is ∙ summary-last now (load_image (image_in h));
+    sound = ap is_some is ∙ summary-sound now (load_image (image_in h)) (λ t e. (image-loaded (image_in h) t in_bytes e).0);
   }
 
 -- The two ways of a buffer.
-module _ (h : Lent) (now : ℕ) (b : Bytes h.image) (summary : ImageSummary) where
-  pub summary-of-nothing : holds? h ≡ false → summary ≡ summary_of now (load_image (take 0 h.image)) → SummaryIn h now summary
-  summary-of-nothing k e = summary-in h now b summary (e ∙ ap (λ (n : ℕ). summary_of now (load_image (take n h.image))) (sym (cond-false (holds? h) h.bytes 0 k)))
+module _ (h : Lent) (now : ℕ) (b : Bytes h.image) where
+  pub summary-of-nothing : holds? h ≡ false → SummaryIn h now None
+  summary-of-nothing k = summary-in h now b None (ap (summary_of now) (sym nothing-loads ∙ ap (λ (n : ℕ). load_image (take n h.image)) (sym (cond-false (holds? h) h.bytes 0 k))))
 
-  pub summary-of-image : full_image ≤ length h.image → h.bytes ≤ length h.image → summary ≡ summary_of now (load_image (take h.bytes h.image)) → SummaryIn h now summary
-  summary-of-image room within e =
+  pub summary-of-image : (summary : Option ImageSummary) → full_image ≤ length h.image → h.bytes ≤ length h.image → summary ≡ summary_of now (load_image (take h.bytes h.image)) → SummaryIn h now summary
+  summary-of-image summary room within e =
       summary-in h now b summary (e ∙ ap (λ (n : ℕ). summary_of now (load_image (take n h.image))) (sym (cond-true (holds? h) h.bytes 0 (holds_of h room within))))
 
 pub holds-not-full : (h : Lent) → length h.image < full_image → holds? h ≡ false
@@ -89,12 +86,18 @@ holds-not-within h room short =
 
 -- WHERE THE TABLE IS SOUND
 
-module _ (h : Lent) (now : ℕ) (b : Bytes h.image) (summary : ImageSummary) (i : SummaryIn h now summary) (s : sound (table_in h) ≡ true) where
+module _ (h : Lent) (now : ℕ) (b : Bytes h.image) (summary : ImageSummary) (i : SummaryIn h now (Some summary)) where
   abbrev t : LeaseTable
   t = table_in h
 
-  summary-is : summary ≡ summary_of now (some t)
-  summary-is = i.is ∙ ap (summary_of now) (held-loads h s)
+  s : sound t ≡ true
+  s = sym i.sound
+
+  summary-is : summary ≡ summary_at now t
+  summary-is = same_Some summary (summary_at now t) (i.is ∙ ap (summary_of now) (held-loads h s))
+
+  pub last-is : summary.last ≡ t.last
+  last-is = ap (λ (x : ImageSummary). x.last) summary-is
 
   pools-are : summary.pools ≡ length (used_pools t)
   pools-are = ap (λ (x : ImageSummary). x.pools) summary-is
@@ -114,15 +117,15 @@ module _ (h : Lent) (now : ℕ) (b : Bytes h.image) (summary : ImageSummary) (i 
   records-are : Records h.image (leases_from summary) (used_leases t)
   records-are = subst (λ (n : ℕ). Records h.image (head_size + pool_size * n) (used_leases t)) (sym pools-are) (image-records t h.image h.bytes (held-image h s b))
 
-  measured-sound : (summary.leases ≤ lease_slots) × (leases_from summary + lease_size * summary.leases ≤ length h.image)
-  measured-sound = (few, omega (arith, size_is, held-within h s))
+  pub measured : Measured summary h.image
+  measured = record { few = few; within = omega (arith, size_is, held-within h s) }
 
   -- What row 15 says of the leases of the image it says of the table.
   pub passes-is : (sheet passes : Bool) → SheetPasses sheet summary h.image h.figures passes → passes ≡ (not sheet || matches? t.leases (state_in h).rows)
   passes-is sheet passes p =
       let used : All (λ x. empty? x ≡ false) (used_leases t) =
       all_map (λ (x : Lease) (e : not (empty? x) ≡ true). not-true (empty? x) e) (used_leases t) (filter-pass (λ x. not (empty? x)) t.leases) in
-      p (used_leases t) (i.sound ∙ s) records-are leases-are used
+      p (used_leases t) records-are leases-are used
       ∙ ap (λ (u : LeaseTable). not sheet || matches? u.leases (state_in h).rows) (sym (table-whole t s))
 
   -- It is admitted, where the time, the client and the sheet are good.
@@ -152,6 +155,3 @@ module _ (h : Lent) (now : ℕ) (b : Bytes h.image) (summary : ImageSummary) (i 
         none-expired = λ z. none-due now (used_leases t) (sym gone ∙ z);
         sheet-in = sheet-in;
       }
-
-pub measured : (h : Lent) (now : ℕ) → Bytes h.image → (summary : ImageSummary) → SummaryIn h now summary → Measured summary h.image
-measured h now b summary i e = measured-sound h now b summary i (sym i.sound ∙ e)

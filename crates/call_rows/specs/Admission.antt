@@ -1,10 +1,15 @@
 -- What a call goes by that works on an image in place: the rows up to the option, what is known where none of them applies, and what an accepted call
 -- leaves of the leases' records.
-use Rattle.std.specs.Prelude.{ℕ, ◌+◌, ◌-◌, ◌*◌, ◌≤◌, ◌≡◌, Bool, true, false, cond, List, ◌∷◌, ◌++◌, length, take, replicate, leb, eqb}
-use Rattle.std.proofs.Math.Option.{Option}
+use Rattle.std.specs.Prelude.{ℕ, ◌+◌, ◌-◌, ◌*◌, ◌≤◌, ◌≡◌, Bool, true, false, cond, List, ◌∷◌, ◌++◌, length, take, replicate, leb, eqb, Option as Maybe, Some, None, Result, Ok, Err, is_ok, MatchResult}
+use Rattle.std.proofs.Math.Option.{Option, none, some}
 use Rattle.lists.specs.Lists.{filter, concat_map}
 use Rattle.lists.specs.Put.{put}
-use Rattle.option.specs.Reading.{four}
+use Rattle.option.specs.Reading.{four, read_option}
+use Rattle.option.specs.Selection.{selection?}
+use Rattle.option.specs.Values as values
+use Rattle.option.specs.Contents.{suboptions, first_name}
+use Rattle.option_scan.specs.declared.Contents.{Contents}
+use Rattle.option_scan.specs.Scanned.{Columns, ScannedOf, NamedIn}
 use Rattle.table.specs.declared.Lease.{Lease}
 use Rattle.table.specs.Table.{pool_slots, lease_slots, latest, present}
 use Rattle.table.specs.Table.{sound as sound_of}
@@ -13,10 +18,15 @@ use Rattle.image.specs.Reading.{last_at}
 use Rattle.image_check.specs.declared.ImageSummary.{ImageSummary}
 use Rattle.image_records.specs.Records.{Records, Ascending}
 use Rattle.image_figures.specs.Sheets.{figures_size, sheet_of}
-use Rattle.ledger.specs.Ledger.{Row, first_of, or_else, bad_selection?, table_rows, state_rows, time_rows}
+use Rattle.ledger.specs.declared.{Accepted.Accepted, Refusal.Refusal}
+use Rattle.ledger.specs.declared.Refusal.TheVariants.{NotTheOption, BadFraming, BadField}
+use Rattle.option.specs.declared.{OptionFault.OptionFault, Fault.Fault}
+use Rattle.option.specs.declared.OptionFault.TheVariants as fault
+use Rattle.option.specs.declared.Fault.TheVariants.{Framing, Field}
+use Rattle.ledger.specs.Answers.{refusal_number, bad_place}
+use Rattle.ledger.specs.Ledger.{Row, first_of, table_rows, state_rows, time_rows}
 use Rattle.ledger.specs.FiguresKept.{Matched}
-use Rattle.call_spec.specs.ImageCalls.{Lent, table_in, state_in, carried_if}
-use Rattle.call_rows.specs.declared.{Admission.Admission, SelectionRead.SelectionRead}
+use Rattle.call_spec.specs.ImageCalls.{Lent, table_in, state_in}
 
 -- ADMISSION
 
@@ -24,10 +34,6 @@ use Rattle.call_rows.specs.declared.{Admission.Admission, SelectionRead.Selectio
 -- reply buffer, or no client, passes what no row refuses.
 abbrev pub admission_rows : Bool → Bool → Lent → ℕ → ℕ → List Row
 admission_rows sheet short h now client = (1, short) ∷ (cond sheet (state_rows (state_in h)) (table_rows (state_in h)) ++ ((2, eqb client 0) ∷ time_rows (state_in h) now))
-
--- The number of the row that applies; 0 where none does.
-abbrev pub number_of : Option ℕ → ℕ
-number_of row = or_else row (λ number. number) 0
 
 -- Where the leases of an image begin: after its head and its pools.
 abbrev pub leases_from : ImageSummary → ℕ
@@ -63,17 +69,37 @@ pub record Admitted (sheet : Bool) (h : Lent) (now client : ℕ) (summary : Imag
   pub none-expired : summary.expired ≡ 0 → present now (used_leases (table_in h)) ≡ used_leases (table_in h)
   pub sheet-in : sheet ≡ true → SheetIn h
 
--- What the admission answers.
-pub record Admits (sheet short : Bool) (h : Lent) (now client : ℕ) (a : Admission) : Type 0 where
-  pub number : a.number ≡ number_of (first_of (admission_rows sheet short h now client))
-  pub admitted : a.number ≡ 0 → Admitted sheet h now client a.summary
+-- What the admission answers: the first of these rows that applies, none of which has a place, or what the check says of the image.
+abbrev pub Admits : Bool → Bool → Lent → ℕ → ℕ → Result ImageSummary Refusal → Type 0
+Admits sheet short h now client r =
+    let row = first_of (admission_rows sheet short h now client) in
+    MatchResult r (λ summary. (row ≡ none) × Admitted sheet h now client summary) (λ e. (row ≡ some (refusal_number e)) × (bad_place e ≡ 0))
 
--- OPTION 118
+-- THE OPTIONS
 
--- Row 6 of it, and where that does not apply the address.
-pub record ReadsSelection (carried : Bool) (s : List ℕ) (r : SelectionRead) : Type 0 where
-  pub bad : r.bad ≡ bad_selection? (carried_if carried s)
-  pub address : carried ≡ true → r.bad ≡ false → r.address ≡ four s 2
+-- Row 6 of option 118, and where that does not apply its address, if the message carries one.
+abbrev pub selection_read : Option (List ℕ) → Result (Maybe ℕ) Refusal
+selection_read none = Ok None
+selection_read (some s) = cond (selection? s) (Ok (Some (four s 2))) (Err NotTheOption)
+
+-- Rows 6, 7 and 16, as the reader finds them.
+abbrev pub bad_suboption : Fault → ℕ → Refusal
+bad_suboption Framing place = BadFraming place
+bad_suboption Field place = BadField place
+
+abbrev pub refusal_of : OptionFault → Refusal
+refusal_of fault.NotTheOption = NotTheOption
+refusal_of (fault.BadSuboption bad) = bad_suboption bad.fault bad.place
+
+-- What is read of an option 220 that is accepted.
+pub record ReadOption (option : List ℕ) (m : Contents) (k : Columns) : Type 0 where
+  pub accepted : read_option option ≡ values.accepted (suboptions (read_option option))
+  pub holds : ScannedOf m k (suboptions (read_option option))
+  pub named : NamedIn option m (first_name (suboptions (read_option option)))
+
+-- What the reader answers: that, or the refusal and its place.
+abbrev pub ReadsOption : List ℕ → Columns → Result Contents Refusal → Type 0
+ReadsOption option k r = MatchResult r (λ m. ReadOption option m k) (λ e. read_option option ≡ values.refused (refusal_number e) (bad_place e))
 
 -- WHAT AN ACCEPTED CALL LEAVES
 
@@ -93,5 +119,5 @@ pub record LeftSound (g : Lent) (pools : ℕ) : Type 0 where
   pub size : length (image_of (table_in g)) ≡ g.bytes
   pub pools-are : pools ≡ length (used_pools (table_in g))
 
-abbrev pub LeftIfAccepted : ℕ → Lent → ℕ → Type 0
-LeftIfAccepted number g pools = number ≡ 0 → LeftSound g pools
+abbrev pub LeftIfAccepted : Result Accepted Refusal → Lent → ℕ → Type 0
+LeftIfAccepted answer g pools = is_ok answer ≡ true → LeftSound g pools

@@ -1,5 +1,5 @@
 -- What the check of an image says of what is lent.
-use Rattle.std.specs.Prelude.{ℕ, ◌+◌, ◌*◌, ◌≤◌, ◌≡◌, Bool, true, false, not, ◌||◌, List, length}
+use Rattle.std.specs.Prelude.{ℕ, ◌+◌, ◌*◌, ◌≤◌, ◌≡◌, Bool, false, not, ◌||◌, List, length, Option, is_some}
 use Rattle.lists.specs.Lists.{All}
 use Rattle.table.specs.declared.Lease.{Lease}
 use Rattle.table.specs.Table.{lease_slots, empty?, padded}
@@ -14,17 +14,17 @@ use Rattle.image_figures.specs.Sheets.{sheet_rows}
 use Rattle.call_spec.specs.ImageCalls.{Lent, image_in, table_in}
 use Rattle.call_rows.specs.Admission.{leases_from}
 
--- Where it is not sound, the ledger has row 5 of the table that the bytes stand for.
-pub record SummaryIn (h : Lent) (now : ℕ) (summary : ImageSummary) : Type 0 where
+-- Where it says nothing, the ledger has row 5 of the table that the bytes stand for.
+pub record SummaryIn (h : Lent) (now : ℕ) (summary : Option ImageSummary) : Type 0 where
   pub is : summary ≡ summary_of now (load_image (image_in h))
-  pub sound : summary.sound ≡ sound_of (table_in h)
-  pub last : summary.last ≡ (table_in h).last
+  pub sound : is_some summary ≡ sound_of (table_in h)
 
--- Where it is sound its leases lie in the buffer.
-abbrev pub Measured : ImageSummary → List ℕ → Type 0
-Measured summary image = summary.sound ≡ true → (summary.leases ≤ lease_slots) × (leases_from summary + lease_size * summary.leases ≤ length image)
+-- Its leases lie in the buffer.
+pub record Measured (summary : ImageSummary) (image : List ℕ) : Type 0 where
+  pub few : summary.leases ≤ lease_slots
+  pub within : leases_from summary + lease_size * summary.leases ≤ length image
 
 -- Whether row 15 lets the sheet pass, if there is one: its rows match the leases.
 abbrev pub SheetPasses : Bool → ImageSummary → List ℕ → List ℕ → Bool → Type 0
-SheetPasses sheet summary image figures passes = (xs : List Lease) → summary.sound ≡ true → Records image (leases_from summary) xs → summary.leases ≡ length xs
+SheetPasses sheet summary image figures passes = (xs : List Lease) → Records image (leases_from summary) xs → summary.leases ≡ length xs
     → All (λ x. empty? x ≡ false) xs → passes ≡ (not sheet || matches? (padded xs) (sheet_rows figures))

@@ -2,29 +2,30 @@
 // accepted call.
 #![tactic(auto)]
 
-ghost use Rattle.std.specs.Prelude.{◌≡◌, not, cond, ◌&&◌, List, [], ◌∷◌, ℕ, ◌+◌, ◌*◌, ◌≤◌, length, ltb, eqb, Err};
+ghost use Rattle.std.specs.Prelude.{◌≡◌, cond, ◌&&◌, List, [], ℕ, ◌+◌, ◌*◌, ◌≤◌, length, ltb, is_ok};
 ghost use Rattle.table.specs.declared.Lease.{Lease};
-ghost use Rattle.table.specs.Table.{latest, present};
+ghost use Rattle.table.specs.Table.{present};
 ghost use Rattle.image.specs.Image.{head_size, lease_size};
-ghost use Rattle.option.specs.Values.{longest_option};
-ghost use Rattle.option.specs.Answers.{place_of};
 ghost use Rattle.image_records.specs.Records.{Records, ExpiredIn};
 ghost use Rattle.figures.specs.declared.FigureRow.{FigureRow};
 ghost use Rattle.image_figures.specs.Sheets.{row_size, sheet_of};
-ghost use Rattle.ledger.specs.Ledger.{first_of, least_for};
-ghost use Rattle.ledger.specs.Answers.{checked_answer};
+ghost use Rattle.option_scan.specs.Scanned.{columns, Long};
+ghost use Rattle.option.specs.Values.{longest_option};
+ghost use Rattle.option.specs.Answers.{place_of};
+ghost use Rattle.ledger.specs.Ledger.{least_for};
 ghost use Rattle.counts.specs.Counts.{counts_of};
 ghost use Rattle.call_spec.specs.ImageCalls.{lent, table_in, carried_if};
 ghost use Rattle.call_spec.specs.Books.{book_of, lent_in};
-ghost use Rattle.call_rows.specs.Admission.{number_of, ReadsSelection, Admits, Finished, LeftIfAccepted};
+ghost use Rattle.call_rows.specs.Admission.{selection_read, refusal_of, ReadsOption, Admits, Finished, LeftIfAccepted};
 ghost use Rattle.call_rows.specs.StruckRows.{struck_if};
 ghost use Rattle.call_rows.specs.InnerSummary.{SummaryIn, Measured, SheetPasses};
 
 use counts::Counts;
 use image::{HEAD, LAST, LEASE, POOL};
 use image_check::ImageSummary;
-use ledger::Answer;
-use option::{BadSuboption, OptionFault};
+use ledger::{Accepted, Refusal};
+use option::{Fault, OptionFault};
+use option_scan::Contents;
 
 // Row 1: no reply buffer is below this size.
 pub const SHORTEST_REPLY: usize = option::LONGEST_OPTION;
@@ -44,71 +45,44 @@ pub fn too_short(room: usize, carried: bool) -> bool
     room < SHORTEST_REPLY
 }
 
-// Option 118: whether it is bad, and its address where it is not.
-#[derive(Clone, Copy)]
-pub struct SelectionRead {
-    pub bad: bool,
-    pub address: u32,
-}
-
-// Row 6 of option 118. Where the message carries none that is enabled, its bytes are not looked at.
-pub fn read_selection(carried: bool, selection: &[u8]) -> SelectionRead
-    ensures { ReadsSelection carried selection.now result }
+// Row 6 of option 118, and its address, if the message carries one that is enabled. Where it does not, its bytes are not looked at.
+pub fn read_selection(carried: bool, selection: &[u8]) -> Result<Option<u32>, Refusal>
+    ensures { result ≡ selection_read (carried_if carried selection.now) }
 {
     if !carried {
-        return SelectionRead {
-            bad: false,
-            address: 0,
-        };
+        return Ok(None);
     }
     match option::read_selection(selection) {
-        Some(address) => SelectionRead {
-            bad: false,
-            address,
-        },
-        None => SelectionRead {
-            bad: true,
-            address: 0,
-        },
+        Some(address) => Ok(Some(address)),
+        None => Err(Refusal::NotTheOption),
     }
 }
 
-// The number of the first row up to the option that applies, or 0; then what the check of the image found.
-#[derive(Clone, Copy)]
-pub struct Admission {
-    pub number: u32,
-    pub summary: ImageSummary,
-}
-
-// What the check says of the first `bytes` of the buffer; of none of them, if it has fewer or cannot hold a full table.
-fn image_summary(image: &[u8], bytes: usize, time: u32) -> ImageSummary
+// What the check says of the first `bytes` of the buffer; nothing, if it has fewer or cannot hold a full table.
+fn image_summary(image: &[u8], bytes: usize, time: u32) -> Option<ImageSummary>
     ensures { (figures : List ℕ) → SummaryIn (lent image.now bytes figures) time result }
 {
     if image.len() < image::FULL_IMAGE {
-        return image_check::check(&image[..0], time);
+        return None;
     }
     if image.len() < bytes {
-        return image_check::check(&image[..0], time);
+        return None;
     }
     image_check::check(&image[..bytes], time)
 }
 
-// What it says of the open book: where the counts are not the table's, as if there were no bytes.
-pub fn summary_in(image: &[u8], bytes: usize, counts: &Counts, time: u32) -> ImageSummary
+// What it says of the open book: nothing, where the counts are not the table's.
+pub fn summary_in(image: &[u8], bytes: usize, counts: &Counts, time: u32) -> Option<ImageSummary>
     ensures { (figures : List ℕ) → SummaryIn (lent_in (book_of image.now bytes figures counts.now)) time result }
 {
-    let summary = image_summary(image, bytes, time);
-    if !summary.sound {
-        return summary;
+    let summary = image_summary(image, bytes, time)?;
+    if !image_counts::counted(image, summary.pools, summary.leases, counts) {
+        return None;
     }
-    if image_counts::counted(image, summary.pools, summary.leases, counts) {
-        return summary;
-    }
-    image_check::check(&image[..0], time)
+    Some(summary)
 }
 
-// Row 15: whether the figures sheet matches the leases, of a call that has one. Where the bytes are no image the call is
-// refused by row 5, whatever the sheet.
+// Row 15: whether the figures sheet matches the leases, of a call that has one.
 fn sheet_passes(summary: ImageSummary, image: &[u8], figures: &[u8], has_sheet: bool) -> bool
     requires { Measured summary image.now }
     ensures { SheetPasses has_sheet summary image.now figures.now result }
@@ -116,33 +90,8 @@ fn sheet_passes(summary: ImageSummary, image: &[u8], figures: &[u8], has_sheet: 
     if !has_sheet {
         return true;
     }
-    if !summary.sound {
-        return true;
-    }
     let from = HEAD + POOL * summary.pools;
     image_figures::matches(figures, image, from, summary.leases)
-}
-
-// The number of the first of rows 5, 15, 2, 3 and 4 that applies, or 0.
-fn first_row(summary: ImageSummary, matched: bool, client: u32, time: u32) -> u32
-    ensures { result ≡ number_of (first_of ((5, not summary.sound) ∷ (15, not matched) ∷ (2, eqb client 0) ∷ (3, ltb time summary.last) ∷ (4, ltb latest time) ∷ [])) }
-{
-    if !summary.sound {
-        return 5;
-    }
-    if !matched {
-        return 15;
-    }
-    if client == 0 {
-        return 2;
-    }
-    if time < summary.last {
-        return 3;
-    }
-    if table::LATEST < time {
-        return 4;
-    }
-    0
 }
 
 // The rows up to the option, in their order. `short` says whether the reply buffer is too short (`too_short`; false of a call
@@ -156,29 +105,61 @@ pub fn admit(
     short: bool,
     client: u32,
     time: u32,
-) -> Admission
+) -> Result<ImageSummary, Refusal>
     ensures { Admits has_sheet short (lent_in (book_of image.now image_bytes figures.now counts.now)) time client result }
 {
     if short {
-        let summary = image_check::check(&image[..0], time);
-        return Admission { number: 1, summary };
+        return Err(Refusal::ReplyTooShort);
     }
-    let summary = summary_in(image, image_bytes, counts, time);
-    let matched = sheet_passes(summary, image, figures, has_sheet);
-    let number = first_row(summary, matched, client, time);
-    Admission { number, summary }
+    let Some(summary) = summary_in(image, image_bytes, counts, time) else {
+        return Err(Refusal::NotSound);
+    };
+    if !sheet_passes(summary, image, figures, has_sheet) {
+        return Err(Refusal::SheetDiffers);
+    }
+    if client == 0 {
+        return Err(Refusal::NoClient);
+    }
+    if time < summary.last {
+        return Err(Refusal::TimeBeforeLast);
+    }
+    if table::LATEST < time {
+        return Err(Refusal::TimeTooLate);
+    }
+    Ok(summary)
 }
 
-// Rows 6, 7 and 16, as the reader found them.
-pub fn option_refusal(fault: OptionFault) -> Answer
+// Rows 6, 7 and 16 as the reader found them.
+fn option_refusal(fault: OptionFault) -> Refusal
     requires { place_of fault ≤ longest_option }
-    ensures { result ≡ checked_answer (Err fault) }
+    ensures { result ≡ refusal_of fault }
 {
     match fault {
-        OptionFault::NotTheOption => call_spec::refused(6, 0),
-        OptionFault::BadSuboption(BadSuboption { fault, place }) => {
-            call_spec::refused(fault.number(), place as u32)
+        OptionFault::NotTheOption => Refusal::NotTheOption,
+        OptionFault::BadSuboption(bad) => {
+            let place = bad.place as u32;
+            match bad.fault {
+                Fault::Framing => Refusal::BadFraming(place),
+                Fault::Field => Refusal::BadField(place),
+            }
         }
+    }
+}
+
+// These rows, or what the calls look at in an option that passes them.
+pub fn read_option(
+    option: &[u8],
+    asks: &mut [u8],
+    h: &mut [u8],
+    networks: &mut [u32],
+    lengths: &mut [u8],
+) -> Result<Contents, Refusal>
+    requires { Long (columns asks.old h.old networks.old lengths.old) }
+    ensures { ReadsOption option.now (columns asks.new h.new networks.new lengths.new) result }
+{
+    match option_scan::read(option, asks, h, networks, lengths) {
+        Ok(contents) => Ok(contents),
+        Err(fault) => Err(option_refusal(fault)),
     }
 }
 
@@ -238,17 +219,17 @@ pub fn strike_expired(
 // The end of a call on an open book. Where it is accepted and leases came or went, the counts are those of the table that is
 // left; otherwise they stay.
 pub fn settle(
-    number: u32,
+    answer: Result<Accepted, Refusal>,
     moved: bool,
     image: &[u8],
     image_bytes: usize,
     pools: usize,
     counts: &mut Counts,
 )
-    requires { LeftIfAccepted number (lent image.now image_bytes []) pools }
-    ensures { counts.new ≡ cond (eqb number 0 && moved) (counts_of (table_in (lent image.now image_bytes []))) counts.old }
+    requires { LeftIfAccepted answer (lent image.now image_bytes []) pools }
+    ensures { counts.new ≡ cond (is_ok answer && moved) (counts_of (table_in (lent image.now image_bytes []))) counts.old }
 {
-    if number != 0 {
+    if answer.is_err() {
         return;
     }
     if !moved {

@@ -7,6 +7,8 @@ use mathlib.Core.Bool.{Bool, true, false, not, cond, ◌&&◌, ◌||◌}
 use mathlib.Core.List.{List, [], ◌∷◌, ◌++◌}
 use mathlib.Core.Option.{Option, none, some}
 use native.Mathlib.Omega.{arith}
+use Rattle.std.specs.Prelude.{Some}
+use Rattle.std.proofs.lemmas.Option.{same_Some}
 use lib.ListN.{length, take, drop}
 use lib.Dec.{ltb}
 use borrow.Author.Tests.{lt-ltb, le-ltb}
@@ -24,7 +26,7 @@ use Rattle.image.specs.declared.Form.TheVariants.{First}
 use Rattle.image.specs.Image.{full_image, head_size, pool_size, lease_size, first_lease_size, used_pools, used_leases, image_as, image_of, fits_form}
 use Rattle.image.proofs.ImageLaws.{length-image-in, longest-image}
 use Rattle.image_check.specs.declared.ImageSummary.{ImageSummary}
-use Rattle.image_check.specs.ImageSummary.{summary_of}
+use Rattle.image_check.specs.ImageSummary.{summary_at, summary_of}
 use Rattle.image_records.specs.Records.{Records}
 use Rattle.image_records.proofs.SoundLaws.{used-few, image-records}
 use Rattle.ledger.specs.declared.Answer.{Answer}
@@ -137,18 +139,18 @@ module _ (b : Book) (form : Form) (older : Bool) (buffer : List ℕ) where
   book-saved s m a l e = ap (λ (w : Answer × List ℕ). outcome w.0 b w.1) (e ∙ sym (later-only (lent_in b) form older buffer s m))
 
 -- What the check tells of it.
-module _ (b : Book) (bytes : Bytes b.lent.image) (summary : ImageSummary) (i : SummaryIn (lent_in b) 0 summary) (yes : summary.sound ≡ true) where
+module _ (b : Book) (bytes : Bytes b.lent.image) (summary : ImageSummary) (i : SummaryIn (lent_in b) 0 (Some summary)) where
   abbrev t : LeaseTable
   t = table_in (lent_in b)
 
   pub is-sound : sound t ≡ true
-  is-sound = sym i.sound ∙ yes
+  is-sound = sym i.sound
 
   given-bytes : Bytes (lent_in b).image
   given-bytes = subst Bytes (sym (same-buffers b).0) bytes
 
-  summary-is : summary ≡ summary_of 0 (some t)
-  summary-is = i.is ∙ ap (summary_of 0) (held-loads (lent_in b) is-sound)
+  summary-is : summary ≡ summary_at 0 t
+  summary-is = same_Some summary (summary_at 0 t) (i.is ∙ ap (summary_of 0) (held-loads (lent_in b) is-sound))
 
   pub pools-are : summary.pools ≡ length (used_pools t)
   pools-are = ap (λ (x : ImageSummary). x.pools) summary-is
@@ -171,4 +173,4 @@ module _ (b : Book) (bytes : Bytes b.lent.image) (summary : ImageSummary) (i : S
   few = omega (arith, ap length image-is, longest-image t is-sound)
 
   pub measured : (summary.pools ≤ pool_slots) × (summary.leases ≤ lease_slots) × (head_size + pool_size * summary.pools + lease_size * summary.leases ≤ length b.lent.image)
-  measured = let m = book-measured b 0 bytes summary i yes in (omega (arith, pools-are, (used-few t is-sound).0), m.0, m.1)
+  measured = let m = book-measured b 0 bytes summary i in (omega (arith, pools-are, (used-few t is-sound).0), m.few, m.within)

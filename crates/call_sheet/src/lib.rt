@@ -2,17 +2,21 @@
 #![tactic(auto)]
 
 ghost use Rattle.std.specs.Prelude.{◌≡◌};
+ghost use Rattle.ledger.specs.Answers.{answer_of};
 ghost use Rattle.call_sheet.specs.SheetImage.{sheet_image};
 
-use ledger::Answer;
+use ledger::{Accepted, Refusal};
 use sheet_text::SheetFault;
 
-pub fn sheet(saved: &[u8], text: &mut [u8]) -> Answer
-    ensures { (result, text.new) ≡ sheet_image saved.now text.old }
+pub fn sheet(saved: &[u8], text: &mut [u8]) -> Result<Accepted, Refusal>
+    ensures { (answer_of result, text.new) ≡ sheet_image saved.now text.old }
 {
     match sheet_text::sheet_of_image(saved, text) {
-        Ok(bytes) => call_spec::accepted(bytes as u32, 0),
-        Err(SheetFault::NotSound) => call_spec::refused(5, 0),
-        Err(SheetFault::TooSmall) => call_spec::refused(14, 0),
+        Ok(bytes) => Ok(Accepted {
+            bytes: bytes as u32,
+            count: 0,
+        }),
+        Err(SheetFault::NotSound) => Err(Refusal::NotSound),
+        Err(SheetFault::TooSmall) => Err(Refusal::BufferTooShort),
     }
 }

@@ -1,14 +1,9 @@
--- The answer of one option's writing, from what the writer says.
+-- The answer of one option's writing, from what the writer says: the bytes of an accepted one, or row 13 or 14.
 use Rattle.std.specs.Prelude.{ℕ, Result, Ok, Err}
 use Rattle.option_reply.specs.declared.WriteFault.{WriteFault}
-use Rattle.option_reply.specs.Answers.{number_of}
-use Rattle.ledger.specs.declared.Answer.{Answer}
+use Rattle.ledger.specs.declared.{Accepted.Accepted, Refusal.Refusal}
+use Rattle.ledger.specs.Answers.{unwritten}
 
--- The bytes of an accepted one.
-abbrev pub bytes_of : Result ℕ WriteFault → ℕ
-bytes_of (Ok n) = n
-bytes_of (Err fault) = 0
-
--- "The answer is ok bytes=7 dc050001020018, or refused 13, refused 14."
-abbrev pub answer_of : Result ℕ WriteFault → Answer
-answer_of w = record { number = number_of w; place = 0; bytes = bytes_of w; count = 0 }
+abbrev pub as_answer : Result ℕ WriteFault → Result Accepted Refusal
+as_answer (Ok n) = Ok (record { bytes = n; count = 0 })
+as_answer (Err fault) = Err (unwritten fault)

@@ -3,9 +3,9 @@
 
 ghost use Rattle.std.specs.Prelude.{◌≡◌, ◌<◌, cond, ltb, IfOk};
 ghost use Rattle.ledger.specs.Ledger.{refusal, acceptance};
-ghost use Rattle.call_spec.specs.Written.{answer_of};
+ghost use Rattle.call_spec.specs.Written.{as_answer};
 
-use ledger::Answer;
+use ledger::{Accepted, Answer, Refusal};
 use option_reply::WriteFault;
 
 // Who sent the message that an ask or a take is for, when it came, and whether it carries an option 118 that the caller says is
@@ -41,24 +41,20 @@ pub fn accepted(bytes: u32, count: u32) -> Answer
     }
 }
 
-// The answer of an option that is written, or why it is not: row 13 or row 14.
-pub fn written(bytes: Result<usize, WriteFault>) -> Answer
+// The answer of an option that is written, or why it is not.
+pub fn written(bytes: Result<usize, WriteFault>) -> Result<Accepted, Refusal>
     requires { IfOk bytes (λ n. n < 4294967296) }
-    ensures { result ≡ answer_of bytes }
+    ensures { result ≡ as_answer bytes }
 {
-    match bytes {
-        Ok(n) => accepted(n as u32, 0),
-        Err(WriteFault::OutsideRules) => refused(13, 0),
-        Err(WriteFault::TooLong) => refused(14, 0),
-    }
+    Ok(Accepted {
+        bytes: bytes? as u32,
+        count: 0,
+    })
 }
 
 // A length as the calls take it. No prefix has length 0, so 0 stands for every length that a byte cannot hold.
 pub fn length_of(n: u32) -> u8
     ensures { result ≡ cond (ltb 255 n) 0 n }
 {
-    if 255 < n {
-        return 0;
-    }
-    n as u8
+    u8::try_from(n).unwrap_or(0)
 }

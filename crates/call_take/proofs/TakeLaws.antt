@@ -9,7 +9,7 @@ use mathlib.Core.Option.{Option, none, some}
 use lib.ListN.{length, get_or, drop, length-append, take-append-drop}
 use lib.ListN.{take as up_to}
 use lib.Dec.{leb, ltb, eqb}
-use borrow.Author.Tests.{eqb-true, eqb-false, ltb-false, eq-eqb, ne_eqb, not-false}
+use borrow.Author.Tests.{eqb-true, eqb-false, ltb-false, not-false}
 use Rattle.lists.specs.Put.{put}
 use Rattle.lists.proofs.Tests.{and-to}
 use Rattle.lists.proofs.PutLaws.{put-nothing, put_front, put-more}
@@ -18,7 +18,7 @@ use Rattle.option.specs.Selection.{selection_size, selection?}
 use Rattle.option.specs.Contents.{entries_in}
 use Rattle.option.specs.Writing.{option_head, information_head, entries_bytes, option_bytes}
 use Rattle.table.specs.declared.Lease.{Lease}
-use Rattle.table.specs.Table.{addresses, pool_slots, lease_slots, prefix_of, present, store}
+use Rattle.table.specs.Table.{addresses, pool_slots, lease_slots, prefix_of, pools_of, present, store}
 use Rattle.table.proofs.TableLaws.{sound-term}
 use Rattle.image.specs.Image.{lease_size, used_leases}
 use Rattle.image_records.specs.Records.{Records, Ascending}
@@ -31,16 +31,19 @@ use Rattle.figures.specs.Inner.{leases_match?, with_each, filing, struck_rows}
 use Rattle.image_figures.specs.Sheets.{sheet_of}
 use Rattle.image_figures.proofs.AcceptedLaws.{rows-matched, strike-filed, nothing-filed, take-follows}
 use Rattle.counts.specs.Counts.{counts_of}
-use Rattle.ledger.specs.declared.Answer.{Answer}
-use Rattle.ledger.specs.Ledger.{State, state, Call, Row, Result, outcome, refusal, acceptance, accept, first_of, refusal_place, least_reply, least_for, bad_selection?, ground_rows, returned, for_take, found, named_by?, renew, renew_named, renewed, take_rows}
+use Rattle.std.specs.Prelude.{Option as Maybe, Result as Res, Ok, Err, is_ok}
+use Rattle.ledger.specs.declared.{Accepted.Accepted, Refusal.Refusal}
+use Rattle.ledger.specs.declared.Refusal.TheVariants.{NoSuchPool}
+use Rattle.ledger.specs.Answers.{answer_of}
+use Rattle.ledger.proofs.RefusalLaws.{number-some}
+use Rattle.ledger.specs.Ledger.{State, state, Call, Row, Result, outcome, refusal, acceptance, accept, first_of, refusal_place, least_reply, least_for, bad_selection?, ground_rows, nothing?, narrowed, returned, for_take, found, named_by?, renew, renew_named, renewed, take_rows}
 use Rattle.ledger.specs.Ledger.{take as take_of}
 use Rattle.ledger.proofs.RowLaws.{served-or-not}
 use Rattle.ledger.proofs.GroundLaws.{returned-short}
 use Rattle.ledger.proofs.SoundKept.{take-sound}
 use Rattle.call_spec.specs.ImageCalls.{Lent, lent, table_in, state_in, take_image, carried_if}
 use Rattle.call_spec.specs.Books.{Book, lent_in, take_book}
-use Rattle.call_rows.specs.declared.Admission.{Admission}
-use Rattle.call_rows.specs.Admission.{leases_from, Admitted, Admits, Finished, LeftIfAccepted}
+use Rattle.call_rows.specs.Admission.{leases_from, selection_read, Admitted, Admits, Finished, LeftIfAccepted}
 use Rattle.call_rows.specs.StruckRows.{struck_if}
 use Rattle.call_spec.proofs.StoreLaws.{row-refuses}
 use Rattle.call_spec.proofs.OnImages.{follows-all}
@@ -48,6 +51,7 @@ use Rattle.call_spec.proofs.BookLaws.{refuses-book}
 use Rattle.call_spec.proofs.PoolsKept.{take-pools}
 use Rattle.call_rows.proofs.SettleLaws.{admitted-counts, unmoved, countable, settles}
 use Rattle.call_rows.proofs.RowLaws.{RefusedBy, refused-admission, refused-selection, admitted-short, no-ground, ground-left, nothing-found, none_left, accepts}
+use Rattle.call_rows.proofs.SelectionLaws.{selection-bad, selection-good}
 use Rattle.call_rows.proofs.StruckLaws.{struck-is}
 use Rattle.call_ground.specs.declared.Ground.{Ground}
 use Rattle.call_ground.specs.Ground.{leases_in, Grounds, returning, MayReturn}
@@ -55,6 +59,7 @@ use Rattle.call_ground.proofs.GroundsLaws.{grounds-count, grounds-records, groun
 use Rattle.call_ground.proofs.ReturnLaws.{returning-refused}
 use Rattle.call_entries.specs.EntryLeases.{Hold, changed_by, changed_in}
 use Rattle.call_entries.specs.EntryCalls.{Passed}
+use Rattle.call_entries.specs.EntryRows.{EntriesRead, ReadsEntries}
 use Rattle.call_entries.proofs.ManyLaws.{renewed-present, renewed-all, found_nothing}
 use Rattle.call_entries.proofs.EntriesLaws.{unchanged, changed-prefix, changed-client, changed-fewer}
 use Rattle.call_entries.proofs.CallLaws.{EntriesCall, refused-entries, entries-passed, entries-sized, as_lent, on-lent, changed-many, changed-stand, changed-in-place}
@@ -126,54 +131,63 @@ module _ (h : Lent) (now : ℕ) (c : Call) where
   unfolding take_of
   by_row = row-refuses h (take_rows (state_in h) now c) (refusal_place c.option) c.reply (settled_outcome h now c)
 
-  pub take-refused : (a : Admission) → Admits true short h now c.client a → (a.number ≡ 0 → ⊥) → outcome (refusal a.number 0) h c.reply ≡ take_image h now c
+  pub take-refused : (e : Refusal) → Admits true short h now c.client (Err e) → outcome (answer_of (Err e)) h c.reply ≡ take_image h now c
   unfolding take_rows
   take-refused = refused-admission true short h now c for_take own (take_image h now c) by_row
 
-  pub take-bad : (a : Admission) → Admits true short h now c.client a → a.number ≡ 0 → bad_selection? c.selection ≡ true → outcome (refusal 6 0) h c.reply ≡ take_image h now c
-  unfolding take_rows
-  take-bad = refused-selection true short h now c for_take own (take_image h now c) by_row
+  module _ (summary : ImageSummary) (ad : Admits true short h now c.client (Ok summary)) where
+    pub take-bad : (e : Refusal) → Err e ≡ selection_read c.selection → outcome (answer_of (Err e)) h c.reply ≡ take_image h now c
+    unfolding take_rows
+    take-bad e is =
+        let bad = selection-bad c.selection e is in
+        ap (λ (r : Refusal). outcome (answer_of (Err r)) h c.reply) bad.0 ∙ refused-selection true short h now c for_take own (take_image h now c) by_row summary ad bad.1
+
+    pub take-unread : (address : Maybe ℕ) → Ok address ≡ selection_read c.selection → (networks lengths : List ℕ) (e : Refusal) → ReadsEntries c.option (Err e) networks lengths
+        → outcome (answer_of (Err e)) h c.reply ≡ take_image h now c
+    unfolding take_of take_rows
+    take-unread address is networks lengths e r = refused-entries short h now c own summary ad (selection-good c.selection address is) networks lengths e r (settled_outcome h now c)
+
+    -- The call whose entries are read.
+    abbrev pub entries_call : (address : Maybe ℕ) → Ok address ≡ selection_read c.selection → (networks lengths : List ℕ) (count : ℕ) → EntriesRead c.option networks lengths count → EntriesCall short h now c
+    entries_call address is networks lengths count reads =
+        record { summary = summary; admits = ad; selected = selection-good c.selection address is; networks = networks; lengths = lengths; count = count; reads = reads }
 
   module _ (s : EntriesCall short h now c) where
-    pub take-unread : (s.read.answer.number ≡ 0 → ⊥) → outcome s.read.answer h c.reply ≡ take_image h now c
-    unfolding take_of take_rows
-    take-unread = refused-entries short h now c own s (settled_outcome h now c)
-
     -- What `renewal_of` requires.
-    pub take-timed : (s.admission.summary.pools ≤ pool_slots) × (now + s.admission.summary.term < addresses)
+    pub take-timed : (s.summary.pools ≤ pool_slots) × (now + s.summary.term < addresses)
     take-timed =
-        let o = s.admits.admitted s.admitted in
+        let o = s.admits.1 in
         let term = sound-term (table_in h) o.sound in
         (o.few-pools, omega (arith, o.early, term.1, o.term))
 
     take-room : least_reply + length (returned c.selection) ≤ length c.reply
     take-room =
-        let least = ltb-false (length c.reply) (least_for c.selection) (admitted-short true short h now c.client s.admission s.admits [] s.admitted) in
+        let least = ltb-false (length c.reply) (least_for c.selection) (admitted-short true short h now c.client [] s.summary s.admits) in
         omega (arith, least, room_for c.selection s.selected)
 
     -- What `return_selection` requires, of an answer that option 220 has room for.
-    pub take-returns : (selected : Bool) (w : List ℕ) → c.selection ≡ carried_if selected w → (a : Answer) → a.bytes ≤ longest_option → (reply : List ℕ) → length reply ≡ length c.reply
+    pub take-returns : (selected : Bool) (w : List ℕ) → c.selection ≡ carried_if selected w → (a : Accepted) → a.bytes ≤ longest_option → (reply : List ℕ) → length reply ≡ length c.reply
         → MayReturn a selected w reply
-    take-returns selected w is a fits reply same z carried =
+    take-returns selected w is a fits reply same carried =
         let it : c.selection ≡ some w = is ∙ ap (λ (b : Bool). carried_if b w) carried in
         let six : length w ≡ selection_size = selection-size w (ap bad_selection? (sym it) ∙ s.selected) in
         (six, omega (arith, fits, same, six, take-room, ap (λ (o : Option (List ℕ)). length (returned o)) it), fits)
 
-    module _ (good : s.read.answer.number ≡ 0) (area : Ground) (g : Grounds h c s.admission.summary area) where
-      up-to-8 : Passed h now c (first_of (take_rows (state_in h) now c)) own s.admission.summary (up_to s.read.count s.networks) (up_to s.read.count s.lengths)
-      unfolding take_rows
-      up-to-8 = entries-passed short h now c own s good
+    up-to-8 : Passed h now c (first_of (take_rows (state_in h) now c)) own s.summary (up_to s.count s.networks) (up_to s.count s.lengths)
+    unfolding take_rows
+    up-to-8 = entries-passed short h now c own s
 
-      -- Row 19.
-      pub take-groundless : area.pools ≡ 0 → outcome (refusal 19 0) h c.reply ≡ take_image h now c
-      take-groundless z = no-ground h c (take_rows (state_in h) now c) (take_image h now c) by_row (eleven h now c) up-to-8.left-rows (g.row ∙ eq-eqb area.pools 0 z)
+    -- Row 19.
+    pub take-groundless : nothing? (pools_of (narrowed (table_in h) c)) ≡ true → outcome (refusal 19 0) h c.reply ≡ take_image h now c
+    take-groundless = no-ground h c (take_rows (state_in h) now c) (take_image h now c) by_row (eleven h now c) up-to-8.left-rows
 
+    module _ (area : Ground) (g : Grounds h c s.summary area) where
       -- Every row before 11 has passed.
-      pub take-passed : (area.pools ≡ 0 → ⊥) → Taking h now c s.admission.summary area (up_to s.read.count s.networks) (up_to s.read.count s.lengths)
-      take-passed k = record {
+      pub take-passed : Taking h now c s.summary area (up_to s.count s.networks) (up_to s.count s.lengths)
+      take-passed = record {
         passed = record {
           admitted = up-to-8.admitted;
-          left-rows = ground-left h c (take_rows (state_in h) now c) (take_image h now c) by_row (eleven h now c) up-to-8.left-rows (g.row ∙ ne_eqb area.pools 0 k);
+          left-rows = ground-left h c (take_rows (state_in h) now c) (take_image h now c) by_row (eleven h now c) up-to-8.left-rows g.row;
           hold = up-to-8.hold;
           left = up-to-8.left;
         };
@@ -181,13 +195,13 @@ module _ (h : Lent) (now : ℕ) (c : Call) where
         room = take-room;
       }
 
-      pub take-sized : (renewal : Renewal) → renewal ≡ renewal_of c.client now s.admission.summary area
-          → TakeSized h renewal c.reply (up_to s.read.count s.networks) (up_to s.read.count s.lengths)
+      pub take-sized : (renewal : Renewal) → renewal ≡ renewal_of c.client now s.summary area
+          → TakeSized h renewal c.reply (up_to s.count s.networks) (up_to s.count s.lengths)
       take-sized renewal is =
-          let o = s.admits.admitted s.admitted in
+          let o = s.admits.1 in
           let term = sound-term (table_in h) o.sound in
-          let sized = entries-sized short h now c own s good in
-          subst (λ (r : Renewal). TakeSized h r c.reply (up_to s.read.count s.networks) (up_to s.read.count s.lengths)) (sym is)
+          let sized = entries-sized short h now c own s in
+          subst (λ (r : Renewal). TakeSized h r c.reply (up_to s.count s.networks) (up_to s.count s.lengths)) (sym is)
           (record {
             head = omega arith;
             within = sized.within;
@@ -203,14 +217,14 @@ module _ (h : Lent) (now : ℕ) (c : Call) where
 -- ROW 11, AND WHAT IS FOUND
 
 -- What the functions that it calls ensure, by the renewal: `renew_named`, `file_named`, `strike_expired` and `remove_expired`.
-abbrev Renews : Lent → Call → List ℕ → List ℕ → List ℕ → List ℕ → List ℕ → ℕ → Renewal → Type 0
+abbrev Renews : Lent → Call → List ℕ → List ℕ → List ℕ → List (Maybe ℕ) → List ℕ → ℕ → Renewal → Type 0
 Renews h c networks lengths image places replied shown r = (zs : List Lease) → Records h.image (r.from + lease_size * r.first) zs → r.leases ≡ length zs → Ascending zs
     → (ns : List Entry) → Hold networks lengths ns
     → Renewed h.image (r.from + lease_size * r.first) zs r.expiry.time r.expiry.client r.expiry.expires ns c.reply image places replied shown
 
-abbrev Files : Lent → Call → List ℕ → List ℕ → Renewal → Type 0
+abbrev Files : Lent → Call → List (Maybe ℕ) → List ℕ → Renewal → Type 0
 Files h c places figures r = (time client : ℕ) (zs : List Lease) (ns : List Entry) (before rows : List FigureRow)
-    → ToFile c.option places h.figures r.first r.leases time client zs ns before rows
+    → ToFile c.option places h.figures r.first time client zs ns before rows
     → figures ≡ sheet_of (before ++ with_each (filing time client ns) zs rows)
 
 abbrev Strikes : List ℕ → List ℕ → List ℕ → Renewal → Type 0
@@ -249,7 +263,7 @@ module _ (h : Lent) (now : ℕ) (c : Call) (summary : ImageSummary) (area : Grou
   rows-match = (rows-matched (table_in h) o.sound (state_in h).rows (o.sheet-in refl).matched).leases
 
   -- The leases that the entries name are renewed and shown.
-  module _ (renewal : Renewal) (is : renewal ≡ renewal_of c.client now summary area) (l₁ places reply₁ : List ℕ) (shown : ℕ)
+  module _ (renewal : Renewal) (is : renewal ≡ renewal_of c.client now summary area) (l₁ : List ℕ) (places : List (Maybe ℕ)) (reply₁ : List ℕ) (shown : ℕ)
       (renew : Renews h c networks lengths l₁ places reply₁ shown renewal) where
     done : Renewed h.image there mid now c.client until (entries_in c.option) c.reply l₁ places reply₁ shown
     unfolding mid until o there
@@ -305,7 +319,6 @@ module _ (h : Lent) (now : ℕ) (c : Call) (summary : ImageSummary) (area : Grou
           (record {
             left = t.passed.left;
             places-are = done.places-are;
-            counted = sym (grounds-count h c summary area t.grounds now c.client o);
             ascending = grounds-ascending h c summary area t.grounds now c.client o;
             behind = rows_before h now c summary area t.grounds o rows rows-match;
             sheet-is = (o.sheet-in refl).whole ∙ ap sheet_of (sym (take-append-drop first rows));
@@ -402,66 +415,82 @@ take-unmoved h now c summary o none-gone =
     (λ e. unmoved now (λ (x : Lease). cond (named x) (renew now term x) x) (λ x. renew-prefix now term (named x) x) (λ x. renew-later now term (sound-term (table_in h) o.sound).0 (named x) x)
     true h c.client summary o none-gone)
 
--- OPTION 118 IN THE REPLY: with it the answer has another size, and no other number; what is lent stays.
-with-option : (o : Option (List ℕ)) (a : Answer) (h : Lent) (reply : List ℕ)
-    → (x : Answer) × (y : List ℕ) × (returning o (outcome a h reply) ≡ outcome x h y) × (x.number ≡ a.number)
+-- OPTION 118 IN THE REPLY: with it an accepted answer has another size, and a refusal is as it was; what is lent stays.
+with-option : (o : Option (List ℕ)) (a : Res Accepted Refusal) (h : Lent) (reply : List ℕ)
+    → (x : Res Accepted Refusal) × (y : List ℕ) × (returning o (outcome (answer_of a) h reply) ≡ outcome (answer_of x) h y) × (is_ok x ≡ is_ok a)
 with-option none a h reply = (a, reply, refl, refl)
-with-option (some s) a h reply = go (eqb a.number 0) refl
-  where
-    go : (b : Bool) → eqb a.number 0 ≡ b
-        → (x : Answer) × (y : List ℕ) × (cond b (outcome (acceptance (a.bytes + length s) a.count) h (put reply a.bytes s)) (outcome a h reply) ≡ outcome x h y) × (x.number ≡ a.number)
-    go true e = (acceptance (a.bytes + length s) a.count, put reply a.bytes s, refl, sym (eqb-true a.number 0 e))
-    go false e = (a, reply, refl, refl)
+with-option (some s) (Ok a) h reply = (Ok (record { bytes = a.bytes + length s; count = a.count }), put reply a.bytes s, refl, refl)
+with-option (some s) (Err e) h reply = (Err e, reply, returning-refused (some s) (outcome (answer_of (Err e)) h reply) (number-some e), refl)
 
 module _ (b : Book) (now : ℕ) (c : Call) where
-  abbrev lent_refusal : Answer → Type 0
-  lent_refusal r = outcome r (lent_in b) c.reply ≡ take_image (lent_in b) now c
+  -- A refusal of what is lent is one of the book.
+  pub refused-on : (e : Refusal) → outcome (answer_of (Err e)) (lent_in b) c.reply ≡ take_image (lent_in b) now c → outcome (answer_of (Err e)) b c.reply ≡ take_book b now c
+  refused-on e is = refuses-book b (take_image (lent_in b) now c) (answer_of (Err e)) (lent_in b) c.reply is (number-some e)
 
-  refused-on : (r a : Answer) → r ≡ a → (a.number ≡ 0 → ⊥) → lent_refusal a → outcome r b c.reply ≡ take_book b now c
-  refused-on r a is k e =
-      refuses-book b (take_image (lent_in b) now c) r (lent_in b) c.reply (ap (λ (y : Answer). outcome y (lent_in b) c.reply) is ∙ e) (λ z. k (sym (ap (λ (y : Answer). y.number) is) ∙ z))
+  -- Row by row, where the code's test of row 1 is the ledger's.
+  module _ (sh : Bool) (sh-is : sh ≡ short (lent_in b) now c) where
+    abbrev pub shorted : (r : Res ImageSummary Refusal) → Admits true sh (lent_in b) now c.client r → Admits true (short (lent_in b) now c) (lent_in b) now c.client r
+    shorted r = subst (λ (t : Bool). Admits true t (lent_in b) now c.client r) sh-is
 
-  pub book-refused : (a : Admission) → Admits true (short (lent_in b) now c) (lent_in b) now c.client a → (a.number ≡ 0 → ⊥) → (r : Answer) → r ≡ refusal a.number 0
-      → outcome r b c.reply ≡ take_book b now c
-  book-refused a ad k r is = refused-on r (refusal a.number 0) is k (take-refused (lent_in b) now c a ad k)
+    refused-as : (e : Refusal) → outcome (answer_of (Err e)) (lent_in b) c.reply ≡ take_image (lent_in b) now c → (r : Res Accepted Refusal) → r ≡ Err e → outcome (answer_of r) b c.reply ≡ take_book b now c
+    refused-as e is r err = ap (λ (x : Res Accepted Refusal). outcome (answer_of x) b c.reply) err ∙ refused-on e is
 
-  pub book-bad : (a : Admission) → Admits true (short (lent_in b) now c) (lent_in b) now c.client a → a.number ≡ 0 → bad_selection? c.selection ≡ true → (r : Answer) → r ≡ refusal 6 0
-      → outcome r b c.reply ≡ take_book b now c
-  book-bad a ad z bad r is = refused-on r (refusal 6 0) is (λ e. omega arith) (take-bad (lent_in b) now c a ad z bad)
+    pub book-refused : (e : Refusal) → Admits true sh (lent_in b) now c.client (Err e) → (r : Res Accepted Refusal) → r ≡ Err e → outcome (answer_of r) b c.reply ≡ take_book b now c
+    book-refused e ad = refused-as e (take-refused (lent_in b) now c e (shorted (Err e) ad))
+
+    module _ (summary : ImageSummary) (ad : Admits true sh (lent_in b) now c.client (Ok summary)) where
+      pub book-bad : (e : Refusal) → Err e ≡ selection_read c.selection → (r : Res Accepted Refusal) → r ≡ Err e → outcome (answer_of r) b c.reply ≡ take_book b now c
+      book-bad e is = refused-as e (take-bad (lent_in b) now c summary (shorted (Ok summary) ad) e is)
+
+      module _ (address : Maybe ℕ) (chosen : Ok address ≡ selection_read c.selection) (networks lengths : List ℕ) where
+        pub book-unread : (e : Refusal) → ReadsEntries c.option (Err e) networks lengths → (r : Res Accepted Refusal) → r ≡ Err e → outcome (answer_of r) b c.reply ≡ take_book b now c
+        book-unread e read = refused-as e (take-unread (lent_in b) now c summary (shorted (Ok summary) ad) address chosen networks lengths e read)
+
+        -- The call whose entries are read.
+        abbrev pub book_call : (count : ℕ) → EntriesRead c.option networks lengths count → EntriesCall (short (lent_in b) now c) (lent_in b) now c
+        book_call count reads = entries_call (lent_in b) now c summary (shorted (Ok summary) ad) address chosen networks lengths count reads
+
+        module _ (count : ℕ) (reads : EntriesRead c.option networks lengths count) where
+          pub book-groundless : nothing? (pools_of (narrowed (table_in (lent_in b)) c)) ≡ true → (r : Res Accepted Refusal) → r ≡ Err NoSuchPool → outcome (answer_of r) b c.reply ≡ take_book b now c
+          book-groundless poolless = refused-as NoSuchPool (take-groundless (lent_in b) now c (book_call count reads) poolless)
 
   module _ (s : EntriesCall (short (lent_in b) now c) (lent_in b) now c) where
-    pub book-unread : (s.read.answer.number ≡ 0 → ⊥) → outcome s.read.answer b c.reply ≡ take_book b now c
-    book-unread k = refused-on s.read.answer s.read.answer refl k (take-unread (lent_in b) now c s k)
-
-    pub book-groundless : s.read.answer.number ≡ 0 → (area : Ground) → Grounds (lent_in b) c s.admission.summary area → area.pools ≡ 0 → (r : Answer) → r ≡ refusal 19 0
-        → outcome r b c.reply ≡ take_book b now c
-    book-groundless good area g z r is = refused-on r (refusal 19 0) is (λ e. omega arith) (take-groundless (lent_in b) now c s good area g z)
+    -- The same of what is lent.
+    abbrev pub lent_call : EntriesCall (short b.lent now c) b.lent now c
+    lent_call = on-lent (short (lent_in b) now c) b now c s
 
     -- What it leaves, and the counts.
-    module _ (a : Answer) (g : Lent) (reply : List ℕ) (is : returning c.selection (outcome a g reply) ≡ take_image b.lent now c) where
-      pub take-countable : LeftIfAccepted a.number (lent g.image g.bytes []) s.admission.summary.pools
-      take-countable =
+    module _ (a : Res Accepted Refusal) (g : Lent) (reply : List ℕ) (is : returning c.selection (outcome (answer_of a) g reply) ≡ take_image b.lent now c) where
+      pub take-countable : LeftIfAccepted a (lent g.image g.bytes []) s.summary.pools
+      take-countable ok =
           let w = with-option c.selection a g reply in
-          subst (λ (n : ℕ). LeftIfAccepted n (lent g.image g.bytes []) s.admission.summary.pools) w.3
-          (countable b.lent (take_of (state_in b.lent) now c) (follows-all.takes b.lent now c) (take-sound (state_in b.lent) now c)
-          (take-pools (state_in b.lent) now c) w.0 g w.1 (sym w.2 ∙ is) s.admission.summary.pools
-          ((on-lent (short (lent_in b) now c) b now c s).admits.admitted s.admitted).pools)
+          countable b.lent (take_of (state_in b.lent) now c) (follows-all.takes b.lent now c) (take-sound (state_in b.lent) now c)
+          (take-pools (state_in b.lent) now c) w.0 g w.1 (sym w.2 ∙ is) s.summary.pools (on-lent (short (lent_in b) now c) b now c s).admits.1.pools (w.3 ∙ ok)
 
-      stay : s.admission.summary.expired ≡ 0 → counts_of (table_in g) ≡ b.counts
+      stay : s.summary.expired ≡ 0 → counts_of (table_in g) ≡ b.counts
       stay none-gone =
           ap (λ (w : Result Lent). counts_of (table_in w.state)) (sym (with-option c.selection a g reply).2 ∙ is)
           ∙ ap (λ (u : State). counts_of u.table) (follows-all.takes b.lent now c).holds
-          ∙ take-unmoved b.lent now c s.admission.summary ((on-lent (short (lent_in b) now c) b now c s).admits.admitted s.admitted) none-gone
-          ∙ sym (admitted-counts true b now c.client s.admission.summary (s.admits.admitted s.admitted))
+          ∙ take-unmoved b.lent now c s.summary (on-lent (short (lent_in b) now c) b now c s).admits.1 none-gone
+          ∙ sym (admitted-counts true b now c.client s.summary s.admits.1)
 
-      pub take-settles : (moved : Bool) → (moved ≡ false → s.admission.summary.expired ≡ 0) → (counts : List (List ℕ))
-          → counts ≡ cond (eqb a.number 0 && moved) (counts_of (table_in (lent g.image g.bytes []))) b.counts
-          → (r : Answer) (reply₁ : List ℕ) → outcome r g reply₁ ≡ returning c.selection (outcome a g reply)
-          → outcome r (record { lent = g; counts = counts }) reply₁ ≡ take_book b now c
-      take-settles moved none-gone counts left r reply₁ put-it =
-          let w = with-option c.selection a g reply in
-          let number : r.number ≡ a.number = ap (λ (v : Result Lent). v.answer.number) (put-it ∙ w.2) ∙ w.3 in
-          settles b (as_lent (short (lent_in b) now c) b now c s) (take_of (state_in b.lent) now c) (λ (h : Lent). take_image h now c) (follows-all.takes b.lent now c)
-          r g reply₁ (put-it ∙ is) moved counts
-          (left ∙ ap (λ (k : ℕ). cond (eqb k 0 && moved) (counts_of (table_in (lent g.image g.bytes []))) b.counts) (sym number))
-          (λ z e. stay (none-gone e))
+      module _ (moved : Bool) (none-gone : moved ≡ false → s.summary.expired ≡ 0) (counts : List (List ℕ))
+          (left : counts ≡ cond (is_ok a && moved) (counts_of (table_in (lent g.image g.bytes []))) b.counts) where
+        settled-as : (r : Res Accepted Refusal) → is_ok r ≡ is_ok a → (reply₁ : List ℕ) → outcome (answer_of r) g reply₁ ≡ returning c.selection (outcome (answer_of a) g reply)
+            → outcome (answer_of r) (record { lent = g; counts = counts }) reply₁ ≡ take_book b now c
+        settled-as r same reply₁ put-it =
+            settles b (as_lent (short (lent_in b) now c) b now c s) (take_of (state_in b.lent) now c) (λ (h : Lent). take_image h now c) (follows-all.takes b.lent now c)
+            r g reply₁ (put-it ∙ is) moved counts
+            (left ∙ ap (λ (k : Bool). cond (k && moved) (counts_of (table_in (lent g.image g.bytes []))) b.counts) (sym same))
+            (λ z e. stay (none-gone e))
+
+        pub take-settles : (x y : Accepted) → a ≡ Ok x → (reply₁ : List ℕ) → outcome (answer_of (Ok y)) g reply₁ ≡ returning c.selection (outcome (answer_of (Ok x)) g reply)
+            → outcome (answer_of (Ok y)) (record { lent = g; counts = counts }) reply₁ ≡ take_book b now c
+        take-settles x y ok reply₁ put-it =
+            settled-as (Ok y) (sym (ap is_ok ok)) reply₁ (put-it ∙ ap (λ (r : Res Accepted Refusal). returning c.selection (outcome (answer_of r) g reply)) (sym ok))
+
+        pub take-refuses : (e : Refusal) → a ≡ Err e → (r : Res Accepted Refusal) → r ≡ Err e → outcome (answer_of r) (record { lent = g; counts = counts }) reply ≡ take_book b now c
+        take-refuses e err r is =
+            ap (λ (x : Res Accepted Refusal). outcome (answer_of x) (record { lent = g; counts = counts }) reply) is
+            ∙ settled-as (Err e) (sym (ap is_ok err)) reply
+            (sym (returning-refused c.selection (outcome (answer_of (Err e)) g reply) (number-some e)) ∙ ap (λ (x : Res Accepted Refusal). returning c.selection (outcome (answer_of x) g reply)) (sym err))

@@ -13,7 +13,8 @@ use borrow.Author.Tests.{eq-eqb, ne_eqb}
 use Rattle.lists.proofs.PutLaws.{put-fits}
 use Rattle.lists.proofs.DropLaws.{drop-end}
 use Rattle.text.specs.Wrote.{Wrote}
-use Rattle.ledger.specs.declared.Answer.{Answer}
+use Rattle.ledger.specs.declared.{Accepted.Accepted, Answer.Answer, Refusal.Refusal}
+use Rattle.ledger.specs.Answers.{answer_of}
 use Rattle.ledger.specs.Ledger.{Call, Result, outcome, call_with as message_with}
 use Rattle.table.specs.Table.{sound}
 use Rattle.image.specs.Image.{full_image, form_numbered}
@@ -122,12 +123,12 @@ open-bad g old at new next o networks lengths f inside is w =
 pub write-bad : (line n : ℕ) (old : List ℕ) (at : ℕ) (new : List ℕ) (next : ℕ) → next ≤ length old → Wrote old at (error_line line) new next → WroteOption line n old at new next
 write-bad line n old at new next inside w = record { text = error_line line; says = inl refl; wrote = appended old at _ new next inside w }
 
-pub write-of : (line n : ℕ) (o : code.Option Answer) (a : Answer) (buffer after old : List ℕ) (at : ℕ) (new : List ℕ) (next : ℕ) → next ≤ length old → length buffer ≡ n → o ≡ Some a → Writes o buffer after
-    → Wrote old at (written_line a after) new next → WroteOption line n old at new next
-write-of line n o a buffer after old at new next inside size e h w =
-    let one : WroteOne a buffer after = subst (λ (x : code.Option Answer). Writes x buffer after) e h in
+pub write-of : (line n : ℕ) (o : code.Option (code.Result Accepted Refusal)) (r : code.Result Accepted Refusal) (buffer after old : List ℕ) (at : ℕ) (new : List ℕ) (next : ℕ) → next ≤ length old → length buffer ≡ n → o ≡ Some r → Writes o buffer after
+    → Wrote old at (written_line (answer_of r) after) new next → WroteOption line n old at new next
+write-of line n o r buffer after old at new next inside size e h w =
+    let one : WroteOne (answer_of r) buffer after = subst (λ (x : code.Option (code.Result Accepted Refusal)). Writes x buffer after) e h in
     record {
-      text = written_line a after;
+      text = written_line (answer_of r) after;
       says = inr (record { option = one.option; buffer = buffer; size = size; says = ap (λ (p : Answer × List ℕ). written_line p.0 p.1) one.same });
       wrote = appended old at _ new next inside w;
     }

@@ -13,7 +13,9 @@ use Rattle.counts.specs.Counts.{counted_lengths, count_row, counts_of}
 use Rattle.image.specs.Image.{head_size, pool_size, full_image, used_pools}
 use Rattle.image_records.proofs.PoolRecords.{image-pools}
 use Rattle.image_records.proofs.SoundLaws.{used-few}
-use Rattle.ledger.specs.declared.Answer.{Answer}
+use Rattle.std.specs.Prelude.{Result as Res, Ok, Err}
+use Rattle.ledger.specs.declared.{Accepted.Accepted, Answer.Answer, Refusal.Refusal}
+use Rattle.ledger.specs.Answers.{answer_of}
 use Rattle.ledger.specs.Ledger.{refusal, acceptance, first_of, or_else, table_rows}
 use Rattle.ledger.specs.Sizes.{Bytes}
 use Rattle.call_spec.specs.ImageCalls.{Lent, lent, table_in, state_in}
@@ -68,6 +70,11 @@ module _ (b : Book) (text : List ℕ) where
 
   pub shown-text : sound (table_in (lent_in b)) ≡ true → text ≡ of_sound b text
   shown-text e = rw e
+
+-- A call that is not refused is accepted.
+pub passed : (r : Res Accepted Refusal) → ((e : Refusal) → r ≡ Err e → ⊥) → (answer_of r).number ≡ 0
+passed (Ok a) k = refl
+passed (Err e) k = absurd (k e refl)
 
 -- From a check that had no figures sheet.
 module _ (image : List ℕ) (bytes : ℕ) (figures : List ℕ) (counts : List (List ℕ)) (a : Answer) (is : a ≡ check_image (lent_in (book_of image bytes [] counts))) where

@@ -256,17 +256,15 @@ pub fn sheet(s: State, image: &[u8], image_bytes: usize, counts: &Counts, out: &
         (book_of image.now image_bytes figures counts.now) out.old s.at out.new result }
 {
     let at = s.at;
-    let sound = call_query::check(image, image_bytes, counts);
-    if sound.number != 0 {
-        return console_lines::refusal(out, at, sound.number, sound.place);
+    if let Err(e) = call_query::check(image, image_bytes, counts) {
+        return console_lines::refusal(out, at, e);
     }
     let n = console_lines::least(image_bytes, image.len());
     let left = out.len() - at;
-    let a = call_sheet::sheet(&image[0..n], &mut out[at..]);
-    if a.number != 0 {
-        return console_lines::refusal(out, at, a.number, a.place);
+    match call_sheet::sheet(&image[0..n], &mut out[at..]) {
+        Ok(a) => at + console_lines::least(a.bytes as usize, left),
+        Err(e) => console_lines::refusal(out, at, e),
     }
-    at + console_lines::least(a.bytes as usize, left)
 }
 
 // The counts of the pools that have whole free blocks.
@@ -277,9 +275,8 @@ pub fn counts(s: State, image: &[u8], image_bytes: usize, counts: &Counts, out: 
         (given (book_of image.now image_bytes figures counts.now) s.reply_length s.selected s.lines (drop s.at out.old))
         (book_of image.now image_bytes figures counts.now) out.old s.at out.new result }
 {
-    let a = call_query::check(image, image_bytes, counts);
-    if a.number != 0 {
-        return console_lines::refusal(out, s.at, a.number, a.place);
+    if let Err(e) = call_query::check(image, image_bytes, counts) {
+        return console_lines::refusal(out, s.at, e);
     }
     console_lines::counts(out, s.at, &image[HEAD..], *counts)
 }

@@ -8,7 +8,7 @@ ghost use Rattle.table.specs.Table.{pool_slots, shortest_pool, no_lease};
 ghost use Rattle.image.specs.Image.{pool_size};
 ghost use Rattle.figures.specs.Figures.{of_lease?};
 ghost use Rattle.image_figures.specs.Sheets.{figures_size, sheet_rows};
-ghost use Rattle.ledger.specs.Ledger.{placed?};
+ghost use Rattle.ledger.specs.Answers.{refusal_number, bad_place, answer_of};
 ghost use Rattle.console_lines.specs.Sizes.{
   error_most,
   line_most,
@@ -64,9 +64,9 @@ use counts::{Counts, LENGTHS};
 use figures::{Figure, FigureRow, UNTOLD};
 use image::POOL;
 use image_figures::ROW;
-use ledger::Answer;
+use ledger::{Accepted, Refusal};
 use option::{
-    BadSuboption, Cursor, InformationFields, LONGEST_OPTION, NameFields, OptionFault,
+    BadSuboption, Cursor, Fault, InformationFields, LONGEST_OPTION, NameFields, OptionFault,
     RequestFields, Suboption,
 };
 use option_entry::{EntryCursor, EntryFields};
@@ -95,26 +95,20 @@ pub fn error(out: &mut [u8], at: usize, line: u64) -> usize
     console_text::text(out, b, b"\n")
 }
 
-// Whether a refusal has a place.
-fn has_place(number: u32) -> bool
-    ensures { result ≡ placed? number }
-{
-    if number == 7 {
-        return true;
-    }
-    number == 16
-}
-
 // A refusal by its number, with its place if it has one.
-pub fn refusal(out: &mut [u8], at: usize, number: u32, place: u32) -> usize
+pub fn refusal(out: &mut [u8], at: usize, refusal: Refusal) -> usize
     requires { at + line_most ≤ length out.old }
     ensures upper_bound { result ≤ at + line_most }
-    ensures wrote { Wrote out.old at (refused_line number place) out.new result }
+    ensures wrote { Wrote out.old at (refused_line (refusal_number refusal) (bad_place refusal)) out.new result }
 {
-    if has_place(number) {
-        return console_text::fill(out, at, b"refused % place=%\n", &[number, place]);
+    let number = refusal.number();
+    match refusal {
+        Refusal::BadFraming(_) | Refusal::BadField(_) => {
+            let place = refusal.place();
+            console_text::fill(out, at, b"refused % place=%\n", &[number, place])
+        }
+        _ => console_text::fill(out, at, b"refused %\n", &[number]),
     }
-    console_text::fill(out, at, b"refused %\n", &[number])
 }
 
 // The smaller of two numbers.
@@ -136,55 +130,59 @@ fn octets(out: &mut [u8], at: usize, word: &[u8], s: &[u8]) -> usize
 }
 
 // The answer of an open, a load or a mark.
-pub fn done(out: &mut [u8], at: usize, a: Answer) -> usize
+pub fn done(out: &mut [u8], at: usize, answer: Result<Accepted, Refusal>) -> usize
     requires { at + line_most ≤ length out.old }
     ensures upper_bound { result ≤ at + line_most }
-    ensures wrote { Wrote out.old at (done_line a) out.new result }
+    ensures wrote { Wrote out.old at (done_line (answer_of answer)) out.new result }
 {
-    if a.number != 0 {
-        return refusal(out, at, a.number, a.place);
+    match answer {
+        Ok(_) => ok(out, at),
+        Err(e) => refusal(out, at, e),
     }
-    ok(out, at)
 }
 
 // The answer of a return.
-pub fn counted(out: &mut [u8], at: usize, a: Answer) -> usize
+pub fn counted(out: &mut [u8], at: usize, answer: Result<Accepted, Refusal>) -> usize
     requires { at + line_most ≤ length out.old }
     ensures upper_bound { result ≤ at + line_most }
-    ensures wrote { Wrote out.old at (counted_line a) out.new result }
+    ensures wrote { Wrote out.old at (counted_line (answer_of answer)) out.new result }
 {
-    if a.number != 0 {
-        return refusal(out, at, a.number, a.place);
+    match answer {
+        Ok(a) => console_text::fill(out, at, b"ok count=%\n", &[a.count]),
+        Err(e) => refusal(out, at, e),
     }
-    console_text::fill(out, at, b"ok count=%\n", &[a.count])
 }
 
 // The answer of an ask, a take or a list, with the bytes that it wrote to its reply buffer.
-pub fn replied(out: &mut [u8], at: usize, a: Answer, reply: &[u8]) -> usize
+pub fn replied(out: &mut [u8], at: usize, answer: Result<Accepted, Refusal>, reply: &[u8]) -> usize
     requires { at + octets_most (length reply.now) ≤ length out.old }
     ensures upper_bound { result ≤ at + octets_most (length reply.now) }
-    ensures wrote { Wrote out.old at (replied_line a reply.now) out.new result }
+    ensures wrote { Wrote out.old at (replied_line (answer_of answer) reply.now) out.new result }
 {
-    if a.number != 0 {
-        return refusal(out, at, a.number, a.place);
+    match answer {
+        Ok(a) => {
+            let k = least(a.bytes as usize, reply.len());
+            let b = console_text::fill(out, at, b"ok bytes=% count=%", &[a.bytes, a.count]);
+            octets(out, b, b" ", &reply[0..k])
+        }
+        Err(e) => refusal(out, at, e),
     }
-    let k = least(a.bytes as usize, reply.len());
-    let b = console_text::fill(out, at, b"ok bytes=% count=%", &[a.bytes, a.count]);
-    octets(out, b, b" ", &reply[0..k])
 }
 
 // The answer of a save or a write, with the bytes that it wrote to its buffer.
-pub fn written(out: &mut [u8], at: usize, a: Answer, buffer: &[u8]) -> usize
+pub fn written(out: &mut [u8], at: usize, answer: Result<Accepted, Refusal>, buffer: &[u8]) -> usize
     requires { at + octets_most (length buffer.now) ≤ length out.old }
     ensures upper_bound { result ≤ at + octets_most (length buffer.now) }
-    ensures wrote { Wrote out.old at (written_line a buffer.now) out.new result }
+    ensures wrote { Wrote out.old at (written_line (answer_of answer) buffer.now) out.new result }
 {
-    if a.number != 0 {
-        return refusal(out, at, a.number, a.place);
+    match answer {
+        Ok(a) => {
+            let k = least(a.bytes as usize, buffer.len());
+            let b = console_text::fill(out, at, b"ok bytes=%", &[a.bytes]);
+            octets(out, b, b" ", &buffer[0..k])
+        }
+        Err(e) => refusal(out, at, e),
     }
-    let k = least(a.bytes as usize, buffer.len());
-    let b = console_text::fill(out, at, b"ok bytes=%", &[a.bytes]);
-    octets(out, b, b" ", &buffer[0..k])
 }
 
 // OPTIONS
@@ -312,14 +310,18 @@ fn option(out: &mut [u8], at: usize, s: &[u8]) -> usize
     ensures { result ≤ at + read_most }
 {
     if LONGEST_OPTION < s.len() {
-        return refusal(out, at, 6, 0);
+        return refusal(out, at, Refusal::NotTheOption);
     }
     match option::check_option(s) {
         Ok(()) => suboptions(out, at, s),
-        Err(OptionFault::NotTheOption) => refusal(out, at, 6, 0),
+        Err(OptionFault::NotTheOption) => refusal(out, at, Refusal::NotTheOption),
         // No place is past the end.
         Err(OptionFault::BadSuboption(BadSuboption { fault, place })) => {
-            refusal(out, at, fault.number(), least(place, s.len()) as u32)
+            let place = least(place, s.len()) as u32;
+            match fault {
+                Fault::Framing => refusal(out, at, Refusal::BadFraming(place)),
+                Fault::Field => refusal(out, at, Refusal::BadField(place)),
+            }
         }
     }
 }
@@ -339,7 +341,7 @@ fn selection(out: &mut [u8], at: usize, s: &[u8]) -> usize
 {
     match option::read_selection(s) {
         Some(n) => address(out, at, n),
-        None => refusal(out, at, 6, 0),
+        None => refusal(out, at, Refusal::NotTheOption),
     }
 }
 

@@ -170,7 +170,7 @@ fn is(word: &[u8], name: &[u8]) -> bool
 }
 
 // The command that a word names where it is none of a call.
-// Stays: the names one by one. Tried as a `match` on byte strings: its last arm asks some eighty goals, none of which closes alone.
+// Stays: the names one by one. Tried as a `match` on byte strings, the goals of the arms stayed open.
 fn other_name(word: &[u8]) -> Option<Name>
     ensures { result ≡ other_name word.now }
 {

@@ -19,7 +19,7 @@ use Rattle.text.specs.Decimal.{digit}
 use Rattle.text.specs.Wrote.{lowest_digits, WroteNumber}
 use Rattle.text.proofs.TextLaws.{length_last}
 use Rattle.io.specs.Digits.{hex_digit_ascii, last_digits}
-use Rattle.console_text.specs.Text.{hex_of, Decimal, Spelt, Piece, Spells, Filled}
+use Rattle.console_text.specs.Text.{hex_of, Decimal, Piece, Spells, Filled}
 
 sized : (s : List ℕ) → All (λ x. length (hex_of x) ≡ 2) s
 sized [] = tt
@@ -53,13 +53,13 @@ decimal-put n at r before after w =
     })
 
 -- What a loop that fills a pattern has done: what it wrote, and how the text may go on from there.
-pub record Filling (pattern numbers before : List ℕ) (at i j : ℕ) (now : List ℕ) (end : ℕ) : Type 0 where
+pub record Filling (pattern numbers before : List ℕ) (at i : ℕ) (left now : List ℕ) (end : ℕ) : Type 0 where
   pub text : List ℕ
-  pub goes_on : (rest : List ℕ) → Spells (drop i pattern) (drop j numbers) rest → Spells pattern numbers (text ++ rest)
+  pub goes_on : (rest : List ℕ) → Spells (drop i pattern) left rest → Spells pattern numbers (text ++ rest)
   pub bytes : now ≡ put before at text
   pub ends : end ≡ at + length text
 
-pub filling-none : (pattern numbers before : List ℕ) (at : ℕ) → Filling pattern numbers before at 0 0 before at
+pub filling-none : (pattern numbers before : List ℕ) (at : ℕ) → Filling pattern numbers before at 0 numbers before at
 unfolding put
 filling-none pattern numbers before at = record { text = []; goes_on = λ rest h. h; bytes = refl; ends = omega arith }
 
@@ -69,8 +69,8 @@ byte_of c cs [] rest true e h = record { rest = rest; same = refl; goes_on = h }
 byte_of c cs (n ∷ ns) rest true e h = absurd (omega (arith, ap length (e refl)))
 byte_of c cs ns rest false e h = record { rest = rest; same = refl; goes_on = h }
 
-module _ (pattern numbers before : List ℕ) (at i j : ℕ) (now : List ℕ) (end : ℕ) (f : Filling pattern numbers before at i j now end) (lt : i < length pattern) where
-  pub filling-byte : (get_or pattern i 0 ≡ 37 → length numbers ≤ j) → Filling pattern numbers before at (i + 1) j (set now end (get_or pattern i 0)) (end + 1)
+module _ (pattern numbers before : List ℕ) (at i : ℕ) (left now : List ℕ) (end : ℕ) (f : Filling pattern numbers before at i left now end) (lt : i < length pattern) where
+  pub filling-byte : (get_or pattern i 0 ≡ 37 → left ≡ []) → Filling pattern numbers before at (i + 1) left (set now end (get_or pattern i 0)) (end + 1)
   filling-byte none =
       let c : ℕ = get_or pattern i 0 in
       record {
@@ -78,16 +78,16 @@ module _ (pattern numbers before : List ℕ) (at i j : ℕ) (now : List ℕ) (en
         goes_on = λ rest h.
             subst (Spells pattern numbers) (sym (append_assoc f.text (c ∷ []) rest))
             (f.goes_on (c ∷ rest)
-            (subst (λ (p : List ℕ). Spells p (drop j numbers) (c ∷ rest)) (sym (drop_at pattern i 0 lt))
-            (byte_of c (drop (i + 1) pattern) (drop j numbers) rest (eqb c 37) (λ e. drop-end numbers j (none (eqb-true c 37 e))) h)));
+            (subst (λ (p : List ℕ). Spells p left (c ∷ rest)) (sym (drop_at pattern i 0 lt))
+            (byte_of c (drop (i + 1) pattern) left rest (eqb c 37) (λ e. none (eqb-true c 37 e)) h)));
         bytes = set_more before now _ at f.text end c f.bytes f.ends refl;
         ends = omega (arith, f.ends, length-append f.text (c ∷ []));
       }
 
   -- A number in the place of a `%`.
-  pub filling-number : (n : ℕ) (after : List ℕ) (r : ℕ) → get_or pattern i 0 ≡ 37 → j < length numbers → n ≡ get_or numbers j 0 → end ≤ r → Decimal n now end after (r - end)
-      → Filling pattern numbers before at (i + 1) (j + 1) after r
-  filling-number n after r hole left e le d =
+  pub filling-number : (n : ℕ) (more after : List ℕ) (r : ℕ) → get_or pattern i 0 ≡ 37 → left ≡ n ∷ more → end ≤ r → Decimal n now end after (r - end)
+      → Filling pattern numbers before at (i + 1) more after r
+  filling-number n more after r hole is le d =
       let k : ℕ = r - end in
       let xs : List ℕ = last_digits 10 k n in
       record {
@@ -95,20 +95,19 @@ module _ (pattern numbers before : List ℕ) (at i j : ℕ) (now : List ℕ) (en
         goes_on = λ rest h.
             subst (Spells pattern numbers) (sym (append_assoc f.text xs rest))
             (f.goes_on (xs ++ rest)
-            (subst (λ (p : List ℕ). Spells p (drop j numbers) (xs ++ rest)) (sym (drop_at pattern i 0 lt))
-            (subst (λ (ns : List ℕ). Piece (eqb (get_or pattern i 0) 37) (get_or pattern i 0) ns (Spells (drop (i + 1) pattern)) (xs ++ rest)) (sym (drop_at numbers j 0 left))
-            (subst (λ (b : Bool). Piece b (get_or pattern i 0) (get_or numbers j 0 ∷ drop (j + 1) numbers) (Spells (drop (i + 1) pattern)) (xs ++ rest)) (sym (eq-eqb (get_or pattern i 0) 37 hole))
-            (subst (λ (m : ℕ). Spelt m (Spells (drop (i + 1) pattern) (drop (j + 1) numbers)) (xs ++ rest)) e
-            (record { k = k; fewest = d.fewest; rest = rest; same = refl; goes_on = h }))))));
+            (subst (λ (p : List ℕ). Spells p left (xs ++ rest)) (sym (drop_at pattern i 0 lt))
+            (subst (λ (ns : List ℕ). Piece (eqb (get_or pattern i 0) 37) (get_or pattern i 0) ns (Spells (drop (i + 1) pattern)) (xs ++ rest)) (sym is)
+            (subst (λ (b : Bool). Piece b (get_or pattern i 0) (n ∷ more) (Spells (drop (i + 1) pattern)) (xs ++ rest)) (sym (eq-eqb (get_or pattern i 0) 37 hole))
+            (record { k = k; fewest = d.fewest; rest = rest; same = refl; goes_on = h })))));
         bytes = put-more before now after at f.text end xs f.bytes f.ends d.bytes;
         ends = omega (arith, f.ends, length-append f.text xs, length_digits 10 k n);
       }
 
-pub filling-all : (pattern numbers before : List ℕ) (at i j : ℕ) (now : List ℕ) (end : ℕ) → Filling pattern numbers before at i j now end → length pattern ≤ i → Filled pattern numbers before at now end
-filling-all pattern numbers before at i j now end f past =
+pub filling-all : (pattern numbers before : List ℕ) (at i : ℕ) (left now : List ℕ) (end : ℕ) → Filling pattern numbers before at i left now end → length pattern ≤ i → Filled pattern numbers before at now end
+filling-all pattern numbers before at i left now end f past =
     record {
       text = f.text;
-      spells = subst (Spells pattern numbers) (append-nil f.text) (f.goes_on [] (subst (λ (p : List ℕ). Spells p (drop j numbers) []) (sym (drop-end pattern i past)) refl));
+      spells = subst (Spells pattern numbers) (append-nil f.text) (f.goes_on [] (subst (λ (p : List ℕ). Spells p left []) (sym (drop-end pattern i past)) refl));
       bytes = f.bytes;
       ends = f.ends;
     }

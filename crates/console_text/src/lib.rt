@@ -34,12 +34,6 @@ pub fn number(out: &mut [u8], at: usize, n: u64) -> usize
     decimal(out, at, n, 20)
 }
 
-fn wide(n: u32) -> u64
-    ensures { (result ≡ n) × (result < 4294967296) }
-{
-    n as u64
-}
-
 // A pattern, with the next number in decimal for each `%` that one is left for. No such number has more than ten digits.
 pub fn fill(out: &mut [u8], at: usize, pattern: &[u8], numbers: &[u32]) -> usize
     requires { at + length pattern.now + 9 * length numbers.now ≤ length out.old }
@@ -47,20 +41,17 @@ pub fn fill(out: &mut [u8], at: usize, pattern: &[u8], numbers: &[u32]) -> usize
     ensures filled { Filled pattern.now numbers.now out.old at out.new result }
 {
     let mut end = at;
-    let mut i: usize = 0;
-    let mut j: usize = 0;
-    while i < pattern.len() {
-        let c = pattern[i];
-        i = i + 1;
-        if c == b'%' {
-            if j < numbers.len() {
-                end = decimal(out, end, wide(numbers[j]), 10);
-                j = j + 1;
+    let mut left = numbers;
+    for c in pattern {
+        if *c == b'%' {
+            if let [n, rest @ ..] = left {
+                end = decimal(out, end, u64::from(*n), 10);
+                left = rest;
                 continue;
             }
         }
-        out[end] = c;
-        end = end + 1;
+        out[end] = *c;
+        end += 1;
     }
     end
 }
@@ -70,7 +61,7 @@ fn glyph(d: u8) -> u8
     requires { d < 16 }
     ensures { result ≡ glyph_of d }
 {
-    if d < 10 { b'0' + d } else { 87 + d }
+    if d < 10 { b'0' + d } else { b'a' + (d - 10) }
 }
 
 // Octets in hexadecimal, two digits each.
@@ -79,12 +70,9 @@ pub fn octets(out: &mut [u8], at: usize, s: &[u8]) -> usize
     ensures value { result ≡ at + 2 * length s.now }
     ensures out_after { out.new ≡ put out.old at (concat_map hex_of s.now) }
 {
-    let mut i: usize = 0;
-    while i < s.len() {
-        let x = s[i];
-        out[at + 2 * i] = glyph(x / 16);
-        out[at + 2 * i + 1] = glyph(x % 16);
-        i = i + 1;
+    for (i, x) in s.iter().enumerate() {
+        out[at + 2 * i] = glyph(*x / 16);
+        out[at + 2 * i + 1] = glyph(*x % 16);
     }
-    at + 2 * i
+    at + 2 * s.len()
 }

@@ -17,12 +17,13 @@ use Rattle.option.specs.Writer.{writable?, write_option}
 use Rattle.option.specs.Selection.{selection_bytes, write_selection}
 use Rattle.option_reply.specs.declared.WriteFault.{WriteFault}
 use Rattle.option_reply.specs.Answers.{into}
-use Rattle.ledger.specs.declared.Answer.{Answer}
-use Rattle.call_spec.specs.Written.{answer_of}
+use Rattle.ledger.specs.declared.{Accepted.Accepted, Answer.Answer, Refusal.Refusal}
+use Rattle.ledger.specs.Answers.{answer_of}
+use Rattle.call_spec.specs.Written.{as_answer}
 use Rattle.console_write.specs.Writes.{written_as}
 
-pub answered : (w : Result ℕ WriteFault) (o : Writing) (old new : List ℕ) (a : Answer) → a ≡ answer_of w → ◌≡◌ {A = Result ℕ WriteFault × List ℕ} (w, new) (into o old) → ◌≡◌ {A = Answer × List ℕ} (a, new) (written_as o old)
-answered w o old new a e h = ap (λ (x : Answer). (x, new)) e ∙ ap (λ (p : Result ℕ WriteFault × List ℕ). (answer_of p.0, p.1)) h
+pub answered : (w : Result ℕ WriteFault) (o : Writing) (old new : List ℕ) (r : Result Accepted Refusal) → r ≡ as_answer w → ◌≡◌ {A = Result ℕ WriteFault × List ℕ} (w, new) (into o old) → ◌≡◌ {A = Answer × List ℕ} (answer_of r, new) (written_as o old)
+answered w o old new r e h = ap (λ (x : Result Accepted Refusal). (answer_of x, new)) e ∙ ap (λ (p : Result ℕ WriteFault × List ℕ). (answer_of (as_answer p.0), p.1)) h
 
 -- Written bytes are no more than the buffer holds, so their number fits 32 bits.
 abbrev Fits32 : Result ℕ WriteFault → Type 0

@@ -6,11 +6,12 @@ ghost use Rattle.option.specs.Selection.{write_selection};
 ghost use Rattle.option.specs.Writer.{write_option};
 ghost use Rattle.option_measure.specs.Lists.{suboptions_of};
 ghost use Rattle.console_script.specs.Commands.{longest_reply};
+ghost use Rattle.ledger.specs.Answers.{answer_of};
 ghost use Rattle.console_write.specs.Writes.{written_as, Writes};
 ghost use Rattle.console_write.specs.Inner.{Within, PieceWithin, Fits};
 
 use console_words::Octets;
-use ledger::Answer;
+use ledger::{Accepted, Refusal};
 use option_entry::{EntryFields, Figures, HighWater, InUse, Unusable};
 use option_measure::{InformationItem, Item, NameItem, RequestItem, SuboptionList};
 
@@ -343,17 +344,17 @@ fn read_list(s: &mut [u8]) -> Option<Listing>
 // ANSWERS
 
 // The option of a list.
-fn write_list(list: &SuboptionList, buffer: &mut [u8]) -> Answer
+fn write_list(list: &SuboptionList, buffer: &mut [u8]) -> Result<Accepted, Refusal>
     requires { length buffer.old ≤ longest_reply }
-    ensures { (result, buffer.new) ≡ written_as (write_option (length buffer.old) (suboptions_of list.now)) buffer.old }
+    ensures { (answer_of result, buffer.new) ≡ written_as (write_option (length buffer.old) (suboptions_of list.now)) buffer.old }
 {
     call_spec::written(option_write::write_option(list, buffer))
 }
 
 // Option 118.
-fn write_address(address: u32, buffer: &mut [u8]) -> Answer
+fn write_address(address: u32, buffer: &mut [u8]) -> Result<Accepted, Refusal>
     requires { length buffer.old ≤ longest_reply }
-    ensures { (result, buffer.new) ≡ written_as (write_selection (length buffer.old) address) buffer.old }
+    ensures { (answer_of result, buffer.new) ≡ written_as (write_selection (length buffer.old) address) buffer.old }
 {
     call_spec::written(option_reply::write_selection(address, buffer))
 }
@@ -369,7 +370,7 @@ fn read_address(s: &[u8], from: usize) -> Option<u32>
     console_words::read_network(&s[w.start..w.end])
 }
 
-fn write_words(s: &mut [u8], buffer: &mut [u8]) -> Option<Answer>
+fn write_words(s: &mut [u8], buffer: &mut [u8]) -> Option<Result<Accepted, Refusal>>
     requires { length buffer.old ≤ longest_reply }
     ensures { Writes result buffer.old buffer.new }
 {
@@ -387,7 +388,7 @@ fn write_words(s: &mut [u8], buffer: &mut [u8]) -> Option<Answer>
 }
 
 // The option that words make, into a buffer; none of words that are not these.
-pub fn write(s: &mut [u8], buffer: &mut [u8]) -> Option<Answer>
+pub fn write(s: &mut [u8], buffer: &mut [u8]) -> Option<Result<Accepted, Refusal>>
     requires { length buffer.old ≤ longest_reply }
     ensures { Writes result buffer.old buffer.new }
 {

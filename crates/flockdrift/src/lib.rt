@@ -63,6 +63,7 @@ pub extern "C" fn flockdrift_open(
         lengths,
         terms,
     )
+    .into()
 }
 
 #[unsafe(no_mangle)]
@@ -76,7 +77,7 @@ pub extern "C" fn flockdrift_load(
     ensures { outcome result (book_of image.new image_bytes.new figures.new counts.new) []
         ≡ load_book (book_of image.old image_bytes.old figures.old counts.old) saved.now }
 {
-    call_load::load(image, image_bytes, figures, counts, saved)
+    call_load::load(image, image_bytes, figures, counts, saved).into()
 }
 
 // Save changes nothing, so the image is only read; and so with list. Neither has the figures sheet.
@@ -100,6 +101,7 @@ pub extern "C" fn flockdrift_save(
         older != 0,
         buffer,
     )
+    .into()
 }
 
 #[unsafe(no_mangle)]
@@ -134,6 +136,7 @@ pub extern "C" fn flockdrift_ask(
         selection,
         reply,
     )
+    .into()
 }
 
 #[unsafe(no_mangle)]
@@ -168,6 +171,7 @@ pub extern "C" fn flockdrift_take(
         selection,
         reply,
     )
+    .into()
 }
 
 #[unsafe(no_mangle)]
@@ -183,7 +187,7 @@ pub extern "C" fn flockdrift_list(
     ensures { outcome result (book_of image.now image_bytes [] counts.now) reply.new
         ≡ list_book (book_of image.now image_bytes [] counts.now) time (call client option.now reply.old) }
 {
-    call_list::list(image, image_bytes, counts, client, time, option, reply)
+    call_list::list(image, image_bytes, counts, client, time, option, reply).into()
 }
 
 #[unsafe(no_mangle)]
@@ -199,7 +203,7 @@ pub extern "C" fn flockdrift_release(
     ensures { outcome result (book_of image.new image_bytes.new figures.new counts.new) []
         ≡ release_book (book_of image.old image_bytes.old figures.old counts.old) time (call client option.now []) }
 {
-    call_release::release(image, image_bytes, figures, counts, client, time, option)
+    call_release::release(image, image_bytes, figures, counts, client, time, option).into()
 }
 
 #[unsafe(no_mangle)]
@@ -226,13 +230,14 @@ pub extern "C" fn flockdrift_mark(
         deprecated,
         time,
     )
+    .into()
 }
 
 #[unsafe(no_mangle)]
 pub extern "C" fn flockdrift_sheet(image: &[u8], text: &mut [u8]) -> Answer
     ensures { (result, text.new) ≡ sheet_image image.now text.old }
 {
-    call_sheet::sheet(image, text)
+    call_sheet::sheet(image, text).into()
 }
 
 // QUERIES: the image is only read.
@@ -241,7 +246,7 @@ pub extern "C" fn flockdrift_sheet(image: &[u8], text: &mut [u8]) -> Answer
 pub extern "C" fn flockdrift_check(image: &[u8], image_bytes: usize, counts: &Counts) -> Answer
     ensures { result ≡ check_image (lent_in (book_of image.now image_bytes [] counts.now)) }
 {
-    call_query::check(image, image_bytes, counts)
+    call_query::check(image, image_bytes, counts).into()
 }
 
 // How much is left.
@@ -254,7 +259,7 @@ pub extern "C" fn flockdrift_whole(
 ) -> Answer
     ensures { result ≡ whole_book (book_of image.now image_bytes [] counts.now) length }
 {
-    call_query::whole(image, image_bytes, counts, length)
+    call_query::whole(image, image_bytes, counts, length).into()
 }
 
 #[unsafe(no_mangle)]
@@ -294,7 +299,7 @@ pub extern "C" fn flockdrift_lease(
 pub extern "C" fn flockdrift_check_option(option: &[u8]) -> Answer
     ensures { result ≡ option_check option.now }
 {
-    call_option::check_option(option)
+    call_option::check_option(option).into()
 }
 
 #[unsafe(no_mangle)]
@@ -308,5 +313,5 @@ pub extern "C" fn flockdrift_read_selection(option: &[u8]) -> SelectionAnswer
 pub extern "C" fn flockdrift_write_selection(address: u32, buffer: &mut [u8]) -> Answer
     ensures { (result, buffer.new) ≡ selection_into address buffer.old }
 {
-    call_option::write_selection(address, buffer)
+    call_option::write_selection(address, buffer).into()
 }

@@ -6,6 +6,7 @@ use mathlib.Core.Logic.{⊎_elim}
 use mathlib.Core.Bool.{Bool, true, false, not, true≢false}
 use mathlib.Core.List.{List, [], ◌∷◌}
 use mathlib.Core.Option.{none, some}
+use Rattle.std.specs.Prelude.{None}
 use native.Mathlib.Nat.{mul-zero}
 use native.Mathlib.Omega.{arith}
 use lib.ListN.{length, drop, get_or, length-map, length-drop, get_or-map}
@@ -32,7 +33,7 @@ use Rattle.image.specs.Fields.{Run}
 use Rattle.image.specs.Image.{lease_size_in, pool_size}
 use Rattle.image.specs.Reading.{lease_fields_in, lease_at_in, pools_at, after_head_in, network_in}
 use Rattle.image.proofs.FieldLaws.{Bytes, bytes_drop, records-none}
-use Rattle.image_check.specs.ImageSummary.{unsound, summary_of}
+use Rattle.image_check.specs.ImageSummary.{summary_of}
 use Rattle.image_check.specs.declared.{Pass.Pass, Fit.Fit}
 use Rattle.image_check.specs.Inner.{prefix_in, nth_pool, fit_tests, due, Begun}
 use Rattle.image_check.specs.InnerPass.{summary_with, ending, leases_from, pools_in, Answered, Reached}
@@ -146,7 +147,7 @@ module _ (form : Form) (x : Head) (s : List ℕ) (n time : ℕ) (begun : Begun x
   in-pool q k h e = any?-at (inside? q) (pools_in s) k (pool_prefix no_pool) (omega (arith, pools-many)) (ap (inside? q) (pool-at k h) ∙ e)
 
   -- No number of leases makes up the rest.
-  pub scanned-size : ((m : ℕ) → m ≤ lease_slots → pool_size * n + lease_size_in form * m ≡ length s → ⊥) → summary_of time (after_head_in form (some x) s) ≡ unsound
+  pub scanned-size : ((m : ℕ) → m ≤ lease_slots → pool_size * n + lease_size_in form * m ≡ length s → ⊥) → summary_of time (after_head_in form (some x) s) ≡ None
   scanned-size h =
       read-begun form x s n begun time
       ∙ ending-unsound x time n (pools_in s) 0 0 0 (leases_from form lease_slots (drop (pool_size * n) s)) (λ e.
@@ -179,7 +180,7 @@ module _ (form : Form) (x : Head) (s : List ℕ) (n time : ℕ) (begun : Begun x
       less = omega arith
 
       -- No sound table has it.
-      no-lease : (Fits form x.last here → low ≤ network_in here → any? (inside? (prefix_in here)) (pools_in s) ≡ true → ⊥) → summary_of time (after_head_in form (some x) s) ≡ unsound
+      no-lease : (Fits form x.last here → low ≤ network_in here → any? (inside? (prefix_in here)) (pools_in s) ≡ true → ⊥) → summary_of time (after_head_in form (some x) s) ≡ None
       no-lease h =
           same
           ∙ ap (λ (k : ℕ). ending x time n (pools_in s) i expired low (leases_from form k here)) less
@@ -217,7 +218,7 @@ module _ (form : Form) (x : Head) (s : List ℕ) (n time : ℕ) (begun : Begun x
   reached-end k p r e = nothing_left r.low p.expired p.at r.leases r.place r.same e
 
   -- A lease is left that lies in no pool.
-  pub reached-none : (k : ℕ) (p : Pass) → Reached form x s n time k p → n ≤ k → p.at + lease_size_in form ≤ length s → summary_of time (after_head_in form (some x) s) ≡ unsound
+  pub reached-none : (k : ℕ) (p : Pass) → Reached form x s n time k p → n ≤ k → p.at + lease_size_in form ≤ length s → summary_of time (after_head_in form (some x) s) ≡ None
   reached-none k p r h room =
       no-lease r.low p.expired p.at r.leases r.place r.same (few-before (length s) n p.at r.leases form r.size r.place room) room (λ f l a.
       true≢false

@@ -11,7 +11,8 @@ use native.Mathlib.Omega.{arith}
 use lib.ListN.{length, drop, replicate, length-map, length-append, length-replicate}
 use lib.Dec.{leb, ltb, eqb}
 use borrow.Author.Tests.{leb-true, le-leb, ltb-true, lt-ltb, eqb-true}
-use Rattle.std.specs.Prelude.{Some, None}
+use Rattle.std.specs.Prelude.{Option as Maybe, Some, None}
+use Rattle.std.proofs.lemmas.Option.{none-some}
 use Rattle.lists.specs.Lists.{All, and, any?, filter}
 use Rattle.lists.proofs.Tests.{bool_cases, and-to, cond-true, cond-false, not-true⇒false, and-list-to}
 use Rattle.lists.proofs.FilterLaws.{filter-yes, filter-no}
@@ -31,7 +32,7 @@ use Rattle.image.specs.Reading.{lease_at_in, pools_at, leases_at_in, table_with,
 use Rattle.image.proofs.FieldLaws.{records-none, records-some}
 use Rattle.image.proofs.ImageLaws.{used-pools, used-leases}
 use Rattle.image_check.specs.declared.ImageSummary.{ImageSummary}
-use Rattle.image_check.specs.ImageSummary.{unsound, summary_of}
+use Rattle.image_check.specs.ImageSummary.{summary_at, summary_of}
 use Rattle.image_check.specs.Inner.{pool_count, prefix_in, due, Begun}
 use Rattle.image_check.specs.InnerPass.{summary_with, due?, left?, ending, leases_from}
 use Rattle.image_check.proofs.RunLaws.{pools-taken, lease-known, leases-taken}
@@ -72,7 +73,7 @@ module _ (x : Head) (ps : List Pool) (xs : List Lease) (few : length ps ≤ pool
       (ascends-padded unused? pool_ok pool_prefix no_pool unused-of 0 (pool_slots - length ps) ps pools)
       (ascends-padded empty? (lease_ok (map pool_prefix ps) x.last) prefix_of no_lease empty_of 0 (lease_slots - length xs) xs leases)
 
-  table-summary : (time : ℕ) (b : Bool) → summary_of time (cond b (some table) none) ≡ cond b (summary_with x (length ps) (length xs) (length (filter (due? time) xs))) unsound
+  table-summary : (time : ℕ) (b : Bool) → summary_of time (cond b (some table) none) ≡ cond b (summary_with x (length ps) (length xs) (length (filter (due? time) xs))) None
   table-summary time true =
       ap₂ (λ (l : List Pool) (m : List Lease). summary_with x (length l) (length m) (length (filter (due? time) m)))
       (used-pools (pool_slots - length ps) ps pools) (used-leases (lease_slots - length xs) xs leases)
@@ -90,16 +91,16 @@ module _ (form : Form) (x : Head) (s : List ℕ) where
 
   read-summary : (time : ℕ) → summary_of time (after_head_in form (some x) s)
       ≡ cond (and (eqb (length xs.rest) 0 ∷ (head_ok x.term x.default_length x.last && (ltb 0 (length ps) && (pools_ascend? ps && leases_ascend? (map pool_prefix ps) x.last 0 xs.items))) ∷ []))
-      (summary_with x (length ps) (length xs.items) (length (filter (due? time) xs.items))) unsound
+      (summary_with x (length ps) (length xs.items) (length (filter (due? time) xs.items))) None
   read-summary time =
       let p = pools-taken s in
       let q = leases-taken form lease_slots (pools_at s).rest in
       table-summary x ps xs.items p.few q.few p.each q.each time (and (eqb (length xs.rest) 0 ∷ sound (table_with x ps xs.items) ∷ []))
-      ∙ ap (λ (b : Bool). cond (and (eqb (length xs.rest) 0 ∷ b ∷ [])) (summary_with x (length ps) (length xs.items) (length (filter (due? time) xs.items))) unsound)
+      ∙ ap (λ (b : Bool). cond (and (eqb (length xs.rest) 0 ∷ b ∷ [])) (summary_with x (length ps) (length xs.items) (length (filter (due? time) xs.items))) None)
       (table-sound x ps xs.items p.few q.few p.each q.each)
 
   -- A head or pools that no sound table has.
-  pub read-unsound : (time : ℕ) → (head_ok x.term x.default_length x.last ≡ false) ⊎ ((n : ℕ) → pool_count ps ≡ Some n → n ≡ 0) → summary_of time (after_head_in form (some x) s) ≡ unsound
+  pub read-unsound : (time : ℕ) → (head_ok x.term x.default_length x.last ≡ false) ⊎ ((n : ℕ) → pool_count ps ≡ Some n → n ≡ 0) → summary_of time (after_head_in form (some x) s) ≡ None
   read-unsound time bad =
       let rules : List Bool = eqb (length xs.rest) 0 ∷ (head_ok x.term x.default_length x.last && (ltb 0 (length ps) && (pools_ascend? ps && leases_ascend? (map pool_prefix ps) x.last 0 xs.items))) ∷ [] in
       read-summary time ∙ cond-false (and rules) _ _ (not-true⇒false (and rules) (λ e. none-sound (head_ok x.term x.default_length x.last) (pools_ascend? ps) (leases_ascend? (map pool_prefix ps) x.last 0 xs.items) (length ps) (and-list-to rules e).1.0 bad))
@@ -121,9 +122,9 @@ module _ (form : Form) (x : Head) (s : List ℕ) where
         let few : 0 < length ps = omega (arith, begun.counted, begun.any) in
         let ok : (head_ok x.term x.default_length x.last && (ltb 0 (length ps) && (pools_ascend? ps && rest))) ≡ rest = rw (begun.headed, lt-ltb 0 (length ps) few, begun.ascends) in
         read-summary time
-        ∙ ap (λ (b : Bool). cond (and (eqb (length xs.rest) 0 ∷ b ∷ [])) (summary_with x (length ps) (length xs.items) (length (filter (due? time) xs.items))) unsound) ok
-        ∙ ap (λ (m : ℕ). cond (left? qs x.last 0 xs) (summary_with x m (length xs.items) (length (filter (due? time) xs.items))) unsound) (sym begun.counted)
-        ∙ ap₂ (λ (l e : ℕ). cond (left? qs x.last 0 xs) (summary_with x n l e) unsound) (omega arith) (omega arith)
+        ∙ ap (λ (b : Bool). cond (and (eqb (length xs.rest) 0 ∷ b ∷ [])) (summary_with x (length ps) (length xs.items) (length (filter (due? time) xs.items))) None) ok
+        ∙ ap (λ (m : ℕ). cond (left? qs x.last 0 xs) (summary_with x m (length xs.items) (length (filter (due? time) xs.items))) None) (sym begun.counted)
+        ∙ ap₂ (λ (l e : ℕ). cond (left? qs x.last 0 xs) (summary_with x n l e) None) (omega arith) (omega arith)
         ∙ ap (λ (u : List ℕ). ending x time n qs 0 0 0 (leases_from form lease_slots u)) ((pools-taken s).rest ∙ ap (λ (m : ℕ). drop (pool_size * m) s) (sym begun.counted))
 
 -- One lease further.
@@ -132,7 +133,7 @@ module _ (x : Head) (time n : ℕ) (qs : List Prefix) where
   unfolding ascends?
   ending-none i e low = ap₂ (summary_with x n) (add-zero i) (add-zero e)
 
-  pub ending-unsound : (i e low : ℕ) (r : Run Lease) → (left? qs x.last low r ≡ true → ⊥) → ending x time n qs i e low r ≡ unsound
+  pub ending-unsound : (i e low : ℕ) (r : Run Lease) → (left? qs x.last low r ≡ true → ⊥) → ending x time n qs i e low r ≡ None
   ending-unsound i e low r h = cond-false (left? qs x.last low r) _ _ (not-true⇒false (left? qs x.last low r) h)
 
   one_more : (e : ℕ) (y : Lease) (ys : List Lease) → e + length (filter (due? time) (y ∷ ys)) ≡ e + due y.expires time + length (filter (due? time) ys)
@@ -156,7 +157,7 @@ module _ (x : Head) (time n : ℕ) (qs : List Prefix) where
         let rest : Bool = leases_ascend? qs x.last (end (prefix_of y)) later.items in
         let ok : (leb low y.network && (lease_ok qs x.last y && rest)) ≡ rest = rw (le-leb low y.network l, o) in
         ap (ending x time n qs i e low) (records-some (lease_at_in form) (lease_size_in form) k u y read)
-        ∙ ap₂ (λ (b : Bool) (summary : ImageSummary). cond (and (eqb (length later.rest) 0 ∷ b ∷ [])) summary unsound)
+        ∙ ap₂ (λ (b : Bool) (summary : Maybe ImageSummary). cond (and (eqb (length later.rest) 0 ∷ b ∷ [])) summary None)
         (ascends-first ∙ ok)
         (ap₂ (summary_with x n) (omega arith) (one_more e y later.items))
 
@@ -179,10 +180,10 @@ module _ (x : Head) (time n : ℕ) (qs : List Prefix) where
 
 -- WHAT A SUMMARY TELLS
 
-pub summary-some : (time : ℕ) (o : Option LeaseTable) → (summary_of time o).sound ≡ true → o ≡ some (loaded_table o)
-summary-some time none e = absurd (true≢false (sym e))
-summary-some time (some t) e = refl
+pub summary-some : (time : ℕ) (o : Option LeaseTable) (x : ImageSummary) → Some x ≡ summary_of time o → o ≡ some (loaded_table o)
+summary-some time none x e = absurd (none-some x (sym e))
+summary-some time (some t) x e = refl
 
-pub summary-none : (time : ℕ) (o : Option LeaseTable) → (summary_of time o).sound ≡ false → o ≡ none
+pub summary-none : (time : ℕ) (o : Option LeaseTable) → None ≡ summary_of time o → o ≡ none
 summary-none time none e = refl
-summary-none time (some t) e = absurd (true≢false e)
+summary-none time (some t) e = absurd (none-some (summary_at time t) e)

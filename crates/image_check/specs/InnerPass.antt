@@ -1,5 +1,5 @@
 -- How far a pass over the leases of an image has come, pool by pool.
-use Rattle.std.specs.Prelude.{ℕ, ◌+◌, ◌-◌, ◌*◌, ◌≤◌, ◌<◌, ◌≡◌, Bool, true, false, cond, List, [], ◌∷◌, map, length, drop, leb, eqb}
+use Rattle.std.specs.Prelude.{ℕ, ◌+◌, ◌-◌, ◌*◌, ◌≤◌, ◌<◌, ◌≡◌, Bool, true, false, cond, List, [], ◌∷◌, map, length, drop, leb, eqb, Option, Some, None}
 use Rattle.std.proofs.Math.Option.{some}
 use Rattle.lists.specs.Lists.{and, filter}
 use Rattle.prefix.specs.declared.Prefix.{Prefix}
@@ -12,20 +12,19 @@ use Rattle.image.specs.Fields.{Run, records}
 use Rattle.image.specs.Image.{lease_size_in, pool_size}
 use Rattle.image.specs.Reading.{lease_at_in, pools_at, after_head_in, network_in}
 use Rattle.image_check.specs.declared.{ImageSummary.ImageSummary, Pass.Pass}
-use Rattle.image_check.specs.ImageSummary.{unsound, summary_of}
+use Rattle.image_check.specs.ImageSummary.{summary_of}
 use Rattle.image_check.specs.Inner.{prefix_in, nth_pool, fit_tests}
 
 -- The book of a head, so many pools and so many leases.
-abbrev pub summary_with : Head → ℕ → ℕ → ℕ → ImageSummary
-summary_with x pools leases expired = record {
-  sound = true;
+abbrev pub summary_with : Head → ℕ → ℕ → ℕ → Option ImageSummary
+summary_with x pools leases expired = Some (record {
   term = x.term;
   default_length = x.default_length;
   last = x.last;
   pools = pools;
   leases = leases;
   expired = expired;
-}
+})
 
 abbrev pub due? : ℕ → Lease → Bool
 due? time y = leb y.expires time
@@ -35,8 +34,8 @@ abbrev pub left? : List Prefix → ℕ → ℕ → Run Lease → Bool
 left? qs last low r = and (eqb (length r.rest) 0 ∷ leases_ascend? qs last low r.items ∷ [])
 
 -- The book, where i leases were read before these and e of them have expired.
-abbrev pub ending : Head → ℕ → ℕ → List Prefix → ℕ → ℕ → ℕ → Run Lease → ImageSummary
-ending x time n qs i e low r = cond (left? qs x.last low r) (summary_with x n (i + length r.items) (e + length (filter (due? time) r.items))) unsound
+abbrev pub ending : Head → ℕ → ℕ → List Prefix → ℕ → ℕ → ℕ → Run Lease → Option ImageSummary
+ending x time n qs i e low r = cond (left? qs x.last low r) (summary_with x n (i + length r.items) (e + length (filter (due? time) r.items))) None
 
 abbrev pub leases_from : Form → ℕ → List ℕ → Run Lease
 leases_from form limit s = records (lease_at_in form) (lease_size_in form) limit s

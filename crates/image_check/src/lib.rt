@@ -7,7 +7,7 @@ ghost use Rattle.image.specs.declared.Head.{Head};
 ghost use Rattle.table.specs.Table.{pool_slots};
 ghost use Rattle.image.specs.Image.{pool_size, lease_size_in};
 ghost use Rattle.image.specs.Reading.{pools_at, name_test, after_head_in, load_in, load_image};
-ghost use Rattle.image_check.specs.ImageSummary.{unsound, summary_of};
+ghost use Rattle.image_check.specs.ImageSummary.{summary_of};
 ghost use Rattle.image_check.specs.Inner.{pool_end, pool_count, pool_begins?, nth_pool, state_and_flags?, fit_at, due, Begun};
 ghost use Rattle.image_check.specs.InnerPass.{Left, Reached};
 
@@ -15,31 +15,15 @@ use image::{FIRST_LEASE, Form, HEAD, Head, LEASE, POOL};
 use prefix::Prefix;
 use table::{LEASES, POOLS, Pool};
 
-// The head of the table that bytes are the image of, and how many pools, leases and expired leases it has; all of it 0
-// where they are no image of a sound table.
+// The head of the table that bytes are the image of, and how many pools, leases and expired leases it has.
 #[derive(Clone, Copy)]
 pub struct ImageSummary {
-    pub sound: bool,
     pub term: u32,
     pub default_length: u8,
     pub last: u32,
     pub pools: usize,
     pub leases: usize,
     pub expired: usize,
-}
-
-fn unsound() -> ImageSummary
-    ensures { result ≡ unsound }
-{
-    ImageSummary {
-        sound: false,
-        term: 0,
-        default_length: 0,
-        last: 0,
-        pools: 0,
-        leases: 0,
-        expired: 0,
-    }
 }
 
 // POOLS
@@ -170,6 +154,7 @@ fn in_pool(form: Form, s: &[u8], p: Prefix, from: Pass, last: u32, time: u32) ->
     let stop = p.end();
     let mut low = u64::from(p.network);
     let mut pass = from;
+    // Stays: a `for` over the records is no plainer: the place moves on by hand besides, since the pass over the next pool begins there.
     while pass.at < s.len() {
         let Some(lease) = fit_at(form, &s[pass.at..], last) else {
             return pass;
@@ -195,17 +180,17 @@ fn leases_of(form: Form, bytes: usize) -> usize
 }
 
 // The leases after n pools, and nothing after them. Pools and leases both ascend, so the leases of one pool stand together, before those of the next.
-fn leases_in(form: Form, head: Head, s: &[u8], n: usize, time: u32) -> ImageSummary
+fn leases_in(form: Form, head: Head, s: &[u8], n: usize, time: u32) -> Option<ImageSummary>
     requires { Begun head s.now n }
     ensures { result ≡ summary_of time (after_head_in form (some head) s.now) }
 {
     let from = POOL * n;
     let count = leases_of(form, s.len() - from);
     if LEASES < count {
-        return unsound();
+        return None;
     }
     if from + image::lease_size(form) * count != s.len() {
-        return unsound();
+        return None;
     }
     let mut pass = Pass {
         at: from,
@@ -215,43 +200,40 @@ fn leases_in(form: Form, head: Head, s: &[u8], n: usize, time: u32) -> ImageSumm
         pass = in_pool(form, s, pool(s, k), pass, head.last, time);
     }
     if pass.at != s.len() {
-        return unsound();
+        return None;
     }
-    ImageSummary {
-        sound: true,
+    Some(ImageSummary {
         term: head.term,
         default_length: head.default_length,
         last: head.last,
         pools: n,
         leases: count,
         expired: pass.expired,
-    }
+    })
 }
 
 // THE PASS
 
-// What the bytes are the image of in a form, at a time.
-pub fn check_in(form: Form, image: &[u8], time: u32) -> ImageSummary
+// What the bytes are the image of in a form, at a time; nothing where they are no image of a sound table.
+pub fn check_in(form: Form, image: &[u8], time: u32) -> Option<ImageSummary>
     ensures { result ≡ summary_of time (load_in form image.now) }
 {
     if !image::head_begins(form, image) {
-        return unsound();
+        return None;
     }
     let head = image::head_in(image);
     if !table::head_ok(head.term, head.default_length, head.last) {
-        return unsound();
+        return None;
     }
-    let Some(n) = pools_in(&image[HEAD..]) else {
-        return unsound();
-    };
+    let n = pools_in(&image[HEAD..])?;
     if n == 0 {
-        return unsound();
+        return None;
     }
     leases_in(form, head, &image[HEAD..], n, time)
 }
 
 // In the form that the calls work on.
-pub fn check(image: &[u8], time: u32) -> ImageSummary
+pub fn check(image: &[u8], time: u32) -> Option<ImageSummary>
     ensures { result ≡ summary_of time (load_image image.now) }
 {
     check_in(Form::Second, image, time)

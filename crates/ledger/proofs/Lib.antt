@@ -2,6 +2,7 @@
 pub mod RowLaws
 pub mod LeftLaws
 pub mod CommonRows
+pub mod RefusalLaws
 pub mod ReadLaws
 pub mod GroundLaws
 pub mod OfferLaws

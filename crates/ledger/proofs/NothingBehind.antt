@@ -2,7 +2,7 @@
 -- the same rows of these leases, get the same answer, the same buffer and, where the call is accepted, the same state from every call (list leaves each its
 -- own); and freed slots are zero, their rows untold.
 -- Assumes nothing.
-use Prim.Native.Nat.{ℕ, ◌-◌}
+use Prim.Native.Nat.{ℕ}
 use mathlib.Core.Path.{◌≡◌, refl, sym, ap, ap₂, subst, ◌∙◌}
 use mathlib.Core.Bool.{Bool, true, false, not, cond, ◌&&◌, true≢false}
 use mathlib.Core.List.{List, [], ◌∷◌, ◌++◌, map}
@@ -11,7 +11,7 @@ use lib.ListN.{length, drop}
 use lib.ListN.{take as up_to}
 use lib.Dec.{ltb, eqb}
 use borrow.Author.Tests.{eq-eqb, le-ltb}
-use Rattle.lists.specs.Lists.{and, cat_maybes, filter, any?}
+use Rattle.lists.specs.Lists.{cat_maybes, filter, any?}
 use Rattle.option.specs.Values.{Entry, information}
 use Rattle.option.specs.Reading.{read_option}
 use Rattle.option.specs.Writing.{option_bytes}

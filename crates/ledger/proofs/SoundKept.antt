@@ -1,9 +1,9 @@
 -- EVERY CALL LEAVES A SOUND TABLE SOUND, and refuses an unsound one with 5 (or 1) untouched; after a refusal table and buffer are what they were; list
 -- changes no table.
 -- Assumes nothing.
-use Prim.Native.Nat.{ℕ, ◌-◌, ◌≤◌}
+use Prim.Native.Nat.{ℕ, ◌≤◌}
 use mathlib.Core.Path.{◌≡◌, refl, sym, subst}
-use mathlib.Core.Logic.{◌⊎◌, ⊎_elim}
+use mathlib.Core.Logic.{⊎_elim}
 use mathlib.Core.Bool.{Bool, true, false, not, cond}
 use mathlib.Core.List.{List, [], map}
 use native.Mathlib.Omega.{arith}

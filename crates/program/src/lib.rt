@@ -255,6 +255,7 @@ pub fn read_full<R: Read>(
     ensures { IfOk result (λ n. n ≤ length buf.old) }
 {
     let mut n = 0;
+    // Stays: a `for` is no plainer: each turn goes on by as many bytes as the read before it gave.
     while n < buf.len() {
         let more = read_some(errors, name, from, &mut buf[n..])?;
         if more == 0 {

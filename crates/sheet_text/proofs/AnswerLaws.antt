@@ -22,9 +22,10 @@ use Rattle.image.specs.Reading.{form_of, load_in, load_image}
 use Rattle.image.proofs.FieldLaws.{bytes-all}
 use Rattle.image.proofs.ImageLaws.{load-image, image-loaded-in, length-image-in, length-image}
 use Rattle.image_check.specs.declared.ImageSummary.{ImageSummary}
-use Rattle.image_check.specs.ImageSummary.{summary_of}
+use Rattle.image_check.specs.ImageSummary.{summary_at, summary_of}
 use Rattle.image_check.proofs.SummaryLaws.{summary-some, summary-none}
-use Rattle.std.specs.Prelude.{Result, Ok, Err}
+use Rattle.std.specs.Prelude.{Option as Maybe, Some, None, Result, Ok, Err}
+use Rattle.std.proofs.lemmas.Option.{same_Some}
 use Rattle.sheet_text.specs.declared.SheetFault.{SheetFault}
 use Rattle.sheet_text.specs.declared.SheetFault.TheVariants.{NotSound, TooSmall}
 use Rattle.sheet_text.specs.Sheet.{free_in, rows, head_text, sheet_text}
@@ -126,21 +127,22 @@ module _ (saved : List ℕ) (k n : ℕ) (s : SoundSaved First saved k n) (image 
       subst P same (h s.table front-loads)
 
 -- What the check of the bytes tells, in the form that they have.
-module _ (image : List ℕ) (form : Form) (ef : form ≡ form_of image) (summary : ImageSummary) (eb : summary ≡ summary_of 0 (load_in form image)) where
+module _ (image : List ℕ) (form : Form) (ef : form ≡ form_of image) (o : Maybe ImageSummary) (eb : o ≡ summary_of 0 (load_in form image)) where
   as-form : {o : Option LeaseTable} → load_in form image ≡ o → load_in (form_of image) image ≡ o
   as-form e = ap (λ (f : Form). load_in f image) (sym ef) ∙ e
 
-  pub told-unsound : (l : List ℕ) → summary.sound ≡ false → (Err NotSound, l) ≡ sheet_of_image image l
-  told-unsound l e = image-unsound image l (as-form (summary-none 0 (load_in form image) (ap (λ (b : ImageSummary). b.sound) (sym eb) ∙ e)))
+  pub told-unsound : (l : List ℕ) → o ≡ None → (Err NotSound, l) ≡ sheet_of_image image l
+  told-unsound l e = image-unsound image l (as-form (summary-none 0 (load_in form image) (sym e ∙ eb)))
 
-  module _ (e : summary.sound ≡ true) (bytes : (i : ℕ) → get_or image i 0 < 256) (told : Form) (et : form ≡ told) where
+  module _ (summary : ImageSummary) (e : o ≡ Some summary) (bytes : (i : ℕ) → get_or image i 0 < 256) (told : Form) (et : form ≡ told) where
     here : SoundSaved form image summary.pools summary.leases
     here =
         let t : LeaseTable = loaded_table (load_in form image) in
-        let loads : load_in form image ≡ some t = summary-some 0 (load_in form image) (ap (λ (b : ImageSummary). b.sound) (sym eb) ∙ e) in
+        let loads : load_in form image ≡ some t = summary-some 0 (load_in form image) summary (sym e ∙ eb) in
+        let is : summary ≡ summary_at 0 t = same_Some summary (summary_at 0 t) (sym e ∙ eb ∙ ap (summary_of 0) loads) in
         let loaded : (sound t ≡ true) × ((fits_form form t ≡ true) × (image_as form t ≡ image)) = image-loaded-in form image t (bytes-all image bytes) loads in
-        let pools : summary.pools ≡ length (used_pools t) = ap (λ (b : ImageSummary). b.pools) (eb ∙ ap (summary_of 0) loads) in
-        let leases : summary.leases ≡ length (used_leases t) = ap (λ (b : ImageSummary). b.leases) (eb ∙ ap (summary_of 0) loads) in
+        let pools : summary.pools ≡ length (used_pools t) = ap (λ (b : ImageSummary). b.pools) is in
+        let leases : summary.leases ≡ length (used_leases t) = ap (λ (b : ImageSummary). b.leases) is in
         record {
           table = t;
           loads = loads;

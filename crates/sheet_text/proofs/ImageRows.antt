@@ -13,7 +13,7 @@ use Rattle.lists.proofs.IndexLaws.{all-at}
 use Rattle.prefix.specs.declared.Prefix.{Prefix}
 use Rattle.prefix.specs.Prefixes.{longest, end}
 use Rattle.table.specs.declared.LeaseTable.{LeaseTable}
-use Rattle.table.specs.Table.{addresses, pool_prefix, no_pool, no_lease, pools_of, sound}
+use Rattle.table.specs.Table.{addresses, pool_prefix, no_pool, no_lease, pools_of}
 use Rattle.names.specs.Names.{spells, name_in}
 use Rattle.image.specs.Fields.{number32}
 use Rattle.image.specs.Image.{used_pools, used_leases, image_of, head_size, pool_size, lease_size}

@@ -19,7 +19,7 @@ use Rattle.names.specs.declared.Name.{Name}
 use Rattle.names.specs.Names.{unnamed?, name_octets, name_text, name_length}
 use Rattle.names.proofs.NameLaws.{unnamed-length, name-short, text-octets}
 use Rattle.sheet_text.specs.declared.Used.{Used}
-use Rattle.sheet_text.specs.Sheet.{prefix_used, used_row, free_row, shown, name_row, prefix_text, row_text, head_text}
+use Rattle.sheet_text.specs.Sheet.{prefix_used, Row, used_row, free_row, shown, name_row, prefix_text, row_text, head_text}
 use Rattle.sheet_text.specs.SheetSizes.{prefix_most, number_most, prefix_marks, used_words, name_most, used_most, free_most, lease_digits, free_digits, head_most}
 use Rattle.sheet_text.specs.InnerScan.{prefix_size, used_size, free_size, head_text_size}
 
@@ -83,11 +83,15 @@ any-prefix : (p : Prefix) → prefix_size p ≤ 5 * number_most + prefix_marks
 any-prefix p =
     omega (arith, any-number (p.network / 16777216), any-number (p.network / 65536 % 256), any-number (p.network / 256 % 256), any-number (p.network % 256), any-number p.length)
 
-pub any-used : (x : Used) → used_size x ≤ 7 * number_most + prefix_marks + used_words + name_most
+any-used : (x : Used) → used_size x ≤ 7 * number_most + prefix_marks + used_words + name_most
 any-used x = omega (arith, any-prefix (prefix_used x), any-number x.client, any-number x.expires, name-most x.name)
 
-pub any-free : (p : Prefix) → free_size p ≤ 7 * number_most + prefix_marks + used_words
+any-free : (p : Prefix) → free_size p ≤ 7 * number_most + prefix_marks + used_words
 any-free p = omega (arith, any-prefix p)
+
+pub any-row : (r : Row) → length (row_text r) ≤ 7 * number_most + prefix_marks + used_words + name_most
+any-row (used_row x) = omega (arith, used-length x, any-used x)
+any-row (free_row p) = omega (arith, free-length p, any-free p)
 
 pub any_head : (leases free : ℕ) → head_text_size leases free ≤ 7 * number_most + prefix_marks + used_words
 any_head leases free = omega (arith, any-number leases, any-number free)

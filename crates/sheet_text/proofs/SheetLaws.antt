@@ -1,6 +1,6 @@
 -- What the code finds in the image of a sound table: the rows of its sheet, and how many of them are free.
 -- Assumes nothing.
-use Prim.Native.Nat.{ℕ, zero, suc, ◌+◌, ◌-◌, ◌≤◌, ◌<◌}
+use Prim.Native.Nat.{ℕ, zero, suc, ◌≤◌, ◌<◌}
 use mathlib.Core.Path.{◌≡◌, refl, sym, ap, ap₂, subst, ◌∙◌}
 use mathlib.Core.Logic.{inr, ⊎_elim, by_cases}
 use mathlib.Core.Bool.{true, false, not}

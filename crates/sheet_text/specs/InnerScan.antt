@@ -14,8 +14,15 @@ use Rattle.image.specs.declared.Form.TheVariants.{Second}
 use Rattle.image.specs.Image.{head_size, pool_size, lease_size, lease_size_in, used_pools, used_leases, image_as, fits_form}
 use Rattle.image.specs.Reading.{pool_in, lease_in, load_in}
 use Rattle.sheet_text.specs.declared.Used.{Used}
+use Rattle.sheet_text.specs.declared.Row.{Row as CodeRow}
+use Rattle.sheet_text.specs.declared.Row.TheVariants.{Lease, Free}
 use Rattle.sheet_text.specs.SheetSizes.{prefix_marks, used_words, free_words, head_words}
 use Rattle.sheet_text.specs.Sheet.{used_by, prefix_used, Row, used_row, free_row, name_row, row_text}
+
+-- A row, as the code has it.
+abbrev pub row_of : CodeRow → Row
+row_of (Lease x) = used_row x
+row_of (Free p) = free_row p
 
 -- HOW LONG ROWS ARE
 

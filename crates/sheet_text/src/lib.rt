@@ -11,13 +11,13 @@ ghost use Rattle.sheet_text.specs.Sheet.{prefix_text, shown, name_row, used_row,
 ghost use Rattle.sheet_text.specs.Answers.{into, sheet_of_image};
 ghost use Rattle.sheet_text.specs.SheetSizes.{sheet_size};
 ghost use Rattle.sheet_text.specs.InnerScan.{
+  row_of,
   prefix_size,
   used_size,
   free_size,
   head_text_size,
   Fits,
   lease_shown,
-  pool_shown,
   pools_shown,
   SoundSaved,
   OfSaved,
@@ -128,6 +128,13 @@ pub struct Used {
     pub name: Name,
 }
 
+// A row of the sheet.
+#[derive(Clone, Copy)]
+enum Row {
+    Lease(Used),
+    Free(Prefix),
+}
+
 // An octet of a name as a row shows it: "those outside 0x20 to 0x7E as `?`".
 fn shown(octet: u8) -> u8
     ensures { result ≡ shown octet }
@@ -152,10 +159,8 @@ fn put_name(out: &mut [u8], at: usize, name: Name) -> usize
     }
     let from = text::put(out, at, &NAMED);
     let octets = names::octets(name);
-    let mut k: usize = 0;
-    while k < n {
-        out[from + k] = shown(octets[k]);
-        k = k + 1;
+    for (k, octet) in octets[..n].iter().enumerate() {
+        out[from + k] = shown(*octet);
     }
     from + n
 }
@@ -187,6 +192,16 @@ fn put_free(out: &mut [u8], at: usize, p: Prefix) -> usize
     text::put(out, place, &END)
 }
 
+fn put_row(out: &mut [u8], at: usize, row: Row) -> usize
+    requires { at + length (row_text (row_of row)) ≤ length out.old }
+    ensures { Wrote out.old at (row_text (row_of row)) out.new result }
+{
+    match row {
+        Row::Lease(x) => put_used(out, at, x),
+        Row::Free(p) => put_free(out, at, p),
+    }
+}
+
 // The first row.
 fn put_head(out: &mut [u8], leases: u32, free: u32) -> usize
     requires { head_text_size leases free ≤ length out.old }
@@ -201,26 +216,15 @@ fn put_head(out: &mut [u8], leases: u32, free: u32) -> usize
 
 // ROWS SHOWN. Each of these writes into a buffer that has room, or into an empty one, and then only tells how long the text is.
 
-fn show_free(out: &mut [u8], at: usize, p: Prefix) -> usize
-    requires { Fits out.old at (row_text (free_row p)) }
-    ensures { Wrote out.old at (row_text (free_row p)) out.new result }
+fn show_row(out: &mut [u8], at: usize, row: Row) -> usize
+    requires { Fits out.old at (row_text (row_of row)) }
+    ensures { Wrote out.old at (row_text (row_of row)) out.new result }
 {
     if out.len() == 0 {
-        let mut row = [0u8; ANY_ROW];
-        return at + put_free(&mut row, 0, p);
+        let mut line = [0u8; ANY_ROW];
+        return at + put_row(&mut line, 0, row);
     }
-    put_free(out, at, p)
-}
-
-fn show_used(out: &mut [u8], at: usize, x: Used) -> usize
-    requires { Fits out.old at (row_text (used_row x)) }
-    ensures { Wrote out.old at (row_text (used_row x)) out.new result }
-{
-    if out.len() == 0 {
-        let mut row = [0u8; ANY_ROW];
-        return at + put_used(&mut row, 0, x);
-    }
-    put_used(out, at, x)
+    put_row(out, at, row)
 }
 
 // What the image shows of its i-th lease.
@@ -239,12 +243,6 @@ fn lease(image: &[u8], base: usize, i: usize) -> Used
     }
 }
 
-fn wide(x: u32) -> u64
-    ensures { result ≡ x }
-{
-    x as u64
-}
-
 // None of the n leases is left, or the next one starts at or after the end of the prefix.
 fn is_free(image: &[u8], base: usize, n: usize, i: usize, p: Prefix) -> bool
     requires { base + lease_size * n ≤ length image.now }
@@ -253,7 +251,7 @@ fn is_free(image: &[u8], base: usize, n: usize, i: usize, p: Prefix) -> bool
     if n <= i {
         return true;
     }
-    p.end() <= wide(image::network_at(image, base + LEASE * i))
+    p.end() <= u64::from(image::network_at(image, base + LEASE * i))
 }
 
 // Shows a prefix: as a free row, as a used row, or as its two halves. `next` is the next lease.
@@ -272,12 +270,12 @@ fn show_prefix(
 {
     let i = *next;
     if is_free(image, base, n, i, p) {
-        return show_free(out, at, p);
+        return show_row(out, at, Row::Free(p));
     }
     let x = lease(image, base, i);
     if x.length <= p.length {
         *next = i + 1;
-        return show_used(out, at, x);
+        return show_row(out, at, Row::Lease(x));
     }
     show_halves(out, image, base, n, next, at, p)
 }
@@ -302,25 +300,24 @@ fn show_halves(
     show_prefix(out, image, base, n, next, middle, high)
 }
 
-// The j-th pool.
-fn pool(image: &[u8], j: usize) -> Prefix
-    requires { head_size + pool_size * j + pool_size ≤ length image.now }
-    ensures { result ≡ pool_shown image.now j }
-{
-    Prefix::from(image::pool_at(image, HEAD + POOL * j))
-}
-
 // Shows the first k pools.
 fn show_pools(out: &mut [u8], image: &[u8], base: usize, n: usize, k: usize, from: usize) -> usize
     requires { ReadyAll image.now base n k out.old from }
     ensures { Wrote out.old from (scan_text (scan_all (lease_shown image.now base) n (pools_shown image.now k) 0)) out.new result }
 {
+    let pools = &image[HEAD..];
     let mut next: usize = 0;
     let mut at = from;
-    let mut j: usize = 0;
-    while j < k {
-        at = show_prefix(out, image, base, n, &mut next, at, pool(image, j));
-        j = j + 1;
+    for j in 0..k {
+        at = show_prefix(
+            out,
+            image,
+            base,
+            n,
+            &mut next,
+            at,
+            image_check::pool(pools, j),
+        );
     }
     at
 }
@@ -377,10 +374,7 @@ pub fn sheet_of_image(saved: &[u8], out: &mut [u8]) -> Result<usize, SheetFault>
     ensures { (result, out.new) ≡ sheet_of_image saved.now out.old }
 {
     let form = image::form_of(saved);
-    let summary = image_check::check_in(form, saved, 0);
-    if !summary.sound {
-        return Err(SheetFault::NotSound);
-    }
+    let summary = image_check::check_in(form, saved, 0).ok_or(SheetFault::NotSound)?;
     match form {
         Form::First => write_first(saved, summary.pools, summary.leases, out),
         Form::Second => write_sheet(saved, summary.pools, summary.leases, out),

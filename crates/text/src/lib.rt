@@ -19,22 +19,16 @@ fn width(n: u64) -> usize
     n.checked_ilog10().unwrap_or(0) as usize + 1
 }
 
-// A number in decimal, its last digits first, two at a time.
+// A number in decimal, its last digit first.
 pub fn number(out: &mut [u8], at: usize, n: u64) -> usize
     requires { RoomFor n out.old at }
     ensures { WroteNumber n out.old at out.new result }
 {
     let size = width(n);
     let mut left = n;
-    let mut i = size;
-    while 1 < i {
-        i = i - 2;
-        out[at + i + 1] = 48 + (left % 10) as u8;
-        out[at + i] = 48 + (left / 10 % 10) as u8;
-        left = left / 100;
-    }
-    if 0 < i {
-        out[at] = 48 + (left % 10) as u8;
+    for i in (0..size).rev() {
+        out[at + i] = b'0' + (left % 10) as u8;
+        left /= 10;
     }
     at + size
 }

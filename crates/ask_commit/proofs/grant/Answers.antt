@@ -14,15 +14,13 @@ use Rattle.table.specs.Table.{present}
 use Rattle.image.specs.Image.{lease_size, used_leases}
 use Rattle.option.specs.Values.{longest_option, most_requests}
 use Rattle.option.specs.Contents.{requests_in}
-use Rattle.ledger.specs.declared.Answer.{Answer}
-use Rattle.ledger.specs.Ledger.{Call, call_with, outcome, narrowed, hold_time, again}
+use Rattle.ledger.specs.Ledger.{Call, call_with, narrowed, hold_time, again}
 use Rattle.ledger.proofs.ReadLaws.{requests-short}
 use Rattle.ask_again.specs.Places.{no_place, Within, InBuffer, given_in, others_in}
 use Rattle.ask_again.proofs.Counting.{others-none, others-few, others-first}
 use Rattle.ask_serve.specs.Granting.{leases_in, Granted}
 use Rattle.call_spec.specs.ImageCalls.{Lent, lent, table_in, state_in}
 use Rattle.call_rows.specs.Admission.{leases_from}
-use Rattle.call_ground.specs.Ground.{returning}
 use Rattle.call_ground.specs.Ground.{leases_in as leases_on}
 use Rattle.call_ground.proofs.GroundsLaws.{grounds-count, grounds-records, grounds-ascending}
 use Rattle.ask_commit.specs.Asking.{Asking}
@@ -132,10 +130,9 @@ returns-then-summary-ge-LEASES c =
     let found = (goal.at.returns-then-summary-ge-LEASES c).After-find_held-again in
     let served = (goal.at.returns-then-summary-ge-LEASES c).After-serve_rest-granted in
     let long = long-enough served in record {
-      bytes_bound = subst (λ (r : Answer). r.bytes ≤ longest_option) (sym c.refused.ensures) (omega arith);
+      bytes_bound = omega arith;
       equation = λ option selection k.
-          ap (λ (r : Answer). returning selection (outcome r (lent_of found) c.args.reply.now)) c.refused.ensures
-          ∙ ask-full _ _ _ _ _ _ _ c.requires _ option selection k (places_of found) (places-many found) (given_is found option selection k) (networks-of served) (lengths-of served) long.0 long.1 (granted served option selection k)
+          ask-full _ _ _ _ _ _ _ c.requires _ option selection k (places_of found) (places-many found) (given_is found option selection k) (networks-of served) (lengths-of served) long.0 long.1 (granted served option selection k)
           c.find_held-again.result c.serve_rest-granted.result (places_count found) c.serve_rest-granted.ensures.bounds.2 c.if-count-eq0.true c.if-summary-ge-LEASES.true;
     }
 
@@ -144,10 +141,9 @@ returns-then-count-eq0 c =
     let found = (goal.at.returns-then-count-eq0 c).After-find_held-again in
     let served = (goal.at.returns-then-count-eq0 c).After-serve_rest-granted in
     let long = long-enough served in record {
-      bytes_bound = subst (λ (r : Answer). r.bytes ≤ longest_option) (sym c.refused-then-count-eq0.ensures) (omega arith);
+      bytes_bound = omega arith;
       equation = λ option selection k.
-          ap (λ (r : Answer). returning selection (outcome r (lent_of found) c.args.reply.now)) c.refused-then-count-eq0.ensures
-          ∙ ask-none _ _ _ _ _ _ _ c.requires _ option selection k (places_of found) (places-many found) (given_is found option selection k) (networks-of served) (lengths-of served) long.0 long.1 (granted served option selection k)
+          ask-none _ _ _ _ _ _ _ c.requires _ option selection k (places_of found) (places-many found) (given_is found option selection k) (networks-of served) (lengths-of served) long.0 long.1 (granted served option selection k)
           c.find_held-again.result c.serve_rest-granted.result (places_count found) c.serve_rest-granted.ensures.bounds.2 c.if-count-eq0.true c.if-summary-ge-LEASES.false;
     }
 
@@ -201,11 +197,11 @@ short-of c =
     let k = c.requires in
     omega (arith, c.put_offers-bytes.ensures.upper_bound, k.same, k.few)
 
-pub overflow_cast-bytes : goal.overflow_cast-bytes
-overflow_cast-bytes c = omega (arith, short-of (goal.at.overflow_cast-bytes c).After-put_offers-bytes)
+pub overflow_cast-result : goal.overflow_cast-result
+overflow_cast-result c = omega (arith, short-of (goal.at.overflow_cast-result c).After-put_offers-bytes)
 
-pub overflow_cast-count : goal.overflow_cast-count
-overflow_cast-count c = let few = few-count (goal.at.overflow_cast-count c).After-serve_rest-granted in omega (arith, few.0, few.1)
+pub overflow_cast-result-2 : goal.overflow_cast-result-2
+overflow_cast-result-2 c = let few = few-count (goal.at.overflow_cast-result-2 c).After-serve_rest-granted in omega (arith, few.0, few.1)
 
 pub returns : goal.returns
 returns c =
@@ -222,7 +218,7 @@ returns c =
     let ms = on_of found in
     let image = c.commit_grants.new.image in
     let sheet = c.commit_grants.new.figures in record {
-      bytes_bound = subst (λ (r : Answer). r.bytes ≤ longest_option) (sym c.accepted.ensures) (short-of (goal.at.returns c).After-put_offers-bytes);
+      bytes_bound = short-of (goal.at.returns c).After-put_offers-bytes;
       equation = λ option selection k.
           let it = call-of found option selection in
           let gave = given_is found option selection k in
@@ -235,8 +231,7 @@ returns c =
           (anew _ _ _ _ _ _ _ c.requires _ option selection k (places_of found) (places-many found) gave (networks-of served) (lengths-of served) long.0 long.1 is-granted m n m-is n-is) (state_in h).rows
           (standing _ _ _ _ _ _ _ c.requires _ option selection k (places_of found) (places-many found) gave (networks-of served) (lengths-of served) long.0 long.1 is-granted m n m-is n-is c.hold_again.new.image edited)
           (ask-fresh _ _ _ _ _ _ _ c.requires _ option selection k (places_of found) (places-many found) gave (networks-of served) (lengths-of served) long.0 long.1 is-granted m n m-is n-is) in
-          ap (λ (r : Answer). returning selection (outcome r (lent image c.commit_grants.result sheet) c.put_offers-bytes.new.reply)) c.accepted.ensures
-          ∙ ask-granted _ _ _ _ _ _ _ c.requires _ option selection k (places_of found) (places-many found) gave (networks-of served) (lengths-of served) long.0 long.1 is-granted m n m-is n-is c.hold_again.new.image edited
+          ask-granted _ _ _ _ _ _ _ c.requires _ option selection k (places_of found) (places-many found) gave (networks-of served) (lengths-of served) long.0 long.1 is-granted m n m-is n-is c.hold_again.new.image edited
           c.if-count-eq0.false image sheet c.put_offers-bytes.new.reply c.put_offers-bytes.result is-grown (c.put_offers-bytes.ensures.equation a.asker.client (a.asker.time + hold_time) a.asker.name ms stand inside)
           c.commit_grants.result (c.commit_grants.ensures.value ∙ ap (λ (w : ℕ). leases_from a.site.summary + lease_size * (a.site.summary.leases - a.site.summary.expired + w)) (sym (counted served)));
     }

@@ -1,77 +1,50 @@
 -- `find` meets its contract: only the lease at the place that halving gives can have the network.
-use Prim.Native.Nat.{◌<◌}
+use Prim.Native.Nat.{ℕ, ◌+◌, ◌-◌, ◌*◌}
 use native.Mathlib.Omega.{arith}
-use mathlib.Core.Path.{◌≡◌}
+use mathlib.Core.Path.{◌≡◌, sym, ap, subst, ◌∙◌}
 use mathlib.Core.List.{List}
-use lib.ListN.{length}
+use lib.ListN.{drop}
+use borrow.Author.Rules.{rules}
+use Rattle.std.specs.Prelude.{Some, None}
 use Rattle.table.specs.declared.Lease.{Lease}
-use Rattle.image_records.specs.Records.{Records, Ascending}
+use Rattle.image.specs.Image.{lease_size}
+use Rattle.image.specs.Reading.{lease_in}
 use Rattle.call_entries.specs.EntryLeases.{named?, FoundAt}
 use Rattle.call_entries.proofs.NamedLaws.{Named, find_none, find-other, find-here}
 use Rattle.call_entries.proofs.find.Goals as goal
+use Rattle.call_entries.proofs.find.Goals.{else-x-network-via-then-x-network+then-x-length+then-x-client+else-time-x, else-x-network-via-then-x-network+then-x-length+else-x-client, else-x-network-via-then-x-network+else-x-length, else-x-network-via-else-x-network}
 
-pub returns-then-place-eq0 : goal.returns-then-place-eq0
-returns-then-place-eq0 c = let a = c.args in record { upper_bound = omega arith; found_at = find_none a.time a.client a.network a.length a.image.now a.from a.n c.place_after-place.result c.place_after-place.ensures.value c.if-place-eq0.true }
-
-some-place : (c : goal.Then-x-network) → 0 < c.place_after-place.result
-some-place c = omega (arith, c.if-place-eq0.false)
-
-some-place-2 : (c : goal.Then-x-length) → 0 < c.place_after-place.result
-some-place-2 c = omega (arith, c.if-place-eq0.false)
-
-some-place-3 : (c : goal.Then-x-client) → 0 < c.place_after-place.result
-some-place-3 c = omega (arith, c.if-place-eq0.false)
-
-some-place-4 : (c : goal.Then-x-time) → 0 < c.place_after-place.result
-some-place-4 c = omega (arith, c.if-place-eq0.false)
-
-some-place-5 : (c : goal.Else-x-time) → 0 < c.place_after-place.result
-some-place-5 c = omega (arith, c.if-place-eq0.false)
-
--- The lease there is another one, or has expired.
-other : (c : goal.Then-x-network) → let a = c.args in (Named a.time a.client a.network a.length c.lease_at-x.result → ⊥)
-    → (xs : List Lease) → Records a.image.now a.from xs → a.n ≡ length xs → Ascending xs → FoundAt (named? a.time a.client a.network a.length) xs a.n
-other c =
+pub returns-in_err-place-clause-found_at : goal.returns-in_err-place-clause-found_at
+returns-in_err-place-clause-found_at c xs held counted ascending =
     let a = c.args in
-    find-other a.time a.client a.network a.length a.image.now a.from a.n c.place_after-place.result c.place_after-place.ensures.value (some-place c) c.lease_at-x.result c.lease_at-x.ensures
+    let is : c.from_residual.result ≡ None = search rules in
+    subst (FoundAt (named? a.time a.client a.network a.length) xs) (sym is)
+    (find_none a.time a.client a.network a.length a.image.now a.from a.n c.place_after.result c.place_after.ensures.value (omega (arith, c.in_err-place.ensures)) xs held counted ascending)
 
--- The lease there is another one, or has expired.
-other-2 : (c : goal.Then-x-length) → let a = c.args in (Named a.time a.client a.network a.length c.lease_at-x.result → ⊥)
-    → (xs : List Lease) → Records a.image.now a.from xs → a.n ≡ length xs → Ascending xs → FoundAt (named? a.time a.client a.network a.length) xs a.n
-other-2 c =
+-- The place is that before it.
+reads : (l : List ℕ) (from r place : ℕ) (x : Lease) → place ≡ r - 1 → x ≡ lease_in (drop (from + lease_size * place) l) → x ≡ lease_in (drop (from + lease_size * (r - 1)) l)
+reads l from r place x e is = is ∙ ap (λ (k : ℕ). lease_in (drop (from + lease_size * k) l)) e
+
+pub returns-then-time-x-clause-found_at : goal.returns-then-time-x-clause-found_at
+returns-then-time-x-clause-found_at c xs held counted ascending =
     let a = c.args in
-    find-other a.time a.client a.network a.length a.image.now a.from a.n c.place_after-place.result c.place_after-place.ensures.value (some-place-2 c) c.lease_at-x.result c.lease_at-x.ensures
+    let r = c.place_after.result in
+    let place = c.in_ok-place.ensures in
+    subst (λ (k : ℕ). FoundAt (named? a.time a.client a.network a.length) xs (Some k)) (sym place.1)
+    (find-here a.time a.client a.network a.length a.image.now a.from a.n r c.place_after.ensures.value place.0 c.lease_at-x.result (reads a.image.now a.from r c.in_ok-place.place c.lease_at-x.result place.1 c.lease_at-x.ensures)
+    (c.if-time-x.true, c.if-x-client.true, c.if-x-network.true, c.if-x-length.true) xs held counted ascending)
 
--- The lease there is another one, or has expired.
-other-3 : (c : goal.Then-x-client) → let a = c.args in (Named a.time a.client a.network a.length c.lease_at-x.result → ⊥)
-    → (xs : List Lease) → Records a.image.now a.from xs → a.n ≡ length xs → Ascending xs → FoundAt (named? a.time a.client a.network a.length) xs a.n
-other-3 c =
+pub returns-clause-found_at : goal.returns-clause-found_at
+returns-clause-found_at c xs held counted ascending =
     let a = c.args in
-    find-other a.time a.client a.network a.length a.image.now a.from a.n c.place_after-place.result c.place_after-place.ensures.value (some-place-3 c) c.lease_at-x.result c.lease_at-x.ensures
-
--- The lease there is another one, or has expired.
-other-4 : (c : goal.Then-x-time) → let a = c.args in (Named a.time a.client a.network a.length c.lease_at-x.result → ⊥)
-    → (xs : List Lease) → Records a.image.now a.from xs → a.n ≡ length xs → Ascending xs → FoundAt (named? a.time a.client a.network a.length) xs a.n
-other-4 c =
-    let a = c.args in
-    find-other a.time a.client a.network a.length a.image.now a.from a.n c.place_after-place.result c.place_after-place.ensures.value (some-place-4 c) c.lease_at-x.result c.lease_at-x.ensures
-
-pub returns-then-x-network : goal.returns-then-x-network
-returns-then-x-network c = record { upper_bound = omega arith; found_at = other c (λ p. c.if-x-network.true p.2) }
-
-pub returns-then-x-length : goal.returns-then-x-length
-returns-then-x-length c = record { upper_bound = omega arith; found_at = other-2 c (λ p. c.if-x-length.true p.3) }
-
-pub returns-then-x-client : goal.returns-then-x-client
-returns-then-x-client c = record { upper_bound = omega arith; found_at = other-3 c (λ p. c.if-x-client.true p.1) }
-
-pub returns-then-x-time : goal.returns-then-x-time
-returns-then-x-time c = record { upper_bound = omega arith; found_at = other-4 c (λ p. let late = c.if-x-time.true in omega (arith, p.0)) }
-
-pub returns : goal.returns
-returns c =
-    let a = c.args in record {
-      upper_bound = omega (arith, c.place_after-place.ensures.upper_bound);
-      found_at = find-here a.time a.client a.network a.length a.image.now a.from a.n c.place_after-place.result c.place_after-place.ensures.value (some-place-5 c) c.lease_at-x.result c.lease_at-x.ensures
-          (c.if-x-time.false, omega arith, c.if-x-network.false, c.if-x-length.false);
-    }
+    let r = c.place_after.result in
+    let place = c.in_ok-place.ensures in
+    find-other a.time a.client a.network a.length a.image.now a.from a.n r c.place_after.ensures.value place.0 c.lease_at-x.result (reads a.image.now a.from r c.in_ok-place.place c.lease_at-x.result place.1 c.lease_at-x.ensures)
+    (λ (p : Named a.time a.client a.network a.length c.lease_at-x.result).
+    elim c.else-x-network.branch [
+      | else-x-network-via-then-x-network+then-x-length+then-x-client+else-time-x w ↦ omega (arith, w.if-time-x.false, p.0)
+      | else-x-network-via-then-x-network+then-x-length+else-x-client w ↦ w.if-x-client.false p.1
+      | else-x-network-via-then-x-network+else-x-length w ↦ w.if-x-length.false p.3
+      | else-x-network-via-else-x-network w ↦ w.if-x-network.false p.2
+    ])
+    xs held counted ascending

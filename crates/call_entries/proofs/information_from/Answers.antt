@@ -1,5 +1,4 @@
 -- `information_from` meets its contract: the suboptions up to the place have no entries.
-use Prim.Native.Nat.{◌-◌}
 use native.Mathlib.Omega.{arith}
 use mathlib.Core.Path.{refl, ap}
 use lib.ListN.{length}

@@ -22,10 +22,10 @@ returns-then-n-eq0 c =
     let a = c.args in
     let h = lent a.image.now a.image_bytes [] in
     let m = call a.client a.option.now a.reply.now in
-    ap (λ (r : Answer). outcome r h a.reply.now) c.refused.ensures ∙ list-empty h a.time m a.summary a.pieces c.requires c.if-n-eq0.true
+    list-empty h a.time m a.summary a.pieces c.requires c.if-n-eq0.true
 
 -- The first lease above the position, and the page from there on.
-placed : (c : goal.After-refused-then-shown-eq0) → let a = c.args in
+placed : (c : goal.Then-shown-eq0) → let a = c.args in
     c.first_above-first.result ≡ start_of (position_of a.pieces) (used_leases (table_in (lent a.image.now a.image_bytes [])))
 placed c =
     let a = c.args in
@@ -33,14 +33,14 @@ placed c =
     c.first_above-first.ensures.equation (used_leases (table_in (lent a.image.now a.image_bytes []))) o.records o.leases o.ascending
 
 -- The first lease above the position, and the page from there on.
-placed-2 : (c : goal.After-accepted) → let a = c.args in
+placed-2 : (c : goal.After-slice_known-3-1) → let a = c.args in
     c.first_above-first.result ≡ start_of (position_of a.pieces) (used_leases (table_in (lent a.image.now a.image_bytes [])))
 placed-2 c =
     let a = c.args in
     let o = c.requires.admitted in
     c.first_above-first.ensures.equation (used_leases (table_in (lent a.image.now a.image_bytes []))) o.records o.leases o.ascending
 
-shown : (c : goal.After-refused-then-shown-eq0) → let a = c.args in
+shown : (c : goal.Then-shown-eq0) → let a = c.args in
     PageOf (filter (shown? a.time a.client) (drop c.first_above-first.result (used_leases (table_in (lent a.image.now a.image_bytes []))))) a.reply.now c.show_page-page.new.reply c.show_page-page.result
 shown c =
     let a = c.args in
@@ -61,7 +61,7 @@ shown-3 c =
     let o = c.requires.admitted in
     c.show_page-page.ensures (used_leases (table_in (lent a.image.now a.image_bytes []))) o.records o.leases
 
-shown-4 : (c : goal.After-accepted) → let a = c.args in
+shown-4 : (c : goal.After-slice_known-3-1) → let a = c.args in
     PageOf (filter (shown? a.time a.client) (drop c.first_above-first.result (used_leases (table_in (lent a.image.now a.image_bytes []))))) a.reply.now c.show_page-page.new.reply c.show_page-page.result
 shown-4 c =
     let a = c.args in
@@ -83,22 +83,20 @@ returns-then-shown-eq0 c =
     let a = c.args in
     let h = lent a.image.now a.image_bytes [] in
     let m = call a.client a.option.now a.reply.now in
-    ap (λ (r : Answer). outcome r h c.show_page-page.new.reply) c.refused-then-shown-eq0.ensures
-    ∙ list-nothing h a.time m a.summary a.pieces c.requires c.first_above-first.result (placed c) c.show_page-page.result _ (shown c) c.if-shown-eq0.true
+    list-nothing h a.time m a.summary a.pieces c.requires c.first_above-first.result (placed c) c.show_page-page.result _ (shown c) c.if-shown-eq0.true
 
 pub put_heads-bytes-requires : goal.put_heads-bytes-requires
 put_heads-bytes-requires c = few c
 
-pub overflow_cast-bytes : goal.overflow_cast-bytes
-overflow_cast-bytes c = omega (arith, c.put_heads-bytes.ensures.value, few-2 c)
+pub overflow_cast-result : goal.overflow_cast-result
+overflow_cast-result c = omega (arith, c.put_heads-bytes.ensures.value, few-2 c)
 
-pub overflow_cast-shown : goal.overflow_cast-shown
-overflow_cast-shown c = omega (arith, few-2 c)
+pub overflow_cast-result-2 : goal.overflow_cast-result-2
+overflow_cast-result-2 c = omega (arith, few-2 c)
 
 pub returns : goal.returns
 returns c =
     let a = c.args in
     let h = lent a.image.now a.image_bytes [] in
     let m = call a.client a.option.now a.reply.now in
-    ap (λ (r : Answer). outcome r h c.put_heads-bytes.new.reply) c.accepted.ensures
-    ∙ list-found h a.time m a.summary a.pieces c.requires c.first_above-first.result (placed-2 c) c.show_page-page.result _ (shown-4 c) c.if-shown-eq0.false _ _ c.put_heads-bytes.ensures.value c.put_heads-bytes.ensures.reply_after
+    list-found h a.time m a.summary a.pieces c.requires c.first_above-first.result (placed-2 c) c.show_page-page.result _ (shown-4 c) c.if-shown-eq0.false _ _ c.put_heads-bytes.ensures.value c.put_heads-bytes.ensures.reply_after

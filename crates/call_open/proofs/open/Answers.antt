@@ -45,24 +45,21 @@ pub returns-then-not-admits : goal.returns-then-not-admits
 returns-then-not-admits c =
     let a = c.args in
     let b : Book = book_of a.image.now a.image_bytes.now a.figures.now a.counts.now in
-    ap (λ (r : Answer). outcome r b []) c.refused.ensures
-    ∙ open-refuses b a.networks.now a.lengths.now a.terms.term a.terms.default_length a.terms.start 12 (λ z. omega (arith, z))
+    open-refuses b a.networks.now a.lengths.now a.terms.term a.terms.default_length a.terms.start 12 (λ z. omega (arith, z))
     (open-outside b.lent a.networks.now a.lengths.now a.terms.term a.terms.default_length a.terms.start (decides a.networks.now a.lengths.now a.terms _ _ false c.admits.ensures.value c.length_of-length.ensures c.if-not-admits.true))
 
 pub returns-then-image-lt-FULL_IMAGE : goal.returns-then-image-lt-FULL_IMAGE
 returns-then-image-lt-FULL_IMAGE c =
     let a = c.args in
     let b : Book = book_of a.image.now a.image_bytes.now a.figures.now a.counts.now in
-    ap (λ (r : Answer). outcome r b []) c.refused-then-image-lt-FULL_IMAGE.ensures
-    ∙ open-refuses b a.networks.now a.lengths.now a.terms.term a.terms.default_length a.terms.start 14 (λ z. omega (arith, z))
+    open-refuses b a.networks.now a.lengths.now a.terms.term a.terms.default_length a.terms.start 14 (λ z. omega (arith, z))
     (open-small b.lent a.networks.now a.lengths.now a.terms.term a.terms.default_length a.terms.start (decides a.networks.now a.lengths.now a.terms _ _ true c.admits.ensures.value c.length_of-length.ensures c.if-not-admits.false) c.if-image-lt-FULL_IMAGE.true)
 
 pub returns-then-figures-ne-FIGURES : goal.returns-then-figures-ne-FIGURES
 returns-then-figures-ne-FIGURES c =
     let a = c.args in
     let b : Book = book_of a.image.now a.image_bytes.now a.figures.now a.counts.now in
-    ap (λ (r : Answer). outcome r b []) c.refused-then-figures-ne-FIGURES.ensures
-    ∙ open-refuses b a.networks.now a.lengths.now a.terms.term a.terms.default_length a.terms.start 14 (λ z. omega (arith, z))
+    open-refuses b a.networks.now a.lengths.now a.terms.term a.terms.default_length a.terms.start 14 (λ z. omega (arith, z))
     (open-other b.lent a.networks.now a.lengths.now a.terms.term a.terms.default_length a.terms.start (decides a.networks.now a.lengths.now a.terms _ _ true c.admits.ensures.value c.length_of-length.ensures c.if-not-admits.false) (omega arith) c.if-figures-ne-FIGURES.true)
 
 -- No more numbers are taken than were asked for.
@@ -164,8 +161,7 @@ returns c =
     let from = head_size + pool_size * length a.networks.now in
     let g : Lent = lent c.clear.new.image from c.fill.new.sheet in
     let counts = c.recount.new.counts in
-    ap (λ (r : Answer). outcome r (record { lent = g; counts = counts }) []) c.accepted.ensures
-    ∙ open-accepts b a.networks.now a.lengths.now a.terms.term a.terms.default_length a.terms.start g
+    open-accepts b a.networks.now a.lengths.now a.terms.term a.terms.default_length a.terms.start g
     (open-accepted b.lent a.networks.now a.lengths.now a.terms.term a.terms.default_length a.terms.start ok (omega arith) c.put_head.new.out c.put_pools.new.image c.clear.new.image head pools c.clear.ensures c.if-figures-ne-FIGURES.false
     c.fill.new.sheet (c.fill.ensures [] (no-records c.clear.new.image from) refl))
     counts (c.recount.ensures _ stands)

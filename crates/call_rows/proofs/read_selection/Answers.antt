@@ -1,14 +1,15 @@
--- `read_selection` meets its contract: not carried, and answer by answer.
-use mathlib.Core.Path.{refl, ap}
-use mathlib.Core.Bool.{not}
-use Rattle.call_rows.proofs.SelectionLaws.{not_carried, carried-read}
+-- `read_selection` meets its contract: carried, and answer by answer.
+use mathlib.Core.Path.{ap, sym, ◌∙◌}
+use mathlib.Core.Bool.{Bool}
+use Rattle.call_spec.specs.ImageCalls.{carried_if}
+use Rattle.call_rows.specs.Admission.{selection_read}
+use Rattle.call_rows.proofs.SelectionLaws.{carried-read}
 use Rattle.call_rows.proofs.read_selection.Goals as goal
 
-pub returns-then-not-carried : goal.returns-then-not-carried
-returns-then-not-carried c = not_carried _ _ _ (ap not c.if-not-carried.true) refl
-
 pub returns-in-Some : goal.returns-in-Some
-returns-in-Some c = carried-read _ _ _ _ _ (ap not c.if-not-carried.false) c.read_selection.ensures c.in-Some.is refl refl
+returns-in-Some c =
+    carried-read _ _ _ c.read_selection.ensures c.in-Some.is ∙ ap (λ (b : Bool). selection_read (carried_if b c.args.selection.now)) (sym c.if-not-carried.false)
 
 pub returns-in-None : goal.returns-in-None
-returns-in-None c = carried-read _ _ _ _ _ (ap not c.if-not-carried.false) c.read_selection.ensures c.in-None.is refl refl
+returns-in-None c =
+    carried-read _ _ _ c.read_selection.ensures c.in-None.is ∙ ap (λ (b : Bool). selection_read (carried_if b c.args.selection.now)) (sym c.if-not-carried.false)

@@ -12,14 +12,13 @@ pub returns-then-any_named : goal.returns-then-any_named
 returns-then-any_named c =
     let a = c.args in
     λ t bytes image p l.
-    ap (λ (r : Answer). (r, a.buffer.now)) c.refused.ensures ∙ names-lost First t a.buffer.now (fits_told t true (sym (c.any_named.ensures (used_leases t) (first-records t a.image.now bytes image a.pools p) l) ∙ c.if-any_named.true))
+    names-lost First t a.buffer.now (fits_told t true (sym (c.any_named.ensures (used_leases t) (first-records t a.image.now bytes image a.pools p) l) ∙ c.if-any_named.true))
 
 pub returns-then-buffer-from : goal.returns-then-buffer-from
 returns-then-buffer-from c =
     let a = c.args in
     λ t bytes image p l.
-    ap (λ (r : Answer). (r, a.buffer.now)) c.refused-then-buffer-from.ensures
-    ∙ no_room First t a.buffer.now (fits_told t false (sym (c.any_named.ensures (used_leases t) (first-records t a.image.now bytes image a.pools p) l) ∙ c.if-any_named.false)) (omega (arith, first-size t a.pools a.leases p l))
+    no_room First t a.buffer.now (fits_told t false (sym (c.any_named.ensures (used_leases t) (first-records t a.image.now bytes image a.pools p) l) ∙ c.if-any_named.false)) (omega (arith, first-size t a.pools a.leases p l))
 
 pub returns : goal.returns
 returns c =
@@ -28,5 +27,4 @@ returns c =
     λ t bytes image p l.
     let bare : fits_form First t ≡ true = fits_told t false (sym (c.any_named.ensures (used_leases t) (first-records t a.image.now bytes image a.pools p) l) ∙ c.if-any_named.false) in
     let w = c.narrow-n.ensures.value_2 t bytes image bare p l in
-    ap (λ (r : Answer). (r, out)) c.accepted.ensures
-    ∙ made First t a.buffer.now bare (omega (arith, first-size t a.pools a.leases p l)) c.narrow-n.result w.0 out w.1
+    made First t a.buffer.now bare (omega (arith, first-size t a.pools a.leases p l)) c.narrow-n.result w.0 out w.1

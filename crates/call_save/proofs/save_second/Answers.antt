@@ -12,13 +12,12 @@ use Rattle.call_save.proofs.save_second.Goals as goal
 pub returns-then-buffer-image : goal.returns-then-buffer-image
 returns-then-buffer-image c =
     let out = c.args.buffer.now in
-    λ t image. ap (λ (r : Answer). (r, out)) c.refused.ensures ∙ no_room Second t out refl (omega (arith, ap length image))
+    λ t image. no_room Second t out refl (omega (arith, ap length image))
 
 pub returns : goal.returns
 returns c =
     let old = c.args.buffer.now in
     let out = c.copy-size.new.to in
     λ t image.
-    ap (λ (r : Answer). (r, out)) c.accepted.ensures
-    ∙ made Second t old refl (omega (arith, ap length image)) c.copy-size.result (c.copy-size.ensures.value ∙ ap length (sym image)) out
+    made Second t old refl (omega (arith, ap length image)) c.copy-size.result (c.copy-size.ensures.value ∙ ap length (sym image)) out
     (c.copy-size.ensures.to_after ∙ ap (λ (xs : List ℕ). xs ++ drop (length xs) old) (sym image))

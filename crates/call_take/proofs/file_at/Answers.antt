@@ -1,14 +1,8 @@
 -- `file_at` meets its contract.
 use mathlib.Core.Path.{sym, ap, ◌∙◌}
 use Rattle.image_figures.specs.Sheets.{sheet_of}
-use Rattle.call_take.proofs.FileLaws.{filed-at-row, filed-at-none, filed-at-nothing}
+use Rattle.call_take.proofs.FileLaws.{filed-at-nothing}
 use Rattle.call_take.proofs.file_at.Goals as goal
 
 pub returns-then-f-eq0 : goal.returns-then-f-eq0
-returns-then-f-eq0 c rows e = let a = c.args in e ∙ ap sheet_of (sym (filed-at-nothing a.first a.n a.place a.f rows c.if-f-eq0.true))
-
-pub returns-then-n-place : goal.returns-then-n-place
-returns-then-n-place c rows e = let a = c.args in e ∙ ap sheet_of (sym (filed-at-none a.first a.n a.place a.f rows c.if-n-place.true))
-
-pub returns : goal.returns
-returns c rows e = c.file.ensures rows e ∙ ap sheet_of (sym (filed-at-row _ _ _ _ rows c.if-n-place.false))
+returns-then-f-eq0 c rows e = let a = c.args in e ∙ ap sheet_of (sym (filed-at-nothing a.first a.place a.f rows c.if-f-eq0.true))

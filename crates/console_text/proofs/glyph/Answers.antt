@@ -1,4 +1,5 @@
 -- `glyph` meets its contract: the letters follow the digits.
+use native.Mathlib.Omega.{arith}
 use borrow.Author.Tests.{lt-ltb, le-ltb}
 use Rattle.console_text.proofs.glyph.Goals as goal
 
@@ -6,4 +7,4 @@ pub returns-then-d-lt10 : goal.returns-then-d-lt10
 returns-then-d-lt10 c = simp (lt-ltb _ _ c.if-d-lt10.true)
 
 pub returns-else-d-lt10 : goal.returns-else-d-lt10
-returns-else-d-lt10 c = simp (le-ltb _ _ c.if-d-lt10.false)
+returns-else-d-lt10 c = rw (le-ltb _ _ c.if-d-lt10.false) (omega arith)

@@ -1,5 +1,5 @@
 -- `octets` meets its contract: the first i octets stand where they belong.
-use Prim.Native.Nat.{ℕ, ◌-◌}
+use Prim.Native.Nat.{ℕ}
 use mathlib.Core.Path.{refl, ap, ap₂, ◌∙◌}
 use mathlib.Core.List.{List, [], ◌∷◌}
 use native.Mathlib.Omega.{arith}
@@ -13,7 +13,7 @@ use Rattle.console_text.proofs.octets.Goals as goal
 
 pub loop-i-init : goal.loop-i-init
 unfolding put
-loop-i-init c = (omega arith, refl, refl)
+loop-i-init c = (refl, refl)
 
 pub glyph-requires : goal.glyph-requires
 glyph-requires c = omega (arith, c.type_inv.s c.loop-i.i)
@@ -24,12 +24,11 @@ bounds-out-at-in-loop-i c = simp length-set (omega arith)
 pub loop-i-preserved : goal.loop-i-preserved
 loop-i-preserved c =
     let l = c.loop-i in (
-      omega arith,
-      octets-more _ _ _ l.i _ _ _ (omega arith) (ap₂ (λ (x y : ℕ). x ∷ y ∷ []) c.glyph.ensures c.glyph-in-loop-i.ensures) l.invariant.1,
-      simp length-set l.invariant.2,
+      octets-more _ _ _ l.i _ _ _ (omega arith) (ap₂ (λ (x y : ℕ). x ∷ y ∷ []) c.glyph.ensures c.glyph-in-loop-i.ensures) l.invariant.0,
+      simp length-set l.invariant.1,
     )
 
 pub returns : goal.returns
 returns c =
     let l = c.loop-i in
-    let a = c.args in record { value = omega arith; out_after = l.invariant.1 ∙ ap (λ (xs : List ℕ). put a.out.now a.at (concat_map hex_of xs)) (take_all l.i a.s.now (omega arith)) }
+    let a = c.args in record { value = omega arith; out_after = l.invariant.0 ∙ ap (λ (xs : List ℕ). put a.out.now a.at (concat_map hex_of xs)) (take_all l.i a.s.now (omega arith)) }

@@ -1,4 +1,3 @@
-use Prim.Native.Nat.{◌-◌, ◌≤◌}
 use mathlib.Core.Path.{◌≡◌}
 use lib.ListN.{length, take}
 use Rattle.lists.specs.Lists.{concat_map}
@@ -7,7 +6,4 @@ use Rattle.console_text.specs.Text.{hex_of}
 use Rattle.console_text.proofs.octets.Given as goal
 
 abbrev pub invariant-loop-i : goal.invariant-loop-i
-invariant-loop-i l = (l.i ≤ length l.s) × (l.out ≡ put l.initial.out l.at (concat_map hex_of (take l.i l.s))) × (length l.out ≡ length l.initial.out)
-
-abbrev pub decreases-loop-i : goal.decreases-loop-i
-decreases-loop-i l = length l.s - l.i
+invariant-loop-i l = (l.out ≡ put l.initial.out l.at (concat_map hex_of (take l.i l.s))) × (length l.out ≡ length l.initial.out)

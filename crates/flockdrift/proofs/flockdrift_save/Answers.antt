@@ -10,4 +10,5 @@ use Rattle.flockdrift.proofs.flockdrift_save.Goals as goal
 pub returns : goal.returns
 returns c =
     let a = c.args in
-    c.save.ensures ∙ ap (λ (f : Form). save_book (book_of a.image.now a.image_bytes [] a.counts.now) f (not (eqb a.older 0)) a.buffer.now) c.from.ensures
+    rw c.into.ensures
+    (c.save.ensures ∙ ap (λ (f : Form). save_book (book_of a.image.now a.image_bytes [] a.counts.now) f (not (eqb a.older 0)) a.buffer.now) c.from.ensures)

@@ -30,7 +30,7 @@ rest form s time head found e =
 
 pub returns-then-not-head_begins : goal.returns-then-not-head_begins
 returns-then-not-head_begins c =
-    c.unsound.ensures ∙ ap (summary_of c.args.time) (sym (load-no-head c.args.form c.args.image.now (sym c.head_begins.ensures ∙ c.if-not-head_begins.true)))
+    ap (summary_of c.args.time) (sym (load-no-head c.args.form c.args.image.now (sym c.head_begins.ensures ∙ c.if-not-head_begins.true)))
 
 pub head_in-head-requires : goal.head_in-head-requires
 head_in-head-requires c = head-long c.args.form c.args.image.now (sym c.head_begins.ensures ∙ c.if-not-head_begins.false)
@@ -38,8 +38,7 @@ head_in-head-requires c = head-long c.args.form c.args.image.now (sym c.head_beg
 pub returns-then-not-head_ok : goal.returns-then-not-head_ok
 returns-then-not-head_ok c =
     let a = c.args in
-    c.unsound-then-not-head_ok.ensures
-    ∙ sym (read-unsound a.form c.head_in-head.result (body a.image.now) a.time (inl (sym c.head_ok.ensures ∙ c.if-not-head_ok.true)))
+    sym (read-unsound a.form c.head_in-head.result (body a.image.now) a.time (inl (sym c.head_ok.ensures ∙ c.if-not-head_ok.true)))
     ∙ rest a.form a.image.now a.time c.head_in-head.result (sym c.head_begins.ensures ∙ c.if-not-head_begins.false) c.head_in-head.ensures
 
 pub slice_bounds-pools_in-count : goal.slice_bounds-pools_in-count
@@ -48,27 +47,26 @@ slice_bounds-pools_in-count c = head-long c.args.form c.args.image.now (sym c.he
 pub slice_bounds-pools_in-start : goal.slice_bounds-pools_in-start
 slice_bounds-pools_in-start c = let h = head-long c.args.form c.args.image.now (sym c.head_begins.ensures ∙ c.if-not-head_begins.false) in search rules
 
-pub returns-in_default : goal.returns-in_default
-returns-in_default c =
+pub returns-in_err-n : goal.returns-in_err-n
+returns-in_err-n c =
     let a = c.args in
-    let none = sym c.pools_in.ensures ∙ c.in_default.is in
-    c.unsound-in_default.ensures
+    let none = sym c.in_err-n.ensures in
+    c.from_residual.ensures
     ∙ sym (read-unsound a.form c.head_in-head.result (body a.image.now) a.time (inr (λ n e. cc)))
     ∙ rest a.form a.image.now a.time c.head_in-head.result (sym c.head_begins.ensures ∙ c.if-not-head_begins.false) c.head_in-head.ensures
 
 pub returns-then-n-eq0 : goal.returns-then-n-eq0
 returns-then-n-eq0 c =
     let a = c.args in
-    let some-n = sym c.pools_in.ensures ∙ c.in-Some.is in
+    let some-n = sym c.in_ok-n.ensures in
     let zero = c.if-n-eq0.true in
-    c.unsound-then-n-eq0.ensures
-    ∙ sym (read-unsound a.form c.head_in-head.result (body a.image.now) a.time (inr (λ n e. cc)))
+    sym (read-unsound a.form c.head_in-head.result (body a.image.now) a.time (inr (λ n e. cc)))
     ∙ rest a.form a.image.now a.time c.head_in-head.result (sym c.head_begins.ensures ∙ c.if-not-head_begins.false) c.head_in-head.ensures
 
 pub leases_in-requires : goal.leases_in-requires
 leases_in-requires c =
     let a = c.args in
-    let pools = counted-pools (pools_at (body a.image.now)).items c.in-Some.n (sym c.pools_in.ensures ∙ c.in-Some.is) in
+    let pools = counted-pools (pools_at (body a.image.now)).items c.in_ok-n.n (sym c.in_ok-n.ensures) in
     record { headed = sym c.head_ok.ensures ∙ c.if-not-head_ok.false; ascends = pools.0; counted = pools.1; any = c.if-n-eq0.false }
 
 pub returns : goal.returns

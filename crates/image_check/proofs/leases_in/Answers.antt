@@ -25,8 +25,7 @@ returns-then-count-gt-LEASES c =
     let a = c.args in
     let inside = pools-inside a.form a.head a.s.now a.n a.time c.requires in
     let over : lease_slots < many a.form (length a.s.now) (pool_size * a.n) = subst (λ (z : ℕ). lease_slots < z) c.leases_of-count.ensures c.if-count-gt-LEASES.true in
-    c.unsound.ensures
-    ∙ sym (scanned-size a.form a.head a.s.now a.n a.time c.requires (λ m few e. count-many (length a.s.now) (pool_size * a.n) inside a.form m over few e))
+    sym (scanned-size a.form a.head a.s.now a.n a.time c.requires (λ m few e. count-many (length a.s.now) (pool_size * a.n) inside a.form m over few e))
 
 -- The leases lie within the bytes.
 fits : (form : Form) (len from size count : ℕ) → from ≤ len → size ≡ lease_size_in form → count ≡ many form len from → from + size * count ≤ len
@@ -47,8 +46,7 @@ returns-then-from-lease_size c =
     let a = c.args in
     let inside = pools-inside a.form a.head a.s.now a.n a.time c.requires in
     let sizes = ap₂ (λ (x y : ℕ). pool_size * a.n + x * y) c.lease_size.ensures c.leases_of-count.ensures in
-    c.unsound-then-from-lease_size.ensures
-    ∙ sym (scanned-size a.form a.head a.s.now a.n a.time c.requires (λ m few e.
+    sym (scanned-size a.form a.head a.s.now a.n a.time c.requires (λ m few e.
     count-uneven (length a.s.now) (pool_size * a.n) inside a.form m (λ q. c.if-from-lease_size.true (sizes ∙ q)) e))
 
 pub loop-k-init : goal.loop-k-init
@@ -75,8 +73,7 @@ returns-then-pass-s c =
     let a = c.args in
     let l = c.loop-k in
     let left = l.invariant.0 in
-    c.unsound-then-pass-s.ensures
-    ∙ sym (reached-none a.form a.head a.s.now a.n a.time c.requires l.k l.pass l.invariant.1 (omega arith) (one_left l.pass.at (length a.s.now) left.left a.form left.ends (omega (arith, left.ends, c.if-pass-s.true))))
+    sym (reached-none a.form a.head a.s.now a.n a.time c.requires l.k l.pass l.invariant.1 (omega arith) (one_left l.pass.at (length a.s.now) left.left a.form left.ends (omega (arith, left.ends, c.if-pass-s.true))))
 
 pub returns : goal.returns
 returns c =

@@ -1,6 +1,6 @@
 -- `sheet_text::show_prefix` and `show_halves`, which call each other, meet their contracts: 30 minus the length falls.
-use Prim.Native.Nat.{ℕ, ◌+◌, ◌-◌, ◌<◌}
-use mathlib.Core.Path.{◌≡◌, ap, subst, ◌∙◌}
+use Prim.Native.Nat.{ℕ, ◌+◌, ◌<◌}
+use mathlib.Core.Path.{◌≡◌, ap, subst}
 use native.Mathlib.Omega.{arith}
 use Rattle.prefix.specs.Prefixes.{longest}
 use Rattle.prefix.specs.declared.Prefix.{Prefix}
@@ -30,15 +30,15 @@ pub show_halves-returns : goal.show_halves-returns
 show_halves-returns t c = showed-halves _ _ _ _ _ c.lower-low.ensures c.upper-high.ensures _ _ _ _ _ _ _ _ _ c.show_prefix-middle.ensures c.show_prefix.ensures
 
 -- It is free.
-pub show_prefix-show_free-requires : goal.show_prefix-show_free-requires
-show_prefix-show_free-requires t c =
+pub show_prefix-show_row-requires : goal.show_prefix-show_row-requires
+show_prefix-show_row-requires t c =
     let a = c.args in
     fits-row (free_row a.p) _ (told_free (lease_shown a.image.now a.base) _ a.p _ _ c.is_free.ensures c.if-is_free.true) c.requires.room
 
 pub show_prefix-returns-then-is_free : goal.show_prefix-returns-then-is_free
 show_prefix-returns-then-is_free t c =
     let a = c.args in
-    showed-row (free_row a.p) _ (told_free (lease_shown a.image.now a.base) _ a.p _ _ c.is_free.ensures c.if-is_free.true) c.show_free.ensures
+    showed-row (free_row a.p) _ (told_free (lease_shown a.image.now a.base) _ a.p _ _ c.is_free.ensures c.if-is_free.true) c.show_row.ensures
 
 -- It is the next lease.
 pub show_prefix-lease-x-requires : goal.show_prefix-lease-x-requires
@@ -53,8 +53,8 @@ show_prefix-overflow_add-next t c =
     let some : a.next.now < a.n = told-lease (lease_shown a.image.now a.base) _ a.p _ _ c.is_free.ensures c.if-is_free.false in
     omega (arith, c.requires.slots)
 
-pub show_prefix-show_used-requires : goal.show_prefix-show_used-requires
-show_prefix-show_used-requires t c =
+pub show_prefix-show_row-requires-then-x-p : goal.show_prefix-show_row-requires-then-x-p
+show_prefix-show_row-requires-then-x-p t c =
     let a = c.args in
     let x = c.lease-x in
     fits-row (used_row x.result) _ (told-used (lease_shown a.image.now a.base) _ a.p _ _ c.is_free.ensures c.if-is_free.false x.result x.ensures (omega arith)) c.requires.room
@@ -63,7 +63,7 @@ pub show_prefix-returns-then-x-p : goal.show_prefix-returns-then-x-p
 show_prefix-returns-then-x-p t c =
     let a = c.args in
     let x = c.lease-x in
-    showed-row (used_row x.result) _ (told-used (lease_shown a.image.now a.base) _ a.p _ _ c.is_free.ensures c.if-is_free.false x.result x.ensures (omega arith)) c.show_used.ensures
+    showed-row (used_row x.result) _ (told-used (lease_shown a.image.now a.base) _ a.p _ _ c.is_free.ensures c.if-is_free.false x.result x.ensures (omega arith)) c.show_row-then-x-p.ensures
 
 -- The next lease lies in one of its halves.
 pub show_prefix-show_halves-requires : goal.show_prefix-show_halves-requires

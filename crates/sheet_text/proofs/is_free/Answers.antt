@@ -8,4 +8,4 @@ returns-then-n-i c = simp (le-ltb _ _ c.if-n-i.true)
 
 pub returns : goal.returns
 unfolding lease_shown
-returns c = simp (lt-ltb _ _ c.if-n-i.false, c.wide.ensures, c.end.ensures.value, c.network_at.ensures)
+returns c = simp (lt-ltb _ _ c.if-n-i.false, c.from.ensures, c.end.ensures.value, c.network_at.ensures)

@@ -1,4 +1,3 @@
-use Prim.Native.Nat.{◌-◌, ◌≤◌}
 use mathlib.Core.Path.{◌≡◌}
 use mathlib.Core.List.{map}
 use lib.ListN.{length, take}
@@ -7,7 +6,4 @@ use Rattle.sheet_text.specs.Sheet.{shown}
 use Rattle.sheet_text.proofs.put_name.Given as goal
 
 abbrev pub invariant-loop-k : goal.invariant-loop-k
-invariant-loop-k l = (l.k ≤ l.n) × (l.out ≡ put l.initial.out l.from (take l.k (map shown l.octets))) × (length l.out ≡ length l.initial.out)
-
-abbrev pub decreases-loop-k : goal.decreases-loop-k
-decreases-loop-k l = l.n - l.k
+invariant-loop-k l = (l.out ≡ put l.initial.out l.from (take l.k (map shown l.octet-items))) × (length l.out ≡ length l.initial.out)

@@ -1,4 +1,3 @@
-use Prim.Native.Nat.{◌-◌, ◌≤◌}
 use mathlib.Core.Path.{◌≡◌}
 use lib.ListN.{length}
 use Rattle.sheet_text.specs.InnerScan.{Showed}
@@ -6,7 +5,4 @@ use Rattle.sheet_text.proofs.ShowLaws.{scan_first}
 use Rattle.sheet_text.proofs.show_pools.Given as goal
 
 abbrev pub invariant-loop-j : goal.invariant-loop-j
-invariant-loop-j l = (l.j ≤ l.k) × Showed l.initial.out l.from (scan_first l.image l.base l.n l.j) l.out l.at l.next × (length l.out ≡ length l.initial.out)
-
-abbrev pub decreases-loop-j : goal.decreases-loop-j
-decreases-loop-j l = l.k - l.j
+invariant-loop-j l = Showed l.initial.out l.from (scan_first l.image l.base l.n l.j) l.out l.at l.next × (length l.out ≡ length l.initial.out)

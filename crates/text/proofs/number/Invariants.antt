@@ -6,7 +6,4 @@ use Rattle.text.specs.Wrote.{lowest_digits}
 use Rattle.text.proofs.number.Given as goal
 
 abbrev pub invariant-loop-i : goal.invariant-loop-i
-invariant-loop-i l = (l.i ≤ l.size) × (l.at + l.size ≤ length l.initial.out) × (put l.out l.at (lowest_digits l.i l.left) ≡ put l.initial.out l.at (lowest_digits l.size l.n)) × (length l.out ≡ length l.initial.out)
-
-abbrev pub decreases-loop-i : goal.decreases-loop-i
-decreases-loop-i l = l.i
+invariant-loop-i l = (l.at + l.size ≤ length l.initial.out) × (put l.out l.at (lowest_digits l.i l.left) ≡ put l.initial.out l.at (lowest_digits l.size l.n)) × (length l.out ≡ length l.initial.out)
