@@ -91,8 +91,8 @@ pub fn serve(
         granted: 0,
         left: start.slots,
     };
-    for (j, asked) in ask_lengths.iter().enumerate() {
-        let length = ask_again::ask_length(*asked, default_length);
+    for j in 0..ask_lengths.len() {
+        let length = ask_again::ask_length(ask_lengths[j], default_length);
         at = serve_one(gaps, networks, lengths, at, length, j, places[j]);
     }
     at.granted

@@ -4,14 +4,14 @@ use Prim.Native.Nat.{ℕ, suc, ◌+◌, ◌≤◌, ◌<◌}
 use native.Mathlib.Omega.{arith}
 use mathlib.Core.Path.{◌≡◌, refl, sym, ap, ap₂, subst, ◌∙◌}
 use mathlib.Core.Logic.{⊎_elim}
-use mathlib.Core.Bool.{Bool, true, false, not, cond, ◌&&◌, true≢false}
+use mathlib.Core.Bool.{Bool, true, false, not, cond, ◌&&◌}
 use mathlib.Core.List.{List, [], ◌∷◌, ◌++◌, map}
 use mathlib.Core.Option.{Option, none, some}
 use lib.ListN.{length, get_or, take, drop, length-drop}
 use lib.Seq.{length-take-le}
 use lib.Dec.{leb, ltb, eqb}
 use borrow.Author.Tests.{leb-true, lt-ltb, le-ltb, ltb-false, eqb-true, ne_eqb, not-false}
-use Rattle.std.specs.Prelude.{Option as Maybe, Result as Res, Ok, Err, is_ok}
+use Rattle.std.specs.Prelude.{Option as Maybe, Result as Res, Ok, Err}
 use Rattle.lists.specs.Lists.{all?, and, filter, cat_maybes}
 use Rattle.lists.proofs.Tests.{bool_cases, and-to, and-list-to, cond-true, cond-false}
 use Rattle.names.specs.declared.Name.{Name}
@@ -22,7 +22,7 @@ use Rattle.option.specs.Reading.{read_option}
 use Rattle.option.specs.Contents.{Request, requests, requests_in, first_name_in}
 use Rattle.option.specs.Selection.{selection_size, selection?}
 use Rattle.option.specs.Writing.{option_bytes}
-use Rattle.ledger.specs.declared.{Accepted.Accepted, Refusal.Refusal}
+use Rattle.ledger.specs.declared.{Accepted.Accepted, Answer.Answer, Refusal.Refusal}
 use Rattle.ledger.specs.declared.Refusal.TheVariants.{WrongSuboptions, NameTooLong, NoSuchPool}
 use Rattle.ledger.specs.Answers.{refusal_number, bad_place, answer_of}
 use Rattle.ledger.specs.Ledger.{State, left, Call, Result, outcome, refusal, nothing?, Row, first_of, accept, refusal_place, least_reply, least_for, bad_selection?, returned, for_ask, narrowed, gives_in, leases_in, information_for, name_rows, ground_rows, grant_rows, ask_rows, ask}
@@ -100,9 +100,9 @@ selection-size selected s good e =
     let d = and-to (eqb (get_or s 1 0 + 2) (length s)) (eqb (get_or s 1 0) 4) b in
     omega (arith, eqb-true (get_or s 1 0 + 2) (length s) d.0, eqb-true (get_or s 1 0) 4 d.1)
 
-pub may-return : (selected : Bool) (s : List ℕ) (address : Maybe ℕ) → Ok address ≡ selection_read (carried_if selected s) → (a : Accepted) (reply after : List ℕ)
+pub may-return : (selected : Bool) (s : List ℕ) (address : Maybe ℕ) → Ok address ≡ selection_read (carried_if selected s) → (a : Answer) (reply after : List ℕ)
     → least_reply + length (returned (carried_if selected s)) ≤ length reply → length after ≡ length reply → a.bytes ≤ longest_option → MayReturn a selected s after
-may-return selected s address chosen a reply after room same few e =
+may-return selected s address chosen a reply after room same few z e =
     let size = selection-size selected s (selection-good (carried_if selected s) address chosen) e in
     let whole : length (returned (carried_if selected s)) ≡ length s = ap (λ (b : Bool). length (returned (carried_if b s))) e in
     (size, omega (arith, size, whole, room, same, few), few)
@@ -112,12 +112,17 @@ record Returned (o : Option (List ℕ)) (res : Res Accepted Refusal) (g : Lent) 
   pub answer : Res Accepted Refusal
   pub after : List ℕ
   pub is : outcome (answer_of answer) g after ≡ returning o (outcome (answer_of res) g reply)
-  pub same : is_ok res ≡ is_ok answer
+  pub same : (answer_of res).number ≡ (answer_of answer).number
 
 returned_as : (o : Option (List ℕ)) (res : Res Accepted Refusal) (g : Lent) (reply : List ℕ) → Returned o res g reply
 returned_as none res g reply = record { answer = res; after = reply; is = refl; same = refl }
 returned_as (some s) (Ok a) g reply = record { answer = Ok (record { bytes = a.bytes + length s; count = a.count }); after = _; is = refl; same = refl }
 returned_as (some s) (Err e) g reply = record { answer = Err e; after = reply; is = sym (returning-refused (some s) (outcome (answer_of (Err e)) g reply) (number-some e)); same = refl }
+
+-- Its number is the same.
+pub number-kept : (o : Option (List ℕ)) (res r : Res Accepted Refusal) (g : Lent) (reply after : List ℕ) → outcome (answer_of r) g after ≡ returning o (outcome (answer_of res) g reply)
+    → (answer_of res).number ≡ (answer_of r).number
+number-kept o res r g reply after is = let w = returned_as o res g reply in w.same ∙ ap (λ (x : Result Lent). x.answer.number) (w.is ∙ sym is)
 
 module _ (b : Book) (now : ℕ) (c : Call) (short : Bool) (short-is : short ≡ ltb (length c.reply) (least_for c.selection)) where
   abbrev h : Lent
@@ -158,22 +163,20 @@ module _ (b : Book) (now : ℕ) (c : Call) (short : Bool) (short-is : short ≡ 
     -- WHAT IS GRANTED is counted, and settled.
 
     module _ (res : Res Accepted Refusal) (g : Lent) (reply : List ℕ) where
-      pub ask-countable : returning c.selection (outcome (answer_of res) g reply) ≡ ask_image b.lent now c → LeftIfAccepted res (lent g.image g.bytes []) summary.pools
-      ask-countable is ok =
+      pub ask-countable : returning c.selection (outcome (answer_of res) g reply) ≡ ask_image b.lent now c → LeftIfAccepted (answer_of res).number (lent g.image g.bytes []) summary.pools
+      ask-countable is z =
           let r = returned_as c.selection res g reply in
           countable b.lent (ask (state_in b.lent) now c) (follows-all.asks b.lent now c) (ask-sound (state_in b.lent) now c) (ask-pools (state_in b.lent) now c)
-          r.answer g r.after (r.is ∙ is) summary.pools ask-admitted.pools (sym r.same ∙ ok)
+          (answer_of r.answer) g r.after (r.is ∙ is) summary.pools ask-admitted.pools (sym r.same ∙ z)
 
       module _ (is : outcome (answer_of res) g reply ≡ ask_image b.lent now c) (moved : Bool) (moved-is : moved ≡ not (eqb summary.expired 0 && eqb b.lent.bytes g.bytes)) where
-        unmoved-kept : (r : Res Accepted Refusal) → outcome (answer_of r) g reply ≡ ask_image b.lent now c → is_ok r ≡ true → moved ≡ false → counts_of (table_in g) ≡ b.counts
-        unmoved-kept (Ok a) e ok stay =
-            ask-kept b.lent now c summary ask-admitted (answer_of (Ok a)) g reply e refl moved moved-is stay ∙ sym (admitted-counts true b now c.client summary ad.1)
-        unmoved-kept (Err e) f ok stay = absurd (true≢false (sym ok))
+        unmoved-kept : (answer_of res).number ≡ 0 → moved ≡ false → counts_of (table_in g) ≡ b.counts
+        unmoved-kept z stay = ask-kept b.lent now c summary ask-admitted (answer_of res) g reply is z moved moved-is stay ∙ sym (admitted-counts true b now c.client summary ad.1)
 
-        pub ask-settles : (counts : List (List ℕ)) → counts ≡ cond (is_ok res && moved) (counts_of (table_in (lent g.image g.bytes []))) b.counts
+        pub ask-settles : (counts : List (List ℕ)) → counts ≡ cond (eqb (answer_of res).number 0 && moved) (counts_of (table_in (lent g.image g.bytes []))) b.counts
             → outcome (answer_of res) (record { lent = g; counts = counts }) reply ≡ ask_book b now c
         ask-settles counts left-are =
-            settles b same (ask (state_in b.lent) now c) (λ (w : Lent). ask_image w now c) (follows-all.asks b.lent now c) res g reply is moved counts left-are (unmoved-kept res is)
+            settles b same (ask (state_in b.lent) now c) (λ (w : Lent). ask_image w now c) (follows-all.asks b.lent now c) (answer_of res) g reply is moved counts left-are unmoved-kept
 
     module _ (address : Maybe ℕ) (chosen : Ok address ≡ selection_read c.selection) where
       selected : bad_selection? c.selection ≡ false

@@ -13,7 +13,7 @@ use ask_again::Asker;
 use ask_commit::Site;
 use call_spec::Message;
 use counts::Counts;
-use ledger::{Accepted, Refusal};
+use ledger::{Accepted, Answer, Refusal};
 use option_scan::{MOST_ENTRIES, MOST_REQUESTS};
 
 // Row 8: "the option has 1 to 25 requests, none with i".
@@ -81,7 +81,7 @@ pub fn ask(
     );
     let after = *image_bytes;
     let moved = moved(summary.expired, bytes, after);
-    call_rows::settle(answer, moved, image, after, summary.pools, counts);
-    let accepted = answer?;
-    Ok(call_ground::return_selection(accepted, selected, selection, reply))
+    let number = Answer::from(answer).number;
+    call_rows::settle(number, moved, image, after, summary.pools, counts);
+    call_ground::return_selection(answer, selected, selection, reply)
 }

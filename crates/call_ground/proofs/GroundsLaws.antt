@@ -29,13 +29,13 @@ use Rattle.image_records.proofs.RecordLaws.{records-drop, first-stay}
 use Rattle.image_records.proofs.PoolRecords.{image-pools}
 use Rattle.ledger.specs.Ledger.{Call, nothing?, narrowed_to, narrowed, on_ground, usable_leases}
 use Rattle.ledger.proofs.GroundLaws.{narrowed_none, ground-whole}
-use Rattle.call_spec.specs.ImageCalls.{Lent, table_in}
+use Rattle.call_spec.specs.ImageCalls.{Lent, table_in, carried_if}
 use Rattle.call_rows.specs.Admission.{Admitted, selection_read}
 use Rattle.call_ground.specs.declared.{LeaseRange.LeaseRange, Ground.Ground}
-use Rattle.std.specs.Prelude.{Some, None, Ok, Err}
+use Rattle.std.specs.Prelude.{Option as Found, Some, None, Ok, Err, is_some, IfSome}
 use Rattle.option.specs.Selection.{selection?}
 use Rattle.ledger.specs.declared.Refusal.TheVariants.{NotTheOption}
-use Rattle.call_ground.specs.Ground.{Index, PoolOf, LeasesIn, starts_in?, on_it?, leases_in, OfAdmitted, Grounds}
+use Rattle.call_ground.specs.Ground.{Index, PoolOf, LeasesIn, starts_in?, on_it?, leases_in, OfAdmitted, Grounds, GroundOf}
 use Rattle.call_ground.proofs.PoolLaws.{pool_at}
 use Rattle.call_ground.proofs.RangeLaws.{ascending-drop}
 use Rattle.call_ground.proofs.LeaseLaws.{starts-inside}
@@ -126,6 +126,19 @@ read-some (some s) a e = (s, refl, go (selection? s) e)
     go : (b : Bool) → Ok (Some a) ≡ cond b (Ok (Some (four s 2))) (Err NotTheOption) → a ≡ four s 2
     go true e = cc
     go false e = cc
+
+-- What `ground_of` says of every option that a call may carry, it says of what was read.
+pub ground-read : (image : List ℕ) (summary : ImageSummary) (address : Found ℕ) (r : Found Ground)
+    → ((h : Lent) (time : ℕ) (c : Call) (s : List ℕ) → h.image ≡ image → Admitted true h time c.client summary → c.selection ≡ carried_if (is_some address) s
+    → IfSome address (λ n. n ≡ four s 2) → GroundOf h c summary r)
+    → (h : Lent) (time : ℕ) (c : Call) → h.image ≡ image → Admitted true h time c.client summary → Ok address ≡ selection_read c.selection → GroundOf h c summary r
+ground-read image summary address r says h time c same admitted read =
+    let k = carried address c.selection read in
+    says h time c k.0 same admitted k.1 k.2
+  where
+    carried : (a : Found ℕ) (o : Option (List ℕ)) → Ok a ≡ selection_read o → (s : List ℕ) × (o ≡ carried_if (is_some a) s) × IfSome a (λ n. n ≡ four s 2)
+    carried None o e = ([], read-none o e, tt)
+    carried (Some a) o e = read-some o a e
 
 -- THE GROUND OF A CALL
 

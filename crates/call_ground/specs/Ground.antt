@@ -14,7 +14,7 @@ use Rattle.table.specs.Table.{pool_prefix, prefix_of, pools_of, no_lease, sound}
 use Rattle.image.specs.Image.{used_pools, used_leases, image_of}
 use Rattle.image_check.specs.declared.ImageSummary.{ImageSummary}
 use Rattle.ledger.specs.Ledger.{Call, Result, outcome, acceptance, nothing?, narrowed_to, narrowed}
-use Rattle.ledger.specs.declared.Accepted.{Accepted}
+use Rattle.ledger.specs.declared.Answer.{Answer}
 use Rattle.call_spec.specs.ImageCalls.{Lent, table_in}
 use Rattle.call_rows.specs.Admission.{Admitted}
 use Rattle.call_ground.specs.declared.{LeaseRange.LeaseRange, Ground.Ground}
@@ -96,5 +96,5 @@ returning (some s) r =
     (outcome (acceptance (r.answer.bytes + length s) r.answer.count) r.state (put r.reply r.answer.bytes s)) r
 
 -- What it takes to put it there: six bytes of it, and room for them.
-abbrev pub MayReturn : Accepted → Bool → List ℕ → List ℕ → Type 0
-MayReturn a selected s reply = selected ≡ true → (length s ≡ selection_size) × (a.bytes + selection_size ≤ length reply) × (a.bytes ≤ longest_option)
+abbrev pub MayReturn : Answer → Bool → List ℕ → List ℕ → Type 0
+MayReturn a selected s reply = a.number ≡ 0 → selected ≡ true → (length s ≡ selection_size) × (a.bytes + selection_size ≤ length reply) × (a.bytes ≤ longest_option)

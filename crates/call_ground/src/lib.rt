@@ -2,8 +2,9 @@
 // them; and that option in the reply.
 #![tactic(auto)]
 
-ghost use Rattle.std.specs.Prelude.{◌≡◌, true, List, ℕ, ◌+◌, ◌*◌, ◌≤◌, length, Ok, IfSome};
+ghost use Rattle.std.specs.Prelude.{◌≡◌, true, List, ℕ, ◌+◌, ◌*◌, ◌≤◌, length, is_some, IfSome};
 ghost use Rattle.prefix.specs.Prefixes.{end};
+ghost use Rattle.option.specs.Reading.{four};
 ghost use Rattle.table.specs.declared.Lease.{Lease};
 ghost use Rattle.table.specs.Table.{addresses};
 ghost use Rattle.image.specs.Image.{head_size, pool_size, lease_size};
@@ -11,13 +12,13 @@ ghost use Rattle.image_records.specs.Records.{Records, Ascending};
 ghost use Rattle.ledger.specs.Answers.{answer_of};
 ghost use Rattle.ledger.specs.Ledger.{Call, outcome};
 ghost use Rattle.call_spec.specs.ImageCalls.{Lent, carried_if};
-ghost use Rattle.call_rows.specs.Admission.{Admitted, selection_read};
+ghost use Rattle.call_rows.specs.Admission.{Admitted};
 ghost use Rattle.call_ground.specs.Ground.{in_pool?, PoolOf, Before, LeasesIn, OfAdmitted, GroundOf, returning, MayReturn};
 
 use call_rows::SELECTION;
 use image::{HEAD, LEASE, POOL};
 use image_check::ImageSummary;
-use ledger::Accepted;
+use ledger::{Accepted, Refusal};
 use prefix::Prefix;
 use table::Pool;
 
@@ -87,8 +88,8 @@ pub struct Ground {
 pub fn ground_of(image: &[u8], summary: ImageSummary, address: Option<u32>) -> Option<Ground>
     requires { OfAdmitted image.now summary }
     ensures bounds { IfSome result (λ g. (g.pool + g.pools ≤ summary.pools) × (g.first + g.leases ≤ summary.leases)) }
-    ensures equation { ((h : Lent) (time : ℕ) (c : Call) → h.image ≡ image.now → Admitted true h time c.client summary
-        → Ok address ≡ selection_read c.selection → GroundOf h c summary result) }
+    ensures equation { ((h : Lent) (time : ℕ) (c : Call) (s : List ℕ) → h.image ≡ image.now → Admitted true h time c.client summary
+        → c.selection ≡ carried_if (is_some address) s → IfSome address (λ n. n ≡ four s 2) → GroundOf h c summary result) }
 {
     let Some(address) = address else {
         return Some(Ground {
@@ -109,24 +110,26 @@ pub fn ground_of(image: &[u8], summary: ImageSummary, address: Option<u32>) -> O
     })
 }
 
-// Puts option 118, unaltered, after the reply of a call that is accepted, if it carries one that is enabled.
+// Puts option 118, unaltered, after the reply of a call that is accepted, if it carries one that is enabled. A refusal and its reply
+// stay.
 pub fn return_selection(
-    accepted: Accepted,
+    answer: Result<Accepted, Refusal>,
     selected: bool,
     selection: &[u8],
     reply: &mut [u8],
-) -> Accepted
-    requires { MayReturn accepted selected selection.now reply.old }
-    ensures { ((s : Lent) → outcome (answer_of (Ok result)) s reply.new
-        ≡ returning (carried_if selected selection.now) (outcome (answer_of (Ok accepted)) s reply.old)) }
+) -> Result<Accepted, Refusal>
+    requires { MayReturn (answer_of answer) selected selection.now reply.old }
+    ensures { ((s : Lent) → outcome (answer_of result) s reply.new
+        ≡ returning (carried_if selected selection.now) (outcome (answer_of answer) s reply.old)) }
 {
+    let accepted = answer?;
     if !selected {
-        return accepted;
+        return answer;
     }
     let bytes = accepted.bytes as usize;
     reply[bytes..bytes + SELECTION].copy_from_slice(selection);
-    Accepted {
+    Ok(Accepted {
         bytes: (bytes + SELECTION) as u32,
         count: accepted.count,
-    }
+    })
 }

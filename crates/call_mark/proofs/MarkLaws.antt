@@ -14,7 +14,7 @@ use Rattle.lists.specs.Put.{put}
 use Rattle.lists.proofs.Tests.{and-to, and-of, not-true⇒false, and-list-to, and-list-of, cond-true, cond-false, not-of, not-to}
 use Rattle.lists.proofs.MapLaws.{filter_map, any?-filter}
 use Rattle.lists.proofs.ListLaws.{all_map}
-use Rattle.std.specs.Prelude.{Result as Res, Ok, Err, is_ok}
+use Rattle.std.specs.Prelude.{Result as Res, Ok, Err}
 use Rattle.prefix.specs.declared.Prefix.{Prefix}
 use Rattle.prefix.specs.Prefixes.{size, prefix, checked}
 use Rattle.prefix.proofs.BlockLaws.{Block, block-made, made-block}
@@ -321,10 +321,10 @@ module _ (b : Book) (now network len : ℕ) (d : Bool) where
 
     -- What it leaves, and the counts.
     module _ (r : Res Accepted Refusal) (g : Lent) (is : outcome (answer_of r) g [] ≡ mark_image b.lent now network len d) where
-      pub mark-countable : LeftIfAccepted r (lent g.image g.bytes []) summary.pools
+      pub mark-countable : LeftIfAccepted (answer_of r).number (lent g.image g.bytes []) summary.pools
       mark-countable =
           countable b.lent (mark (state_in b.lent) now network len d) (follows-all.marks b.lent now network len d)
-          (mark-sound (state_in b.lent) now network len d) (mark-pools (state_in b.lent) now network len d) r g [] is summary.pools on-lent.pools
+          (mark-sound (state_in b.lent) now network len d) (mark-pools (state_in b.lent) now network len d) (answer_of r) g [] is summary.pools on-lent.pools
 
       stay : summary.expired ≡ 0 → counts_of (table_in g) ≡ b.counts
       stay none-gone =
@@ -334,8 +334,8 @@ module _ (b : Book) (now network len : ℕ) (d : Bool) where
           ∙ sym (admitted-counts true b now 1 summary ad.1)
 
       pub mark-settles : (moved : Bool) → (moved ≡ false → summary.expired ≡ 0) → (counts : List (List ℕ))
-          → counts ≡ cond (is_ok r && moved) (counts_of (table_in (lent g.image g.bytes []))) b.counts
+          → counts ≡ cond (eqb (answer_of r).number 0 && moved) (counts_of (table_in (lent g.image g.bytes []))) b.counts
           → outcome (answer_of r) (record { lent = g; counts = counts }) [] ≡ mark_book b now network len d
       mark-settles moved none-gone counts left-are =
           settles b (admitted-lent true b now 1 summary ad.1) (mark (state_in b.lent) now network len d) (λ (h : Lent). mark_image h now network len d)
-          (follows-all.marks b.lent now network len d) r g [] is moved counts left-are (λ y e. stay (none-gone e))
+          (follows-all.marks b.lent now network len d) (answer_of r) g [] is moved counts left-are (λ y e. stay (none-gone e))

@@ -11,7 +11,7 @@ ghost use Rattle.call_rows.specs.Admission.{Admitted};
 use counts::Counts;
 use image::{HEAD, LEASE, POOL};
 use image_check::ImageSummary;
-use ledger::{Accepted, Refusal};
+use ledger::{Accepted, Answer, Refusal};
 use prefix::Prefix;
 
 // Mark has no client and no reply: what stands for them at the admission is refused by no row.
@@ -84,6 +84,7 @@ pub fn mark(
     );
     // Of the leases only expired ones go.
     let moved = summary.expired != 0;
-    call_rows::settle(answer, moved, image, *image_bytes, summary.pools, counts);
+    let number = Answer::from(answer).number;
+    call_rows::settle(number, moved, image, *image_bytes, summary.pools, counts);
     answer
 }

@@ -8,7 +8,7 @@ use native.Mathlib.Omega.{arith}
 use lib.ListN.{length}
 use lib.Dec.{leb}
 use borrow.Author.Tests.{leb-true}
-use Rattle.std.specs.Prelude.{Result, Ok, Err, IfOk}
+use Rattle.std.specs.Prelude.{Result, Err, IfOk}
 use Rattle.lists.proofs.PutLaws.{put_front}
 use Rattle.option.specs.Values.{SuboptionValue, refused, accepted}
 use Rattle.option.specs.Reading.{read_option}
@@ -20,7 +20,7 @@ use Rattle.option_reply.specs.declared.WriteFault.{WriteFault}
 use Rattle.option_reply.specs.Answers.{into}
 use Rattle.ledger.specs.declared.{Accepted.Accepted, Answer.Answer, Refusal.Refusal}
 use Rattle.ledger.specs.Ledger.{acceptance}
-use Rattle.ledger.specs.Answers.{refusal_number, bad_place, unwritten, answer_of}
+use Rattle.ledger.specs.Answers.{refusal_number, bad_place, answer_of}
 use Rattle.call_spec.specs.Written.{as_answer}
 use Rattle.call_option.specs.declared.SelectionAnswer.{SelectionAnswer}
 use Rattle.call_option.specs.Options.{selection_answer, selection_in, writing_answer, selection_into, option_check, reading_answer}

@@ -6,6 +6,7 @@ ghost use Rattle.ledger.specs.Answers.{answer_of};
 ghost use Rattle.call_option.specs.Options.{selection_in, selection_into, option_check};
 
 use ledger::{Accepted, Refusal};
+use option_reply::WriteFault;
 use option_scan::{MOST_ENTRIES, MOST_REQUESTS};
 
 // The address of an option 118; 0 of a refusal.
@@ -32,7 +33,14 @@ pub fn read_selection(option: &[u8]) -> SelectionAnswer
 pub fn write_selection(address: u32, buffer: &mut [u8]) -> Result<Accepted, Refusal>
     ensures { (answer_of result, buffer.new) ≡ selection_into address buffer.old }
 {
-    call_spec::written(option_reply::write_selection(address, buffer))
+    match option_reply::write_selection(address, buffer) {
+        Ok(bytes) => Ok(Accepted {
+            bytes: bytes as u32,
+            count: 0,
+        }),
+        Err(WriteFault::OutsideRules) => Err(Refusal::OutsideRules),
+        Err(WriteFault::TooLong) => Err(Refusal::BufferTooShort),
+    }
 }
 
 // By the reader of the calls, so that the library has it once; what it finds in the option is not looked at.

@@ -21,6 +21,7 @@ use ledger::{Accepted, Refusal};
 use table::{Lease, Pool};
 
 // The head of the table, and how many pools and leases it has. Of a refusal all but the number is 0, here and below.
+// Stays: the C interface reads a number and the values beside it, in these three structs.
 #[repr(C)]
 #[derive(Clone, Copy)]
 pub struct HeadAnswer {

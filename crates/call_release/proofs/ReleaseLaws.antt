@@ -7,6 +7,7 @@ use mathlib.Core.Bool.{true, false, not, cond, ◌&&◌, true≢false}
 use mathlib.Core.List.{List, [], map}
 use lib.ListN.{length}
 use lib.ListN.{take as up_to}
+use lib.Dec.{eqb}
 use Rattle.lists.specs.Lists.{filter}
 use Rattle.option.specs.Values.{Entry}
 use Rattle.option.specs.Contents.{entries_in}
@@ -20,7 +21,7 @@ use Rattle.figures.specs.declared.FigureRow.{FigureRow}
 use Rattle.image_figures.specs.Sheets.{sheet_of}
 use Rattle.image_figures.proofs.AcceptedLaws.{strike-changed, stays-follow}
 use Rattle.counts.specs.Counts.{counts_of}
-use Rattle.std.specs.Prelude.{Result as Res, Ok, Err, Some, None, is_ok}
+use Rattle.std.specs.Prelude.{Result as Res, Ok, Err, Some, None}
 use Rattle.ledger.specs.declared.{Accepted.Accepted, Refusal.Refusal}
 use Rattle.ledger.specs.Answers.{answer_of}
 use Rattle.ledger.proofs.RefusalLaws.{number-some}
@@ -167,13 +168,13 @@ module _ (b : Book) (now : ℕ) (c : Call) where
   module _ (s : EntriesCall false (lent_in b) now c) where
     -- What it leaves, and the counts.
     module _ (a : Res Accepted Refusal) (g : Lent) (is : outcome (answer_of a) g c.reply ≡ release_image b.lent now c) where
-      pub release-countable : LeftIfAccepted a (lent g.image g.bytes []) s.summary.pools
+      pub release-countable : LeftIfAccepted (answer_of a).number (lent g.image g.bytes []) s.summary.pools
       release-countable =
           countable b.lent (release (state_in b.lent) now c) (follows-all.releases b.lent now c) (release-sound (state_in b.lent) now c)
-          (release-pools (state_in b.lent) now c) a g c.reply is s.summary.pools ((on-lent false b now c s).admits.1).pools
+          (release-pools (state_in b.lent) now c) (answer_of a) g c.reply is s.summary.pools ((on-lent false b now c s).admits.1).pools
 
-      pub release-settles : (counts : List (List ℕ)) → counts ≡ cond (is_ok a && true) (counts_of (table_in (lent g.image g.bytes []))) b.counts
+      pub release-settles : (counts : List (List ℕ)) → counts ≡ cond (eqb (answer_of a).number 0 && true) (counts_of (table_in (lent g.image g.bytes []))) b.counts
           → outcome (answer_of a) (record { lent = g; counts = counts }) c.reply ≡ release_book b now c
       release-settles counts left =
-          settles b (as_lent false b now c s) (release (state_in b.lent) now c) (λ (h : Lent). release_image h now c) (follows-all.releases b.lent now c) a g c.reply is true counts left
+          settles b (as_lent false b now c s) (release (state_in b.lent) now c) (λ (h : Lent). release_image h now c) (follows-all.releases b.lent now c) (answer_of a) g c.reply is true counts left
           (λ z e. absurd (true≢false e))

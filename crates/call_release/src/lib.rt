@@ -20,7 +20,7 @@ use call_entries::Expiry;
 use counts::Counts;
 use image::{HEAD, POOL};
 use image_check::ImageSummary;
-use ledger::{Accepted, Refusal};
+use ledger::{Accepted, Answer, Refusal};
 
 // How many leases are struck; all of them stand from the place `first` up to `last`.
 #[derive(Clone, Copy)]
@@ -157,6 +157,7 @@ pub fn release(
     );
     // An accepted return removes leases.
     let moved = true;
-    call_rows::settle(answer, moved, image, *image_bytes, summary.pools, counts);
+    let number = Answer::from(answer).number;
+    call_rows::settle(number, moved, image, *image_bytes, summary.pools, counts);
     answer
 }

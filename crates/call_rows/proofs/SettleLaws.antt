@@ -3,7 +3,7 @@
 use Prim.Native.Nat.{ℕ, ◌-◌, ◌<◌}
 use mathlib.Core.Path.{◌≡◌, refl, sym, ap, subst, ◌∙◌}
 use mathlib.Core.Logic.{⊎_elim}
-use mathlib.Core.Bool.{Bool, true, false, cond, ◌&&◌, true≢false}
+use mathlib.Core.Bool.{Bool, true, false, cond, ◌&&◌}
 use mathlib.Core.List.{List, [], ◌∷◌, ◌++◌, map, append_assoc}
 use lib.Dec.{ltb, eqb}
 use lib.ListN.{length, take, drop, replicate}
@@ -23,7 +23,7 @@ use Rattle.counts.specs.Counts.{counts_of}
 use Rattle.counts.proofs.CountLaws.{counts-stay}
 use Rattle.std.specs.Prelude.{Result as Res, Ok, Err, is_ok}
 use Rattle.ledger.specs.declared.{Answer.Answer, Accepted.Accepted, Refusal.Refusal}
-use Rattle.ledger.specs.Answers.{answer_of}
+use Rattle.ledger.specs.Answers.{refusal_number, answer_of}
 use Rattle.ledger.proofs.RefusalLaws.{number-some}
 use Rattle.ledger.specs.Ledger.{State, Result, outcome}
 use Rattle.ledger.proofs.SoundKept.{SoundIfAccepted}
@@ -88,81 +88,75 @@ stored-front t old l =
     ap (take (length xs)) (append_assoc xs zs rest) ∙ take_at xs (zs ++ rest) (length xs) refl
 
 -- An answer is an acceptance exactly if it has number 0.
-ok-number : (a : Res Accepted Refusal) → is_ok a ≡ true → (answer_of a).number ≡ 0
-ok-number (Ok x) e = refl
-ok-number (Err e) f = absurd (true≢false (sym f))
-
-err-number : (a : Res Accepted Refusal) → is_ok a ≡ false → (answer_of a).number ≡ 0 → ⊥
-err-number (Ok x) f z = absurd (true≢false f)
-err-number (Err e) f z = number-some e z
+pub ok-number : (r : Res Accepted Refusal) → eqb (answer_of r).number 0 ≡ is_ok r
+ok-number (Ok a) = refl
+ok-number (Err e) = ne_eqb (refusal_number e) 0 (number-some e)
 
 -- WHAT IS LEFT CAN BE COUNTED, after an accepted call.
 module _ (h : Lent) (r : Result State) (follows : Follows state_in h r (settled r h)) (s : SoundIfAccepted (state_in h) r) (p : SamePools (state_in h) r)
-    (a : Res Accepted Refusal) (g : Lent) (reply : List ℕ) (is : outcome (answer_of a) g reply ≡ settled r h) (pools : ℕ) (many : pools ≡ length (used_pools (table_in h))) where
-  pub countable : LeftIfAccepted a (lent g.image g.bytes []) pools
+    (a : Answer) (g : Lent) (reply : List ℕ) (is : outcome a g reply ≡ settled r h) (pools : ℕ) (many : pools ≡ length (used_pools (table_in h))) where
+  pub countable : LeftIfAccepted a.number (lent g.image g.bytes []) pools
   unfolding table_in
-  countable ok =
-      let z : (answer_of a).number ≡ 0 = ok-number a ok in
+  countable z =
       let zero : r.answer.number ≡ 0 = sym (ap (λ (w : Answer). w.number) (ap (λ (w : Result Lent). w.answer) is ∙ follows.answer)) ∙ z in
       let there : g ≡ stored_in r.state h.bytes h = ap (λ (w : Result Lent). w.state) (is ∙ settled-accepted r h zero) in
-      let same : table_in g ≡ r.state.table = same-table h r (settled r h) follows (answer_of a) g reply is z in
+      let same : table_in g ≡ r.state.table = same-table h r (settled r h) follows a g reply is z in
       let size : length (image_of (table_in g)) ≡ g.bytes = ap (λ (t : LeaseTable). length (image_of t)) same ∙ ap (λ (w : Lent). w.bytes) (sym there) in
       record {
-        sound = left-sound h r (settled r h) follows (answer_of a) g reply is z s;
+        sound = left-sound h r (settled r h) follows a g reply is z s;
         image =
             ap image_of same
             ∙ sym (stored-front r.state.table h.bytes h.image)
             ∙ ap (λ (w : Lent). take w.bytes w.image) (sym there);
         size = size;
-        pools-are = many ∙ ap (λ (ps : List Pool). length (used_pools (record { pools = ps; leases = []; term = 0; default_length = 0; last = 0 }))) (sym (left-pools h r (settled r h) follows (answer_of a) g reply is z p));
+        pools-are = many ∙ ap (λ (ps : List Pool). length (used_pools (record { pools = ps; leases = []; term = 0; default_length = 0; last = 0 }))) (sym (left-pools h r (settled r h) follows a g reply is z p));
       }
 
 -- WHAT settle LEAVES
-module _ (a : Res Accepted Refusal) (moved : Bool) (counts before : List (List ℕ)) where
-  pub stays-refused : is_ok a ≡ false → before ≡ cond (is_ok a && moved) counts before
-  stays-refused e = ap (λ (t : Bool). cond (t && moved) counts before) (sym e)
+module _ (number : ℕ) (moved : Bool) (counts before : List (List ℕ)) where
+  pub stays-refused : (number ≡ 0 → ⊥) → before ≡ cond (eqb number 0 && moved) counts before
+  stays-refused k = ap (λ (t : Bool). cond (t && moved) counts before) (sym (ne_eqb number 0 k))
 
-  pub stays-unmoved : moved ≡ false → before ≡ cond (is_ok a && moved) counts before
-  stays-unmoved e = go (is_ok a) moved e
+  pub stays-unmoved : moved ≡ false → before ≡ cond (eqb number 0 && moved) counts before
+  stays-unmoved e = go (eqb number 0) moved e
     where
       go : (z m : Bool) → m ≡ false → before ≡ cond (z && m) counts before
       go true m e = ap (λ (t : Bool). cond t counts before) (sym e)
       go false m e = refl
 
-  pub counted-again : is_ok a ≡ true → moved ≡ true → (left : List (List ℕ)) → left ≡ counts → left ≡ cond (is_ok a && moved) counts before
-  counted-again z e left is = is ∙ ap (λ (t : Bool). cond t counts before) (sym e) ∙ ap (λ (t : Bool). cond (t && moved) counts before) (sym z)
+  pub counted-again : number ≡ 0 → moved ≡ true → (left : List (List ℕ)) → left ≡ counts → left ≡ cond (eqb number 0 && moved) counts before
+  counted-again z e left is = is ∙ ap (λ (t : Bool). cond t counts before) (sym e) ∙ ap (λ (t : Bool). cond (t && moved) counts before) (sym (eq-eqb number 0 z))
 
 -- THE END OF A CALL
 module _ (b : Book) (same : lent_in b ≡ b.lent) (r : Result State) (f : Lent → Result Lent) (follows : Follows state_in b.lent r (f b.lent))
-    (res : Res Accepted Refusal) (g : Lent) (reply : List ℕ) (is : outcome (answer_of res) g reply ≡ f b.lent) (moved : Bool) (counts : List (List ℕ))
-    (left : counts ≡ cond (is_ok res && moved) (counts_of (table_in (lent g.image g.bytes []))) b.counts)
-    (unmoved : is_ok res ≡ true → moved ≡ false → counts_of (table_in g) ≡ b.counts) where
-  abbrev a : Answer
-  a = answer_of res
-
+    (a : Answer) (g : Lent) (reply : List ℕ) (is : outcome a g reply ≡ f b.lent) (moved : Bool) (counts : List (List ℕ))
+    (left : counts ≡ cond (eqb a.number 0 && moved) (counts_of (table_in (lent g.image g.bytes []))) b.counts)
+    (unmoved : a.number ≡ 0 → moved ≡ false → counts_of (table_in g) ≡ b.counts) where
   answered : a ≡ r.answer
   answered = ap (λ (w : Result Lent). w.answer) is ∙ follows.answer
 
-  accepted : (m : Bool) → is_ok res ≡ true → moved ≡ m → counts ≡ counts_of (table_in g)
+  accepted : (m : Bool) → a.number ≡ 0 → moved ≡ m → counts ≡ counts_of (table_in g)
   unfolding table_in
-  accepted true z e = left ∙ ap (λ (t : Bool). cond (t && moved) (counts_of (table_in g)) b.counts) z ∙ ap (λ (t : Bool). cond t (counts_of (table_in g)) b.counts) e
+  accepted true z e = left ∙ ap (λ (t : Bool). cond (t && moved) (counts_of (table_in g)) b.counts) (eq-eqb a.number 0 z) ∙ ap (λ (t : Bool). cond t (counts_of (table_in g)) b.counts) e
   accepted false z e =
-      left ∙ ap (λ (t : Bool). cond (t && moved) (counts_of (table_in g)) b.counts) z ∙ ap (λ (t : Bool). cond t (counts_of (table_in g)) b.counts) e ∙ sym (unmoved z e)
+      left ∙ ap (λ (t : Bool). cond (t && moved) (counts_of (table_in g)) b.counts) (eq-eqb a.number 0 z) ∙ ap (λ (t : Bool). cond t (counts_of (table_in g)) b.counts) e ∙ sym (unmoved z e)
 
-  refused : is_ok res ≡ false → (counts ≡ b.counts) × (g ≡ b.lent)
+  refused : eqb a.number 0 ≡ false → (counts ≡ b.counts) × (g ≡ b.lent)
   refused e = (
     left ∙ ap (λ (t : Bool). cond (t && moved) (counts_of (table_in (lent g.image g.bytes []))) b.counts) e,
-    ap (λ (w : Result Lent). w.state) is ∙ follows.refused (λ z. err-number res e (ap (λ (w : Answer). w.number) answered ∙ z)),
+    ap (λ (w : Result Lent). w.state) is ∙ follows.refused (λ z. eqb-false a.number 0 e (ap (λ (w : Answer). w.number) answered ∙ z)),
   )
 
   on-lent : outcome a (record { lent = g; counts = counts }) reply ≡ kept (f b.lent) b
   on-lent =
       ⊎_elim
-      (λ (e : is_ok res ≡ true). accepts-book b (f b.lent) a g reply is (ok-number res e) counts (accepted moved e refl))
-      (λ (e : is_ok res ≡ false).
+      (λ (e : eqb a.number 0 ≡ true).
+      let z = eqb-true a.number 0 e in
+      accepts-book b (f b.lent) a g reply is z counts (accepted moved z refl))
+      (λ (e : eqb a.number 0 ≡ false).
       let u = refused e in
-      (λ i. outcome a (record { lent = u.1 i; counts = u.0 i }) reply) ∙ refuses-book b (f b.lent) a g reply is (err-number res e))
-      (bool_cases (is_ok res))
+      (λ i. outcome a (record { lent = u.1 i; counts = u.0 i }) reply) ∙ refuses-book b (f b.lent) a g reply is (eqb-false a.number 0 e))
+      (bool_cases (eqb a.number 0))
 
   pub settles : outcome a (record { lent = g; counts = counts }) reply ≡ kept (f (lent_in b)) b
   settles = on-lent ∙ ap (λ (h : Lent). kept (f h) b) (sym same)

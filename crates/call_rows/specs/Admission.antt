@@ -1,6 +1,6 @@
 -- What a call goes by that works on an image in place: the rows up to the option, what is known where none of them applies, and what an accepted call
 -- leaves of the leases' records.
-use Rattle.std.specs.Prelude.{ℕ, ◌+◌, ◌-◌, ◌*◌, ◌≤◌, ◌≡◌, Bool, true, false, cond, List, ◌∷◌, ◌++◌, length, take, replicate, leb, eqb, Option as Maybe, Some, None, Result, Ok, Err, is_ok, MatchResult}
+use Rattle.std.specs.Prelude.{ℕ, ◌+◌, ◌-◌, ◌*◌, ◌≤◌, ◌≡◌, Bool, true, false, cond, List, ◌∷◌, ◌++◌, length, take, replicate, leb, eqb, Option as Maybe, Some, None, Result, Ok, Err, MatchResult}
 use Rattle.std.proofs.Math.Option.{Option, none, some}
 use Rattle.lists.specs.Lists.{filter, concat_map}
 use Rattle.lists.specs.Put.{put}
@@ -18,7 +18,7 @@ use Rattle.image.specs.Reading.{last_at}
 use Rattle.image_check.specs.declared.ImageSummary.{ImageSummary}
 use Rattle.image_records.specs.Records.{Records, Ascending}
 use Rattle.image_figures.specs.Sheets.{figures_size, sheet_of}
-use Rattle.ledger.specs.declared.{Accepted.Accepted, Refusal.Refusal}
+use Rattle.ledger.specs.declared.Refusal.{Refusal}
 use Rattle.ledger.specs.declared.Refusal.TheVariants.{NotTheOption, BadFraming, BadField}
 use Rattle.option.specs.declared.{OptionFault.OptionFault, Fault.Fault}
 use Rattle.option.specs.declared.OptionFault.TheVariants as fault
@@ -119,5 +119,5 @@ pub record LeftSound (g : Lent) (pools : ℕ) : Type 0 where
   pub size : length (image_of (table_in g)) ≡ g.bytes
   pub pools-are : pools ≡ length (used_pools (table_in g))
 
-abbrev pub LeftIfAccepted : Result Accepted Refusal → Lent → ℕ → Type 0
-LeftIfAccepted answer g pools = is_ok answer ≡ true → LeftSound g pools
+abbrev pub LeftIfAccepted : ℕ → Lent → ℕ → Type 0
+LeftIfAccepted number g pools = number ≡ 0 → LeftSound g pools

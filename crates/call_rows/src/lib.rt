@@ -2,7 +2,7 @@
 // accepted call.
 #![tactic(auto)]
 
-ghost use Rattle.std.specs.Prelude.{◌≡◌, cond, ◌&&◌, List, [], ℕ, ◌+◌, ◌*◌, ◌≤◌, length, ltb, is_ok};
+ghost use Rattle.std.specs.Prelude.{◌≡◌, cond, ◌&&◌, List, [], ℕ, ◌+◌, ◌*◌, ◌≤◌, length, ltb, eqb};
 ghost use Rattle.table.specs.declared.Lease.{Lease};
 ghost use Rattle.table.specs.Table.{present};
 ghost use Rattle.image.specs.Image.{head_size, lease_size};
@@ -23,7 +23,7 @@ ghost use Rattle.call_rows.specs.InnerSummary.{SummaryIn, Measured, SheetPasses}
 use counts::Counts;
 use image::{HEAD, LAST, LEASE, POOL};
 use image_check::ImageSummary;
-use ledger::{Accepted, Refusal};
+use ledger::Refusal;
 use option::{Fault, OptionFault};
 use option_scan::Contents;
 
@@ -219,17 +219,17 @@ pub fn strike_expired(
 // The end of a call on an open book. Where it is accepted and leases came or went, the counts are those of the table that is
 // left; otherwise they stay.
 pub fn settle(
-    answer: Result<Accepted, Refusal>,
+    number: u32,
     moved: bool,
     image: &[u8],
     image_bytes: usize,
     pools: usize,
     counts: &mut Counts,
 )
-    requires { LeftIfAccepted answer (lent image.now image_bytes []) pools }
-    ensures { counts.new ≡ cond (is_ok answer && moved) (counts_of (table_in (lent image.now image_bytes []))) counts.old }
+    requires { LeftIfAccepted number (lent image.now image_bytes []) pools }
+    ensures { counts.new ≡ cond (eqb number 0 && moved) (counts_of (table_in (lent image.now image_bytes []))) counts.old }
 {
-    if answer.is_err() {
+    if number != 0 {
         return;
     }
     if !moved {

@@ -2,10 +2,10 @@
 #![tactic(auto)]
 
 ghost use Rattle.std.specs.Prelude.{◌≡◌, ◌<◌, cond, ltb, IfOk};
-ghost use Rattle.ledger.specs.Ledger.{refusal, acceptance};
 ghost use Rattle.call_spec.specs.Written.{as_answer};
 
-use ledger::{Accepted, Answer, Refusal};
+pub use ledger::answers::{accepted, refused};
+use ledger::{Accepted, Refusal};
 use option_reply::WriteFault;
 
 // Who sent the message that an ask or a take is for, when it came, and whether it carries an option 118 that the caller says is
@@ -15,30 +15,6 @@ pub struct Message {
     pub client: u32,
     pub time: u32,
     pub selected: bool,
-}
-
-// A refusal with its place (rows 7 and 16 only), all counts 0.
-pub fn refused(number: u32, place: u32) -> Answer
-    ensures { result ≡ refusal number place }
-{
-    Answer {
-        number,
-        place,
-        bytes: 0,
-        count: 0,
-    }
-}
-
-// An accepted answer.
-pub fn accepted(bytes: u32, count: u32) -> Answer
-    ensures { result ≡ acceptance bytes count }
-{
-    Answer {
-        number: 0,
-        place: 0,
-        bytes,
-        count,
-    }
 }
 
 // The answer of an option that is written, or why it is not.

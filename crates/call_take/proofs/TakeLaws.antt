@@ -31,8 +31,8 @@ use Rattle.figures.specs.Inner.{leases_match?, with_each, filing, struck_rows}
 use Rattle.image_figures.specs.Sheets.{sheet_of}
 use Rattle.image_figures.proofs.AcceptedLaws.{rows-matched, strike-filed, nothing-filed, take-follows}
 use Rattle.counts.specs.Counts.{counts_of}
-use Rattle.std.specs.Prelude.{Option as Maybe, Result as Res, Ok, Err, is_ok}
-use Rattle.ledger.specs.declared.{Accepted.Accepted, Refusal.Refusal}
+use Rattle.std.specs.Prelude.{Option as Maybe, Result as Res, Ok, Err, IfOk}
+use Rattle.ledger.specs.declared.{Accepted.Accepted, Answer.Answer, Refusal.Refusal}
 use Rattle.ledger.specs.declared.Refusal.TheVariants.{NoSuchPool}
 use Rattle.ledger.specs.Answers.{answer_of}
 use Rattle.ledger.proofs.RefusalLaws.{number-some}
@@ -166,9 +166,9 @@ module _ (h : Lent) (now : ℕ) (c : Call) where
         omega (arith, least, room_for c.selection s.selected)
 
     -- What `return_selection` requires, of an answer that option 220 has room for.
-    pub take-returns : (selected : Bool) (w : List ℕ) → c.selection ≡ carried_if selected w → (a : Accepted) → a.bytes ≤ longest_option → (reply : List ℕ) → length reply ≡ length c.reply
+    pub take-returns : (selected : Bool) (w : List ℕ) → c.selection ≡ carried_if selected w → (a : Answer) → a.bytes ≤ longest_option → (reply : List ℕ) → length reply ≡ length c.reply
         → MayReturn a selected w reply
-    take-returns selected w is a fits reply same carried =
+    take-returns selected w is a fits reply same z carried =
         let it : c.selection ≡ some w = is ∙ ap (λ (b : Bool). carried_if b w) carried in
         let six : length w ≡ selection_size = selection-size w (ap bad_selection? (sym it) ∙ s.selected) in
         (six, omega (arith, fits, same, six, take-room, ap (λ (o : Option (List ℕ)). length (returned o)) it), fits)
@@ -417,10 +417,15 @@ take-unmoved h now c summary o none-gone =
 
 -- OPTION 118 IN THE REPLY: with it an accepted answer has another size, and a refusal is as it was; what is lent stays.
 with-option : (o : Option (List ℕ)) (a : Res Accepted Refusal) (h : Lent) (reply : List ℕ)
-    → (x : Res Accepted Refusal) × (y : List ℕ) × (returning o (outcome (answer_of a) h reply) ≡ outcome (answer_of x) h y) × (is_ok x ≡ is_ok a)
+    → (x : Res Accepted Refusal) × (y : List ℕ) × (returning o (outcome (answer_of a) h reply) ≡ outcome (answer_of x) h y) × ((answer_of x).number ≡ (answer_of a).number)
 with-option none a h reply = (a, reply, refl, refl)
 with-option (some s) (Ok a) h reply = (Ok (record { bytes = a.bytes + length s; count = a.count }), put reply a.bytes s, refl, refl)
 with-option (some s) (Err e) h reply = (Err e, reply, returning-refused (some s) (outcome (answer_of (Err e)) h reply) (number-some e), refl)
+
+-- A refusal has no bytes.
+pub bytes-fit : (a : Res Accepted Refusal) → IfOk a (λ x. x.bytes ≤ longest_option) → (answer_of a).bytes ≤ longest_option
+bytes-fit (Ok x) few = few
+bytes-fit (Err e) few = omega arith
 
 module _ (b : Book) (now : ℕ) (c : Call) where
   -- A refusal of what is lent is one of the book.
@@ -461,11 +466,11 @@ module _ (b : Book) (now : ℕ) (c : Call) where
 
     -- What it leaves, and the counts.
     module _ (a : Res Accepted Refusal) (g : Lent) (reply : List ℕ) (is : returning c.selection (outcome (answer_of a) g reply) ≡ take_image b.lent now c) where
-      pub take-countable : LeftIfAccepted a (lent g.image g.bytes []) s.summary.pools
-      take-countable ok =
+      pub take-countable : LeftIfAccepted (answer_of a).number (lent g.image g.bytes []) s.summary.pools
+      take-countable z =
           let w = with-option c.selection a g reply in
           countable b.lent (take_of (state_in b.lent) now c) (follows-all.takes b.lent now c) (take-sound (state_in b.lent) now c)
-          (take-pools (state_in b.lent) now c) w.0 g w.1 (sym w.2 ∙ is) s.summary.pools (on-lent (short (lent_in b) now c) b now c s).admits.1.pools (w.3 ∙ ok)
+          (take-pools (state_in b.lent) now c) (answer_of w.0) g w.1 (sym w.2 ∙ is) s.summary.pools (on-lent (short (lent_in b) now c) b now c s).admits.1.pools (w.3 ∙ z)
 
       stay : s.summary.expired ≡ 0 → counts_of (table_in g) ≡ b.counts
       stay none-gone =
@@ -475,22 +480,13 @@ module _ (b : Book) (now : ℕ) (c : Call) where
           ∙ sym (admitted-counts true b now c.client s.summary s.admits.1)
 
       module _ (moved : Bool) (none-gone : moved ≡ false → s.summary.expired ≡ 0) (counts : List (List ℕ))
-          (left : counts ≡ cond (is_ok a && moved) (counts_of (table_in (lent g.image g.bytes []))) b.counts) where
-        settled-as : (r : Res Accepted Refusal) → is_ok r ≡ is_ok a → (reply₁ : List ℕ) → outcome (answer_of r) g reply₁ ≡ returning c.selection (outcome (answer_of a) g reply)
+          (left : counts ≡ cond (eqb (answer_of a).number 0 && moved) (counts_of (table_in (lent g.image g.bytes []))) b.counts) where
+        pub take-settles : (r : Res Accepted Refusal) (reply₁ : List ℕ) → outcome (answer_of r) g reply₁ ≡ returning c.selection (outcome (answer_of a) g reply)
             → outcome (answer_of r) (record { lent = g; counts = counts }) reply₁ ≡ take_book b now c
-        settled-as r same reply₁ put-it =
+        take-settles r reply₁ put-it =
+            let w = with-option c.selection a g reply in
+            let same : (answer_of r).number ≡ (answer_of a).number = ap (λ (v : Result Lent). v.answer.number) (put-it ∙ w.2) ∙ w.3 in
             settles b (as_lent (short (lent_in b) now c) b now c s) (take_of (state_in b.lent) now c) (λ (h : Lent). take_image h now c) (follows-all.takes b.lent now c)
-            r g reply₁ (put-it ∙ is) moved counts
-            (left ∙ ap (λ (k : Bool). cond (k && moved) (counts_of (table_in (lent g.image g.bytes []))) b.counts) (sym same))
+            (answer_of r) g reply₁ (put-it ∙ is) moved counts
+            (left ∙ ap (λ (k : ℕ). cond (eqb k 0 && moved) (counts_of (table_in (lent g.image g.bytes []))) b.counts) (sym same))
             (λ z e. stay (none-gone e))
-
-        pub take-settles : (x y : Accepted) → a ≡ Ok x → (reply₁ : List ℕ) → outcome (answer_of (Ok y)) g reply₁ ≡ returning c.selection (outcome (answer_of (Ok x)) g reply)
-            → outcome (answer_of (Ok y)) (record { lent = g; counts = counts }) reply₁ ≡ take_book b now c
-        take-settles x y ok reply₁ put-it =
-            settled-as (Ok y) (sym (ap is_ok ok)) reply₁ (put-it ∙ ap (λ (r : Res Accepted Refusal). returning c.selection (outcome (answer_of r) g reply)) (sym ok))
-
-        pub take-refuses : (e : Refusal) → a ≡ Err e → (r : Res Accepted Refusal) → r ≡ Err e → outcome (answer_of r) (record { lent = g; counts = counts }) reply ≡ take_book b now c
-        take-refuses e err r is =
-            ap (λ (x : Res Accepted Refusal). outcome (answer_of x) (record { lent = g; counts = counts }) reply) is
-            ∙ settled-as (Err e) (sym (ap is_ok err)) reply
-            (sym (returning-refused c.selection (outcome (answer_of (Err e)) g reply) (number-some e)) ∙ ap (λ (x : Res Accepted Refusal). returning c.selection (outcome (answer_of x) g reply)) (sym err))

@@ -30,7 +30,7 @@ use call_spec::Message;
 use counts::Counts;
 use image::{HEAD, LEASE, POOL};
 use image_check::ImageSummary;
-use ledger::{Accepted, Refusal};
+use ledger::{Accepted, Answer, Refusal};
 use option::Figures;
 
 // The n leases from `from` on, of which so many have expired; those of them on the ground of the call, so many from the place
@@ -86,12 +86,14 @@ fn renew_named(
     let n = renewal.leases;
     let mut shown: usize = 0;
     for (k, network) in networks.iter().enumerate() {
-        let found = call_entries::set_expiry(image, from, n, renewal.expiry, *network, lengths[k]);
-        places[k] = found;
-        if let Some(i) = found {
-            let x = image_records::lease_at(image, from + LEASE * i);
-            option_reply::put_lease(reply, 6 + 7 * shown, x);
-            shown += 1;
+        match call_entries::set_expiry(image, from, n, renewal.expiry, *network, lengths[k]) {
+            Some(i) => {
+                places[k] = Some(i);
+                let x = image_records::lease_at(image, from + LEASE * i);
+                option_reply::put_lease(reply, 6 + 7 * shown, x);
+                shown += 1;
+            }
+            None => places[k] = None,
         }
     }
     shown
@@ -204,6 +206,7 @@ pub fn take(
     );
     // Of the leases only expired ones go.
     let moved = summary.expired != 0;
-    call_rows::settle(answer, moved, image, *image_bytes, summary.pools, counts);
-    Ok(call_ground::return_selection(answer?, selected, selection, reply))
+    let number = Answer::from(answer).number;
+    call_rows::settle(number, moved, image, *image_bytes, summary.pools, counts);
+    call_ground::return_selection(answer, selected, selection, reply)
 }

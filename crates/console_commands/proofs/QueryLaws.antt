@@ -10,7 +10,7 @@ use lib.ListN.{length, drop, replicate, length-map}
 use Rattle.table.specs.declared.LeaseTable.{LeaseTable}
 use Rattle.table.specs.Table.{pool_slots, pool_prefix, prefix_of, prefixes_of, pools_of, present, sound}
 use Rattle.counts.specs.Counts.{counted_lengths, count_row, counts_of}
-use Rattle.image.specs.Image.{head_size, pool_size, full_image, used_pools}
+use Rattle.image.specs.Image.{head_size, pool_size, used_pools}
 use Rattle.image_records.proofs.PoolRecords.{image-pools}
 use Rattle.image_records.proofs.SoundLaws.{used-few}
 use Rattle.std.specs.Prelude.{Result as Res, Ok, Err}

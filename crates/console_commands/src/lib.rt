@@ -88,7 +88,7 @@ pub fn call(
                 selection,
                 &mut reply[0..n],
             );
-            console_lines::replied(out, s.at, a, &reply[0..n])
+            console_lines::replied(out, s.at, a.into(), &reply[0..n])
         }
         OptionCall::Take => {
             let a = call_take::take(
@@ -101,7 +101,7 @@ pub fn call(
                 selection,
                 &mut reply[0..n],
             );
-            console_lines::replied(out, s.at, a, &reply[0..n])
+            console_lines::replied(out, s.at, a.into(), &reply[0..n])
         }
         OptionCall::List => {
             let a = call_list::list(
@@ -113,7 +113,7 @@ pub fn call(
                 option,
                 &mut reply[0..n],
             );
-            console_lines::replied(out, s.at, a, &reply[0..n])
+            console_lines::replied(out, s.at, a.into(), &reply[0..n])
         }
         OptionCall::Return => {
             let a = call_release::release(
@@ -125,7 +125,7 @@ pub fn call(
                 time,
                 option,
             );
-            console_lines::counted(out, s.at, a)
+            console_lines::counted(out, s.at, a.into())
         }
     }
 }
@@ -156,7 +156,7 @@ pub fn mark(
         c.deprecated,
         c.time,
     );
-    console_lines::done(out, s.at, a)
+    console_lines::done(out, s.at, a.into())
 }
 
 // TERM DEFAULT START PREFIX..: the words are prefixes.
@@ -196,7 +196,7 @@ pub fn open(
         &lengths[0..n],
         terms,
     );
-    console_lines::done(out, s.at, a)
+    console_lines::done(out, s.at, a.into())
 }
 
 // IMAGE
@@ -216,7 +216,7 @@ pub fn load(
         (book_of image.new image_bytes.new figures.new counts.new) out.old s.at out.new result }
 {
     let a = call_load::load(image, image_bytes, figures, counts, saved);
-    console_lines::done(out, s.at, a)
+    console_lines::done(out, s.at, a.into())
 }
 
 // "save into a buffer that holds a full book". Neither this nor what follows has the figures sheet.
@@ -244,7 +244,7 @@ pub fn save(
         older,
         &mut buffer,
     );
-    console_lines::written(out, s.at, a, &buffer)
+    console_lines::written(out, s.at, a.into(), &buffer)
 }
 
 // The sheet's rows stand in the output as they are.
@@ -257,13 +257,13 @@ pub fn sheet(s: State, image: &[u8], image_bytes: usize, counts: &Counts, out: &
 {
     let at = s.at;
     if let Err(e) = call_query::check(image, image_bytes, counts) {
-        return console_lines::refusal(out, at, e);
+        return console_lines::refusal(out, at, e.number(), e.place());
     }
     let n = console_lines::least(image_bytes, image.len());
     let left = out.len() - at;
     match call_sheet::sheet(&image[0..n], &mut out[at..]) {
         Ok(a) => at + console_lines::least(a.bytes as usize, left),
-        Err(e) => console_lines::refusal(out, at, e),
+        Err(e) => console_lines::refusal(out, at, e.number(), e.place()),
     }
 }
 
@@ -276,7 +276,7 @@ pub fn counts(s: State, image: &[u8], image_bytes: usize, counts: &Counts, out: 
         (book_of image.now image_bytes figures counts.now) out.old s.at out.new result }
 {
     if let Err(e) = call_query::check(image, image_bytes, counts) {
-        return console_lines::refusal(out, s.at, e);
+        return console_lines::refusal(out, s.at, e.number(), e.place());
     }
     console_lines::counts(out, s.at, &image[HEAD..], *counts)
 }
@@ -297,7 +297,7 @@ pub fn whole(
         (book_of image.now image_bytes figures counts.now) out.old s.at out.new result }
 {
     let a = call_query::whole(image, image_bytes, counts, len);
-    console_lines::counted(out, s.at, a)
+    console_lines::counted(out, s.at, a.into())
 }
 
 // OPTION: what the reader finds.
@@ -321,7 +321,7 @@ pub fn write(s: State, words: &mut [u8], out: &mut [u8]) -> usize
     let n = s.reply_length;
     match console_write::write(words, &mut buffer[0..n]) {
         None => console_lines::error(out, s.at, s.lines),
-        Some(a) => console_lines::written(out, s.at, a, &buffer[0..n]),
+        Some(a) => console_lines::written(out, s.at, a.into(), &buffer[0..n]),
     }
 }
 

@@ -1,19 +1,14 @@
 -- The line of an answer, by whether it is a refusal.
 -- Assumes nothing.
 use Prim.Native.Nat.{ℕ}
-use mathlib.Core.Path.{◌≡◌, sym, ap, ap₂, ◌∙◌}
-use mathlib.Core.Logic.{◌⊎◌, ⊎_elim}
+use mathlib.Core.Path.{◌≡◌, sym, ap, ◌∙◌}
 use mathlib.Core.Bool.{Bool, true, false, cond}
 use mathlib.Core.List.{List, [], ◌∷◌, ◌++◌, append-nil, append_assoc}
 use borrow.Author.Tests.{eq-eqb, ne_eqb}
 use Rattle.text.specs.Ascii.{ascii}
 use Rattle.console_lines.specs.Lines.{decimal, refused_line, answered, octet_text, bytes_line, reply_line}
 use Rattle.console_lines.proofs.TextLaws.{filled}
-use Rattle.std.specs.Prelude.{Result, Err}
-use Rattle.ledger.specs.declared.{Accepted.Accepted, Refusal.Refusal}
-use Rattle.ledger.specs.Answers.{refusal_number, bad_place, answer_of}
-use Rattle.ledger.proofs.RefusalLaws.{number-some, unplaced}
-use Rattle.ledger.specs.declared.Refusal.TheVariants.{BadFraming, BadField}
+use Rattle.ledger.specs.declared.Answer.{Answer}
 use Rattle.ledger.specs.Ledger.{placed?}
 
 module _ (number place : ℕ) where
@@ -28,26 +23,12 @@ module _ (number place : ℕ) where
   unfolding refused_line
   refused-number e = sym (ap by e)
 
--- A refusal of the code.
-module _ (e : Refusal) (n : ℕ) (number : n ≡ refusal_number e) where
-  pub refused-with : (place : ℕ) → place ≡ bad_place e → ((at : ℕ) × (e ≡ BadFraming at)) ⊎ ((at : ℕ) × (e ≡ BadField at))
-      → ascii "refused " ++ (decimal n ++ (ascii " place=" ++ (decimal place ++ ascii "\n"))) ≡ refused_line (refusal_number e) (bad_place e)
-  refused-with place p is =
-      ap₂ (λ (m q : ℕ). ascii "refused " ++ (decimal m ++ (ascii " place=" ++ (decimal q ++ ascii "\n")))) number p
-      ∙ refused-place (refusal_number e) (bad_place e)
-      (⊎_elim (λ (f : (at : ℕ) × (e ≡ BadFraming at)). ap (λ (x : Refusal). placed? (refusal_number x)) f.1)
-      (λ (f : (at : ℕ) × (e ≡ BadField at)). ap (λ (x : Refusal). placed? (refusal_number x)) f.1) is)
+module _ (a : Answer) (line : List ℕ) where
+  pub answer-refused : (a.number ≡ 0 → ⊥) → refused_line a.number a.place ≡ answered a line
+  answer-refused k = sym (ap (λ (b : Bool). cond b line (refused_line a.number a.place)) (ne_eqb a.number 0 k))
 
-  pub refused-bare : ((place : ℕ) → e ≡ BadFraming place → ⊥) → ((place : ℕ) → e ≡ BadField place → ⊥)
-      → ascii "refused " ++ decimal n ++ ascii "\n" ≡ refused_line (refusal_number e) (bad_place e)
-  refused-bare a b =
-      ap (λ (m : ℕ). ascii "refused " ++ decimal m ++ ascii "\n") number
-      ∙ refused-number (refusal_number e) (bad_place e) (unplaced e a b)
-
-pub answer-refused : (r : Result Accepted Refusal) (e : Refusal) → r ≡ Err e → (line : List ℕ) → refused_line (refusal_number e) (bad_place e) ≡ answered (answer_of r) line
-answer-refused r e is line =
-    sym (ap (λ (b : Bool). cond b line (refused_line (refusal_number e) (bad_place e))) (ne_eqb (refusal_number e) 0 (number-some e)))
-    ∙ ap (λ (x : Result Accepted Refusal). answered (answer_of x) line) (sym is)
+  pub answer-accepted : a.number ≡ 0 → line ≡ answered a line
+  answer-accepted e = sym (ap (λ (b : Bool). cond b line (refused_line a.number a.place)) (eq-eqb a.number 0 e))
 
 -- The head of a line, and what follows it.
 pub bytes-line : (bytes : ℕ) (octets : List ℕ) → filled (ascii "ok bytes=%") (bytes ∷ []) ++ (ascii " " ++ (octet_text octets ++ ascii "\n")) ≡ bytes_line bytes octets

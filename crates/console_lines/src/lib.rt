@@ -8,7 +8,7 @@ ghost use Rattle.table.specs.Table.{pool_slots, shortest_pool, no_lease};
 ghost use Rattle.image.specs.Image.{pool_size};
 ghost use Rattle.figures.specs.Figures.{of_lease?};
 ghost use Rattle.image_figures.specs.Sheets.{figures_size, sheet_rows};
-ghost use Rattle.ledger.specs.Answers.{refusal_number, bad_place, answer_of};
+ghost use Rattle.ledger.specs.Ledger.{placed?};
 ghost use Rattle.console_lines.specs.Sizes.{
   error_most,
   line_most,
@@ -47,6 +47,9 @@ ghost use Rattle.console_lines.specs.Lines.{
 };
 ghost use Rattle.console_lines.specs.FigureLines.{
   figure_text,
+  high_water_text,
+  in_use_text,
+  unusable_text,
   prefix_text,
   row_text,
   figures_text,
@@ -64,12 +67,12 @@ use counts::{Counts, LENGTHS};
 use figures::{Figure, FigureRow, UNTOLD};
 use image::POOL;
 use image_figures::ROW;
-use ledger::{Accepted, Refusal};
+use ledger::{Answer, Refusal};
 use option::{
-    BadSuboption, Cursor, Fault, InformationFields, LONGEST_OPTION, NameFields, OptionFault,
+    BadSuboption, Cursor, InformationFields, LONGEST_OPTION, NameFields, OptionFault,
     RequestFields, Suboption,
 };
-use option_entry::{EntryCursor, EntryFields};
+use option_entry::{EntryCursor, EntryFields, HighWater, InUse, Unusable};
 use table::{LEASES, POOLS, Pool, SHORTEST_POOL};
 
 // The first length that is counted.
@@ -95,20 +98,23 @@ pub fn error(out: &mut [u8], at: usize, line: u64) -> usize
     console_text::text(out, b, b"\n")
 }
 
+// Whether a refusal has a place.
+fn has_place(number: u32) -> bool
+    ensures { result ≡ placed? number }
+{
+    number == 7 || number == 16
+}
+
 // A refusal by its number, with its place if it has one.
-pub fn refusal(out: &mut [u8], at: usize, refusal: Refusal) -> usize
+pub fn refusal(out: &mut [u8], at: usize, number: u32, place: u32) -> usize
     requires { at + line_most ≤ length out.old }
     ensures upper_bound { result ≤ at + line_most }
-    ensures wrote { Wrote out.old at (refused_line (refusal_number refusal) (bad_place refusal)) out.new result }
+    ensures wrote { Wrote out.old at (refused_line number place) out.new result }
 {
-    let number = refusal.number();
-    match refusal {
-        Refusal::BadFraming(_) | Refusal::BadField(_) => {
-            let place = refusal.place();
-            console_text::fill(out, at, b"refused % place=%\n", &[number, place])
-        }
-        _ => console_text::fill(out, at, b"refused %\n", &[number]),
+    if has_place(number) {
+        return console_text::fill(out, at, b"refused % place=%\n", &[number, place]);
     }
+    console_text::fill(out, at, b"refused %\n", &[number])
 }
 
 // The smaller of two numbers.
@@ -130,59 +136,55 @@ fn octets(out: &mut [u8], at: usize, word: &[u8], s: &[u8]) -> usize
 }
 
 // The answer of an open, a load or a mark.
-pub fn done(out: &mut [u8], at: usize, answer: Result<Accepted, Refusal>) -> usize
+pub fn done(out: &mut [u8], at: usize, a: Answer) -> usize
     requires { at + line_most ≤ length out.old }
     ensures upper_bound { result ≤ at + line_most }
-    ensures wrote { Wrote out.old at (done_line (answer_of answer)) out.new result }
+    ensures wrote { Wrote out.old at (done_line a) out.new result }
 {
-    match answer {
-        Ok(_) => ok(out, at),
-        Err(e) => refusal(out, at, e),
+    if a.number != 0 {
+        return refusal(out, at, a.number, a.place);
     }
+    ok(out, at)
 }
 
 // The answer of a return.
-pub fn counted(out: &mut [u8], at: usize, answer: Result<Accepted, Refusal>) -> usize
+pub fn counted(out: &mut [u8], at: usize, a: Answer) -> usize
     requires { at + line_most ≤ length out.old }
     ensures upper_bound { result ≤ at + line_most }
-    ensures wrote { Wrote out.old at (counted_line (answer_of answer)) out.new result }
+    ensures wrote { Wrote out.old at (counted_line a) out.new result }
 {
-    match answer {
-        Ok(a) => console_text::fill(out, at, b"ok count=%\n", &[a.count]),
-        Err(e) => refusal(out, at, e),
+    if a.number != 0 {
+        return refusal(out, at, a.number, a.place);
     }
+    console_text::fill(out, at, b"ok count=%\n", &[a.count])
 }
 
 // The answer of an ask, a take or a list, with the bytes that it wrote to its reply buffer.
-pub fn replied(out: &mut [u8], at: usize, answer: Result<Accepted, Refusal>, reply: &[u8]) -> usize
+pub fn replied(out: &mut [u8], at: usize, a: Answer, reply: &[u8]) -> usize
     requires { at + octets_most (length reply.now) ≤ length out.old }
     ensures upper_bound { result ≤ at + octets_most (length reply.now) }
-    ensures wrote { Wrote out.old at (replied_line (answer_of answer) reply.now) out.new result }
+    ensures wrote { Wrote out.old at (replied_line a reply.now) out.new result }
 {
-    match answer {
-        Ok(a) => {
-            let k = least(a.bytes as usize, reply.len());
-            let b = console_text::fill(out, at, b"ok bytes=% count=%", &[a.bytes, a.count]);
-            octets(out, b, b" ", &reply[0..k])
-        }
-        Err(e) => refusal(out, at, e),
+    if a.number != 0 {
+        return refusal(out, at, a.number, a.place);
     }
+    let k = least(a.bytes as usize, reply.len());
+    let b = console_text::fill(out, at, b"ok bytes=% count=%", &[a.bytes, a.count]);
+    octets(out, b, b" ", &reply[0..k])
 }
 
 // The answer of a save or a write, with the bytes that it wrote to its buffer.
-pub fn written(out: &mut [u8], at: usize, answer: Result<Accepted, Refusal>, buffer: &[u8]) -> usize
+pub fn written(out: &mut [u8], at: usize, a: Answer, buffer: &[u8]) -> usize
     requires { at + octets_most (length buffer.now) ≤ length out.old }
     ensures upper_bound { result ≤ at + octets_most (length buffer.now) }
-    ensures wrote { Wrote out.old at (written_line (answer_of answer) buffer.now) out.new result }
+    ensures wrote { Wrote out.old at (written_line a buffer.now) out.new result }
 {
-    match answer {
-        Ok(a) => {
-            let k = least(a.bytes as usize, buffer.len());
-            let b = console_text::fill(out, at, b"ok bytes=%", &[a.bytes]);
-            octets(out, b, b" ", &buffer[0..k])
-        }
-        Err(e) => refusal(out, at, e),
+    if a.number != 0 {
+        return refusal(out, at, a.number, a.place);
     }
+    let k = least(a.bytes as usize, buffer.len());
+    let b = console_text::fill(out, at, b"ok bytes=%", &[a.bytes]);
+    octets(out, b, b" ", &buffer[0..k])
 }
 
 // OPTIONS
@@ -310,18 +312,14 @@ fn option(out: &mut [u8], at: usize, s: &[u8]) -> usize
     ensures { result ≤ at + read_most }
 {
     if LONGEST_OPTION < s.len() {
-        return refusal(out, at, Refusal::NotTheOption);
+        return refusal(out, at, Refusal::NotTheOption.number(), 0);
     }
     match option::check_option(s) {
         Ok(()) => suboptions(out, at, s),
-        Err(OptionFault::NotTheOption) => refusal(out, at, Refusal::NotTheOption),
+        Err(OptionFault::NotTheOption) => refusal(out, at, Refusal::NotTheOption.number(), 0),
         // No place is past the end.
         Err(OptionFault::BadSuboption(BadSuboption { fault, place })) => {
-            let place = least(place, s.len()) as u32;
-            match fault {
-                Fault::Framing => refusal(out, at, Refusal::BadFraming(place)),
-                Fault::Field => refusal(out, at, Refusal::BadField(place)),
-            }
+            refusal(out, at, fault.number(), least(place, s.len()) as u32)
         }
     }
 }
@@ -341,7 +339,7 @@ fn selection(out: &mut [u8], at: usize, s: &[u8]) -> usize
 {
     match option::read_selection(s) {
         Some(n) => address(out, at, n),
-        None => refusal(out, at, Refusal::NotTheOption),
+        None => refusal(out, at, Refusal::NotTheOption.number(), 0),
     }
 }
 
@@ -372,6 +370,31 @@ fn figure<F: Figure>(out: &mut [u8], at: usize, name: &[u8], f: F) -> usize
         return console_text::text(out, a, b"-");
     }
     console_text::fill(out, a, b"%", &[n as u32])
+}
+
+// Each figure as what it is: another's type is refused behind its word.
+fn high_water(out: &mut [u8], at: usize, f: HighWater) -> usize
+    requires { at + figure_most ≤ length out.old }
+    ensures upper_bound { result ≤ at + figure_most }
+    ensures wrote { Wrote out.old at (high_water_text f) out.new result }
+{
+    figure(out, at, b" high-water=", f)
+}
+
+fn in_use(out: &mut [u8], at: usize, f: InUse) -> usize
+    requires { at + figure_most ≤ length out.old }
+    ensures upper_bound { result ≤ at + figure_most }
+    ensures wrote { Wrote out.old at (in_use_text f) out.new result }
+{
+    figure(out, at, b" in-use=", f)
+}
+
+fn unusable(out: &mut [u8], at: usize, f: Unusable) -> usize
+    requires { at + figure_most ≤ length out.old }
+    ensures upper_bound { result ≤ at + figure_most }
+    ensures wrote { Wrote out.old at (unusable_text f) out.new result }
+{
+    figure(out, at, b" unusable=", f)
 }
 
 fn prefix(out: &mut [u8], at: usize, network: u32, len: u8) -> usize
@@ -419,9 +442,9 @@ fn row(out: &mut [u8], at: usize, r: FigureRow) -> usize
         return at;
     }
     let a = row_head(out, at, r);
-    let b = figure(out, a, b" high-water=", r.high_water);
-    let c = figure(out, b, b" in-use=", r.in_use);
-    let d = figure(out, c, b" unusable=", r.unusable);
+    let b = high_water(out, a, r.high_water);
+    let c = in_use(out, b, r.in_use);
+    let d = unusable(out, c, r.unusable);
     console_text::text(out, d, b"\n")
 }
 

@@ -72,6 +72,7 @@ pub fn next_line(s: State) -> State
 }
 
 // The state with more output.
+// Stays: `with_output` and `with_selected` set one field each.
 pub fn with_output(s: State, at: usize) -> State
     ensures { (result.at ≡ at) × Unchanged s result }
 {

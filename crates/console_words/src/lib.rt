@@ -5,7 +5,7 @@ ghost use Rattle.std.specs.Prelude.{◌≡◌, ◌≤◌, ◌<◌, ◌/◌, ◌%
 ghost use Rattle.std.specs.List.{take_while};
 ghost use Rattle.std.specs.Fn.{FnReturnsAt};
 ghost use Rattle.console_words.specs.Words.{skip_spaces, NextWord, first_word, after_word, between, last?};
-ghost use Rattle.console_words.specs.Numbers.{number_of, octet_of, flag_of, NextNumber};
+ghost use Rattle.console_words.specs.Numbers.{digit?, number_of, octet_of, flag_of, NextNumber};
 ghost use Rattle.console_words.specs.Prefixes.{
   network_of,
   prefix_of,
@@ -97,6 +97,13 @@ fn next<T, F: Fn(&[u8]) -> Option<T> + Drop>(s: &[u8], from: usize, read: F) -> 
 
 // NUMBERS
 
+// Whether a byte is one of 0 to 9.
+fn is_digit(c: u8) -> bool
+    ensures { result ≡ digit? c }
+{
+    c.is_ascii_digit()
+}
+
 // Decimal digits with a value below 2^32, any number of leading zeros.
 pub fn read_number(s: &[u8]) -> Option<u32>
     ensures { result ≡ number_of s.now }
@@ -106,7 +113,7 @@ pub fn read_number(s: &[u8]) -> Option<u32>
     }
     let mut n: u64 = 0;
     for c in s {
-        if !c.is_ascii_digit() {
+        if !is_digit(*c) {
             return None;
         }
         n = 10 * n + u64::from(*c - b'0');
@@ -153,6 +160,7 @@ pub fn next_flag(s: &[u8], from: usize) -> Spelled<u32>
 }
 
 // The next word as a key and a number behind it.
+// Stays: `next_field` and `next_bit` are one call each, with a reader of its own.
 pub fn next_field(s: &[u8], from: usize, key: &[u8]) -> Spelled<u32>
     requires { from ≤ length s.now }
     ensures { result.end ≤ length s.now }

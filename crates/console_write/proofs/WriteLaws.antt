@@ -2,13 +2,13 @@
 -- Assumes nothing.
 use Prim.Native.Nat.{ℕ, ◌+◌, ◌≤◌, ◌<◌}
 use native.Mathlib.Omega.{arith}
-use mathlib.Core.Path.{◌≡◌, refl, sym, ap, subst, ◌∙◌}
+use mathlib.Core.Path.{◌≡◌, refl, sym, ap, subst}
 use mathlib.Core.Bool.{Bool, true, false, cond, ◌&&◌}
 use mathlib.Core.List.{List}
 use lib.ListN.{length}
 use lib.Dec.{leb}
 use borrow.Author.Tests.{leb-true}
-use Rattle.std.specs.Prelude.{Result, IfOk}
+use Rattle.std.specs.Prelude.{Result, Ok, Err, IfOk}
 use Rattle.lists.specs.Lists.{all?}
 use Rattle.lists.proofs.Tests.{and-to}
 use Rattle.option.specs.Values.{SuboptionValue}
@@ -16,14 +16,18 @@ use Rattle.option.specs.Writing.{Writing, written, refused_with, option_bytes, s
 use Rattle.option.specs.Writer.{writable?, write_option}
 use Rattle.option.specs.Selection.{selection_bytes, write_selection}
 use Rattle.option_reply.specs.declared.WriteFault.{WriteFault}
+use Rattle.option_reply.specs.declared.WriteFault.TheVariants.{OutsideRules, TooLong}
 use Rattle.option_reply.specs.Answers.{into}
 use Rattle.ledger.specs.declared.{Accepted.Accepted, Answer.Answer, Refusal.Refusal}
 use Rattle.ledger.specs.Answers.{answer_of}
 use Rattle.call_spec.specs.Written.{as_answer}
 use Rattle.console_write.specs.Writes.{written_as}
 
+-- By cases of what was written, so that each field of the answer computes.
 pub answered : (w : Result ℕ WriteFault) (o : Writing) (old new : List ℕ) (r : Result Accepted Refusal) → r ≡ as_answer w → ◌≡◌ {A = Result ℕ WriteFault × List ℕ} (w, new) (into o old) → ◌≡◌ {A = Answer × List ℕ} (answer_of r, new) (written_as o old)
-answered w o old new r e h = ap (λ (x : Result Accepted Refusal). (answer_of x, new)) e ∙ ap (λ (p : Result ℕ WriteFault × List ℕ). (answer_of (as_answer p.0), p.1)) h
+answered (Ok n) o old new r e h = rw (sym h) (ap (λ (x : Result Accepted Refusal). (answer_of x, new)) e)
+answered (Err OutsideRules) o old new r e h = rw (sym h) (ap (λ (x : Result Accepted Refusal). (answer_of x, new)) e)
+answered (Err TooLong) o old new r e h = rw (sym h) (ap (λ (x : Result Accepted Refusal). (answer_of x, new)) e)
 
 -- Written bytes are no more than the buffer holds, so their number fits 32 bits.
 abbrev Fits32 : Result ℕ WriteFault → Type 0

@@ -227,99 +227,95 @@ impl Listing {
         }
     }
 
-    // One suboption more, which no entry may follow.
-    fn with_item(self, item: Item) -> Option<Listing>
-        requires { Fits self }
-        ensures { IfSome result Fits }
+    // One suboption more, which no entry may follow. In place, here and below: a list has some four thousand bytes, which would be
+    // copied for each piece.
+    fn add_item(&mut self, item: Item) -> Option<()>
+        requires { Fits self.old }
+        ensures { Fits self.new }
     {
         let n = self.count;
         if ITEMS <= n {
             return None;
         }
-        let mut next = self;
-        next.items[n] = item;
-        next.count = n + 1;
-        next.open = false;
-        Some(next)
+        self.items[n] = item;
+        self.count = n + 1;
+        self.open = false;
+        Some(())
     }
 
     // An information more, with no entry yet.
-    fn with_information(self, c: bool, s: bool) -> Option<Listing>
-        requires { Fits self }
-        ensures { IfSome result Fits }
+    fn add_information(&mut self, c: bool, s: bool) -> Option<()>
+        requires { Fits self.old }
+        ensures { Fits self.new }
     {
         let n = self.count;
         if ITEMS <= n {
             return None;
         }
         let first = self.entry_count;
-        let mut next = self;
-        next.items[n] = Item::Information(InformationItem {
+        self.items[n] = Item::Information(InformationItem {
             c,
             s,
             first,
             count: 0,
         });
-        next.count = n + 1;
-        next.open = true;
-        next.slot = n;
-        next.c = c;
-        next.s = s;
-        next.first = first;
-        Some(next)
+        self.count = n + 1;
+        self.open = true;
+        self.slot = n;
+        self.c = c;
+        self.s = s;
+        self.first = first;
+        Some(())
     }
 
     // An entry more of the information before it.
-    fn with_entry(self, e: EntryFields) -> Option<Listing>
-        requires { Fits self }
-        ensures { IfSome result Fits }
+    fn add_entry(&mut self, e: EntryFields) -> Option<()>
+        requires { Fits self.old }
+        ensures { Fits self.new }
     {
         let n = self.entry_count;
         if !self.open || ENTRIES <= n {
             return None;
         }
-        let slot = self.slot;
         let first = self.first;
-        let item = Item::Information(InformationItem {
+        self.entries[n] = e;
+        self.entry_count = n + 1;
+        self.items[self.slot] = Item::Information(InformationItem {
             c: self.c,
             s: self.s,
             first,
             count: n + 1 - first,
         });
-        let mut next = self;
-        next.entries[n] = e;
-        next.entry_count = n + 1;
-        next.items[slot] = item;
-        Some(next)
+        Some(())
     }
 
     // A name more.
-    fn with_name(self, s: &[u8]) -> Option<Listing>
-        requires { Fits self }
-        ensures { IfSome result Fits }
+    fn add_name(&mut self, s: &[u8]) -> Option<()>
+        requires { Fits self.old }
+        ensures { Fits self.new }
     {
         let first = self.octet_count;
         let count = s.len();
         if OCTETS - first < count {
             return None;
         }
-        let mut next = self.with_item(Item::Name(NameItem { first, count }))?;
-        next.octets[first..first + count].copy_from_slice(s);
-        next.octet_count = first + count;
-        Some(next)
+        self.add_item(Item::Name(NameItem { first, count }))?;
+        self.octets[first..first + count].copy_from_slice(s);
+        self.octet_count = first + count;
+        Some(())
     }
 
     // A piece more.
-    fn with_piece(self, p: Piece, s: &[u8]) -> Option<Listing>
-        requires { Fits self × PieceWithin (length s.now) p }
-        ensures { IfSome result Fits }
+    fn add_piece(&mut self, p: Piece, s: &[u8]) -> Option<()>
+        requires { Fits self.old × PieceWithin (length s.now) p }
+        ensures { Fits self.new }
     {
         match p {
-            Piece::Request(r) => self.with_item(Item::Request(r)),
-            Piece::Information(c, d) => self.with_information(c, d),
-            Piece::Entry(e) => self.with_entry(e),
-            Piece::Name(o) => self.with_name(&s[o.start..o.end]),
-            Piece::Unknown => self.with_item(Item::Unknown),
+            Piece::Request(r) => self.add_item(Item::Request(r)),
+            Piece::Information(c, d) => self.add_information(c, d),
+            Piece::Entry(e) => self.add_entry(e),
+            Piece::Name(o) => self.add_name(&s[o.start..o.end]),
+            Piece::Unknown => self.add_item(Item::Unknown),
         }
     }
 }
@@ -335,7 +331,7 @@ fn read_list(s: &mut [u8]) -> Option<Listing>
             return Some(b);
         }
         let p = next_piece(s, at)?;
-        b = b.with_piece(p.piece, s)?;
+        b.add_piece(p.piece, s)?;
         at = p.end;
     }
     None

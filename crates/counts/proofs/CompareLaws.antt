@@ -1,37 +1,59 @@
--- Rows compared and summed as the library does it.
+-- Rows compared from one place on, and summed as the library does it.
 -- Assumes nothing.
 use Prim.Native.Nat.{ℕ, suc, ◌*◌, ◌+◌, ◌-◌, ◌≤◌, ◌<◌}
-use mathlib.Core.Path.{◌≡◌, refl, ap, ap₂, ◌∙◌}
-use mathlib.Core.Bool.{Bool, ◌&&◌}
+use mathlib.Core.Path.{◌≡◌, refl, sym, ap, ap₂, ◌∙◌}
+use mathlib.Core.Bool.{Bool, true, false, ◌&&◌}
 use mathlib.Core.List.{List, [], ◌∷◌}
 use native.Mathlib.Omega.{arith}
 use native.Mathlib.Decide.{dec_le}
 use mathlib.Core.Logic.{by_cases}
 use Rattle.std.proofs.Common.{lt_of_not-le}
-use lib.ListN.{length, get_or}
+use lib.ListN.{length, drop, get_or}
 use lib.Dec.{eqb}
-use borrow.Author.Tests.{le-leb, lt-leb}
-use lib.Pointwise.{pointwise}
+use borrow.Author.Tests.{eq-eqb, ne_eqb, le-leb, lt-leb}
+use Rattle.lists.proofs.DropLaws.{drop_at, drop-end}
 use Rattle.std.specs.List.{sum_by}
 use Rattle.std.proofs.lemmas.List.Sums.{sum_by-cons}
 use Rattle.prefix.specs.Prefixes.{longest}
 use Rattle.table.specs.Table.{shortest_pool}
 use Rattle.counts.specs.Counts.{same_row?, same_counts?, summed, sum_at, row_total, total}
 
--- COMPARING, as `==` on arrays compares: element by element.
+-- COMPARING, from one place on
 
-row-pointwise : (a b : List ℕ) → pointwise eqb a b ≡ same_row? a b
-row-pointwise [] [] = refl
-row-pointwise [] (y ∷ ys) = refl
-row-pointwise (x ∷ xs) [] = refl
-row-pointwise (x ∷ xs) (y ∷ ys) = ap (λ (t : Bool). eqb x y && t) (row-pointwise xs ys)
+module _ (a b : List ℕ) (j : ℕ) where
+  row_at : j < length a → j < length b → same_row? (drop j a) (drop j b) ≡ eqb (get_or a j 0) (get_or b j 0) && same_row? (drop (j + 1) a) (drop (j + 1) b)
+  row_at h k = ap₂ same_row? (drop_at a j 0 h) (drop_at b j 0 k)
 
-pub counts-pointwise : (a b : List (List ℕ)) → pointwise (pointwise eqb) a b ≡ same_counts? a b
+  pub row_more : j < length a → j < length b → get_or a j 0 ≡ get_or b j 0 → same_row? (drop j a) (drop j b) ≡ same_row? a b → same_row? (drop (j + 1) a) (drop (j + 1) b) ≡ same_row? a b
+  row_more h k e w = sym (row_at h k ∙ ap (λ (t : Bool). t && same_row? (drop (j + 1) a) (drop (j + 1) b)) (eq-eqb (get_or a j 0) (get_or b j 0) e)) ∙ w
+
+  pub row-differs : j < length a → j < length b → (get_or a j 0 ≡ get_or b j 0 → ⊥) → same_row? (drop j a) (drop j b) ≡ same_row? a b → false ≡ same_row? a b
+  row-differs h k e w = sym (row_at h k ∙ ap (λ (t : Bool). t && same_row? (drop (j + 1) a) (drop (j + 1) b)) (ne_eqb (get_or a j 0) (get_or b j 0) e)) ∙ w
+
+  pub row_same : length a ≤ j → length b ≤ j → same_row? (drop j a) (drop j b) ≡ same_row? a b → true ≡ same_row? a b
+  row_same h k w = sym (ap₂ same_row? (drop-end a j h) (drop-end b j k)) ∙ w
+
+same_first : (x y : List ℕ) (xs ys : List (List ℕ)) → same_counts? (x ∷ xs) (y ∷ ys) ≡ same_row? x y && same_counts? xs ys
 unfolding same_counts?
-counts-pointwise [] [] = refl
-counts-pointwise [] (y ∷ ys) = refl
-counts-pointwise (x ∷ xs) [] = refl
-counts-pointwise (x ∷ xs) (y ∷ ys) = ap₂ (λ (t u : Bool). t && u) (row-pointwise x y) (counts-pointwise xs ys)
+same_first x y xs ys = refl
+
+same_none : same_counts? [] [] ≡ true
+unfolding same_counts?
+same_none = refl
+
+module _ (a b : List (List ℕ)) (j : ℕ) where
+  counts-at : j < length a → j < length b → same_counts? (drop j a) (drop j b) ≡ same_row? (get_or a j []) (get_or b j []) && same_counts? (drop (j + 1) a) (drop (j + 1) b)
+  counts-at h k = ap₂ same_counts? (drop_at a j [] h) (drop_at b j [] k) ∙ same_first (get_or a j []) (get_or b j []) (drop (j + 1) a) (drop (j + 1) b)
+
+  pub counts-more : j < length a → j < length b → true ≡ same_row? (get_or a j []) (get_or b j []) → same_counts? (drop j a) (drop j b) ≡ same_counts? a b
+      → same_counts? (drop (j + 1) a) (drop (j + 1) b) ≡ same_counts? a b
+  counts-more h k e w = sym (counts-at h k ∙ ap (λ (t : Bool). t && same_counts? (drop (j + 1) a) (drop (j + 1) b)) (sym e)) ∙ w
+
+  pub counts-differ : j < length a → j < length b → false ≡ same_row? (get_or a j []) (get_or b j []) → same_counts? (drop j a) (drop j b) ≡ same_counts? a b → false ≡ same_counts? a b
+  counts-differ h k e w = sym (counts-at h k ∙ ap (λ (t : Bool). t && same_counts? (drop (j + 1) a) (drop (j + 1) b)) (sym e)) ∙ w
+
+  pub counts_same : length a ≤ j → length b ≤ j → same_counts? (drop j a) (drop j b) ≡ same_counts? a b → true ≡ same_counts? a b
+  counts_same h k w = sym (ap₂ same_counts? (drop-end a j h) (drop-end b j k) ∙ same_none) ∙ w
 
 -- SUMMING, as std's `sum` sums.
 

@@ -2,7 +2,7 @@
 #![tactic(auto)]
 
 ghost use Rattle.std.specs.Prelude.{◌≡◌, ◌*◌, ◌≤◌};
-ghost use Rattle.counts.specs.Counts.{counted_lengths, same_counts?, sum_at, row_total, total};
+ghost use Rattle.counts.specs.Counts.{counted_lengths, same_row?, same_counts?, sum_at, row_total, total};
 ghost use Rattle.counts.specs.InnerLevels.{common_bits};
 
 use prefix::Prefix;
@@ -17,11 +17,32 @@ pub const LENGTHS: usize = (LONGEST + 1 - SHORTEST) as usize;
 
 pub type Counts = [[u16; LENGTHS]; POOLS];
 
+// Whether two rows are the same.
+fn same_row(a: [u16; LENGTHS], b: [u16; LENGTHS]) -> bool
+    ensures { result ≡ same_row? a b }
+{
+    for j in 0..LENGTHS {
+        if a[j] != b[j] {
+            return false;
+        }
+    }
+    true
+}
+
 // Whether two counts are the same, rows of unused pools included.
+// Stays: number by number, since `==` borrows both arrays: with it every call that takes a book has a copy of the counts more on its stack, and
+// compares for twice as long.
 pub fn same(a: Counts, b: Counts) -> bool
     ensures { result ≡ same_counts? a b }
 {
-    a == b
+    for k in 0..POOLS {
+        let x = a[k];
+        let y = b[k];
+        if !same_row(x, y) {
+            return false;
+        }
+    }
+    true
 }
 
 // How many whole free blocks of a length there are in all pools; none outside 8 to 30.

@@ -33,6 +33,7 @@ use image::Form;
 use ledger::Answer;
 
 // THE CALLS
+// Stays: each export hands on to one call, as the C interface needs it.
 
 #[unsafe(no_mangle)]
 pub extern "C" fn flockdrift_open(

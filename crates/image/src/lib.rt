@@ -93,6 +93,7 @@ pub fn read32(s: &[u8], at: usize) -> u32
 }
 
 // WHAT THE FORMS DIFFER IN
+// Stays: one function for each constant is no plainer as one: each is one `match`, with constants of its own.
 
 pub fn head_start(form: Form) -> u32
     ensures { result ≡ start_of head_size (head_kind form) }
@@ -171,6 +172,7 @@ pub fn network_at(image: &[u8], at: usize) -> u32
     read32(image, at + NETWORK)
 }
 
+// Stays: `length_at` and `name_length_at` are one byte each, at a place of their own.
 pub fn length_at(image: &[u8], at: usize) -> u8
     requires { at + lease_size ≤ length image.now }
     ensures { result ≡ (lease_in (drop at image.now)).length }

@@ -197,6 +197,10 @@ fn leases_in(form: Form, head: Head, s: &[u8], n: usize, time: u32) -> Option<Im
         expired: 0,
     };
     for k in 0..n {
+        // No lease is left for the pools from here on.
+        if pass.at == s.len() {
+            break;
+        }
         pass = in_pool(form, s, pool(s, k), pass, head.last, time);
     }
     if pass.at != s.len() {

@@ -137,13 +137,18 @@ pub fn recount(image: &[u8], pools: usize, leases: usize, counts: &mut Counts)
     let none = [0u16; LENGTHS];
     *counts = [none; POOLS];
     let mut next: usize = 0;
-    for k in 0..pools {
-        let p = image_check::pool(&image[HEAD..], k);
-        if next < leases {
-            next = pool_row(image, from, leases, p, next, &mut counts[k]);
-        } else {
-            bare(p.length, &mut counts[k]);
+    let mut bare_from: usize = 0;
+    for j in 0..pools {
+        if leases <= next {
+            break;
         }
+        let p = image_check::pool(&image[HEAD..], j);
+        next = pool_row(image, from, leases, p, next, &mut counts[j]);
+        bare_from = j + 1;
+    }
+    for k in bare_from..pools {
+        let p = image_check::pool(&image[HEAD..], k);
+        bare(p.length, &mut counts[k]);
     }
 }
 

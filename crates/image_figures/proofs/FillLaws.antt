@@ -28,6 +28,11 @@ use Rattle.image_figures.proofs.EmptyBytes.{empty_bytes, length-empty, empty-app
 -- EMPTY ROWS
 
 module _ (l : List ℕ) (first : ℕ) where
+  pub cleared-none : l ≡ put l (row_size * first) (empty_bytes (first - first))
+  cleared-none =
+      let z : first - first ≡ 0 = omega arith in
+      sym (ap (λ (k : ℕ). put l (row_size * first) (empty_bytes k)) z ∙ put-nothing l (row_size * first))
+
   -- The rows up to i are cleared; m more from j on, which may stand among them.
   pub cleared_more : (l₁ l₂ : List ℕ) (i j m k : ℕ) → first ≤ j → j ≤ i → i ≤ k → k ≡ j + m → l₁ ≡ put l (row_size * first) (empty_bytes (i - first))
       → l₂ ≡ put l₁ (row_size * j) (empty_bytes m) → l₂ ≡ put l (row_size * first) (empty_bytes (k - first))

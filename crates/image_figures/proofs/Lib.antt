@@ -5,6 +5,7 @@ pub mod AcceptedLaws
 mod RowLaws
 mod EmptyBytes
 mod MatchLaws
+mod BlockLaws
 mod StrikeLaws
 mod PlacedLaws
 mod SpreadLaws

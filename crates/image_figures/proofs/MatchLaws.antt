@@ -3,12 +3,13 @@
 use Prim.Native.Nat.{ℕ, zero, suc, ◌+◌, ◌-◌, ◌*◌, ◌≤◌, ◌<◌}
 use native.Mathlib.Omega.{arith}
 use mathlib.Core.Path.{◌≡◌, refl, sym, ap, ap₂, ◌∙◌}
-use mathlib.Core.Bool.{Bool, true, false, ◌&&◌}
+use mathlib.Core.Bool.{Bool, true, false, ◌&&◌, and-true, and_assoc}
 use mathlib.Core.List.{List, [], ◌∷◌, ◌++◌, append-nil}
 use lib.ListN.{length, drop, replicate, length-drop, length-replicate}
+use lib.Seq.{drop-drop}
 use Rattle.lists.specs.Lists.{All, all?}
-use Rattle.lists.proofs.Tests.{bool-ext}
-use Rattle.lists.proofs.DropLaws.{drop_at, drop-end}
+use Rattle.lists.proofs.Tests.{bool-ext, all?-to, all?-of}
+use Rattle.lists.proofs.DropLaws.{drop_at, drop-end, all_drop}
 use Rattle.table.specs.declared.Lease.{Lease}
 use Rattle.table.specs.Table.{lease_slots, no_lease, empty?, padded}
 use Rattle.image.specs.Image.{lease_size}
@@ -23,7 +24,7 @@ use Rattle.std.specs.Bool.{Decides}
 use Rattle.figures.proofs.MatchLaws.{padded-match, all-empty}
 use Rattle.image_figures.proofs.EmptyBytes.{empty_bytes}
 use Rattle.image_figures.specs.Sheets.{row_size, figures_size, sheet_of, row_in, rows_in, sheet_rows}
-use Rattle.image_figures.proofs.SheetLaws.{length-rows-in, rows-in-at, rows-in-from, rows-front, bytes-front, sheet-rows, sheet-none}
+use Rattle.image_figures.proofs.SheetLaws.{length-rows-in, rows-in-at, rows-in-two, rows-in-from, rows-front, bytes-front, sheet-rows, sheet-none}
 
 -- ONE BY ONE
 
@@ -58,9 +59,54 @@ module _ (l image : List ℕ) (from n slots : ℕ) (few : n ≤ slots) where
   unfolding Matching
   matching-all i h before xs r e = sym (before xs r e ∙ ap (λ (ys : List Lease). leases_match? ys (drop i (rows_in slots l))) (drop-end xs i (omega arith)))
 
+-- MANY ROWS AT ONCE
+
+pub all?-append : {A : Type 0} (f : A → Bool) (xs ys : List A) → all? f (xs ++ ys) ≡ (all? f xs && all? f ys)
+all?-append f [] ys = refl
+all?-append f (x ∷ xs) ys = ap (λ (b : Bool). f x && b) (all?-append f xs ys) ∙ sym (and_assoc (f x) (all? f xs) (all? f ys))
+
+-- What holds of all from a place on holds of all from a later one on.
+all?-later : {A : Type 0} (f : A → Bool) (i j : ℕ) (xs : List A) → i ≤ j → all? f (drop i xs) ≡ true → all? f (drop j xs) ≡ true
+all?-later {A} f i j xs h e =
+    let there : i + (j - i) ≡ j = omega arith in
+    ap (all? f) (ap (λ (k : ℕ). drop k xs) (sym there) ∙ sym (drop-drop (j - i) i xs))
+    ∙ all?-of f (λ x t. t) (drop (j - i) (drop i xs)) (all_drop (λ (x : A). f x ≡ true) (j - i) (drop i xs) (all?-to f (λ x t. t) (drop i xs) e))
+
+pub empty-all : (l : List ℕ) (slots i : ℕ) → slots ≤ i → (all : Bool) → all ≡ all? empty_row? (drop i (rows_in slots l)) → true ≡ all
+empty-all l slots i h all e = sym (e ∙ ap (all? empty_row?) (drop-end (rows_in slots l) i (omega (arith, length-rows-in slots l))))
+
+-- The answer for the rows from the i-th on: that for the next m, and that for the rest.
+module _ (l : List ℕ) (slots i m : ℕ) (inside : i + m ≤ slots) (b : Bool) (told : b ≡ all? empty_row? (rows_in m (drop (row_size * i) l))) where
+  abbrev rest : ℕ → Bool
+  rest k = all? empty_row? (drop k (rows_in slots l))
+
+  empty-part : rest i ≡ (b && rest (i + m))
+  empty-part =
+      let from : List ℕ = drop (row_size * i) l in
+      let left : slots - i ≡ m + (slots - (i + m)) = omega arith in
+      let there : row_size * i + row_size * m ≡ row_size * (i + m) = omega arith in
+      let behind : rows_in (slots - (i + m)) (drop (row_size * m) from) ≡ drop (i + m) (rows_in slots l) =
+      ap (rows_in (slots - (i + m))) (drop-drop (row_size * m) (row_size * i) l ∙ ap (λ (k : ℕ). drop k l) there) ∙ sym (rows-in-from slots l (i + m) inside) in
+      ap (all? empty_row?) (rows-in-from slots l i (omega arith) ∙ ap (λ (k : ℕ). rows_in k from) left ∙ rows-in-two m (slots - (i + m)) from)
+      ∙ all?-append empty_row? (rows_in m from) (rows_in (slots - (i + m)) (drop (row_size * m) from))
+      ∙ ap₂ (λ (c d : Bool). c && d) (sym told) (ap (all? empty_row?) behind)
+
+  pub empty-more : (all : Bool) → all ≡ rest i → b ≡ true → all ≡ rest (i + m)
+  empty-more all e t = e ∙ empty-part ∙ ap (λ (c : Bool). c && rest (i + m)) t
+
+  pub empty-not : (all : Bool) → all ≡ rest i → b ≡ false → false ≡ all
+  empty-not all e t = sym (e ∙ empty-part ∙ ap (λ (c : Bool). c && rest (i + m)) t)
+
+  -- The last m of them, some of which were looked at before.
+  pub empty-last : slots ≤ i + m → (n j : ℕ) → n ≤ i → i ≤ j → rest n ≡ rest j → b ≡ rest n
+  empty-last end n j h k e =
+      let rows : List FigureRow = rows_in slots l in
+      let last : b ≡ rest i = sym (empty-part ∙ ap (λ (c : Bool). b && c) (sym (empty-all l slots (i + m) end (rest (i + m)) refl)) ∙ and-true b) in
+      last ∙ bool-ext (rest i) (rest n) (λ t. e ∙ all?-later empty_row? i j rows k t) (λ t. all?-later empty_row? n i rows h t)
+
 -- THE REST AT ONCE
 
-empties-pass : (n : ℕ) → all? empty_row? (replicate n empty_row) ≡ true
+pub empties-pass : (n : ℕ) → all? empty_row? (replicate n empty_row) ≡ true
 unfolding empty_row?
 empties-pass zero = refl
 empties-pass (suc n) = empties-pass n

@@ -26,6 +26,9 @@ pub const ROW: usize = 11;
 
 pub const FIGURES: usize = ROW * LEASES;
 
+// Sixteen rows, which fill so many of the processor's registers exactly.
+const SIXTEEN: usize = 16 * ROW;
+
 // Where the fields of a row stand; the network is first.
 const LENGTH: usize = 4;
 
@@ -125,12 +128,51 @@ fn empty_rows(n: usize) -> &'static [u8]
     EMPTY_SHEET[..n].as_flattened()
 }
 
-// Whether the rows from place n on are those of empty slots.
+// Sixteen rows of empty slots, each bit turned: bytes that are computed of a constant are compared by the register.
+const TURNED: [u8; SIXTEEN] =
+    *b"\xff\xff\xff\xff\xff\0\0\0\0\0\0\xff\xff\xff\xff\xff\0\0\0\0\0\0\xff\xff\xff\xff\xff\0\0\0\0\0\0\xff\xff\xff\xff\xff\0\0\0\0\0\0\
+    \xff\xff\xff\xff\xff\0\0\0\0\0\0\xff\xff\xff\xff\xff\0\0\0\0\0\0\xff\xff\xff\xff\xff\0\0\0\0\0\0\xff\xff\xff\xff\xff\0\0\0\0\0\0\
+    \xff\xff\xff\xff\xff\0\0\0\0\0\0\xff\xff\xff\xff\xff\0\0\0\0\0\0\xff\xff\xff\xff\xff\0\0\0\0\0\0\xff\xff\xff\xff\xff\0\0\0\0\0\0\
+    \xff\xff\xff\xff\xff\0\0\0\0\0\0\xff\xff\xff\xff\xff\0\0\0\0\0\0\xff\xff\xff\xff\xff\0\0\0\0\0\0\xff\xff\xff\xff\xff\0\0\0\0\0\0";
+
+// 0 as long as no two bytes differ.
+fn differ(before: u8, a: u8, b: u8) -> u8
+    ensures { (result ≡ 0 → (before ≡ 0) × (a ≡ b)) × (before ≡ 0 → a ≡ b → result ≡ 0) }
+{
+    before | (a ^ b)
+}
+
+// Whether the thirty-two rows that begin here are those of empty slots. All bytes are looked at, so that they are compared many
+// at a time, and those of both halves with the same sixteen rows.
+fn thirty_two_empty(sheet: &[u8], at: usize) -> bool
+    requires { at + 32 * row_size ≤ length sheet.now }
+    ensures { result ≡ all? empty_row? (rows_in 32 (drop at sheet.now)) }
+{
+    let turned = TURNED;
+    let mut other: u8 = 0;
+    for k in 0..SIXTEEN {
+        let empty = !turned[k];
+        other = differ(other, sheet[at + k], empty);
+        other = differ(other, sheet[at + SIXTEEN + k], empty);
+    }
+    other == 0
+}
+
+// Whether the rows from place n on are those of empty slots: by thirty-two, the last of which may begin among rows that were looked at.
+// Stays: of so many rows `==` reads two sides, and takes a third more instructions in each call that is lent the sheet.
 fn rest_empty(sheet: &[u8], n: usize) -> bool
     requires { (n ≤ lease_slots) × (length sheet.now ≡ figures_size) }
     ensures { result ≡ all? empty_row? (drop n (rows_in lease_slots sheet.now)) }
 {
-    &sheet[ROW * n..] == empty_rows(LEASES - n)
+    if LEASES < n + 32 {
+        return &sheet[ROW * n..] == empty_rows(LEASES - n);
+    }
+    for k in 0..(LEASES - 1 - n) / 32 {
+        if !thirty_two_empty(sheet, ROW * (n + 32 * k)) {
+            return false;
+        }
+    }
+    thirty_two_empty(sheet, ROW * (LEASES - 32))
 }
 
 // Row 15: whether the sheet has a row for each slot of the table, in its place. An image has records of leases only.
@@ -150,11 +192,25 @@ pub fn matches(sheet: &[u8], image: &[u8], from: usize, n: usize) -> bool
 
 // EMPTY ROWS
 
-// Rows of empty slots from the place `first` up to `last`: as many at a time as a sheet has.
+// Rows of empty slots from the place `first` up to `last`, one by one.
+fn clear_each(sheet: &mut [u8], first: usize, last: usize)
+    requires { (first ≤ last) × (row_size * last ≤ length sheet.old) }
+    ensures { sheet.new ≡ put sheet.old (row_size * first) (sheet_of (replicate (last - first) empty_row)) }
+{
+    for i in first..last {
+        put_row(sheet, ROW * i, figures::empty_row());
+    }
+}
+
+// The same, as many at a time as a sheet has; of few the copy costs more than they do.
 fn clear_rows(sheet: &mut [u8], first: usize, last: usize)
     requires { (first ≤ last) × (row_size * last ≤ length sheet.old) }
     ensures { sheet.new ≡ put sheet.old (row_size * first) (sheet_of (replicate (last - first) empty_row)) }
 {
+    if last - first < 16 {
+        clear_each(sheet, first, last);
+        return;
+    }
     for k in 0..(last - first) / LEASES + 1 {
         let at = first + LEASES * k;
         let rows = (last - at).min(LEASES);

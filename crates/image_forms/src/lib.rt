@@ -87,6 +87,7 @@ pub fn widen(saved: &[u8], pools: usize, leases: usize, image: &mut [u8]) -> usi
 }
 
 // The reverse, of an image at the front of a buffer, no lease of which has a name.
+// Stays: `widen` and `narrow` are no plainer as one: what they share is `put_leases_as`, and each takes what the other gives.
 pub fn narrow(image: &[u8], pools: usize, leases: usize, buffer: &mut [u8]) -> usize
     requires { (head_size + pool_size * pools + lease_size * leases ≤ length image.now) × (head_size + pool_size * pools + first_lease_size * leases ≤ length buffer.old) }
     ensures value { result ≡ head_size + pool_size * pools + first_lease_size * leases }

@@ -4,10 +4,13 @@
 ghost use Rattle.std.specs.Prelude.{◌≡◌};
 ghost use Rattle.ledger.specs.Answers.{refusal_number, bad_place, unwritten, answer_of};
 
+pub mod answers;
+
 use option_reply::WriteFault;
 
 // What a call answers, in document 01's words: the number of its refusal or 0, the place of a bad suboption (rows 7 and 16), the
 // bytes written, and the count of entries. What a call has none of is 0.
+// Stays: the C interface reads a number and the values beside it.
 #[repr(C)]
 #[derive(Clone, Copy)]
 pub struct Answer {
@@ -105,18 +108,8 @@ impl From<Result<Accepted, Refusal>> for Answer {
 
     fn from(r: Result<Accepted, Refusal>) -> Answer {
         match r {
-            Ok(accepted) => Answer {
-                number: 0,
-                place: 0,
-                bytes: accepted.bytes,
-                count: accepted.count,
-            },
-            Err(refusal) => Answer {
-                number: refusal.number(),
-                place: refusal.place(),
-                bytes: 0,
-                count: 0,
-            },
+            Ok(a) => answers::accepted(a.bytes, a.count),
+            Err(refusal) => answers::refused(refusal.number(), refusal.place()),
         }
     }
 }

@@ -30,8 +30,7 @@ ghost use Rattle.option.specs.declared.Fault.TheVariants as fault;
 ghost use Rattle.option.specs.declared.OptionFault.TheVariants as option-fault;
 ghost use Rattle.option.specs.Selection.{read_selection};
 
-use option_entry::CutEntry;
-pub use option_entry::{EntryCursor, EntryFields, Figures};
+pub use option_entry::{CutEntry, EntryCursor, EntryFields, Figures};
 
 // Len is a byte, and leaves out Code and Len: no option is longer.
 pub const LONGEST_OPTION: usize = 257;
@@ -247,6 +246,7 @@ fn name_at(s: &[u8], at: usize, end: usize) -> Result<Suboption, Fault>
 }
 
 // Any suboption, likewise, by its number.
+// Stays: the numbers are those of the option's suboptions.
 fn body_at(
     number: u8,
     s: &[u8],

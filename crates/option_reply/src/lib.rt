@@ -13,7 +13,7 @@ ghost use Rattle.option.specs.Selection.{write_selection};
 ghost use Rattle.option_reply.specs.Answers.{into};
 ghost use Rattle.option.specs.Values.{most_entries};
 
-pub use option::MOST_ENTRIES;
+pub use option::{MOST_ENTRIES, store};
 use table::Lease;
 
 // Why nothing is written: refusal 13, or refusal 14.

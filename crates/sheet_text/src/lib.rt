@@ -192,6 +192,7 @@ fn put_free(out: &mut [u8], at: usize, p: Prefix) -> usize
     text::put(out, place, &END)
 }
 
+#[inline(always)]
 fn put_row(out: &mut [u8], at: usize, row: Row) -> usize
     requires { at + length (row_text (row_of row)) ≤ length out.old }
     ensures { Wrote out.old at (row_text (row_of row)) out.new result }
@@ -216,6 +217,7 @@ fn put_head(out: &mut [u8], leases: u32, free: u32) -> usize
 
 // ROWS SHOWN. Each of these writes into a buffer that has room, or into an empty one, and then only tells how long the text is.
 
+#[inline(always)]
 fn show_row(out: &mut [u8], at: usize, row: Row) -> usize
     requires { Fits out.old at (row_text (row_of row)) }
     ensures { Wrote out.old at (row_text (row_of row)) out.new result }

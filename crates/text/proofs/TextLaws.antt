@@ -1,6 +1,6 @@
 -- Texts put one after another, and decimal numbers: how many digits they have, and that these can be put from the last to the first.
 -- Assumes nothing.
-use Prim.Native.Nat.{ℕ, zero, suc, ◌+◌, ◌-◌, ◌/◌, ◌^◌, ◌≤◌, ◌<◌}
+use Prim.Native.Nat.{ℕ, zero, suc, ◌+◌, ◌-◌, ◌*◌, ◌/◌, ◌^◌, ◌≤◌, ◌<◌}
 use mathlib.Core.Path.{◌≡◌, refl, sym, ap, ap₂, subst, ◌∙◌}
 use mathlib.Core.Logic.{◌⊎◌, inl, inr, ⊎_elim, by_cases}
 use mathlib.Core.List.{List, [], ◌∷◌, ◌++◌, append-nil, append_assoc}
@@ -60,6 +60,9 @@ one-le : (k : ℕ) → 1 ≤ 10 ^ k
 one-le zero = omega arith
 one-le (suc k) = omega (arith, pow-suc 10 k, one-le k)
 
+pub next-power : (k : ℕ) → 1 ≤ k → 10 * 10 ^ (k - 1) ≡ 10 ^ k
+next-power k h = let whole : suc (k - 1) ≡ k = omega arith in omega (arith, pow-suc 10 (k - 1), ap (λ (m : ℕ). 10 ^ m) whole)
+
 -- These are all: with room for more of them nothing changes.
 pub all_digits : (more k n : ℕ) → k ≤ suc more → Width n k → digits more n ≡ lowest_digits k n
 unfolding digits
@@ -104,7 +107,7 @@ length_digits (suc more) (suc k) n h =
     (λ large. rw (le-ltb n 10 large) (simp length-append (omega (arith, length_digits more k (n / 10) (⊎_elim (λ (f : suc more ≤ suc k). inl (omega arith)) (λ (f : n < 10 ^ suc (suc k)). inr (omega (arith, pow-suc 10 (suc k)))) h)))))
     (λ small. rw (lt-ltb n 10 (omega arith)) (omega arith))
 
--- One digit more in front of those that are put; and none is left.
+-- One digit more in front of those that are put, and two.
 pub put-digit : (l end : List ℕ) (at i j left : ℕ) → i ≡ suc j → put l at (lowest_digits i left) ≡ end → put (set l (at + j) (digit left)) at (lowest_digits j (left / 10)) ≡ end
 put-digit l end at i j left h e =
     let xs : List ℕ = lowest_digits j (left / 10) in
@@ -113,6 +116,22 @@ put-digit l end at i j left h e =
     ∙ put-before xs l at (digit left ∷ [])
     ∙ ap (λ (m : ℕ). put l at (lowest_digits m left)) (sym h)
     ∙ e
+
+pub put-digits : (l end : List ℕ) (at i j left : ℕ) → i ≡ suc (suc j) → put l at (lowest_digits i left) ≡ end
+    → put (set (set l (at + j + 1) (digit left)) (at + j) (digit (left / 10))) at (lowest_digits j (left / 100)) ≡ end
+put-digits l end at i j left h e =
+    let place : at + j + 1 ≡ at + suc j = omega arith in
+    let rest : left / 100 ≡ left / 10 / 10 = omega arith in
+    ap₂ (λ (p m : ℕ). put (set (set l p (digit left)) (at + j) (digit (left / 10))) at (lowest_digits j m)) place rest
+    ∙ put-digit (set l (at + suc j) (digit left)) end at (suc j) j (left / 10) refl (put-digit l end at i (suc j) left h e)
+
+-- The first digit, where one is left.
+pub put_first : (l end : List ℕ) (at i left : ℕ) → i ≤ 1 → 0 < i → put l at (lowest_digits i left) ≡ end → set l at (digit left) ≡ end
+put_first l end at i left h g e =
+    let place : at ≡ at + 0 = omega arith in
+    ap (λ (p : ℕ). set l p (digit left)) place
+    ∙ sym (put-nothing (set l (at + 0) (digit left)) at)
+    ∙ put-digit l end at i 0 left (omega arith) e
 
 pub put_last : (l end : List ℕ) (at i left : ℕ) → i ≤ 0 → put l at (lowest_digits i left) ≡ end → l ≡ end
 put_last l end at i left h e =

@@ -25,7 +25,7 @@ pub loop-j-preserved : goal.loop-j-preserved
 loop-j-preserved c =
     let l = c.loop-j in
     let a = c.args in
-    let lt : l.j < length a.ask_lengths.now = c.loop-j-test.true in
+    let lt : l.j < length a.ask_lengths.now = omega arith in
     let asked = a.ask_lengths.now in
     let old = columns l.gaps l.networks l.lengths in
     let new = columns c.serve_one-at.new.gaps c.serve_one-at.new.networks c.serve_one-at.new.lengths in
@@ -48,4 +48,4 @@ returns-clause-granted c =
     let a = c.args in
     λ t call time client name xs us rs ready.
     serve-end t call time client name xs us a.places.now rs a.gaps.now a.start a.ask_lengths.now ready c.requires.0 l.j
-    (columns l.gaps l.networks l.lengths) l.at c.loop-j-test.false (l.invariant.7 t call time client name xs us rs ready)
+    (columns l.gaps l.networks l.lengths) l.at (omega arith) (l.invariant.7 t call time client name xs us rs ready)

@@ -1,23 +1,24 @@
 -- `ask` meets its contract, row by row.
+use Prim.Native.Nat.{ℕ}
 use native.Mathlib.Omega.{arith}
-use mathlib.Core.Path.{◌≡◌, refl, sym, ap, ◌∙◌}
+use mathlib.Core.Path.{◌≡◌, refl, sym, ap, subst, ◌∙◌}
 use mathlib.Core.Bool.{cond, ◌&&◌}
-use lib.Dec.{ltb}
+use lib.Dec.{ltb, eqb}
 use lib.ListN.{length, take}
 use borrow.Author.Rules.{rules}
-use Rattle.std.specs.Prelude.{Result, Ok, Err, is_ok}
+use Rattle.std.specs.Prelude.{Result, Err, Some, None}
 use Rattle.counts.specs.Counts.{counts_of}
-use Rattle.ledger.specs.declared.{Accepted.Accepted, Refusal.Refusal}
+use Rattle.ledger.specs.declared.{Accepted.Accepted, Answer.Answer, Refusal.Refusal}
 use Rattle.ledger.specs.Answers.{answer_of}
 use Rattle.ledger.specs.Ledger.{Call, call_with, outcome, least_for}
-use Rattle.ledger.proofs.RefusalLaws.{number-some}
 use mathlib.Core.List.{[]}
 use Rattle.call_spec.specs.ImageCalls.{lent, table_in, carried_if}
 use Rattle.call_spec.specs.Books.{Book, book_of}
+use Rattle.call_rows.specs.Admission.{LeftIfAccepted}
 use Rattle.call_ground.specs.Ground.{Grounds}
-use Rattle.call_ground.proofs.ReturnLaws.{returning-refused}
+use Rattle.call_ground.proofs.GroundsLaws.{ground-read}
 use Rattle.ask_commit.specs.Asking.{Asking}
-use Rattle.call_ask.proofs.AskLaws.{may-return, ask-refused, ask-unselected, ask-unread, ask-wrong, ask-long-name, ask-groundless, ask-room, ask-admitted, of-admitted, ask-ready, ask-asking, ask-countable, ask-settles}
+use Rattle.call_ask.proofs.AskLaws.{may-return, number-kept, ask-refused, ask-unselected, ask-unread, ask-wrong, ask-long-name, ask-groundless, ask-room, ask-admitted, of-admitted, ask-ready, ask-asking, ask-countable, ask-settles}
 use Rattle.call_ask.proofs.ask.Goals as goal
 use Rattle.call_ask.proofs.ask.Goals.{After-too_short-short, In-Some, After-name_in-name}
 
@@ -79,7 +80,7 @@ returns-in_default c =
     let o = ask-admitted (book w) c.args.message.time (asked w) c.too_short-short.result (short-is w) c.in_ok-summary.summary c.in_ok-summary.ensures in
     ask-groundless (book w) c.args.message.time (asked w) c.too_short-short.result (short-is w) c.in_ok-summary.summary c.in_ok-summary.ensures c.in_ok-address.address c.in_ok-address.ensures
     c.in_ok-pieces.pieces _ c.in_ok-pieces.ensures c.for_ask.result c.for_ask.ensures c.if-not-for_ask.false (omega arith)
-    (c.in_default.ensures.equation (book w).lent c.args.message.time (asked w) refl o c.in_ok-address.ensures)
+    (ground-read c.args.image.now c.in_ok-summary.summary c.in_ok-address.address None c.in_default.ensures.equation (book w).lent c.args.message.time (asked w) refl o c.in_ok-address.ensures)
 
 -- The ground of the call.
 grounds : (c : In-Some) → let a = c.args in
@@ -89,7 +90,7 @@ grounds c =
     let b = book_of a.image.now a.image_bytes.now a.figures.now a.counts.now in
     let m = call_with a.message.client a.option.now (carried_if a.message.selected a.selection.now) a.reply.now in
     let o = ask-admitted b a.message.time m c.too_short-short.result (c.too_short-short.ensures a.selection.now) c.in_ok-summary.summary c.in_ok-summary.ensures in
-    c.in-Some.ensures.equation b.lent a.message.time m refl o c.in_ok-address.ensures
+    ground-read a.image.now c.in_ok-summary.summary c.in_ok-address.address (Some c.in-Some.area) c.in-Some.ensures.equation b.lent a.message.time m refl o c.in_ok-address.ensures
 
 pub grant-answer-requires : goal.grant-answer-requires
 grant-answer-requires c =
@@ -119,24 +120,10 @@ pub settle-requires : goal.settle-requires
 settle-requires c =
     let w = (goal.at.settle-requires c).After-too_short-short in
     let new = c.grant-answer.new in
-    ask-countable (book w) c.args.message.time (asked w) c.too_short-short.result (short-is w) c.in_ok-summary.summary c.in_ok-summary.ensures
+    subst (λ (a : Answer). LeftIfAccepted a.number (lent new.image new.image_bytes []) c.in_ok-summary.summary.pools) (sym c.from-number.ensures)
+    (ask-countable (book w) c.args.message.time (asked w) c.too_short-short.result (short-is w) c.in_ok-summary.summary c.in_ok-summary.ensures
     c.grant-answer.result (lent new.image new.image_bytes new.figures) new.reply
-    (c.grant-answer.ensures.equation (asked w).option (asked w).selection (asking (goal.at.settle-requires c).After-name_in-name (grounds (goal.at.settle-requires c).In-Some)))
-
--- Rows 9 and 10.
-pub returns-in_err-accepted : goal.returns-in_err-accepted
-returns-in_err-accepted c =
-    let w = (goal.at.returns-in_err-accepted c).After-too_short-short in
-    let new = c.grant-answer.new in
-    let g = lent new.image new.image_bytes new.figures in
-    let e = c.in_err-accepted.field-0.0 in
-    let is : c.from_residual-in_err-accepted.result ≡ Err e = search rules in
-    ap (λ (r : Result Accepted Refusal). outcome (answer_of r) (book_of new.image new.image_bytes new.figures c.settle.new.counts) new.reply) is
-    ∙ ask-settles (book w) c.args.message.time (asked w) c.too_short-short.result (short-is w) c.in_ok-summary.summary c.in_ok-summary.ensures (Err e) g new.reply
-    (sym (returning-refused (asked w).selection (outcome (answer_of (Err e)) g new.reply) (number-some e))
-    ∙ c.in_err-accepted.ensures.equation (asked w).option (asked w).selection (asking (goal.at.returns-in_err-accepted c).After-name_in-name (grounds (goal.at.returns-in_err-accepted c).In-Some)))
-    c.moved-moved.result c.moved-moved.ensures c.settle.new.counts
-    (c.settle.ensures ∙ ap (λ (r : Result Accepted Refusal). cond (is_ok r && c.moved-moved.result) (counts_of (table_in (lent new.image new.image_bytes []))) (book w).counts) c.in_err-accepted.was)
+    (c.grant-answer.ensures.equation (asked w).option (asked w).selection (asking (goal.at.settle-requires c).After-name_in-name (grounds (goal.at.settle-requires c).In-Some))))
 
 pub return_selection-requires : goal.return_selection-requires
 return_selection-requires c =
@@ -144,15 +131,19 @@ return_selection-requires c =
     let a = c.args in
     let room =
     ask-room (book w) a.message.time (asked w) c.too_short-short.result (short-is w) c.in_ok-summary.summary c.in_ok-summary.ensures c.in_ok-address.address c.in_ok-address.ensures in
-    may-return a.message.selected a.selection.now c.in_ok-address.address c.in_ok-address.ensures c.in_ok-accepted.accepted a.reply.now c.grant-answer.new.reply room
-    c.grant-answer.auto.reply c.in_ok-accepted.ensures.bytes_bound
+    may-return a.message.selected a.selection.now c.in_ok-address.address c.in_ok-address.ensures (answer_of c.grant-answer.result) a.reply.now c.grant-answer.new.reply room
+    c.grant-answer.auto.reply c.grant-answer.ensures.bytes_bound
 
+-- Rows 9 and 10, and what is granted.
 pub returns : goal.returns
 returns c =
     let w = (goal.at.returns c).After-too_short-short in
     let new = c.grant-answer.new in
     let g = lent new.image new.image_bytes new.figures in
-    ask-settles (book w) c.args.message.time (asked w) c.too_short-short.result (short-is w) c.in_ok-summary.summary c.in_ok-summary.ensures (Ok c.return_selection.result) g c.return_selection.new.reply
-    (c.return_selection.ensures g ∙ c.in_ok-accepted.ensures.equation (asked w).option (asked w).selection (asking (goal.at.returns c).After-name_in-name (grounds (goal.at.returns c).In-Some)))
+    let with_it = c.return_selection.ensures g in
+    ask-settles (book w) c.args.message.time (asked w) c.too_short-short.result (short-is w) c.in_ok-summary.summary c.in_ok-summary.ensures c.return_selection.result g c.return_selection.new.reply
+    (with_it ∙ c.grant-answer.ensures.equation (asked w).option (asked w).selection (asking (goal.at.returns c).After-name_in-name (grounds (goal.at.returns c).In-Some)))
     c.moved-moved.result c.moved-moved.ensures c.settle.new.counts
-    (c.settle.ensures ∙ ap (λ (r : Result Accepted Refusal). cond (is_ok r && c.moved-moved.result) (counts_of (table_in (lent new.image new.image_bytes []))) (book w).counts) c.in_ok-accepted.was)
+    (c.settle.ensures
+    ∙ ap (λ (n : ℕ). cond (eqb n 0 && c.moved-moved.result) (counts_of (table_in (lent new.image new.image_bytes []))) (book w).counts)
+    (ap (λ (a : Answer). a.number) c.from-number.ensures ∙ number-kept (asked w).selection c.grant-answer.result c.return_selection.result g new.reply c.return_selection.new.reply with_it))

@@ -1,16 +1,18 @@
 -- `mark` meets its contract: the rows that refuse it, what `mark_lease` leaves, and the counts.
-use mathlib.Core.Path.{◌≡◌, ap, ◌∙◌}
-use mathlib.Core.Bool.{not}
+use mathlib.Core.Path.{◌≡◌, sym, ap, subst, ◌∙◌}
+use mathlib.Core.Bool.{not, cond, ◌&&◌}
 use mathlib.Core.List.{[]}
 use lib.Dec.{eqb}
 use borrow.Author.Rules.{rules}
 use borrow.Author.Tests.{eqb-true, not-false}
 use Rattle.std.specs.Prelude.{Result, Err}
-use Rattle.ledger.specs.declared.{Accepted.Accepted, Refusal.Refusal}
+use Rattle.counts.specs.Counts.{counts_of}
+use Rattle.ledger.specs.declared.{Accepted.Accepted, Answer.Answer, Refusal.Refusal}
 use Rattle.ledger.specs.Answers.{answer_of}
 use Rattle.ledger.specs.Ledger.{outcome}
-use Rattle.call_spec.specs.ImageCalls.{lent}
+use Rattle.call_spec.specs.ImageCalls.{lent, table_in}
 use Rattle.call_spec.specs.Books.{book_of}
+use Rattle.call_rows.specs.Admission.{LeftIfAccepted}
 use Rattle.call_mark.proofs.MarkLaws.{book-refused, on-lent, mark-countable, mark-settles}
 use Rattle.call_mark.proofs.mark.Goals as goal
 
@@ -32,8 +34,9 @@ pub settle-requires : goal.settle-requires
 settle-requires c =
     let a = c.args in
     let new = c.mark_lease-answer.new in
-    mark-countable (book_of a.image.now a.image_bytes.now a.figures.now a.counts.now) a.time a.network a.length (not (eqb a.deprecated 0)) c.in_ok-summary.summary c.in_ok-summary.ensures
-    c.mark_lease-answer.result (lent new.image new.image_bytes new.figures) c.mark_lease-answer.ensures
+    subst (λ (w : Answer). LeftIfAccepted w.number (lent new.image new.image_bytes []) c.in_ok-summary.summary.pools) (sym c.from-number.ensures)
+    (mark-countable (book_of a.image.now a.image_bytes.now a.figures.now a.counts.now) a.time a.network a.length (not (eqb a.deprecated 0)) c.in_ok-summary.summary c.in_ok-summary.ensures
+    c.mark_lease-answer.result (lent new.image new.image_bytes new.figures) c.mark_lease-answer.ensures)
 
 pub returns : goal.returns
 returns c =
@@ -42,4 +45,5 @@ returns c =
     let expired = c.in_ok-summary.summary.expired in
     mark-settles (book_of a.image.now a.image_bytes.now a.figures.now a.counts.now) a.time a.network a.length (not (eqb a.deprecated 0)) c.in_ok-summary.summary c.in_ok-summary.ensures
     c.mark_lease-answer.result (lent new.image new.image_bytes new.figures) c.mark_lease-answer.ensures
-    (not (eqb expired 0)) (λ e. eqb-true expired 0 (not-false (eqb expired 0) e)) _ c.settle.ensures
+    (not (eqb expired 0)) (λ e. eqb-true expired 0 (not-false (eqb expired 0) e)) _
+    (c.settle.ensures ∙ ap (λ (w : Answer). cond (eqb w.number 0 && not (eqb expired 0)) (counts_of (table_in (lent new.image new.image_bytes []))) a.counts.now) c.from-number.ensures)

@@ -1,8 +1,7 @@
 -- `check_option` meets its contract.
 use mathlib.Core.Path.{◌≡◌, ap, ◌∙◌}
 use borrow.Author.Rules.{rules}
-use Rattle.std.specs.Prelude.{Result, Err}
-use Rattle.ledger.specs.declared.{Accepted.Accepted, Refusal.Refusal}
+use Rattle.std.specs.Prelude.{Err}
 use Rattle.ledger.specs.Answers.{answer_of}
 use Rattle.call_option.proofs.OptionLaws.{unread, read}
 use Rattle.call_option.proofs.check_option.Goals as goal

@@ -1,17 +1,19 @@
 -- `release` meets its contract, row by row.
 use Prim.Native.Nat.{ℕ}
-use mathlib.Core.Path.{◌≡◌, refl, ap, ◌∙◌}
-use mathlib.Core.Bool.{false, true}
+use mathlib.Core.Path.{◌≡◌, refl, sym, ap, subst, ◌∙◌}
+use mathlib.Core.Bool.{false, true, cond, ◌&&◌}
 use mathlib.Core.List.{List, []}
+use lib.Dec.{eqb}
 use borrow.Author.Rules.{rules}
 use Rattle.std.specs.Prelude.{Result, Ok, Err}
 use Rattle.image_check.specs.declared.ImageSummary.{ImageSummary}
-use Rattle.ledger.specs.declared.{Accepted.Accepted, Refusal.Refusal}
+use Rattle.counts.specs.Counts.{counts_of}
+use Rattle.ledger.specs.declared.{Accepted.Accepted, Answer.Answer, Refusal.Refusal}
 use Rattle.ledger.specs.Answers.{answer_of}
 use Rattle.ledger.specs.Ledger.{call, outcome}
-use Rattle.call_spec.specs.ImageCalls.{lent}
+use Rattle.call_spec.specs.ImageCalls.{lent, table_in}
 use Rattle.call_spec.specs.Books.{Book, book_of, lent_in}
-use Rattle.call_rows.specs.Admission.{Admits}
+use Rattle.call_rows.specs.Admission.{Admits, LeftIfAccepted}
 use Rattle.call_entries.specs.EntryRows.{EntriesRead}
 use Rattle.call_entries.proofs.CallLaws.{EntriesCall, entries-sized, on-lent}
 use Rattle.call_release.proofs.ReleaseLaws.{release-passed, book-refused, book-unread, release-countable, release-settles}
@@ -56,8 +58,9 @@ settle-requires c =
     let asked = call a.client a.option.now [] in
     let s = entries-call b a.time a.client a.option.now c.in_ok-summary.summary c.in_ok-summary.ensures c.read_entries.new.networks c.read_entries.new.lengths c.in_ok-n.n c.in_ok-n.ensures in
     let answer = c.strike_found-answer in
-    release-countable b a.time asked s answer.result (lent answer.new.image answer.new.image_bytes answer.new.figures)
-    (answer.ensures a.option.now (release-passed b.lent a.time asked (on-lent false b a.time asked s)))
+    subst (λ (w : Answer). LeftIfAccepted w.number (lent answer.new.image answer.new.image_bytes []) c.in_ok-summary.summary.pools) (sym c.from-number.ensures)
+    (release-countable b a.time asked s answer.result (lent answer.new.image answer.new.image_bytes answer.new.figures)
+    (answer.ensures a.option.now (release-passed b.lent a.time asked (on-lent false b a.time asked s))))
 
 pub returns : goal.returns
 returns c =
@@ -67,4 +70,5 @@ returns c =
     let s = entries-call b a.time a.client a.option.now c.in_ok-summary.summary c.in_ok-summary.ensures c.read_entries.new.networks c.read_entries.new.lengths c.in_ok-n.n c.in_ok-n.ensures in
     let answer = c.strike_found-answer in
     release-settles b a.time asked s answer.result (lent answer.new.image answer.new.image_bytes answer.new.figures)
-    (answer.ensures a.option.now (release-passed b.lent a.time asked (on-lent false b a.time asked s))) _ c.settle.ensures
+    (answer.ensures a.option.now (release-passed b.lent a.time asked (on-lent false b a.time asked s))) _
+    (c.settle.ensures ∙ ap (λ (w : Answer). cond (eqb w.number 0 && true) (counts_of (table_in (lent answer.new.image answer.new.image_bytes []))) a.counts.now) c.from-number.ensures)

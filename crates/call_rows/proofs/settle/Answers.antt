@@ -4,17 +4,23 @@ use native.Mathlib.Omega.{arith}
 use Rattle.call_spec.specs.ImageCalls.{Lent, lent}
 use Rattle.call_rows.specs.Admission.{LeftSound}
 use Rattle.call_rows.proofs.BookSummary.{left-from, left-few, left-stands, left-some}
-use Rattle.call_rows.proofs.SettleLaws.{counted-again}
+use Rattle.call_rows.proofs.SettleLaws.{stays-refused, stays-unmoved, counted-again}
 use Rattle.call_rows.proofs.settle.Goals as goal
 
+pub returns-then-number-ne0 : goal.returns-then-number-ne0
+returns-then-number-ne0 c = let a = c.args in stays-refused a.number a.moved _ _ c.if-number-ne0.true
+
+pub returns-then-not-moved : goal.returns-then-not-moved
+returns-then-not-moved c = let a = c.args in stays-unmoved a.number a.moved _ _ c.if-not-moved.true
+
 left-of : (c : goal.Else-not-moved) → let a = c.args in LeftSound (lent a.image.now a.image_bytes []) a.pools
-left-of c = c.requires c.if-is_err.ensures.negation
+left-of c = c.requires c.if-number-ne0.false
 
 left-of-2 : (c : goal.After-recount-arg-1) → let a = c.args in LeftSound (lent a.image.now a.image_bytes []) a.pools
-left-of-2 c = c.requires c.if-is_err.ensures.negation
+left-of-2 c = c.requires c.if-number-ne0.false
 
 left-of-3 : (c : goal.After-recount) → let a = c.args in LeftSound (lent a.image.now a.image_bytes []) a.pools
-left-of-3 c = c.requires c.if-is_err.ensures.negation
+left-of-3 c = c.requires c.if-number-ne0.false
 
 pub overflow_mul-leases : goal.overflow_mul-leases
 overflow_mul-leases c = let a = c.args in omega (arith, left-few (lent a.image.now a.image_bytes []) a.pools (left-of c))
@@ -32,4 +38,4 @@ pub returns : goal.returns
 returns c =
     let a = c.args in
     let g : Lent = lent a.image.now a.image_bytes [] in
-    counted-again a.answer a.moved _ _ c.if-is_err.ensures.negation c.if-not-moved.false _ (c.recount.ensures _ (left-stands g a.pools (left-of-3 c)))
+    counted-again a.number a.moved _ _ c.if-number-ne0.false c.if-not-moved.false _ (c.recount.ensures _ (left-stands g a.pools (left-of-3 c)))

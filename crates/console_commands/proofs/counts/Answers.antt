@@ -1,6 +1,6 @@
 -- `counts` meets its contract: of a sound book the rows of its pools.
 use Prim.Native.Nat.{ℕ, ◌≤◌}
-use mathlib.Core.Path.{refl, ap, ◌∙◌}
+use mathlib.Core.Path.{refl, ap, ap₂, ◌∙◌}
 use mathlib.Core.List.{List, []}
 use native.Mathlib.Omega.{arith}
 use lib.ListN.{length, length-drop}
@@ -13,6 +13,7 @@ use Rattle.call_spec.specs.Books.{book_of}
 use Rattle.call_spec.proofs.TableLaws.{bytes-all}
 use Rattle.console_lines.specs.Lines.{refused_line}
 use Rattle.console_lines.specs.CountLines.{counts_text, pools_at}
+use Rattle.console_lines.proofs.TextLaws.{wrote_as}
 use Rattle.console_commands.proofs.QueryLaws.{shown-text, passed, refused-text, sound-here, room-for-pools, its-counts}
 use Rattle.console_commands.proofs.CommandLaws.{appended, rest_of}
 use Rattle.console_commands.proofs.counts.Goals as goal
@@ -26,7 +27,7 @@ returns-in-Err-clause-by_index c figures =
     record {
       text = refused_line (refusal_number e) (bad_place e);
       does = (refl, refused-text a.image.now a.image_bytes figures a.counts.now (answer_of (Err e)) c.in-Err.ensures _ (number-some e));
-      wrote = appended _ _ _ _ _ inside said.ensures.wrote;
+      wrote = appended _ _ _ _ _ inside (wrote_as _ _ _ _ _ _ (ap₂ refused_line c.number.ensures c.place.ensures) said.ensures.wrote);
     }
 
 pub slice_bounds-counts-count : goal.slice_bounds-counts-count

@@ -1,6 +1,5 @@
 -- `read` meets its contract.
 use native.Mathlib.Omega.{arith}
-use Prim.Native.Nat.{◌-◌}
 use lib.ListN.{take}
 use Rattle.console_commands.proofs.CommandLaws.{part-appended}
 use Rattle.console_commands.proofs.read.Goals as goal

@@ -1,5 +1,5 @@
 -- `sheet` meets its contract.
-use mathlib.Core.Path.{◌≡◌, refl, sym, ap, ◌∙◌}
+use mathlib.Core.Path.{◌≡◌, refl, sym, ap, ap₂, ◌∙◌}
 use native.Mathlib.Omega.{arith}
 use Prim.Native.Nat.{◌-◌, ◌≤◌}
 use lib.ListN.{length, drop, length-drop}
@@ -9,7 +9,7 @@ use Rattle.ledger.specs.Answers.{answer_of, refusal_number, bad_place}
 use Rattle.ledger.proofs.RefusalLaws.{number-some}
 use Rattle.call_spec.specs.Books.{book_of}
 use Rattle.console_lines.specs.Lines.{refused_line}
-use Rattle.console_lines.proofs.TextLaws.{first-bytes}
+use Rattle.console_lines.proofs.TextLaws.{first-bytes, wrote_as}
 use Rattle.console_commands.specs.Commands.{given}
 use Rattle.console_commands.proofs.QueryLaws.{passed, refused-text, sound-here}
 use Rattle.console_commands.proofs.CommandLaws.{appended, rest_of, sheet-refuses, sheet-shows}
@@ -24,7 +24,7 @@ returns-in-Err-clause-by_index c figures =
     record {
       text = refused_line (refusal_number e) (bad_place e);
       does = (refl, refused-text a.image.now a.image_bytes figures a.counts.now (answer_of (Err e)) c.in-Err.ensures _ (number-some e));
-      wrote = appended _ _ _ _ _ inside said.ensures.wrote;
+      wrote = appended _ _ _ _ _ inside (wrote_as _ _ _ _ _ _ (ap₂ refused_line c.number.ensures c.place.ensures) said.ensures.wrote);
     }
 
 pub returns-in-Err-sheet-clause-by_index : goal.returns-in-Err-sheet-clause-by_index
@@ -38,7 +38,7 @@ returns-in-Err-sheet-clause-by_index c figures =
     let said = c.refusal-in-Err-sheet in
     sheet-refuses (given (book_of a.image.now a.image_bytes figures a.counts.now) a.s.reply_length a.s.selected a.s.lines (drop at old)) (sound-here a.image.now a.image_bytes figures a.counts.now (answer_of c.check.result) c.check.ensures (passed c.check.result c.in_default.not-Err)) (answer_of (Err e)) shown.new.text _ _
     (first-bytes a.image_bytes n.result a.image.now n.ensures.2 n.ensures.3) (rest_of old at) c.in-Err-sheet.ensures old at (omega (arith, c.requires)) (post_of at (length old - at) old) _ _ (number-some e)
-    (omega (arith, said.ensures.upper_bound, c.requires, same_len_mid at (length old - at) old shown.new.text shown.auto.text)) said.ensures.wrote
+    (omega (arith, said.ensures.upper_bound, c.requires, same_len_mid at (length old - at) old shown.new.text shown.auto.text)) (wrote_as _ _ _ _ _ _ (ap₂ refused_line c.number-in-Err-sheet.ensures c.place-in-Err-sheet.ensures) said.ensures.wrote)
 
 pub overflow_add-result : goal.overflow_add-result
 overflow_add-result c = omega (arith, c.well_formed, c.least.ensures.1, c.requires)

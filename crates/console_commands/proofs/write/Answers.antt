@@ -1,14 +1,13 @@
 -- `write` meets its contract.
 use Prim.Native.Nat.{ℕ, ◌-◌, ◌≤◌}
 use native.Mathlib.Omega.{arith}
-use mathlib.Core.Path.{ap, ◌∙◌}
+use mathlib.Core.Path.{ap₂, ◌∙◌}
 use mathlib.Core.List.{◌++◌}
 use lib.ListN.{length, take, replicate}
 use borrow.Rule.Slice.PartMut.{post_of}
 use Rattle.console_script.specs.Commands.{longest_reply}
 use Rattle.console_lines.specs.Lines.{written_line}
 use Rattle.console_lines.proofs.TextLaws.{wrote_as}
-use Rattle.ledger.specs.Answers.{answer_of}
 use Rattle.console_commands.proofs.CommandLaws.{write-bad, write-of, reply-size, reply-left, part-fits, reply-fits, reply-inside}
 use Rattle.console_commands.proofs.write.Goals as goal
 
@@ -26,4 +25,4 @@ returns-in-None c =
 pub returns-in-Some : goal.returns-in-Some
 returns-in-Some c =
     let said = c.written in
-    let inside = reply-inside c.args.s.at c.args.s.reply_length _ c.args.out.now c.requires.0 c.requires.1 said.result said.ensures.upper_bound in record { upper_bound = inside; wrote_option = write-of _ _ _ _ (take (c.args.s.reply_length - 0) (replicate {A = ℕ} longest_reply 0)) _ _ _ _ _ inside (reply-size c.args.s.reply_length c.requires.1) c.in-Some.is c.write.ensures (wrote_as _ _ _ _ _ _ (ap (written_line (answer_of c.in-Some.a)) (reply-left c.args.s.reply_length c.write.new.buffer _ (c.write.auto.buffer ∙ (reply-size c.args.s.reply_length c.requires.1)))) said.ensures.wrote) }
+    let inside = reply-inside c.args.s.at c.args.s.reply_length _ c.args.out.now c.requires.0 c.requires.1 said.result said.ensures.upper_bound in record { upper_bound = inside; wrote_option = write-of _ _ _ _ (take (c.args.s.reply_length - 0) (replicate {A = ℕ} longest_reply 0)) _ _ _ _ _ inside (reply-size c.args.s.reply_length c.requires.1) c.in-Some.is c.write.ensures (wrote_as _ _ _ _ _ _ (ap₂ written_line c.into.ensures (reply-left c.args.s.reply_length c.write.new.buffer _ (c.write.auto.buffer ∙ (reply-size c.args.s.reply_length c.requires.1)))) said.ensures.wrote) }

@@ -1,17 +1,16 @@
 -- `refusal` meets its contract.
+use mathlib.Core.Path.{sym, ◌∙◌}
 use native.Mathlib.Omega.{arith}
 use Rattle.console_lines.proofs.TextLaws.{filled-wrote, wrote_as}
-use Rattle.console_lines.proofs.AnswerLaws.{refused-with, refused-bare}
+use Rattle.console_lines.proofs.AnswerLaws.{refused-place, refused-number}
 use Rattle.console_lines.proofs.refusal.Goals as goal
 
-pub returns-in-BadFraming-clause-wrote : goal.returns-in-BadFraming-clause-wrote
-returns-in-BadFraming-clause-wrote c =
-    wrote_as _ _ _ _ _ _ (refused-with c.args.refusal _ c.number-number.ensures _ c.place-place.ensures c.in-BadFraming.is)
-    (filled-wrote _ _ _ _ _ _ (omega arith, (omega arith, tt)) c.fill.ensures.filled)
+pub returns-then-has_place : goal.returns-then-has_place
+returns-then-has_place c =
+    let a = c.args in
+    let placed = sym c.has_place.ensures ∙ c.if-has_place.true in record { upper_bound = omega (arith, c.fill.ensures.upper_bound); wrote = wrote_as _ _ _ _ _ _ (refused-place a.number a.place placed) (filled-wrote _ _ _ _ _ _ (omega arith, (omega arith, tt)) c.fill.ensures.filled) }
 
-pub returns-in_default : goal.returns-in_default
-returns-in_default c =
-    record {
-      upper_bound = omega (arith, c.fill-in_default.ensures.upper_bound);
-      wrote = wrote_as _ _ _ _ _ _ (refused-bare c.args.refusal _ c.number-number.ensures c.in_default.not-BadFraming c.in_default.not-BadField) (filled-wrote _ _ _ _ _ _ (omega arith, tt) c.fill-in_default.ensures.filled);
-    }
+pub returns : goal.returns
+returns c =
+    let a = c.args in
+    let placeless = sym c.has_place.ensures ∙ c.if-has_place.false in record { upper_bound = omega (arith, c.fill-2.ensures.upper_bound); wrote = wrote_as _ _ _ _ _ _ (refused-number a.number a.place placeless) (filled-wrote _ _ _ _ _ _ (omega arith, tt) c.fill-2.ensures.filled) }

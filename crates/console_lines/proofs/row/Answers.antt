@@ -13,9 +13,9 @@ pub returns : goal.returns
 unfolding row_line
 returns c =
     let head = c.row_head-a.ensures in
-    let high = c.figure-b.ensures in
-    let used = c.figure-c.ensures in
-    let bad = c.figure-d.ensures in
+    let high = c.high_water-b.ensures in
+    let used = c.in_use-c.ensures in
+    let bad = c.unusable-d.ensures in
     let end = c.text.ensures in record {
       upper_bound = omega (arith, head.upper_bound, high.upper_bound, used.upper_bound, bad.upper_bound, end.value);
       wrote = wrote_as _ _ _ _ _ _ (row-shown c.args.r (sym c.is_empty_slot.ensures ∙ c.if-is_empty_slot.false))

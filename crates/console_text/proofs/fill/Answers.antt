@@ -8,7 +8,6 @@ use lib.Seq.{take_all}
 use borrow.Author.Rules.{rules}
 use Rattle.console_text.proofs.TextLaws.{filling-none, filling-byte, filling-number, filling-all}
 use Rattle.console_text.proofs.fill.Goals as goal
-use Rattle.console_text.proofs.fill.Goals.{then-c-eq37+in_default, else-c-eq37}
 
 -- The number that is taken, and those that are left.
 taken : (ns : List ℕ) → 1 ≤ length ns → ns ≡ get_or ns 0 0 ∷ take (length ns - 1) (drop 1 ns)
@@ -28,19 +27,12 @@ loop-c-preserved-in-len1-up c =
     let l = c.loop-c in
     let ran = c.decimal-end in
     let is = taken l.left.now c.in-len1-up.len_at_least in
-    (omega (arith, ap length is, ran.ensures.lower_bound), search rules, filling-number _ _ _ _ _ _ _ _ l.invariant.2 (omega arith) c.from.result _ _ _ c.if-c-eq37.true (is ∙ ap (λ (n : ℕ). n ∷ take (length l.left.now - 1) (drop 1 l.left.now)) (sym c.from.ensures)) ran.ensures.lower_bound.0 ran.ensures.decimal)
-
-none : (c : goal.Joined-c-eq37) → get_or c.args.pattern.now c.loop-c.c-index 0 ≡ 37 → c.loop-c.left.now ≡ []
-none c e =
-    elim c.if-c-eq37.branch [
-      | then-c-eq37+in_default w ↦ nothing c.loop-c.left.now w.in_default.len_below
-      | else-c-eq37 w ↦ absurd (w.if-c-eq37.false e)
-    ]
+    (omega (arith, ap length is, ran.ensures.lower_bound), search rules, filling-number _ _ _ _ _ _ _ _ l.invariant.2 (omega arith) c.from.result _ _ _ (omega arith) (is ∙ ap (λ (n : ℕ). n ∷ take (length l.left.now - 1) (drop 1 l.left.now)) (sym c.from.ensures)) ran.ensures.lower_bound.0 ran.ensures.decimal)
 
 pub loop-c-preserved : goal.loop-c-preserved
 loop-c-preserved c =
     let l = c.loop-c in
-    (omega arith, simp length-set (search rules), filling-byte _ _ _ _ _ _ _ _ l.invariant.2 (omega arith) (none c))
+    (omega arith, simp length-set (search rules), filling-byte _ _ _ _ _ _ _ _ l.invariant.2 (omega arith) (λ e. nothing l.left.now (omega arith)))
 
 pub returns : goal.returns
 returns c = let l = c.loop-c in record { upper_bound = search rules; filled = filling-all _ _ _ _ _ _ _ _ l.invariant.2 (omega arith) }

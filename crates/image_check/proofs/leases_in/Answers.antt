@@ -9,6 +9,7 @@ use Rattle.image.specs.Image.{lease_size_in, pool_size}
 use Rattle.image_check.specs.InnerPass.{summary_with}
 use Rattle.image_check.proofs.ScanLaws.{one_left, count-inside, count-many, count-uneven, count-few, same_count, pools-inside, scanned-size, reached-start, reached-end, reached-none}
 use Rattle.image_check.proofs.leases_in.Goals as goal
+use Rattle.image_check.proofs.leases_in.Goals.{else-loop-k-test, then-loop-k-test+then-pass-s}
 
 -- As many leases as the bytes after the pools may have.
 abbrev many : Form → ℕ → ℕ → ℕ
@@ -68,12 +69,15 @@ loop-k-preserved c =
     let l = c.loop-k in
     (c.in_pool-pass.ensures.left, c.in_pool-pass.ensures.reached c.args.head c.args.n l.k c.requires refl (omega arith) c.pool.ensures l.invariant.1)
 
-pub returns-then-pass-s : goal.returns-then-pass-s
-returns-then-pass-s c =
+pub returns-then-pass-s-2 : goal.returns-then-pass-s-2
+returns-then-pass-s-2 c =
     let a = c.args in
     let l = c.loop-k in
     let left = l.invariant.0 in
-    sym (reached-none a.form a.head a.s.now a.n a.time c.requires l.k l.pass l.invariant.1 (omega arith) (one_left l.pass.at (length a.s.now) left.left a.form left.ends (omega (arith, left.ends, c.if-pass-s.true))))
+    elim c.loop-k-test.branch [
+      | else-loop-k-test w ↦ sym (reached-none a.form a.head a.s.now a.n a.time c.requires l.k l.pass l.invariant.1 (omega (arith, w.loop-k-test.false)) (one_left l.pass.at (length a.s.now) left.left a.form left.ends (omega (arith, left.ends, c.if-pass-s-2.true))))
+      | then-loop-k-test+then-pass-s w ↦ absurd (c.if-pass-s-2.true w.if-pass-s.true)
+    ]
 
 pub returns : goal.returns
 returns c =
@@ -82,6 +86,6 @@ returns c =
     let count : ℕ = c.leases_of-count.result in
     let all : count ≡ l.invariant.1.leases = same_count a.form (pool_size * a.n) count l.invariant.1.leases (length a.s.now)
     (ap (λ (z : ℕ). pool_size * a.n + z * count) (sym c.lease_size.ensures) ∙ c.if-from-lease_size.false)
-    (sym l.invariant.1.place ∙ c.if-pass-s.false) in
+    (sym l.invariant.1.place ∙ c.if-pass-s-2.false) in
     ap (λ (m : ℕ). summary_with a.head a.n m l.pass.expired) all
     ∙ sym (reached-end a.form a.head a.s.now a.n a.time c.requires l.k l.pass l.invariant.1 (omega arith))

@@ -13,6 +13,9 @@ use Rattle.image_figures.proofs.EmptyBytes.{empty_bytes, length-empty}
 use Rattle.image_figures.proofs.FillLaws.{cleared_more}
 use Rattle.image_figures.proofs.clear_rows.Goals as goal
 
+pub returns-then-last-first-lt16 : goal.returns-then-last-first-lt16
+returns-then-last-first-lt16 c = c.clear_each.ensures
+
 pub loop-k-init : goal.loop-k-init
 loop-k-init c =
     let a = c.args in
